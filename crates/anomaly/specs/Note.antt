@@ -1,0 +1,49 @@
+-- The notes of a file that is read all the same: docs/FORMAT.md, B12.
+--
+--   noteOf       the number of a kind, and its numbers a and b, 0 where the kind has none
+--   kindNumber   the printed number of a kind
+--   kindIndex    the place of a kind in the counts, below 13; equal to kindNumber today, and another thing
+--
+-- Laws: proofs/Laws.antt.
+use Prim.Native.Nat.{ℕ}
+use Rattle.anomaly.specs.declared.Note.{Note}
+use Rattle.anomaly.specs.declared.ResAnomaly.{ResAnomaly}
+use Rattle.anomaly.specs.declared.ResAnomaly.the-variants.{StringPoolGarbageChunk, StringCountMismatch, StringOffsetsOutOfBounds, NonXmlChunk}
+use Rattle.anomaly.specs.declared.ResAnomaly.the-variants.{XmlNodeHeaderSize, UnknownChunk, AttributeStartShifted, AttributeSizeMismatch}
+use Rattle.anomaly.specs.declared.ResAnomaly.the-variants.{ElementTrailingBytes, InvalidElementName, InvalidAttributeName, TruncatedXml, UnclosedElements}
+
+abbrev pub made : ℕ → ℕ → ℕ → Note
+made kind a b = record { kind = kind; a = a; b = b }
+
+unfoldable pub noteOf : ResAnomaly → Note
+noteOf (StringPoolGarbageChunk chunk-type skipped) = made 0 chunk-type skipped
+noteOf (StringCountMismatch declared actual) = made 1 declared actual
+noteOf (StringOffsetsOutOfBounds count) = made 2 count 0
+noteOf (NonXmlChunk chunk-type) = made 3 chunk-type 0
+noteOf (XmlNodeHeaderSize header-size) = made 4 header-size 0
+noteOf (UnknownChunk chunk-type) = made 5 chunk-type 0
+noteOf (AttributeStartShifted attribute-start) = made 6 attribute-start 0
+noteOf (AttributeSizeMismatch attribute-size) = made 7 attribute-size 0
+noteOf (ElementTrailingBytes len) = made 8 len 0
+noteOf (InvalidElementName name has-text) = made 9 name has-text
+noteOf (InvalidAttributeName name) = made 10 name 0
+noteOf TruncatedXml = made 11 0 0
+noteOf (UnclosedElements count) = made 12 count 0
+
+abbrev pub kindNumber : ResAnomaly → ℕ
+kindNumber x = noteOf x .kind
+
+unfoldable pub kindIndex : ResAnomaly → ℕ
+kindIndex (StringPoolGarbageChunk chunk-type skipped) = 0
+kindIndex (StringCountMismatch declared actual) = 1
+kindIndex (StringOffsetsOutOfBounds count) = 2
+kindIndex (NonXmlChunk chunk-type) = 3
+kindIndex (XmlNodeHeaderSize header-size) = 4
+kindIndex (UnknownChunk chunk-type) = 5
+kindIndex (AttributeStartShifted attribute-start) = 6
+kindIndex (AttributeSizeMismatch attribute-size) = 7
+kindIndex (ElementTrailingBytes len) = 8
+kindIndex (InvalidElementName name has-text) = 9
+kindIndex (InvalidAttributeName name) = 10
+kindIndex TruncatedXml = 11
+kindIndex (UnclosedElements count) = 12

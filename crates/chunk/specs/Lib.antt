@@ -1,0 +1,4 @@
+-- The root of the crate's definitions.
+pub mod Sort
+pub mod Walk
+pub mod Run

@@ -1,0 +1,198 @@
+// Why a question is refused, what the three questions answer, and the numbers of an answer.
+//
+// Mirrors errors.rs (apk-info 13770539b8), whose names are kept for the refusals that it has: `TooSmallError`, `HeaderSizeError`,
+// `StringPoolError`, `ResourceMapError`, `MissingRoot`. The others are those of a file that is too large, of lent names, tables and
+// buffers, and of a question without an answer. Definitions: specs/Refusal.antt.
+ghost use mathlib.Core.Path.{_≡_};
+ghost use mathlib.Core.Bool.{cond};
+ghost use Rattle.errors.specs.Refusal.{numberOf, valueOf, numbersOf, textNumbersOf, firstNumbersOf};
+
+// One case for each number of a refusal.
+pub enum Refusal {
+    TooSmallError(usize), // 1, with the length
+    TooLargeError, // 2
+    HeaderSizeError(u32), // 3, with that size
+    StringPoolError, // 4
+    ResourceMapError, // 5
+    MissingRoot, // 6
+    SystemNamesError(usize), // 7, with the first bad entry, or how many whole ones there are
+    NodesFull(usize), // 8, with the places
+    AttributesFull(usize), // 9, with the places
+    NotesFull(usize), // 10, with the places
+    TextShort(usize), // 11, with the bytes needed
+    NothingFound, // 12
+    TablesError(u32), // 13, with the first bad node, or the node count
+}
+
+// What a reading counted: the starts read whole, dropped ones too, and the records that it kept.
+pub struct ReadCounts {
+    pub starts: u32,
+    pub nodes: u32,
+    pub attributes: u32,
+    pub notes: u32,
+}
+
+// The counts, or why there are none.
+pub enum ReadAnswer {
+    Done(ReadCounts),
+    Refused(Refusal),
+}
+
+// The length of the text, or why there is none.
+pub enum TextAnswer {
+    Text(usize),
+    Refused(Refusal),
+}
+
+// The type and the data of the first value, and whether it is a reference; or why there is none.
+pub enum FirstAnswer {
+    Found {
+        kind: u32,
+        data: u32,
+        reference: bool,
+    },
+    Refused(Refusal),
+}
+
+// The numbers of a `ReadAnswer`, as a listing prints them.
+pub struct Numbers {
+    pub refusal: u32,
+    pub value: u64,
+    pub starts: u32,
+    pub nodes: u32,
+    pub attributes: u32,
+    pub notes: u32,
+}
+
+// The numbers of a `TextAnswer`.
+pub struct TextNumbers {
+    pub refusal: u32,
+    pub value: u64,
+    pub length: u64,
+}
+
+// The numbers of a `FirstAnswer`.
+pub struct FirstNumbers {
+    pub refusal: u32,
+    pub value: u64,
+    pub kind: u32,
+    pub data: u32,
+    pub reference: u32,
+}
+
+// The number of a refusal. Ruled out: 0 for any refusal, and one number for two of them.
+pub fn refusal_number(r: Refusal) -> u32
+    ensures { λ n. ⌜ n ≡ numberOf r ⌝ }
+{
+    match r {
+        Refusal::TooSmallError(_) => 1,
+        Refusal::TooLargeError => 2,
+        Refusal::HeaderSizeError(_) => 3,
+        Refusal::StringPoolError => 4,
+        Refusal::ResourceMapError => 5,
+        Refusal::MissingRoot => 6,
+        Refusal::SystemNamesError(_) => 7,
+        Refusal::NodesFull(_) => 8,
+        Refusal::AttributesFull(_) => 9,
+        Refusal::NotesFull(_) => 10,
+        Refusal::TextShort(_) => 11,
+        Refusal::NothingFound => 12,
+        Refusal::TablesError(_) => 13,
+    }
+}
+
+// The value of a refusal. Ruled out: 0 for a refusal that has a value, and the low half of a value alone.
+pub fn refusal_value(r: Refusal) -> u64
+    ensures { λ n. ⌜ n ≡ valueOf r ⌝ }
+{
+    match r {
+        Refusal::TooSmallError(length) => length as u64,
+        Refusal::TooLargeError => 0,
+        Refusal::HeaderSizeError(size) => size as u64,
+        Refusal::StringPoolError => 0,
+        Refusal::ResourceMapError => 0,
+        Refusal::MissingRoot => 0,
+        Refusal::SystemNamesError(entry) => entry as u64,
+        Refusal::NodesFull(places) => places as u64,
+        Refusal::AttributesFull(places) => places as u64,
+        Refusal::NotesFull(places) => places as u64,
+        Refusal::TextShort(needed) => needed as u64,
+        Refusal::NothingFound => 0,
+        Refusal::TablesError(node) => node as u64,
+    }
+}
+
+// The numbers of a reading's answer. Ruled out: a count beside a refusal, and a refusal that is told by its value alone.
+pub fn read_numbers(a: ReadAnswer) -> Numbers
+    ensures { λ r. ⌜ r ≡ numbersOf a ⌝ }
+{
+    match a {
+        ReadAnswer::Done(c) => Numbers {
+            refusal: 0,
+            value: 0,
+            starts: c.starts,
+            nodes: c.nodes,
+            attributes: c.attributes,
+            notes: c.notes,
+        },
+        ReadAnswer::Refused(e) => Numbers {
+            refusal: refusal_number(e),
+            value: refusal_value(e),
+            starts: 0,
+            nodes: 0,
+            attributes: 0,
+            notes: 0,
+        },
+    }
+}
+
+// The numbers of a text question's answer. Ruled out: the bytes needed as the length of a refused answer, and the length as the value.
+pub fn text_numbers(a: TextAnswer) -> TextNumbers
+    ensures { λ r. ⌜ r ≡ textNumbersOf a ⌝ }
+{
+    match a {
+        TextAnswer::Text(n) => TextNumbers {
+            refusal: 0,
+            value: 0,
+            length: n as u64,
+        },
+        TextAnswer::Refused(e) => TextNumbers {
+            refusal: refusal_number(e),
+            value: refusal_value(e),
+            length: 0,
+        },
+    }
+}
+
+// A yes as a number: 1, and 0 for a no.
+fn flag(b: bool) -> u32
+    ensures { λ r. ⌜ r ≡ cond b 1 0 ⌝ }
+{
+    if b { 1 } else { 0 }
+}
+
+// The numbers of a first-value question's answer. Ruled out: a reference in a refused answer, and type and data in each other's place.
+pub fn first_numbers(a: FirstAnswer) -> FirstNumbers
+    ensures { λ r. ⌜ r ≡ firstNumbersOf a ⌝ }
+{
+    match a {
+        FirstAnswer::Found {
+            kind,
+            data,
+            reference,
+        } => FirstNumbers {
+            refusal: 0,
+            value: 0,
+            kind: kind,
+            data: data,
+            reference: flag(reference),
+        },
+        FirstAnswer::Refused(e) => FirstNumbers {
+            refusal: refusal_number(e),
+            value: refusal_value(e),
+            kind: 0,
+            data: 0,
+            reference: 0,
+        },
+    }
+}
