@@ -3,19 +3,19 @@
 -- holds, q * 2 ^ 8 / 2 ^ k and q * (2 ^ 25 + 3) / 2 ^ (k + 17), and rounding keeps the order. No contract cites this file.
 use mathlib.Core.Path.{_≡_, refl, sym, ap, _∙_, subst}
 use mathlib.Core.Logic.{inl, inr}
-use mathlib.Core.Bool.{Bool, true, false, true≢false}
+use mathlib.Core.Bool.{true, false, not}
 use Prim.Native.Nat.{ℕ, zero, suc, _+_, _*_, _^_, _≤_, _<_}
 use native.Mathlib.Nat.{mul-assoc, mul-one, mul-right-comm, mul-le-mul-left, lt-of-lt-of-le, eq-zero-or-pos, mul-pos, le-trans, le-of-eq}
 use native.Mathlib.Omega.{arith}
 use lib.Dec.{T, ltb, lit<, lit≤}
 use lib.Pow.{pow-pos, pow-mono, pow-add, shl-lt}
 use lib.IntN.{ℤ, pos, negsuc}
-use lib.Ieee.{Float, nan, inf, fin, binary64, round, ofInt, mul, up, down, le}
+use lib.Ieee.{Float, nan, inf, fin, isNan, binary64, round, ofInt, mul, up, down, le}
 use lib.Ieee.Exact.{HasValue, round-exact}
 use lib.Ieee.Back.{round-whole}
 use lib.Ieee.Order.{round-mono}
 use lib.Ieee.Positive.{num, den, positive, den-pos, own-value, positive-of-value, values-of-le, between, mul-at}
-use Rattle.common.specs.Complex.{mult, places, Within, Complex}
+use Rattle.common.specs.Complex.{mantissa, radix, mult, places, Within, Complex}
 
 -- a value of at most 53 digits, moved up by at most 1082 places, is far below the largest
 fine : (q j : ℕ) → q < 2 ^ 53 → j ≤ 1082 → q * 2 ^ j < 2 ^ 2098
@@ -134,3 +134,13 @@ mult-literal = (refl, refl, refl, refl)
 -- what is multiplied and by what settles the value
 pub Complex-unique : (d : ℕ) (r r′ : Float) → Complex d r → Complex d r′ → r ≡ r′
 Complex-unique d r r′ a b = a .product ∙ sym (b .product)
+
+-- it is never a NaN, so its bits may be read
+within-number : (n : ℕ) (r : Float) (a c : ℕ) → Within n r a c → T (not (isNan r))
+unfolding isNan
+within-number n nan a c w = absurd w
+within-number n (inf s) a c w = absurd w
+within-number n (fin s m e) a c w = tt
+
+pub Complex-number : (d : ℕ) (r : Float) → Complex d r → T (not (isNan r))
+Complex-number d r h = within-number 10000000 r (mantissa d) (2 ^ places (radix d)) (h .near)

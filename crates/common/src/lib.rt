@@ -27,13 +27,15 @@ pub struct StringIndex(pub u32);
 // The id of a resource: package, type and entry. Never a string index.
 pub struct ResourceId(pub u32);
 
-// The 8 bytes at the front of a chunk: its type, the size that it gives its header, and the size that it gives the whole chunk.
+// The 8 bytes at the front of a chunk: its type (the Rust's `type_`), the size that it gives its header, and the size that it gives
+// the whole chunk.
 pub struct ResChunkHeader {
     pub kind: u32,
     pub header_size: u32,
     pub size: u32,
 }
 
+// The header, or that fewer than its 8 bytes are left.
 pub enum HeaderRead {
     Whole(ResChunkHeader),
     Short,
@@ -91,7 +93,7 @@ pub enum ResourceHeaderType {
     Unknown(u32),
 }
 
-// Ruled out: a name for 0x105 because it lies between two named numbers, and the low byte of a number alone.
+// The type of a number. Ruled out: a name for 0x105 because it lies between two named numbers, and the type of the low byte alone.
 pub fn header_type_of(n: u32) -> ResourceHeaderType
     ensures { λ r. ⌜ r ≡ headerTypeOf n ⌝ }
 {
@@ -118,7 +120,7 @@ pub fn header_type_of(n: u32) -> ResourceHeaderType
     }
 }
 
-// The number of a type: `header_type_of` there and back. Ruled out: 0 for an unknown type, and a number's place among the names.
+// The number of a type; of `header_type_of(n)` it is n. Ruled out: 0 for an unknown type, and its place among the names.
 pub fn header_type_number(t: ResourceHeaderType) -> u32
     ensures { λ r. ⌜ r ≡ headerTypeNumber t ⌝ }
 {
@@ -145,7 +147,7 @@ pub fn header_type_number(t: ResourceHeaderType) -> u32
     }
 }
 
-// Ruled out: any name for a header whose `header_size` is its type's number, and a test of the size.
+// The type of a chunk with this header. Ruled out: the type of the number in `header_size`, and Unknown where the size is below 8.
 pub fn header_type(h: ResChunkHeader) -> ResourceHeaderType
     ensures { λ r. ⌜ r ≡ headerTypeOf (h .kind) ⌝ }
 {

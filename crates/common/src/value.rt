@@ -34,7 +34,7 @@ pub enum ResourceValueType {
     Unknown(u32),
 }
 
-// Ruled out: Reference for 257 (the low byte alone), and Dec for 9 (the place among the names).
+// The type of a number. Ruled out: Reference for 257 (the low byte alone), and Dec for 9 (the place among the names).
 pub fn value_type_of(n: u32) -> ResourceValueType
     ensures { λ r. ⌜ r ≡ valueTypeOf n ⌝ }
 {
@@ -59,7 +59,7 @@ pub fn value_type_of(n: u32) -> ResourceValueType
     }
 }
 
-// The number of a type: `value_type_of` there and back. Ruled out: 0 for an unknown type, and a number's place among the names.
+// The number of a type; of `value_type_of(n)` it is n. Ruled out: 0 for an unknown type, and its place among the names.
 pub fn value_type_number(t: ResourceValueType) -> u32
     ensures { λ r. ⌜ r ≡ valueTypeNumber t ⌝ }
 {

@@ -1,0 +1,1 @@
+-- The node file of the program's proofs.

@@ -1,0 +1,57 @@
+// The numbers of one anomaly of each kind, and of one refusal of each.
+use crate::print;
+use crate::print_end;
+use anomaly::ResAnomaly;
+use anomaly::note_of;
+use errors::ReadAnswer;
+use errors::Refusal;
+use errors::read_numbers;
+use libc::STDOUT_FILENO;
+
+fn print_note(x: ResAnomaly) {
+    let n = note_of(x);
+    print(b"kind=", n.kind);
+    print(b" a=", n.a);
+    print(b" b=", n.b);
+    print_end();
+}
+
+pub fn print_notes() {
+    print_note(ResAnomaly::StringPoolGarbageChunk(500, 600));
+    print_note(ResAnomaly::StringCountMismatch(501, 601));
+    print_note(ResAnomaly::StringOffsetsOutOfBounds(502));
+    print_note(ResAnomaly::NonXmlChunk(503));
+    print_note(ResAnomaly::XmlNodeHeaderSize(504));
+    print_note(ResAnomaly::UnknownChunk(505));
+    print_note(ResAnomaly::AttributeStartShifted(506));
+    print_note(ResAnomaly::AttributeSizeMismatch(507));
+    print_note(ResAnomaly::ElementTrailingBytes(508));
+    print_note(ResAnomaly::InvalidElementName(509, 1));
+    print_note(ResAnomaly::InvalidAttributeName(510));
+    print_note(ResAnomaly::TruncatedXml);
+    print_note(ResAnomaly::UnclosedElements(512));
+}
+
+fn print_refusal(r: Refusal) {
+    let n = read_numbers(ReadAnswer::Refused(r));
+    print(b"refusal=", n.refusal);
+    io::write_all(STDOUT_FILENO, b" value=");
+    io::print_decimal(STDOUT_FILENO, n.value);
+    print_end();
+}
+
+pub fn print_refusals() {
+    print_refusal(Refusal::TooSmallError(5));
+    print_refusal(Refusal::TooLargeError);
+    print_refusal(Refusal::HeaderSizeError(16));
+    print_refusal(Refusal::StringPoolError);
+    print_refusal(Refusal::ResourceMapError);
+    print_refusal(Refusal::MissingRoot);
+    print_refusal(Refusal::SystemNamesError(7000));
+    print_refusal(Refusal::NodesFull(8000));
+    print_refusal(Refusal::AttributesFull(9000));
+    print_refusal(Refusal::NotesFull(10000));
+    print_refusal(Refusal::TextShort(11000));
+    print_refusal(Refusal::NothingFound);
+    print_refusal(Refusal::TablesError(13000));
+}
