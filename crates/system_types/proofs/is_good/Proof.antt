@@ -1,0 +1,61 @@
+-- `system_types::is_good` meets its contract: the rule's parts are tried in their order (the cases of proofs/Laws.antt).
+use mathlib.Core.Path.{sym, _∙_}
+use native.Mathlib.Omega.{arith}
+use denote.Ref.{now}
+use Rattle.system_types.proofs.Laws.{isGood-falls, isGood-top, isGood-empty, isGood-past, isGood-by}
+use borrow.Author.Needs.{needs}
+use Rattle.system_types.proofs.is_good.Statement.{statement}
+use Rattle.system_types.proofs.is_good.Tie as tie
+
+returns : tie.Need-returns
+returns c = let a = c .before .before .args in sym (isGood-falls (now (a .area)) (a .last) (a .id) (a .start) (a .n) (omega arith))
+
+returns-2 : tie.Need-returns-2
+returns-2 c = let a = c .before .before .before .args in sym (isGood-top (now (a .area)) (a .last) (a .id) (a .start) (a .n) (omega arith) (c .if2 .taken))
+
+returns-3 : tie.Need-returns-3
+returns-3 c =
+    let a = c .before .before .before .before .args in
+    sym (isGood-empty (now (a .area)) (a .last) (a .id) (a .start) (a .n) (omega arith) (c .before .if2 .left) (omega arith))
+
+add-to : tie.Need-add-to
+add-to c = search needs
+
+returns-4 : tie.Need-returns-4
+returns-4 c =
+    let a = c .before .before .before .before .before .args in
+    sym (isGood-past (now (a .area)) (a .last) (a .id) (a .start) (a .n) (omega arith) (c .before .before .if2 .left) (omega arith) (omega arith))
+
+sub-all-ascii : tie.Need-sub-all-ascii
+sub-all-ascii c = search needs
+
+part-all-ascii-start : tie.Need-part-all-ascii-start
+part-all-ascii-start c = search needs
+
+part-all-ascii-end : tie.Need-part-all-ascii-end
+part-all-ascii-end c = search needs
+
+all-ascii-requires : tie.Need-all-ascii-requires
+all-ascii-requires c κs = search needs
+
+returns-5 : tie.Need-returns-5
+returns-5 c =
+    let a = c .before .before .before .before .before .before .before .args in
+    let top = c .before .before .before .before .if2 .left in
+    let by = isGood-by (now (a .area)) (a .last) (a .id) (a .start) (a .n) (omega arith) top (omega arith) (omega arith) in
+    c .all-ascii .ensures ∙ sym by
+
+pub is-good-spec : {M : Type 1} → statement M
+is-good-spec =
+    tie.close
+    (tie.spec
+    returns
+    returns-2
+    returns-3
+    add-to
+    returns-4
+    sub-all-ascii
+    part-all-ascii-start
+    part-all-ascii-end
+    all-ascii-requires
+    returns-5)

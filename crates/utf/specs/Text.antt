@@ -1,0 +1,107 @@
+-- The text of some bytes, in UTF-16 (wide) or UTF-8, and how it was damaged: The Unicode Standard, chapter 3, and its section 3.9 on U+FFFD.
+--
+--   stepsOf    the steps through the bytes, from the front: after a step of n bytes the next begins n bytes on
+--   bytesOf    the steps' values as UTF-8; each bad step, a maximal subpart, is one U+FFFD
+--   isSound    no step is bad
+--   refused    UTF-16 with a step that is bad, an unpaired surrogate: it is the empty text
+--   textOf     the text as UTF-8: `bytesOf` of the steps, and nothing where it is refused
+--   damageOf   `whole`; `replaced n` by n times U+FFFD, n not 0 (UTF-8 only); `unpaired` (UTF-16 only). `cut` is for those who have no bytes to
+--              read, because the string is cut or lies outside its pool
+--   eqBytes    the two lists are the same
+--   Took       what is told of the step at a place inside; Paired: of the steps at two places
+use mathlib.Core.Path.{_≡_}
+use Prim.Native.Nat.{ℕ, zero, suc, _-_, _≤_, _<_}
+use mathlib.Core.Bool.{Bool, true, false, not, _&&_, cond}
+use mathlib.Core.List.{List, [], _∷_, _++_}
+use lib.Dec.{eqb}
+use lib.ListN.{drop}
+use Rattle.utf.specs.Utf8.{encode, step8}
+use Rattle.utf.specs.Utf16.{step16}
+use Rattle.utf.specs.declared.Step.{Step}
+use Rattle.utf.specs.declared.Step.the-variants.{Scalar, Bad, End}
+
+-- ---- a step: what it stands for, how far it goes, and whether it is sound
+
+abbrev pub stepOf : Bool → List ℕ → Step
+stepOf false s = step8 s
+stepOf true s = step16 s
+
+abbrev pub valueOf : Step → ℕ
+valueOf (Scalar v n) = v
+valueOf (Bad n) = 0xfffd
+valueOf End = 0
+
+abbrev pub widthOf : Step → ℕ
+widthOf (Scalar v n) = n
+widthOf (Bad n) = n
+widthOf End = 0
+
+abbrev pub soundOf : Step → Bool
+soundOf (Scalar v n) = true
+soundOf (Bad n) = false
+soundOf End = false
+
+pub record Took (wide : Bool) (s : List ℕ) (at value width : ℕ) (sound : Bool) : Type 0 where
+  pub value-is : value ≡ valueOf (stepOf wide (drop at s))
+  pub width-is : width ≡ widthOf (stepOf wide (drop at s))
+  pub sound-is : sound ≡ soundOf (stepOf wide (drop at s))
+  pub small : value < 0x110000
+  pub least : 1 ≤ width
+  pub most : width ≤ 4
+
+-- ---- the steps: k bytes are left of a step that has been taken
+
+unfoldable pub stepsAfter : Bool → ℕ → List ℕ → List Step
+stepsAfter wide k [] = []
+stepsAfter wide zero (b ∷ s) = let t = stepOf wide (b ∷ s) in t ∷ stepsAfter wide (widthOf t - 1) s
+stepsAfter wide (suc k) (b ∷ s) = stepsAfter wide k s
+
+abbrev pub stepsOf : Bool → List ℕ → List Step
+stepsOf wide s = stepsAfter wide 0 s
+
+-- ---- readings of the steps
+
+unfoldable pub bytesOf : List Step → List ℕ
+unfolding encode
+bytesOf [] = []
+bytesOf (t ∷ ts) = encode (valueOf t) ++ bytesOf ts
+
+unfoldable pub allSound : List Step → Bool
+allSound [] = true
+allSound (t ∷ ts) = soundOf t && allSound ts
+
+unfoldable pub badCount : List Step → ℕ
+badCount [] = 0
+badCount (t ∷ ts) = cond (soundOf t) (badCount ts) (suc (badCount ts))
+
+-- ---- the text
+
+abbrev pub isSound : Bool → List ℕ → Bool
+isSound wide s = allSound (stepsOf wide s)
+
+abbrev pub refused : Bool → List ℕ → Bool
+refused wide s = wide && not (isSound wide s)
+
+unfoldable pub textOf : Bool → List ℕ → List ℕ
+textOf wide s = cond (refused wide s) [] (bytesOf (stepsOf wide s))
+
+pub data Damage : Type 0 where
+  whole : Damage
+  replaced : ℕ → Damage
+  unpaired : Damage
+  cut : Damage
+
+unfoldable pub damageOf : Bool → List ℕ → Damage
+unfolding allSound badCount
+damageOf wide s = cond (isSound wide s) whole (cond wide unpaired (replaced (badCount (stepsOf wide s))))
+
+unfoldable pub eqBytes : List ℕ → List ℕ → Bool
+eqBytes [] [] = true
+eqBytes [] (y ∷ ys) = false
+eqBytes (x ∷ xs) [] = false
+eqBytes (x ∷ xs) (y ∷ ys) = eqb x y && eqBytes xs ys
+
+pub record Paired (wa : Bool) (a : List ℕ) (i : ℕ) (wb : Bool) (b : List ℕ) (j : ℕ) (same : Bool) (i′ j′ : ℕ) : Type 0 where
+  pub bytes : eqBytes (bytesOf (stepsOf wa (drop i a))) (bytesOf (stepsOf wb (drop j b)))
+      ≡ same && eqBytes (bytesOf (stepsOf wa (drop i′ a))) (bytesOf (stepsOf wb (drop j′ b)))
+  pub later : i < i′
