@@ -8,7 +8,8 @@ use native.Mathlib.Omega.{arith}
 use lib.ListN.{length, take, drop, length-append, take-append-drop}
 use lib.Seq.{drop-drop, sets, sets-eq, length-sets, take-at, drop-at, length-take-le}
 use Rattle.utf.specs.Utf8.{encode}
-use Rattle.utf.specs.Text.{Took, stepsOf, bytesOf}
+use Rattle.utf.specs.Text.{stepsOf, bytesOf}
+use Rattle.utf.specs.Told.{Took}
 use Rattle.utf.proofs.Scalars.{encode-length-le}
 use Rattle.utf.proofs.Turns.{turn-bytes, end-bytes}
 

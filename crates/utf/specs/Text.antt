@@ -8,13 +8,10 @@
 --   damageOf   `whole`; `replaced n` by n times U+FFFD, n not 0 (UTF-8 only); `unpaired` (UTF-16 only). `cut` is for those who have no bytes to
 --              read, because the string is cut or lies outside its pool
 --   eqBytes    the two lists are the same
---   Took       what is told of the step at a place inside; Paired: of the steps at two places
-use mathlib.Core.Path.{_≡_}
-use Prim.Native.Nat.{ℕ, zero, suc, _-_, _≤_, _<_}
+use Prim.Native.Nat.{ℕ, zero, suc, _-_}
 use mathlib.Core.Bool.{Bool, true, false, not, _&&_, cond}
 use mathlib.Core.List.{List, [], _∷_, _++_}
 use lib.Dec.{eqb}
-use lib.ListN.{drop}
 use Rattle.utf.specs.Utf8.{encode, step8}
 use Rattle.utf.specs.Utf16.{step16}
 use Rattle.utf.specs.declared.Step.{Step}
@@ -40,14 +37,6 @@ abbrev pub soundOf : Step → Bool
 soundOf (Scalar v n) = true
 soundOf (Bad n) = false
 soundOf End = false
-
-pub record Took (wide : Bool) (s : List ℕ) (at value width : ℕ) (sound : Bool) : Type 0 where
-  pub value-is : value ≡ valueOf (stepOf wide (drop at s))
-  pub width-is : width ≡ widthOf (stepOf wide (drop at s))
-  pub sound-is : sound ≡ soundOf (stepOf wide (drop at s))
-  pub small : value < 0x110000
-  pub least : 1 ≤ width
-  pub most : width ≤ 4
 
 -- ---- the steps: k bytes are left of a step that has been taken
 
@@ -100,8 +89,3 @@ eqBytes [] [] = true
 eqBytes [] (y ∷ ys) = false
 eqBytes (x ∷ xs) [] = false
 eqBytes (x ∷ xs) (y ∷ ys) = eqb x y && eqBytes xs ys
-
-pub record Paired (wa : Bool) (a : List ℕ) (i : ℕ) (wb : Bool) (b : List ℕ) (j : ℕ) (same : Bool) (i′ j′ : ℕ) : Type 0 where
-  pub bytes : eqBytes (bytesOf (stepsOf wa (drop i a))) (bytesOf (stepsOf wb (drop j b)))
-      ≡ same && eqBytes (bytesOf (stepsOf wa (drop i′ a))) (bytesOf (stepsOf wb (drop j′ b)))
-  pub later : i < i′

@@ -14,7 +14,8 @@ ghost use Prim.Native.Nat.{_+_, _≤_, _<_};
 ghost use mathlib.Core.Bool.{_&&_};
 ghost use mathlib.Core.List.{_++_};
 ghost use lib.ListN.{length, drop};
-ghost use Rattle.utf.specs.Text.{stepOf, valueOf, widthOf, soundOf, Took, stepsOf, bytesOf, isSound, refused, textOf, eqBytes, Paired};
+ghost use Rattle.utf.specs.Text.{stepOf, valueOf, widthOf, soundOf, stepsOf, bytesOf, isSound, refused, textOf, eqBytes};
+ghost use Rattle.utf.specs.Told.{Took, Paired};
 
 pub enum Step {
     // a scalar value, and how many bytes it took
@@ -99,7 +100,8 @@ pub fn is_sound(wide: bool, s: &[u8]) -> bool
 }
 
 // Whether the text is empty because a surrogate of its UTF-16 stands alone.
-fn is_refused(wide: bool, s: &[u8]) -> bool
+// Ruled out: true of any UTF-8; false of 00 D8, a high surrogate at the end.
+pub fn is_refused(wide: bool, s: &[u8]) -> bool
     ensures { λ r. ⌜ r ≡ refused wide (now (s .entry)) ⌝ }
 {
     if wide {

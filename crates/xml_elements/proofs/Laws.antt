@@ -152,7 +152,8 @@ xmlTurn-told l kind h =
     (λ _. cond-by (Told l) (eqb kind 0x104) (λ _. cond-by (Told l) (ltb (length l) 28) (λ _. (omega arith, w)) (λ q. (omega arith, ltb-false _ _ q)))
     (λ _. cond-by (Told l) (ltb (length l) 24) (λ _. (omega arith, w)) (λ q. (omega arith, ltb-false _ _ q)))))))
 
-foreign-told : (l : List ℕ) (h : ResChunkHeader) → headerOf l ≡ Whole h → (sortOf h ≡ 2 → ⊥) → Told l (Foreign (sortOf h) (numberOf h) (foreignLen (length l) h))
+foreign-told : (l : List ℕ) (h : ResChunkHeader) → headerOf l ≡ Whole h → (sortOf h ≡ 2 → ⊥)
+    → Told l (Foreign (sortOf h) (numberOf h) (foreignLen (length l) h))
 foreign-told l h w n = (sortOf-lt h n, omega (arith, foreignLen-lt (length l) h), foreignLen-le (length l) h (headerOf-long l w))
 
 pub turnOf-told : (l : List ℕ) → Told l (turnOf l)

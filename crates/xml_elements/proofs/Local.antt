@@ -107,7 +107,8 @@ module _ (c m m′ : List ℕ) where
             ) e
 
     -- a chunk of n bytes that is cut if they are not there
-    fixed-same : (n : ℕ) (y : CutChunk) (z : Chunk) → lenOf z ≡ n → (b : Bool) → cond b (Cut y) (Met z) ≡ Met x → cond (ltb (length (c ++ m′)) n) (Cut y) (Met z) ≡ Met x
+    fixed-same : (n : ℕ) (y : CutChunk) (z : Chunk) → lenOf z ≡ n → (b : Bool) → cond b (Cut y) (Met z) ≡ Met x
+        → cond (ltb (length (c ++ m′)) n) (Cut y) (Met z) ≡ Met x
     fixed-same n y z e true q = not-met q (λ i. i)
     fixed-same n y z e false q = rw (longer n (rw e at (within q))) q
 

@@ -34,7 +34,14 @@ index n = record { 0 = n }
 
 -- behind the header line and comment, 8 bytes; then namespace, name, the three numbers of its attributes, and 6 bytes without effect
 unfoldable pub startOf : List ℕ → XmlStartElement
-startOf l = record { size = u32le l 4; line = u32le l 8; name = index (u32le l 20); «attribute_start» = u16le l 24; «attribute_size» = u16le l 26; «attribute_count» = u16le l 28 }
+startOf l = record {
+  size = u32le l 4;
+  line = u32le l 8;
+  name = index (u32le l 20);
+  «attribute_start» = u16le l 24;
+  «attribute_size» = u16le l 26;
+  «attribute_count» = u16le l 28;
+}
 
 -- the excess of attribute_start over 20 is skipped
 abbrev pub gapOf : XmlStartElement → ℕ

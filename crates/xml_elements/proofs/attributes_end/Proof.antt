@@ -21,7 +21,9 @@ add-result : tie.Need-add-result
 add-result c = omega (arith, attributes-fit (c .before .before .before .args .s .«attribute_count») (c .stride-of .result) (omega arith) (omega arith))
 
 returns : tie.Need-returns
-returns c = (rw (c .stride-of .ensures .0) (omega arith), omega (arith, attributes-fit (c .before .before .before .args .s .«attribute_count») (c .stride-of .result) (omega arith) (omega arith)))
+returns c =
+    let fit = attributes-fit (c .before .before .before .args .s .«attribute_count») (c .stride-of .result) (omega arith) (omega arith) in
+    (rw (c .stride-of .ensures .0) (omega arith), omega arith)
 
 pub attributes-end-spec : {M : Type 1} → statement M
 attributes-end-spec =

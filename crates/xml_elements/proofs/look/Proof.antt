@@ -22,19 +22,34 @@ xml-turn-requires : tie.Need-xml-turn-requires
 xml-turn-requires c κs = search needs
 
 returns : tie.Need-returns
-returns c = let w = sym (c .before .before .before .before .before .before .header-at .ensures) ∙ c .before .before .before .before .read .given .1 in c .xml-turn .ensures ∙ sym (turnOf-xml (c .before .before .before .before .before .before .before .before .args .l .now) w (sym (c .before .before .sort-of .ensures) ∙ c .before .if1 .taken))
+returns c =
+    let at-header = c .before .before .before .before .before .before in
+    let w = sym (at-header .header-at .ensures) ∙ c .before .before .before .before .read .given .1 in
+    c .xml-turn .ensures ∙ sym (turnOf-xml (at-header .before .before .args .l .now) w (sym (c .before .before .sort-of .ensures) ∙ c .before .if1 .taken))
 
 skip-content-requires : tie.Need-skip-content-requires
-skip-content-requires c κs = headerOf-long (c .before .before .before .before .before .before .before .args .l .now) (sym (c .before .before .before .before .before .header-at .ensures) ∙ c .before .before .before .read .given .1)
+skip-content-requires c κs =
+    let at-header = c .before .before .before .before .before in
+    headerOf-long (at-header .before .before .args .l .now) (sym (at-header .header-at .ensures) ∙ c .before .before .before .read .given .1)
 
 returns-2 : tie.Need-returns-2
-returns-2 c = let w = sym (c .before .before .before .before .before .before .before .header-at .ensures) ∙ c .before .before .before .before .before .read .given .1 in turnOf-foreign-0 (c .before .before .before .before .before .before .before .before .before .args .l .now) (c .before .skip-content .result) w (sym (c .before .before .before .sort-of .ensures) ∙ c .if2 .taken) (c .before .skip-content .ensures)
+returns-2 c =
+    let at-header = c .before .before .before .before .before .before .before in
+    let w = sym (at-header .header-at .ensures) ∙ c .before .before .before .before .before .read .given .1 in
+    let content = c .before .skip-content in
+    turnOf-foreign-0 (at-header .before .before .args .l .now) (content .result) w (sym (c .before .before .before .sort-of .ensures) ∙ c .if2 .taken) (content .ensures)
 
 returns-3 : tie.Need-returns-3
 returns-3 c = sym (turnOf-stop (c .before .before .before .before .args .l .now) (sym (c .before .before .header-at .ensures) ∙ c .enum-told .given .1))
 
 returns-4 : tie.Need-returns-4
-returns-4 c = let w = sym (c .before .before .before .before .before .before .before .header-at .ensures) ∙ c .before .before .before .before .before .read .given .1 in let e = c .before .before .before .sort-of .ensures in rw e (turnOf-foreign-1 (c .before .before .before .before .before .before .before .before .before .args .l .now) (c .before .skip-content .result) w (λ z. c .before .before .if1 .left (e ∙ z)) (λ z. c .if2 .left (e ∙ z)) (c .before .skip-content .ensures))
+returns-4 c =
+    let at-header = c .before .before .before .before .before .before .before in
+    let w = sym (at-header .header-at .ensures) ∙ c .before .before .before .before .before .read .given .1 in
+    let content = c .before .skip-content in
+    let e = c .before .before .before .sort-of .ensures in
+    let other = turnOf-foreign-1 (at-header .before .before .args .l .now) (content .result) w in
+    rw e (other (λ z. c .before .before .if1 .left (e ∙ z)) (λ z. c .if2 .left (e ∙ z)) (content .ensures))
 
 pub look-spec : {M : Type 1} → statement M
 look-spec =

@@ -18,22 +18,33 @@ attributes-at-requires : tie.Need-attributes-at-requires
 attributes-at-requires c κs = search needs
 
 returns-2 : tie.Need-returns-2
-returns-2 c = startTurn-gap (c .before .before .before .before .before .args .l .now) (c .before .before .start-at .result) (c .before .before .start-at .ensures) (omega arith) (omega arith)
+returns-2 c =
+    let at-start = c .before .before in
+    startTurn-gap (at-start .before .before .before .args .l .now) (at-start .start-at .result) (at-start .start-at .ensures) (omega arith) (omega arith)
 
 attributes-end-requires : tie.Need-attributes-end-requires
 attributes-end-requires c κs = search needs
 
 returns-3 : tie.Need-returns-3
-returns-3 c = startTurn-attributes (c .before .before .before .before .before .before .before .args .l .now) (c .before .before .before .before .start-at .result) (c .before .before .before .before .start-at .ensures) (omega arith) (omega arith) (omega arith)
+returns-3 c =
+    let at-start = c .before .before .before .before in
+    let l = at-start .before .before .before .args .l .now in
+    startTurn-attributes l (at-start .start-at .result) (at-start .start-at .ensures) (omega arith) (omega arith) (omega arith)
 
 start-len-requires : tie.Need-start-len-requires
 start-len-requires c κs = search needs
 
 returns-4 : tie.Need-returns-4
-returns-4 c = startTurn-trailing (c .before .before .before .before .before .before .before .before .before .args .l .now) (c .before .before .before .before .before .before .start-at .result) (c .before .before .before .before .before .before .start-at .ensures) (omega arith) (omega arith) (omega arith)
+returns-4 c =
+    let at-start = c .before .before .before .before .before .before in
+    let l = at-start .before .before .before .args .l .now in
+    startTurn-trailing l (at-start .start-at .result) (at-start .start-at .ensures) (omega arith) (omega arith) (omega arith)
 
 returns-5 : tie.Need-returns-5
-returns-5 c = startTurn-whole (c .before .before .before .before .before .before .before .before .before .args .l .now) (c .before .before .before .before .before .before .start-at .result) (c .before .before .before .before .before .before .start-at .ensures) (omega arith) (omega arith)
+returns-5 c =
+    let at-start = c .before .before .before .before .before .before in
+    let l = at-start .before .before .before .args .l .now in
+    startTurn-whole l (at-start .start-at .result) (at-start .start-at .ensures) (omega arith) (omega arith)
 
 pub start-turn-spec : {M : Type 1} → statement M
 start-turn-spec =

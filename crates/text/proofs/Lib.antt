@@ -1,0 +1,4 @@
+-- The node file of the crate's proofs.
+pub mod Parts
+pub mod Index
+pub mod Read

@@ -1,0 +1,57 @@
+-- Where the code found a text, read back as what it stands for, and what the code relies on: places lie inside.
+use Prim.Native.Nat.{ℕ, _+_, _*_, _≤_}
+use mathlib.Core.Path.{_≡_}
+use mathlib.Core.List.{List, _++_}
+use mathlib.Core.Bool.{Bool, true, false}
+use lib.ListN.{length, take, drop}
+use Rattle.system_types.specs.Names.{namesOf, allAscii}
+use Rattle.system_types.specs.declared.NamesRead.the-variants.{Good}
+use Rattle.text.specs.declared.Head.{Head}
+use Rattle.text.specs.declared.Found.{Found}
+use Rattle.text.specs.declared.Found.the-variants.{Nothing, Cut, System, Pool}
+use Rattle.text.specs.Content.{Content, none, cut, some, contentOf}
+
+-- the head's places lie in t, whose length a file keeps to
+pub record Fits (t : List ℕ) (h : Head) : Type 0 where
+  pub short : length t ≤ 16777216
+  pub offsets : h .offsets + 4 * h .count ≤ length t
+  pub strings : h .strings + h .size ≤ length t
+  pub ids : h .map + 4 * h .ids ≤ length t
+
+-- what every question of an index asks: a head that fits, names that keep their rule
+pub record Asks (t names area : List ℕ) (h : Head) : Type 0 where
+  pub fits : Fits t h
+  pub good : namesOf area names ≡ Good
+
+abbrev pub partOf : Bool → List ℕ → List ℕ → Found → Content
+partOf w t area Nothing = none
+partOf w t area Cut = cut
+partOf w t area (System at n) = some false (take n (drop at area))
+partOf w t area (Pool at n) = some w (take n (drop at t))
+
+-- a part lies in what was lent, and a system name is ASCII
+abbrev pub Inside : List ℕ → List ℕ → Found → Type 0
+Inside t area Nothing = Unit {0}
+Inside t area Cut = Unit {0}
+Inside t area (System at n) = (at + n ≤ length area) × (allAscii (take n (drop at area)) ≡ true)
+Inside t area (Pool at n) = at + n ≤ length t
+
+-- r stands for c
+pub record Stands (w : Bool) (t area : List ℕ) (c : Content) (r : Found) : Type 0 where
+  pub same : partOf w t area r ≡ c
+  pub inside : Inside t area r
+
+abbrev pub Finds : List ℕ → List ℕ → List ℕ → Head → ℕ → Found → Type 0
+Finds t names area h i r = Stands (h .wide) t area (contentOf h t names area i) r
+
+-- whether there is a text
+abbrev pub isFound : Found → Bool
+isFound Nothing = false
+isFound Cut = true
+isFound (System at n) = true
+isFound (Pool at n) = true
+
+-- the text at the front of a lent buffer, of n bytes, and what stood behind it
+pub record Wrote (text before after : List ℕ) (n : ℕ) : Type 0 where
+  pub count : n ≡ length text
+  pub bytes : after ≡ text ++ drop (length text) before

@@ -1,0 +1,300 @@
+// The text of a string index: a lent system name, else a string of the pool, else none.
+//
+// Mirrors structs/res_string_pool.rs (apk-info 13770539b8): `get`, `get_with_resources`, `contains_with_resources`.
+// A text is never copied: the code answers where it lies (`Found`). Definitions: specs/Content.antt, specs/Found.antt.
+ghost use mathlib.Core.Path.{_≡_};
+ghost use mathlib.Core.List.{_++_, List};
+ghost use mathlib.Core.Bool.{Bool, true};
+ghost use Prim.Native.Nat.{_+_, _≤_};
+ghost use lib.ListN.{length, take, drop};
+ghost use Rattle.system_types.specs.Names.{allAscii};
+ghost use Rattle.system_types.specs.declared.Lookup.the-variants.{Name};
+ghost use Rattle.utf.specs.Text.{textOf};
+ghost use Rattle.text.specs.Content.{namedBy, systemOf, stringAt, stringOf, contentOf, rawOf, textIn, hasText, validBy, stateIn, sameText, isText};
+ghost use Rattle.text.specs.Found.{Fits, Asks, partOf, Inside, Stands, Finds, isFound, Wrote};
+use common::StringIndex;
+use field::u32_at;
+use res_string_pool::Split;
+use res_string_pool::split_string;
+use resource_map::id_at;
+use system_types::Lookup;
+use system_types::get_type_name;
+use system_types::without_attr;
+use utf::is_sound;
+use utf::same_text;
+use utf::text_into;
+use utf::text_len;
+use xml::valid_name;
+
+// What texts are read by: the pool's numbers and the map's, as places in the bytes behind the file's header.
+pub struct Head {
+    pub wide: bool,
+    pub count: u32,
+    pub offsets: usize,
+    pub strings: usize,
+    pub size: usize,
+    pub map: usize,
+    pub ids: u32,
+}
+
+// Where the text of an index lies.
+pub enum Found {
+    // no text
+    Nothing,
+    // a string that is cut or outside: an empty text
+    Cut,
+    // first byte and length in the area of the system names
+    System(usize, usize),
+    // first byte and length in the bytes behind the file's header
+    Pool(usize, usize),
+}
+
+// Whether an index has a text, and whether this is a valid name.
+pub enum NameState {
+    NoText,
+    Invalid,
+    Valid,
+}
+
+// ---- the system name
+
+// The name at a part of the area, without one leading `android:attr/`.
+fn stripped(area: &[u8], start: usize, n: usize) -> Found
+    requires { ⌜ (start + n ≤ length (now area)) × (allAscii (take n (drop start (now area))) ≡ true) ⌝ }
+    ensures { λ r. ⌜ ((w : Bool) (t : List _) → Stands w t (now (area .entry)) (namedBy (now (area .entry)) (Name start n)) r) ⌝ }
+{
+    let name = &area[start..start + n];
+    let rest = without_attr(name);
+    Found::System(start + n - rest.len(), rest.len())
+}
+
+fn find_system(t: &[u8], names: &[u32], area: &[u8], h: Head, i: u32) -> Found
+    requires { ⌜ Asks (now t) (now names) (now area) h ⌝ }
+    ensures { λ r. ⌜ Stands (h .wide) (now (t .entry)) (now (area .entry)) (systemOf h (now (t .entry)) (now (names .entry)) (now (area .entry)) i) r ⌝ }
+{
+    if h.ids <= i {
+        return Found::Nothing;
+    }
+    let map = h.map;
+    let id = id_at(&t[map..], i as usize);
+    let name = get_type_name(names, id);
+    match name {
+        Lookup::Missing => Found::Nothing,
+        Lookup::Name(start, n) => stripped(area, start as usize, n as usize),
+    }
+}
+
+// ---- the pool string
+
+// The string at the offset o of the data, which is `size` bytes from the place `strings` on.
+fn string_at(t: &[u8], wide: bool, strings: usize, size: usize, o: usize) -> Found
+    requires { ⌜ strings + size ≤ length (now t) ⌝ }
+    ensures { λ r. ⌜ ((area : List _) → Stands wide (now (t .entry)) area (stringAt wide (take size (drop strings (now (t .entry)))) o) r) ⌝ }
+{
+    if size <= o {
+        return Found::Cut;
+    }
+    let split = split_string(wide, &t[strings + o..strings + size]);
+    match split {
+        Split::Cut => Found::Cut,
+        Split::Content(at, n) => Found::Pool(strings + o + at, n),
+    }
+}
+
+fn find_string(t: &[u8], h: Head, i: u32) -> Found
+    requires { ⌜ Fits (now t) h ⌝ }
+    ensures { λ r. ⌜ ((area : List _) → Stands (h .wide) (now (t .entry)) area (stringOf h (now (t .entry)) i) r) ⌝ }
+{
+    if h.count <= i {
+        return Found::Nothing;
+    }
+    let o = u32_at(t, h.offsets + 4 * (i as usize));
+    string_at(t, h.wide, h.strings, h.size, o as usize)
+}
+
+// ---- the text of an index
+
+// Where the text of an index lies.
+// Ruled out: the pool's string where the map's entry has a system name, and no text where that name stands past the pool.
+pub fn find(t: &[u8], names: &[u32], area: &[u8], h: Head, index: StringIndex) -> Found
+    requires { ⌜ Asks (now t) (now names) (now area) h ⌝ }
+    ensures { λ r. ⌜ Finds (now (t .entry)) (now (names .entry)) (now (area .entry)) h (index .0) r ⌝ }
+{
+    let named = find_system(t, names, area, h, index.0);
+    match named {
+        Found::Nothing => find_string(t, h, index.0),
+        Found::Cut => Found::Cut,
+        Found::System(at, n) => Found::System(at, n),
+        Found::Pool(at, n) => Found::Pool(at, n),
+    }
+}
+
+// ---- what was found
+
+pub fn is_found(f: Found) -> bool
+    ensures { λ r. ⌜ r ≡ isFound f ⌝ }
+{
+    match f {
+        Found::Nothing => false,
+        Found::Cut => true,
+        Found::System(_, _) => true,
+        Found::Pool(_, _) => true,
+    }
+}
+
+// Whether an index has a text. No string is looked at: where the pool has one, cut or not, there is a text.
+// Ruled out: no for a string that is cut, and no for an index past the pool whose map entry has a system name.
+pub fn has_text(t: &[u8], names: &[u32], area: &[u8], h: Head, index: StringIndex) -> bool
+    requires { ⌜ Asks (now t) (now names) (now area) h ⌝ }
+    ensures { λ r. ⌜ r ≡ hasText (contentOf h (now (t .entry)) (now (names .entry)) (now (area .entry)) (index .0)) ⌝ }
+{
+    if index.0 < h.count {
+        return true;
+    }
+    let named = find_system(t, names, area, h, index.0);
+    is_found(named)
+}
+
+// The content bytes of what was found, a part of one of two lent slices: never a copy. It is empty for no text, and for a string that
+// is cut or outside.
+// Ruled out: the pool's bytes for a system name, and the closing byte among them.
+pub fn content_of<'a>(t: &'a [u8], area: &'a [u8], f: Found) -> &'a [u8]
+    requires { ⌜ Inside (now t) (now area) f ⌝ }
+    ensures { λ r. ⌜ ((w : Bool) → now r ≡ rawOf (partOf w (now (t .entry)) (now (area .entry)) f)) ⌝ }
+{
+    match f {
+        Found::Nothing => &t[0..0],
+        Found::Cut => &t[0..0],
+        Found::System(at, n) => &area[at..at + n],
+        Found::Pool(at, n) => &t[at..at + n],
+    }
+}
+
+fn state_of(valid: bool) -> NameState
+    ensures { λ r. ⌜ r ≡ validBy valid ⌝ }
+{
+    if valid {
+        return NameState::Valid;
+    }
+    NameState::Invalid
+}
+
+// Whether there is a text, and whether it is a valid name: a string that is cut is an empty text, and no name.
+fn found_state(t: &[u8], area: &[u8], wide: bool, f: Found) -> NameState
+    requires { ⌜ Inside (now t) (now area) f ⌝ }
+    ensures { λ r. ⌜ r ≡ stateIn (partOf wide (now (t .entry)) (now (area .entry)) f) ⌝ }
+{
+    match f {
+        Found::Nothing => NameState::NoText,
+        Found::Cut => NameState::Invalid,
+        Found::System(at, n) => state_of(valid_name(false, &area[at..at + n])),
+        Found::Pool(at, n) => state_of(valid_name(wide, &t[at..at + n])),
+    }
+}
+
+// Whether an index has a text, and whether it is a valid name.
+// Ruled out: a valid name for an empty text, and no text for one that is no valid name.
+pub fn name_state(t: &[u8], names: &[u32], area: &[u8], h: Head, index: StringIndex) -> NameState
+    requires { ⌜ Asks (now t) (now names) (now area) h ⌝ }
+    ensures { λ r. ⌜ r ≡ stateIn (contentOf h (now (t .entry)) (now (names .entry)) (now (area .entry)) (index .0)) ⌝ }
+{
+    let f = find(t, names, area, h, index);
+    found_state(t, area, h.wide, f)
+}
+
+// ---- two texts
+
+// Whether what was found has a text and it is that of the bytes s, in UTF-16 or UTF-8.
+fn same_part(t: &[u8], area: &[u8], wide: bool, wide_s: bool, s: &[u8], f: Found) -> bool
+    requires { ⌜ Inside (now t) (now area) f ⌝ }
+    ensures { λ r. ⌜ r ≡ isText (partOf wide (now (t .entry)) (now (area .entry)) f) (textOf «wide_s» (now (s .entry))) ⌝ }
+{
+    match f {
+        Found::Nothing => false,
+        Found::Cut => same_text(wide, &t[0..0], wide_s, s),
+        Found::System(at, n) => same_text(false, &area[at..at + n], wide_s, s),
+        Found::Pool(at, n) => same_text(wide, &t[at..at + n], wide_s, s),
+    }
+}
+
+// Whether two that were found have texts and these are equal.
+// Ruled out: no for a system name and the pool's string of the same text, and yes for two indices without one.
+pub fn same_found(t: &[u8], area: &[u8], wide: bool, f: Found, g: Found) -> bool
+    requires { ⌜ Inside (now t) (now area) f × Inside (now t) (now area) g ⌝ }
+    ensures { λ r. ⌜ r ≡ sameText (partOf wide (now (t .entry)) (now (area .entry)) f) (partOf wide (now (t .entry)) (now (area .entry)) g) ⌝ }
+{
+    match g {
+        Found::Nothing => false,
+        Found::Cut => same_part(t, area, wide, wide, &t[0..0], f),
+        Found::System(at, n) => same_part(t, area, wide, false, &area[at..at + n], f),
+        Found::Pool(at, n) => same_part(t, area, wide, wide, &t[at..at + n], f),
+    }
+}
+
+// Whether two indices have texts and these are equal.
+// Ruled out: no for two strings of the same text at two offsets, and yes for a text and one that begins with it.
+pub fn same_index(
+    t: &[u8],
+    names: &[u32],
+    area: &[u8],
+    h: Head,
+    i: StringIndex,
+    j: StringIndex,
+) -> bool
+    requires { ⌜ Asks (now t) (now names) (now area) h ⌝ }
+    ensures { λ r. ⌜ r ≡ sameText (contentOf h (now (t .entry)) (now (names .entry)) (now (area .entry)) (i .0)) (contentOf h (now (t .entry)) (now (names .entry)) (now (area .entry)) (j .0)) ⌝ }
+{
+    let f = find(t, names, area, h, i);
+    let g = find(t, names, area, h, j);
+    same_found(t, area, h.wide, f, g)
+}
+
+// Whether an index has a text and its UTF-8 is the lent bytes: bytes that are no UTF-8 are no text's.
+// Ruled out: yes for an index without text and no bytes, and no for UTF-16 and the UTF-8 of the same text.
+pub fn is_index_text(
+    t: &[u8],
+    names: &[u32],
+    area: &[u8],
+    h: Head,
+    index: StringIndex,
+    bytes: &[u8],
+) -> bool
+    requires { ⌜ Asks (now t) (now names) (now area) h ⌝ }
+    ensures { λ r. ⌜ r ≡ isText (contentOf h (now (t .entry)) (now (names .entry)) (now (area .entry)) (index .0)) (now (bytes .entry)) ⌝ }
+{
+    let f = find(t, names, area, h, index);
+    if !is_sound(false, bytes) {
+        return false;
+    }
+    same_part(t, area, h.wide, false, bytes, f)
+}
+
+// ---- the text itself
+
+// How long the text of what was found is as UTF-8. A system name is ASCII, and so its own text.
+// Ruled out: the length of the content bytes for UTF-16, and 3 for a string that is cut.
+pub fn found_len(t: &[u8], area: &[u8], wide: bool, f: Found) -> usize
+    requires { ⌜ Inside (now t) (now area) f × (length (now t) ≤ 16777216) ⌝ }
+    ensures { λ r. ⌜ r ≡ length (textIn (partOf wide (now (t .entry)) (now (area .entry)) f)) ⌝ }
+{
+    match f {
+        Found::Nothing => 0,
+        Found::Cut => 0,
+        Found::System(_, n) => n,
+        Found::Pool(at, n) => text_len(wide, &t[at..at + n]),
+    }
+}
+
+// Writes the text of what was found as UTF-8 at the front of `out`, and returns its length; what stands behind it stays.
+// Ruled out: the content bytes as they stand for UTF-16, and a byte changed behind the text.
+pub fn found_into(t: &[u8], area: &[u8], wide: bool, f: Found, out: &mut [u8]) -> usize
+    requires { ⌜ Inside (now t) (now area) f × (length (textIn (partOf wide (now t) (now area) f)) ≤ length (now out)) ⌝ }
+    ensures { λ r. ⌜ Wrote (textIn (partOf wide (now (t .entry)) (now (area .entry)) f)) (now (out .entry)) (now (out .exit)) r ⌝ }
+{
+    match f {
+        Found::Nothing => 0,
+        Found::Cut => 0,
+        Found::System(at, n) => text_into(false, &area[at..at + n], out),
+        Found::Pool(at, n) => text_into(wide, &t[at..at + n], out),
+    }
+}

@@ -1,0 +1,23 @@
+-- What the code is told of one step, and of a step in each of two texts. Only the contracts of functions that take one step cite this file.
+--
+--   Took       the step at a place inside: its value, how far it goes, whether it is sound
+--   Paired     the steps at two places: whether they stand for the same, and the places after them; the texts from there on decide the rest
+use mathlib.Core.Path.{_≡_}
+use Prim.Native.Nat.{ℕ, _≤_, _<_}
+use mathlib.Core.Bool.{Bool, _&&_}
+use mathlib.Core.List.{List}
+use lib.ListN.{drop}
+use Rattle.utf.specs.Text.{stepOf, valueOf, widthOf, soundOf, stepsOf, bytesOf, eqBytes}
+
+pub record Took (wide : Bool) (s : List ℕ) (at value width : ℕ) (sound : Bool) : Type 0 where
+  pub value-is : value ≡ valueOf (stepOf wide (drop at s))
+  pub width-is : width ≡ widthOf (stepOf wide (drop at s))
+  pub sound-is : sound ≡ soundOf (stepOf wide (drop at s))
+  pub small : value < 0x110000
+  pub least : 1 ≤ width
+  pub most : width ≤ 4
+
+pub record Paired (wa : Bool) (a : List ℕ) (i : ℕ) (wb : Bool) (b : List ℕ) (j : ℕ) (same : Bool) (i′ j′ : ℕ) : Type 0 where
+  pub bytes : eqBytes (bytesOf (stepsOf wa (drop i a))) (bytesOf (stepsOf wb (drop j b)))
+      ≡ same && eqBytes (bytesOf (stepsOf wa (drop i′ a))) (bytesOf (stepsOf wb (drop j′ b)))
+  pub later : i < i′

@@ -1,0 +1,6 @@
+-- The root of the crate's laws.
+pub mod Tests
+pub mod Classes
+pub mod Ranges
+pub mod Names
+pub mod Ascii

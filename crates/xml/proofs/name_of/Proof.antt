@@ -1,0 +1,96 @@
+-- `xml::name_of` meets its contract. Invariant: what is left are chars where the text is a name; the table stands. Measure: the bytes left.
+use mathlib.Core.Path.{_≡_, sym, ap, _∙_}
+use mathlib.Core.Bool.{not}
+use mathlib.Core.List.{List}
+use Prim.Native.Nat.{ℕ, _+_, _-_}
+use native.Mathlib.Nat.{zero-add}
+use native.Mathlib.Omega.{arith}
+use lib.ListN.{length, drop}
+use denote.Ref.{now}
+use borrow.Author.Tests.{eq-eqb, ne-eqb}
+use borrow.Author.Needs.{needs}
+use Rattle.utf.specs.Text.{stepsOf}
+use Rattle.utf.proofs.Turns.{stops, goes}
+use Rattle.xml.specs.NCName.{allChar, nameOf}
+use Rattle.xml.specs.Told.{IsTable}
+use Rattle.xml.proofs.Classes.{classes-right}
+use Rattle.xml.proofs.Names.{turn-char, turn-name, end-char, nameOf-none}
+use Rattle.xml.proofs.name_of.Statement.{statement}
+use Rattle.xml.proofs.name_of.Tie as tie
+
+abbrev Inv-loop : tie.InvT-loop
+Inv-loop wide s classes at₀ at = IsTable classes × (allChar (stepsOf wide (drop at s)) ≡ nameOf (stepsOf wide s))
+
+abbrev μ-loop : tie.MeasureT-loop
+μ-loop wide s classes at₀ at = length s - at
+
+returns : tie.Need-returns Inv-loop μ-loop
+returns c = sym (nameOf-none _ _ (c .if1 .taken))
+
+slice-aggregate-char-at : tie.Need-slice-aggregate-char-at Inv-loop μ-loop
+slice-aggregate-char-at c = search needs
+
+char-at-requires : tie.Need-char-at-requires Inv-loop μ-loop
+char-at-requires c κs = (classes-right, omega arith)
+
+returns-2 : tie.Need-returns-2 Inv-loop μ-loop
+returns-2 c =
+    let q = c .before .before in
+    let turn = turn-name _ _ 0 _ _ (omega arith) (q .char-at .ensures) in
+    sym (stops _ _ _ turn (ne-eqb _ 1 (c .if2 .taken)))
+
+loop-holds : tie.Need-loop-holds Inv-loop μ-loop
+loop-holds c =
+    let q = c .before .before in
+    let a = c .before .before .before .before .before .before .args in
+    let turn = turn-name (a .wide) (now (a .s)) 0 _ _ (omega arith) (q .char-at .ensures) in
+    let w = q .char-at .result .width in
+    let at : drop (0 + w) (now (a .s)) ≡ drop w (now (a .s)) = rw (zero-add w) in
+    (classes-right, sym (ap (λ (l : List ℕ). allChar (stepsOf (a .wide) l)) at) ∙ sym (goes _ _ _ turn (eq-eqb _ 1 (c .if2 .left))))
+
+slice-aggregate-char-at-2 : tie.Need-slice-aggregate-char-at-2 Inv-loop μ-loop
+slice-aggregate-char-at-2 c = search needs
+
+char-at-requires-2 : tie.Need-char-at-requires-2 Inv-loop μ-loop
+char-at-requires-2 c κs = (c .before .before .loop .inv .0, c .before .loop-test .taken)
+
+returns-3 : tie.Need-returns-3 Inv-loop μ-loop
+returns-3 c =
+    let q = c .before .before in
+    let turn = turn-char _ _ _ _ _ (q .before .before .loop-test .taken) (q .char-at2 .ensures) in
+    sym (stops _ _ _ turn (ap not (eq-eqb _ 0 (c .if3 .taken)))) ∙ q .before .before .before .loop .inv .1
+
+add-at : tie.Need-add-at Inv-loop μ-loop
+add-at c = omega (arith, c .before .before .before .char-at2 .ensures)
+
+loop-less : tie.Need-loop-less Inv-loop μ-loop
+loop-less c = omega (arith, c .before .before .before .char-at2 .ensures)
+
+loop-again : tie.Need-loop-again Inv-loop μ-loop
+loop-again c =
+    let q = c .before .before .before in
+    let turn = turn-char _ _ _ _ _ (q .before .before .loop-test .taken) (q .char-at2 .ensures) in
+    let inv = q .before .before .before .loop .inv in
+    (inv .0, sym (goes _ _ _ turn (ap not (ne-eqb _ 0 (c .before .if3 .left)))) ∙ inv .1)
+
+returns-4 : tie.Need-returns-4 Inv-loop μ-loop
+returns-4 c = sym (end-char _ _ _ (c .loop-test .left)) ∙ c .before .loop .inv .1
+
+pub name-of-spec : {M : Type 1} → statement M
+name-of-spec =
+    tie.close
+    (tie.spec
+    Inv-loop
+    μ-loop
+    returns
+    slice-aggregate-char-at
+    char-at-requires
+    returns-2
+    loop-holds
+    slice-aggregate-char-at-2
+    char-at-requires-2
+    returns-3
+    add-at
+    loop-less
+    loop-again
+    returns-4)

@@ -1,0 +1,4 @@
+-- The root of the crate's definitions.
+pub mod NCName
+pub mod Told
+pub mod Rust

@@ -1,0 +1,190 @@
+// Names: whether a text is an NCName, and what a byte or a value is in one.
+//
+// Mirrors xml/src/lib.rs (apk-info 13770539b8): `is_valid_name`, `is_name_start_char`, `is_name_char`.
+// Definitions: specs/NCName.antt, from XML 1.0 (Fifth Edition) and Namespaces in XML 1.0. A byte of ASCII is looked up once; what lies
+// beyond is decoded. Differs from the Rust: a text in UTF-16 is read as it stands, and ill-formed UTF-8 is read as U+FFFD.
+use utf::is_refused;
+use utf::next_of;
+ghost use mathlib.Core.Path.{_≡_};
+ghost use mathlib.Core.Bool.{false};
+ghost use Prim.Native.Nat.{_<_};
+ghost use lib.ListN.{length};
+ghost use Rattle.utf.specs.Utf8.{inside};
+ghost use Rattle.utf.specs.Text.{stepsOf};
+ghost use Rattle.xml.specs.NCName.{inRanges, isStart, isChar, sortOf, classOf, nameOf, validName};
+ghost use Rattle.xml.specs.Told.{IsTable, Told};
+
+// The class of each byte: 0 in no name, 1 first or later, 2 later only, 3 beyond ASCII.
+const CLASSES: [u8; 256] = *b"\
+    \x00\x00\x00\x00\x00\x00\x00\x00\x00\x00\x00\x00\x00\x00\x00\x00\
+    \x00\x00\x00\x00\x00\x00\x00\x00\x00\x00\x00\x00\x00\x00\x00\x00\
+    \x00\x00\x00\x00\x00\x00\x00\x00\x00\x00\x00\x00\x00\x02\x02\x00\
+    \x02\x02\x02\x02\x02\x02\x02\x02\x02\x02\x00\x00\x00\x00\x00\x00\
+    \x00\x01\x01\x01\x01\x01\x01\x01\x01\x01\x01\x01\x01\x01\x01\x01\
+    \x01\x01\x01\x01\x01\x01\x01\x01\x01\x01\x01\x00\x00\x00\x00\x01\
+    \x00\x01\x01\x01\x01\x01\x01\x01\x01\x01\x01\x01\x01\x01\x01\x01\
+    \x01\x01\x01\x01\x01\x01\x01\x01\x01\x01\x01\x00\x00\x00\x00\x00\
+    \x03\x03\x03\x03\x03\x03\x03\x03\x03\x03\x03\x03\x03\x03\x03\x03\
+    \x03\x03\x03\x03\x03\x03\x03\x03\x03\x03\x03\x03\x03\x03\x03\x03\
+    \x03\x03\x03\x03\x03\x03\x03\x03\x03\x03\x03\x03\x03\x03\x03\x03\
+    \x03\x03\x03\x03\x03\x03\x03\x03\x03\x03\x03\x03\x03\x03\x03\x03\
+    \x03\x03\x03\x03\x03\x03\x03\x03\x03\x03\x03\x03\x03\x03\x03\x03\
+    \x03\x03\x03\x03\x03\x03\x03\x03\x03\x03\x03\x03\x03\x03\x03\x03\
+    \x03\x03\x03\x03\x03\x03\x03\x03\x03\x03\x03\x03\x03\x03\x03\x03\
+    \x03\x03\x03\x03\x03\x03\x03\x03\x03\x03\x03\x03\x03\x03\x03\x03";
+
+// NameStartChar beyond ASCII, a first and a last number each.
+const START_BEYOND: [u32; 24] = [
+    0xc0,
+    0xd6,
+    0xd8,
+    0xf6,
+    0xf8,
+    0x2ff,
+    0x370,
+    0x37d,
+    0x37f,
+    0x1fff,
+    0x200c,
+    0x200d,
+    0x2070,
+    0x218f,
+    0x2c00,
+    0x2fef,
+    0x3001,
+    0xd7ff,
+    0xf900,
+    0xfdcf,
+    0xfdf0,
+    0xfffd,
+    0x10000,
+    0xeffff,
+];
+
+// What NameChar has besides beyond ASCII.
+const MORE_BEYOND: [u32; 6] = [0xb7, 0xb7, 0x300, 0x36f, 0x203f, 0x2040];
+
+// Ruled out: 1 for a colon, which XML's own Name has; 1 for a digit.
+pub fn class_of(b: u8) -> u8
+    ensures { λ r. ⌜ r ≡ classOf b ⌝ }
+{
+    CLASSES[b as usize]
+}
+
+fn within(first: u32, last: u32, v: u32) -> bool
+    ensures { λ r. ⌜ r ≡ inside first last v ⌝ }
+{
+    first <= v && v <= last
+}
+
+// Whether v lies in one of the ranges.
+fn in_ranges(rs: &[u32], v: u32) -> bool
+    ensures { λ r. ⌜ r ≡ inRanges (now (rs .entry)) v ⌝ }
+{
+    let mut i = 0;
+    while i + 1 < rs.len() {
+        if within(rs[i], rs[i + 1], v) {
+            return true;
+        }
+        i += 2;
+    }
+    false
+}
+
+// What a value is in a name: 0 in none, 1 first or later, 2 later only. `classes` is the table, which the caller makes once.
+fn sort_in(classes: &[u8], v: u32) -> u8
+    requires { ⌜ IsTable (now classes) ⌝ }
+    ensures { λ r. ⌜ r ≡ sortOf v ⌝ }
+{
+    if v < 128 {
+        return classes[v as usize];
+    }
+    if in_ranges(&START_BEYOND, v) {
+        return 1;
+    }
+    if in_ranges(&MORE_BEYOND, v) {
+        return 2;
+    }
+    0
+}
+
+// Ruled out: true of U+00D7, which parts two ranges; true of U+0300, which may only follow.
+pub fn is_start(v: u32) -> bool
+    ensures { λ r. ⌜ r ≡ isStart v ⌝ }
+{
+    sort_in(&CLASSES, v) == 1
+}
+
+// Ruled out: true of U+003A, the colon; false of U+00B7, which may follow.
+pub fn is_char(v: u32) -> bool
+    ensures { λ r. ⌜ r ≡ isChar v ⌝ }
+{
+    sort_in(&CLASSES, v) != 0
+}
+
+// What stands at a place of a text: its sort, and how many bytes it takes.
+pub struct Char {
+    pub sort: u8,
+    pub width: usize,
+}
+
+// A byte of ASCII in UTF-8 is looked up once; anything else is decoded first.
+fn char_at(classes: &[u8], wide: bool, s: &[u8], at: usize) -> Char
+    requires { ⌜ IsTable (now classes) × (at < length (now s)) ⌝ }
+    ensures { λ r. ⌜ Told wide (now (s .entry)) at (r .sort) (r .width) ⌝ }
+{
+    if !wide {
+        let b = s[at];
+        let k = classes[b as usize];
+        if k != 3 {
+            return Char { sort: k, width: 1 };
+        }
+    }
+    let t = next_of(wide, s, at);
+    Char {
+        sort: sort_in(classes, t.value),
+        width: t.width,
+    }
+}
+
+// Whether the steps' values are those of a name.
+fn name_of(wide: bool, s: &[u8]) -> bool
+    ensures { λ r. ⌜ r ≡ nameOf (stepsOf wide (now (s .entry))) ⌝ }
+{
+    if s.len() == 0 {
+        return false;
+    }
+    let classes = CLASSES;
+    let t = char_at(&classes, wide, s, 0);
+    if t.sort != 1 {
+        return false;
+    }
+    let mut at = t.width;
+    while at < s.len() {
+        let u = char_at(&classes, wide, s, at);
+        if u.sort == 0 {
+            return false;
+        }
+        at += u.width;
+    }
+    true
+}
+
+// Whether the text, in UTF-16 where it is wide, is an NCName.
+// Ruled out: true of the empty text; false of FF in UTF-8, since U+FFFD is a start.
+pub fn valid_name(wide: bool, s: &[u8]) -> bool
+    ensures { λ r. ⌜ r ≡ validName wide (now (s .entry)) ⌝ }
+{
+    if is_refused(wide, s) {
+        return false;
+    }
+    name_of(wide, s)
+}
+
+// Whether the UTF-8 text is an NCName.
+// Ruled out: true of `a:b`; true of `1.0`.
+pub fn is_valid_name(text: &[u8]) -> bool
+    ensures { λ r. ⌜ r ≡ validName false (now (text .entry)) ⌝ }
+{
+    valid_name(false, text)
+}
