@@ -37,7 +37,8 @@ returns-2 c =
     let at-header = c .before .before .before .before .before .before .before in
     let w = sym (at-header .header-at .ensures) ∙ c .before .before .before .before .before .read .given .1 in
     let content = c .before .skip-content in
-    turnOf-foreign-0 (at-header .before .before .args .l .now) (content .result) w (sym (c .before .before .before .sort-of .ensures) ∙ c .if2 .taken) (content .ensures)
+    let l = at-header .before .before .args .l .now in
+    turnOf-foreign-0 l (content .result) w (sym (c .before .before .before .sort-of .ensures) ∙ c .if2 .taken) (content .ensures)
 
 returns-3 : tie.Need-returns-3
 returns-3 c = sym (turnOf-stop (c .before .before .before .before .args .l .now) (sym (c .before .before .header-at .ensures) ∙ c .enum-told .given .1))

@@ -20,7 +20,8 @@ start-turn-requires c κs = search needs
 returns-3 : tie.Need-returns-3
 unfolding xmlTurn
 returns-3 c =
-    simp (c .start-turn .ensures, le-ltb _ _ (c .before .before .before .if1 .left), ne-eqb _ _ (c .before .before .if2 .left), eq-eqb _ _ (c .before .if3 .taken))
+    let e = c .start-turn .ensures in
+    simp (e, le-ltb _ _ (c .before .before .before .if1 .left), ne-eqb _ _ (c .before .before .if2 .left), eq-eqb _ _ (c .before .if3 .taken))
 
 returns-4 : tie.Need-returns-4
 unfolding xmlTurn

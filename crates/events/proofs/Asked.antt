@@ -1,0 +1,39 @@
+-- What the steps of `step_at` ask follows from `Ready` and `Within`, by the phase. No contract cites this file.
+use Prim.Native.Nat.{ℕ, _+_, _-_, _*_, _≤_, _<_}
+use native.Mathlib.Omega.{arith}
+use mathlib.Core.Path.{_≡_}
+use mathlib.Core.List.{List}
+use lib.ListN.{length}
+use Rattle.text.specs.Found.{Fits, Asks}
+use Rattle.head.specs.declared.Opened.{Opened}
+use Rattle.head.specs.Head.{PoolThere}
+use Rattle.xml_elements.specs.Chunk.{strideOf, trailingOf}
+use Rattle.events.specs.declared.Phase.{Phase}
+use Rattle.events.specs.Events.{Names}
+use Rattle.events.specs.Steps.{stepBy, stepOf}
+use Rattle.events.specs.declared.Phase.the-variants.{AtOffsets, AtName, AtAttribute}
+use Rattle.events.specs.declared.Cursor.{Cursor}
+use Rattle.events.specs.Pending.{Ready, Within}
+use Rattle.events.proofs.Model.{fit-here}
+
+module _ {t names area b : List ℕ} {o : Opened} {c : Cursor} (r : Ready t names area o) (w : Within o b c) where
+  asks-of : PoolThere (o .end) → Asks t names area (o .head)
+  asks-of p = record { fits = r .fits p; good = r .good }
+
+  pub offsets-asked : c .phase ≡ AtOffsets → Fits t (o .head)
+  offsets-asked e = let h = rw e at (w .held) in r .fits (h .1)
+
+  pub name-asked : c .phase ≡ AtName → Asks t names area (o .head) × (c .at ≤ 16777216) × (c .depth ≤ 16777216) × (c .starts ≤ 16777216)
+  name-asked e = let h = rw e at (w .held) in (asks-of (h .0), omega arith, omega arith, omega arith)
+
+  pub attribute-asked : c .phase ≡ AtAttribute
+      → Asks t names area (o .head) × (c .at + 20 ≤ length b) × (length b ≤ 16777216) × (0 < c .left)
+  attribute-asked e =
+      let h = rw e at (w .held) in
+      let f = fit-here (c .at) (c .left) (strideOf (c .start)) (trailingOf (c .start)) (length b) (h .1) (h .2) in
+      (asks-of (h .0), omega arith, w .short, h .1)
+
+-- the step of a phase is the step of a cursor at that phase
+pub stepOf-at : (N : Names) (o : Opened) (t b : List ℕ) (c : Cursor) {p : Phase} → c .phase ≡ p → stepBy N o t b c p ≡ stepOf N o t b c
+unfolding stepOf
+stepOf-at N o t b c e = rw e

@@ -1,0 +1,10 @@
+-- The node file of the crate's proofs.
+pub mod Model
+pub mod Runs
+pub mod Here
+pub mod Heads
+pub mod Starts
+pub mod Chunks
+pub mod Steps
+mod Asked
+mod Tests

@@ -1,0 +1,230 @@
+-- What a file makes, in its order: docs/FORMAT.md, H16, W4, W11 to W28, B3. No position, no room, no cap, no table.
+--
+--   attributeEvent  what an attribute makes: its record, note 10, or that it is left out for want of a text
+--   startEvents     what a start makes, as far as it is there: notes 6, 7, 8, then note 9, the element, the leading attribute, its attributes; or note 11
+--   yieldOf         what a turn makes; nextOf with what state the walk goes on: the sort of the chunk before, depth, starts
+--   bodyEvents      what the body makes, note 12 and the refusal of a body without a start at its end
+--   fileEvents      the head's notes and refusals, then the body's events
+--
+-- Names are asked of `Names`: what an index stands for. The walk itself is `trace` of crate chunk.
+use Prim.Native.Nat.{ℕ, zero, suc, _+_, _-_, _*_}
+use mathlib.Core.List.{List, [], _∷_, _++_}
+use mathlib.Core.Bool.{Bool, true, false, cond, _&&_, not}
+use lib.ListN.{length, drop}
+use lib.Dec.{ltb, eqb}
+use Rattle.chunk.specs.Walk.{trace}
+use Rattle.common.specs.declared.StringIndex.{StringIndex}
+use Rattle.errors.specs.declared.Refusal.{Refusal}
+use Rattle.errors.specs.declared.Refusal.the-variants.{MissingRoot}
+use Rattle.anomaly.specs.declared.ResAnomaly.{ResAnomaly}
+use Rattle.anomaly.specs.declared.ResAnomaly.the-variants.{NonXmlChunk, XmlNodeHeaderSize, UnknownChunk, TruncatedXml, UnclosedElements}
+use Rattle.anomaly.specs.declared.ResAnomaly.the-variants.{AttributeStartShifted, AttributeSizeMismatch, ElementTrailingBytes}
+use Rattle.anomaly.specs.declared.ResAnomaly.the-variants.{InvalidElementName, InvalidAttributeName}
+use Rattle.text.specs.Content.{contentOf, hasText, stateIn, sameText}
+use Rattle.text.specs.declared.Head.{Head}
+use Rattle.text.specs.declared.NameState.{NameState}
+use Rattle.text.specs.declared.NameState.the-variants.{NoText, Invalid, Valid}
+use Rattle.head.specs.declared.HeadEnd.{HeadEnd}
+use Rattle.head.specs.declared.HeadEnd.the-variants.{Whole, TooSmall, HeaderSize, PoolShort, MapShort}
+use Rattle.head.specs.declared.Opened.{Opened}
+use Rattle.head.specs.Head.{refusalOf, garbageNotes, countNotes, offsetNotes}
+use Rattle.xml_elements.specs.declared.XmlStartElement.{XmlStartElement}
+use Rattle.xml_elements.specs.declared.XmlAttributeElement.{XmlAttributeElement}
+use Rattle.xml_elements.specs.declared.Chunk.{Chunk}
+use Rattle.xml_elements.specs.declared.Chunk.the-variants.{Start, End, Other, Last}
+use Rattle.xml_elements.specs.declared.CutChunk.{CutChunk}
+use Rattle.xml_elements.specs.declared.CutChunk.the-variants.{CutLine, CutHead, CutGap, CutAttributes, CutTrailing, CutEnd, CutOther}
+use Rattle.xml_elements.specs.declared.Turn.{Turn}
+use Rattle.xml_elements.specs.declared.Turn.the-variants.{Stop, Foreign, Met, Cut}
+use Rattle.xml_elements.specs.Chunk.{index, strideOf, attributesAt, attributesEnd, trailingOf, attributeAt, turnOf, usedOf}
+use Rattle.events.specs.declared.Event.{Event}
+use Rattle.events.specs.declared.Event.the-variants.{Open, Attribute, LeftOut, Close, Note, Refuse}
+
+-- ---- names
+
+-- what an index stands for: no text, a text that is no valid name, or a valid name; the prefix that a namespace index gives; and
+-- whether the texts of two indices are equal
+pub record Names : Type 0 where
+  pub state : ℕ → NameState
+  pub prefixOf : ℕ → ℕ
+  pub same : ℕ → ℕ → Bool
+
+-- the names of a head: prefix 1 (android) for a namespace index with any text
+abbrev pub namesIn : Head → List ℕ → List ℕ → List ℕ → Names
+namesIn h t names area = record {
+  state = λ i. stateIn (contentOf h t names area i);
+  prefixOf = λ i. cond (hasText (contentOf h t names area i)) 1 0;
+  same = λ i j. sameText (contentOf h t names area i) (contentOf h t names area j);
+}
+
+abbrev pub when : Bool → Event → List Event
+when true e = e ∷ []
+when false e = []
+
+abbrev pub isValid : NameState → Bool
+isValid NoText = false
+isValid Invalid = false
+isValid Valid = true
+
+abbrev pub hasOne : NameState → ℕ
+hasOne NoText = 0
+hasOne Invalid = 1
+hasOne Valid = 1
+
+-- 1 for `invalid-element`
+abbrev pub fixedOf : NameState → ℕ
+fixedOf NoText = 1
+fixedOf Invalid = 1
+fixedOf Valid = 0
+
+-- ---- a start
+
+-- the leading attribute of the first element: prefix 2, name `android`, its words 0, 3, 0
+abbrev pub leading : Event
+leading = Attribute 2 (record { «namespace_uri» = index 0; name = index 0; «data_type» = 3; «data» = 0 })
+
+abbrev pub attributeBy : Names → XmlAttributeElement → NameState → Event
+attributeBy N a NoText = LeftOut (a .name)
+attributeBy N a Invalid = Note (InvalidAttributeName (a .name .0))
+attributeBy N a Valid = Attribute (N .prefixOf (a .«namespace_uri» .0)) a
+
+unfoldable pub attributeEvent : Names → List ℕ → Event
+attributeEvent N l = attributeBy N (attributeAt l) (N .state (attributeAt l .name .0))
+
+-- n attributes, `stride` bytes apart
+unfoldable pub attributesOf : Names → ℕ → ℕ → List ℕ → List Event
+attributesOf N zero stride l = []
+attributesOf N (suc n) stride l = attributeEvent N l ∷ attributesOf N n stride (drop stride l)
+
+abbrev pub cutShort : List Event
+cutShort = Note TruncatedXml ∷ []
+
+-- What a start makes behind k others: l from its first byte, of which `reach` parts are there (0 not even the gap, 1 the gap, 2 the
+-- attributes too, 3 all). Each line goes on where the next begins.
+unfoldable pub fromLead : Names → XmlStartElement → ℕ → List ℕ → List Event
+fromLead N s k l = when (eqb k 0) leading ++ attributesOf N (s .«attribute_count») (strideOf s) (drop (attributesAt s) l)
+
+unfoldable pub fromOpen : Names → XmlStartElement → ℕ → List ℕ → List Event
+fromOpen N s k l = Open (s .name) (fixedOf (N .state (s .name .0))) (s .line) ∷ fromLead N s k l
+
+unfoldable pub fromName : Names → XmlStartElement → ℕ → List ℕ → List Event
+fromName N s k l =
+    when (not (isValid (N .state (s .name .0)))) (Note (InvalidElementName (s .name .0) (hasOne (N .state (s .name .0))))) ++ fromOpen N s k l
+
+unfoldable pub fromTrailing : Names → XmlStartElement → ℕ → ℕ → List ℕ → List Event
+fromTrailing N s reach k l = when (not (eqb (trailingOf s) 0)) (Note (ElementTrailingBytes (trailingOf s))) ++ cond (eqb reach 3) (fromName N s k l) cutShort
+
+unfoldable pub fromSize : Names → XmlStartElement → ℕ → ℕ → List ℕ → List Event
+fromSize N s reach k l =
+    when (not (eqb (s .«attribute_count») 0) && ltb 20 (s .«attribute_size»)) (Note (AttributeSizeMismatch (s .«attribute_size»))) ++
+    cond (ltb reach 2) cutShort (fromTrailing N s reach k l)
+
+unfoldable pub fromGap : Names → XmlStartElement → ℕ → ℕ → List ℕ → List Event
+fromGap N s reach k l =
+    when (ltb 20 (s .«attribute_start»)) (Note (AttributeStartShifted (s .«attribute_start»))) ++ cond (eqb reach 0) cutShort (fromSize N s reach k l)
+
+-- ---- a turn
+
+-- the sort of the foreign chunk before (2: the chunk before is none), the depth, the starts so far
+pub record Spot : Type 0 where
+  pub run : ℕ
+  pub depth : ℕ
+  pub starts : ℕ
+
+-- note 3 for a chunk that is not XML, note 4 for one whose header size is not 16
+abbrev pub foreignNote : ℕ → ℕ → ResAnomaly
+foreignNote k a = cond (eqb k 0) (NonXmlChunk a) (XmlNodeHeaderSize a)
+
+abbrev pub chunkYield : Names → List ℕ → Spot → Chunk → List Event
+chunkYield N l p (Start s) = fromGap N s 3 (p .starts) l
+chunkYield N l p End = Close ∷ []
+chunkYield N l p (Other n) = []
+chunkYield N l p Last = Note (UnknownChunk 0x17f) ∷ []
+
+abbrev pub cutYield : Names → List ℕ → Spot → CutChunk → List Event
+cutYield N l p CutLine = cutShort
+cutYield N l p CutHead = cutShort
+cutYield N l p (CutGap s) = fromGap N s 0 (p .starts) l
+cutYield N l p (CutAttributes s) = fromGap N s 1 (p .starts) l
+cutYield N l p (CutTrailing s) = fromGap N s 2 (p .starts) l
+cutYield N l p CutEnd = Close ∷ []
+cutYield N l p CutOther = []
+
+-- one note for each stretch of one sort, from its first chunk
+abbrev pub yieldOf : Names → List ℕ → Spot → Turn → List Event
+yieldOf N l p Stop = []
+yieldOf N l p (Foreign k a n) = when (not (eqb k (p .run))) (Note (foreignNote k a))
+yieldOf N l p (Met c) = chunkYield N l p c
+yieldOf N l p (Cut c) = cutYield N l p c
+
+abbrev pub started : Spot → Spot
+started p = record { run = 2; depth = p .depth + 1; starts = p .starts + 1 }
+
+-- an end takes one from the depth, not below 0, even when its 8 bytes are cut
+abbrev pub ended : Spot → Spot
+ended p = record { run = 2; depth = p .depth - 1; starts = p .starts }
+
+abbrev pub passed : Spot → ℕ → Spot
+passed p k = record { run = k; depth = p .depth; starts = p .starts }
+
+abbrev pub chunkNext : Spot → Chunk → Spot
+chunkNext p (Start s) = started p
+chunkNext p End = ended p
+chunkNext p (Other n) = passed p 2
+chunkNext p Last = passed p 2
+
+abbrev pub cutNext : Spot → CutChunk → Spot
+cutNext p CutLine = passed p 2
+cutNext p CutHead = passed p 2
+cutNext p (CutGap s) = passed p 2
+cutNext p (CutAttributes s) = passed p 2
+cutNext p (CutTrailing s) = passed p 2
+cutNext p CutEnd = ended p
+cutNext p CutOther = passed p 2
+
+abbrev pub nextOf : Spot → Turn → Spot
+nextOf p Stop = p
+nextOf p (Foreign k a n) = passed p k
+nextOf p (Met c) = chunkNext p c
+nextOf p (Cut c) = cutNext p c
+
+-- ---- a body
+
+-- behind the walk: note 12 where the depth is not 0; no start at all is a refusal
+abbrev pub fromRoot : Spot → List Event
+fromRoot p = when (eqb (p .starts) 0) (Refuse MissingRoot)
+
+abbrev pub lastOf : Spot → List Event
+lastOf p = when (not (eqb (p .depth) 0)) (Note (UnclosedElements (p .depth))) ++ fromRoot p
+
+abbrev pub used : List ℕ → Spot → ℕ
+used l p = usedOf (length l) (turnOf l)
+
+abbrev pub out : Names → List ℕ → Spot → List Event
+out N l p = yieldOf N l p (turnOf l)
+
+abbrev pub next : List ℕ → Spot → Spot
+next l p = nextOf p (turnOf l)
+
+unfoldable pub eventsOn : Names → List ℕ → Spot → List Event
+eventsOn N l p = trace used (out N) next lastOf l p
+
+unfoldable pub bodyEvents : Names → List ℕ → List Event
+bodyEvents N l = eventsOn N l (record { run = 2; depth = 0; starts = 0 })
+
+-- ---- a file
+
+abbrev pub notesOf : List ResAnomaly → List Event
+notesOf [] = []
+notesOf (a ∷ rest) = Note a ∷ notesOf rest
+
+-- what stands behind the notes 0 and 1 of the head o: t is the bytes behind the file's header, b the body
+abbrev pub afterPool : Names → Opened → List ℕ → List ℕ → HeadEnd → List Event
+afterPool N o t b Whole = notesOf (offsetNotes t o) ++ bodyEvents N b
+afterPool N o t b (MapShort m) = notesOf (offsetNotes t o) ++ (Refuse (refusalOf (MapShort m)) ∷ [])
+afterPool N o t b (PoolShort e) = Refuse (refusalOf (PoolShort e)) ∷ []
+afterPool N o t b (TooSmall n) = Refuse (refusalOf (TooSmall n)) ∷ []
+afterPool N o t b (HeaderSize n) = Refuse (refusalOf (HeaderSize n)) ∷ []
+
+unfoldable pub fileEvents : Names → Opened → List ℕ → List ℕ → List Event
+fileEvents N o t b = notesOf (garbageNotes o) ++ (notesOf (countNotes o) ++ afterPool N o t b (o .end))

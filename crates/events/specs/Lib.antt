@@ -1,0 +1,4 @@
+-- The root of the crate's definitions.
+pub mod Events
+pub mod Steps
+pub mod Pending

@@ -1,0 +1,149 @@
+// Steps that ask for names: an element that opens, and its attributes one by one.
+// Each function follows the definition of its name in specs/Steps.antt; t, names and area are what texts are read from.
+ghost use mathlib.Core.Path.{_≡_};
+ghost use Prim.Native.Nat.{_+_, _≤_, _<_};
+ghost use lib.ListN.{length, drop};
+ghost use Rattle.text.specs.Found.{Asks};
+ghost use Rattle.events.specs.Events.{namesIn, leading, attributeBy, attributeEvent};
+ghost use Rattle.events.specs.Steps.{openedBy, movedBy, openStep, nameStep, toStep};
+ghost use Rattle.events.specs.declared.Event.the-variants.{Note, Attribute};
+ghost use Rattle.events.specs.declared.Phase.the-variants.{AtOpen};
+ghost use Rattle.anomaly.specs.declared.ResAnomaly.the-variants.{InvalidElementName, InvalidAttributeName};
+use crate::Cursor;
+use crate::Event;
+use crate::Phase;
+use crate::Step;
+use crate::moves::after_open;
+use crate::moves::moved_by;
+use crate::moves::opened_by;
+use crate::notes::to_step;
+use anomaly::ResAnomaly;
+use common::StringIndex;
+use text::Head;
+use text::NameState;
+use text::has_text;
+use text::name_state;
+use xml_elements::XmlAttributeElement;
+use xml_elements::attribute_at;
+
+// ---- an element
+
+// The element opens: `fixed` is 1 for `invalid-element`.
+pub fn open_step(c: Cursor, fixed: u32) -> Step
+    requires { ⌜ (c .at ≤ 16777216) × (c .depth ≤ 16777216) × (c .starts ≤ 16777216) ⌝ }
+    ensures { λ r. ⌜ r ≡ openStep c fixed ⌝ }
+{
+    let s = c.start;
+    let name = s.name;
+    let event = Event::Open(name, fixed, s.line);
+    Step {
+        event,
+        cur: after_open(c),
+    }
+}
+
+// Note 9 comes before its element: `text` is 1 if its name has a text.
+fn invalid_step(c: Cursor, text: u32) -> Step
+    ensures { λ r. ⌜ r ≡ toStep c (Note (InvalidElementName (c .start .name .0) text)) AtOpen ⌝ }
+{
+    let s = c.start;
+    let name = s.name;
+    to_step(
+        c,
+        Event::Note(ResAnomaly::InvalidElementName(name.0, text)),
+        Phase::AtOpen,
+    )
+}
+
+pub fn name_step(t: &[u8], names: &[u32], area: &[u8], h: Head, c: Cursor) -> Step
+    requires { ⌜ Asks (now t) (now names) (now area) h × (c .at ≤ 16777216) × (c .depth ≤ 16777216) × (c .starts ≤ 16777216) ⌝ }
+    ensures { λ r. ⌜ r ≡ nameStep c (namesIn h (now (t .entry)) (now (names .entry)) (now (area .entry)) .state (c .start .name .0)) ⌝ }
+{
+    let s = c.start;
+    let name = s.name;
+    let state = name_state(t, names, area, h, name);
+    match state {
+        NameState::NoText => invalid_step(c, 0),
+        NameState::Invalid => invalid_step(c, 1),
+        NameState::Valid => open_step(c, 0),
+    }
+}
+
+// ---- attributes
+
+// The leading attribute of the first element.
+pub fn lead_step(c: Cursor) -> Step
+    requires { ⌜ (c .at ≤ 16777216) × (c .depth ≤ 16777216) × (c .starts ≤ 16777216) ⌝ }
+    ensures { λ r. ⌜ r ≡ record { event = leading; cur = openedBy c } ⌝ }
+{
+    let namespace_uri = StringIndex(0);
+    let name = StringIndex(0);
+    let a = XmlAttributeElement {
+        namespace_uri,
+        name,
+        data_type: 3,
+        data: 0,
+    };
+    let event = Event::Attribute(2, a);
+    Step {
+        event,
+        cur: opened_by(c),
+    }
+}
+
+// 1 (android) for a namespace index with any text.
+fn prefix_of(t: &[u8], names: &[u32], area: &[u8], h: Head, index: StringIndex) -> u32
+    requires { ⌜ Asks (now t) (now names) (now area) h ⌝ }
+    ensures { λ r. ⌜ r ≡ namesIn h (now (t .entry)) (now (names .entry)) (now (area .entry)) .prefixOf (index .0) ⌝ }
+{
+    if has_text(t, names, area, h, index) {
+        return 1;
+    }
+    0
+}
+
+fn valid_attribute(t: &[u8], names: &[u32], area: &[u8], h: Head, a: XmlAttributeElement) -> Event
+    requires { ⌜ Asks (now t) (now names) (now area) h ⌝ }
+    ensures { λ r. ⌜ r ≡ Attribute (namesIn h (now (t .entry)) (now (names .entry)) (now (area .entry)) .prefixOf (a .«namespace_uri» .0)) a ⌝ }
+{
+    let index = a.namespace_uri;
+    let prefix = prefix_of(t, names, area, h, index);
+    Event::Attribute(prefix, a)
+}
+
+fn invalid_attribute(name: StringIndex) -> Event
+    ensures { λ r. ⌜ r ≡ Note (InvalidAttributeName (name .0)) ⌝ }
+{
+    Event::Note(ResAnomaly::InvalidAttributeName(name.0))
+}
+
+// What an attribute makes: its name is looked up once.
+fn attribute_event(t: &[u8], names: &[u32], area: &[u8], h: Head, a: XmlAttributeElement) -> Event
+    requires { ⌜ Asks (now t) (now names) (now area) h ⌝ }
+    ensures { λ r. ⌜ r ≡ attributeBy (namesIn h (now (t .entry)) (now (names .entry)) (now (area .entry))) a
+        (namesIn h (now (t .entry)) (now (names .entry)) (now (area .entry)) .state (a .name .0)) ⌝ }
+{
+    let name = a.name;
+    let state = name_state(t, names, area, h, name);
+    match state {
+        NameState::NoText => Event::LeftOut(name),
+        NameState::Invalid => invalid_attribute(name),
+        NameState::Valid => valid_attribute(t, names, area, h, a),
+    }
+}
+
+pub fn attribute_step(t: &[u8], names: &[u32], area: &[u8], h: Head, b: &[u8], c: Cursor) -> Step
+    requires { ⌜ Asks (now t) (now names) (now area) h × (c .at + 20 ≤ length (now b)) × (length (now b) ≤ 16777216) × (0 < c .left) ⌝ }
+    ensures { λ r. ⌜ r ≡ record {
+      event = attributeEvent (namesIn h (now (t .entry)) (now (names .entry)) (now (area .entry))) (drop (c .at) (now (b .entry)));
+      cur = movedBy c;
+    } ⌝ }
+{
+    let at = c.at;
+    let l = &b[at..];
+    let a = attribute_at(l);
+    Step {
+        event: attribute_event(t, names, area, h, a),
+        cur: moved_by(c),
+    }
+}

@@ -1,0 +1,5 @@
+-- The node file of the crate's proofs.
+pub mod Cases
+pub mod Laws
+pub mod Zeros
+pub mod Questions

@@ -1,0 +1,185 @@
+-- Laws of specs/Ask.antt, for the questions and for the crates above. No contract cites this file.
+-- In order: the checks (`openBy-whole`, `openOf-long`, `-names`, `-good`); what an open file tells (`openOf-open`, `openOf-asks`);
+-- the text question (`gives-..`, `reads-open`, `reads-closed`) and the content question (`content-open`, `content-closed`).
+use Prim.Native.Nat.{ℕ, _-_, _≤_, _<_}
+use native.Mathlib.Omega.{arith}
+use mathlib.Core.Path.{_≡_, refl, sym, ap, _∙_}
+use mathlib.Core.List.{List, [], _∷_, _++_}
+use mathlib.Core.Bool.{Bool, true, false}
+use borrow.Author.Tests.{ltb-true, ltb-false, lt-ltb, le-ltb, le-leb, lt-leb}
+use lib.ListN.{length, take, drop, replicate}
+use lib.Dec.{ltb, leb}
+use Rattle.errors.specs.Refusal.{textNumbersOf}
+use Rattle.errors.specs.declared.Refusal.{Refusal}
+use Rattle.errors.specs.declared.Refusal.the-variants.{TooLargeError, SystemNamesError, NothingFound, TextShort}
+use Rattle.errors.specs.declared.TextAnswer.{TextAnswer}
+use Rattle.errors.specs.declared.TextAnswer.the-variants.{Text, Refused}
+use Rattle.system_types.specs.Names.{namesOf}
+use Rattle.system_types.specs.declared.NamesRead.{NamesRead}
+use Rattle.system_types.specs.declared.NamesRead.the-variants.{Good, Bad}
+use Rattle.text.specs.declared.Head.{Head}
+use Rattle.text.specs.declared.Found.{Found}
+use Rattle.text.specs.declared.Found.the-variants.{Nothing, Cut, System, Pool}
+use Rattle.text.specs.Content.{Content, none, contentOf, textIn, rawOf}
+use Rattle.text.specs.Found.{partOf, isFound, Asks}
+use Rattle.head.specs.Head.{openedOf, tablesIn, refusalOf, PoolThere}
+use Rattle.head.specs.Ask.{Check, passes, fails, firstOf, isWhole, lengthCheck, headCheck, openBy, openOf, fitted, textBy, bufferBy, contentAsked}
+use Rattle.head.specs.Ask.{textAnswer, textBuffer, contentAnswer, Gives, TextReads}
+use Rattle.head.specs.declared.HeadEnd.{HeadEnd}
+use Rattle.head.specs.declared.HeadEnd.the-variants.{Whole, TooSmall, HeaderSize, PoolShort, MapShort}
+use Rattle.head.specs.declared.Opened.{Opened}
+use Rattle.head.specs.declared.OpenRead.the-variants.{Open, Closed}
+use Rattle.head.proofs.Laws.{openedOf-fits}
+use Rattle.head.proofs.Zeros.{zero-behind}
+
+-- ---- the checks
+
+firstOf-one : (c : Check) → firstOf (c ∷ []) ≡ c
+firstOf-one passes = refl
+firstOf-one (fails r) = refl
+
+module _ (f : List ℕ) {o : Opened} (e : o ≡ openedOf f) where
+  pub openBy-whole : isWhole (o .end) ≡ true → Open (o .head) ≡ openBy (openedOf f .head) (headCheck f)
+  unfolding headCheck
+  openBy-whole w = rw (← e, w)
+
+  pub openBy-closed : isWhole (o .end) ≡ false → Closed (refusalOf (o .end)) ≡ openBy (openedOf f .head) (headCheck f)
+  unfolding headCheck
+  openBy-closed w = rw (← e, w)
+
+module _ (f names area : List ℕ) where
+  pub openOf-long : 16777216 < length f → openOf f names area ≡ Closed TooLargeError
+  unfolding openOf lengthCheck
+  openOf-long p = rw (lt-ltb 16777216 (length f) p)
+
+  pub openOf-names : length f ≤ 16777216 → {k : ℕ} → namesOf area names ≡ Bad k → openOf f names area ≡ Closed (SystemNamesError k)
+  unfolding openOf lengthCheck
+  openOf-names p e = rw (le-ltb 16777216 (length f) p, e)
+
+  pub openOf-good : length f ≤ 16777216 → namesOf area names ≡ Good → openOf f names area ≡ openBy (openedOf f .head) (headCheck f)
+  unfolding openOf lengthCheck
+  openOf-good p e = rw (le-ltb 16777216 (length f) p, e) (ap (openBy (openedOf f .head)) (firstOf-one (headCheck f)))
+
+-- ---- what an open file tells
+
+pub record Opens (f names area : List ℕ) (h : Head) : Type 0 where
+  pub short : length f ≤ 16777216
+  pub good : namesOf area names ≡ Good
+  pub whole : isWhole (openedOf f .end) ≡ true
+  pub head : openedOf f .head ≡ h
+
+there-of-whole : (e : HeadEnd) → isWhole e ≡ true → PoolThere e
+there-of-whole Whole w = tt
+there-of-whole (MapShort m) w = tt
+there-of-whole (TooSmall n) w = let z : _≡_ {A = ℕ} 0 1 = cc in absurd (let y : ⊥ = omega arith in y)
+there-of-whole (HeaderSize n) w = let z : _≡_ {A = ℕ} 0 1 = cc in absurd (let y : ⊥ = omega arith in y)
+there-of-whole (PoolShort p) w = let z : _≡_ {A = ℕ} 0 1 = cc in absurd (let y : ⊥ = omega arith in y)
+
+module _ (f names area : List ℕ) {h : Head} (open′ : openOf f names area ≡ Open h) where
+  pub openOf-open : Opens f names area h
+  openOf-open = go (ltb 16777216 (length f)) refl (namesOf area names) refl (isWhole (openedOf f .end)) refl
+    where
+      go
+          : (b : Bool) → ltb 16777216 (length f) ≡ b
+          → (n : NamesRead) → namesOf area names ≡ n
+          → (w : Bool) → isWhole (openedOf f .end) ≡ w
+          → Opens f names area h
+      go true p n q w r =
+          let e = openOf-long f names area (ltb-true 16777216 (length f) p) in
+          let z : _≡_ {A = ℕ} 0 1 = cc in
+          absurd (let y : ⊥ = omega arith in y)
+      go false p (Bad k) q w r =
+          let e = openOf-names f names area (ltb-false 16777216 (length f) p) q in
+          let z : _≡_ {A = ℕ} 0 1 = cc in
+          absurd (let y : ⊥ = omega arith in y)
+      go false p Good q false r =
+          let e = openOf-good f names area (ltb-false 16777216 (length f) p) q ∙ sym (openBy-closed f refl r) in
+          let z : _≡_ {A = ℕ} 0 1 = cc in
+          absurd (let y : ⊥ = omega arith in y)
+      go false p Good q true r =
+          let s = ltb-false 16777216 (length f) p in
+          let e = openOf-good f names area s q ∙ sym (openBy-whole f refl r) in
+          record { short = s; good = q; whole = r; head = cc }
+
+  pub openOf-asks : Asks (tablesIn f h) names area h
+  openOf-asks =
+      let o = openOf-open in
+      let fits = openedOf-fits f (o .short) (there-of-whole (openedOf f .end) (o .whole)) in
+      record { fits = rw (← o .head) fits; good = o .good }
+
+-- ---- the text question
+
+module _ (text before after : List ℕ) where
+  -- longer than the buffer
+  pub gives-short
+      : (n : ℕ)
+      → n ≡ length text
+      → length before < n
+      → after ≡ replicate (length before - 0) 0
+      → Gives (length before) text (fitted (length before) text) (Refused (TextShort n)) after
+  gives-short n e p z =
+      let m : length before - 0 ≡ length before = omega arith in
+      let q : leb (length text) (length before) ≡ false = lt-leb (length text) (length before) (omega arith) in
+      rw (q, e) (record { same = refl; out = z ∙ ap (λ (k : ℕ). replicate k 0) m })
+
+  pub gives-text
+      : (out : List ℕ) (k : ℕ)
+      → length text ≤ length before
+      → k ≡ length text
+      → out ≡ text ++ drop (length text) before
+      → after ≡ take k out ++ replicate (length out - k) 0
+      → Gives (length before) text (fitted (length before) text) (Text k) after
+  gives-text out k p e o z =
+      let q : leb (length text) (length before) ≡ true = le-leb (length text) (length before) p in
+      rw (q, e) (record { same = refl; out = zero-behind text before out after k p e o z })
+
+partOf-none : (w : Bool) (t area : List ℕ) (f : Found) → isFound f ≡ false → partOf w t area f ≡ none
+partOf-none w t area Nothing e = refl
+partOf-none w t area Cut e = let z : _≡_ {A = ℕ} 0 1 = cc in absurd (let y : ⊥ = omega arith in y)
+partOf-none w t area (System at n) e = let z : _≡_ {A = ℕ} 0 1 = cc in absurd (let y : ⊥ = omega arith in y)
+partOf-none w t area (Pool at n) e = let z : _≡_ {A = ℕ} 0 1 = cc in absurd (let y : ⊥ = omega arith in y)
+
+textBy-found : (n : ℕ) (w : Bool) (t area : List ℕ) (f : Found) → isFound f ≡ true → textBy n (partOf w t area f) ≡ fitted n (textIn (partOf w t area f))
+textBy-found n w t area Nothing e = let z : _≡_ {A = ℕ} 0 1 = cc in absurd (let y : ⊥ = omega arith in y)
+textBy-found n w t area Cut e = refl
+textBy-found n w t area (System at k) e = refl
+textBy-found n w t area (Pool at k) e = refl
+
+module _ (n : ℕ) (w : Bool) (t area : List ℕ) (f : Found) {c : Content} (e : partOf w t area f ≡ c) {r : TextAnswer} {after : List ℕ} where
+  pub gives-none : isFound f ≡ false → Gives n (textIn c) (Refused NothingFound) r after → Gives n (textIn c) (textBy n c) r after
+  gives-none p g = let q : none ≡ c = sym (partOf-none w t area f p) ∙ e in rw (← q) (rw (← q) at g)
+
+  pub gives-found
+      : isFound f ≡ true
+      → Gives n (textIn (partOf w t area f)) (fitted n (textIn (partOf w t area f))) r after
+      → Gives n (textIn c) (textBy n c) r after
+  gives-found p g = rw (← e, textBy-found n w t area f p) g
+
+module _ (f names area before after : List ℕ) (i : ℕ) {r : TextAnswer} where
+  pub reads-open
+      : {h : Head} {t : List ℕ}
+      → openOf f names area ≡ Open h
+      → t ≡ tablesIn f h
+      → Gives (length before) (textIn (contentOf h t names area i)) (textBy (length before) (contentOf h t names area i)) r after
+      → TextReads f names area before i r after
+  unfolding textAnswer textBuffer
+  reads-open e q g = let g′ = rw q at g in record { answer = rw e (ap textNumbersOf (g′ .same)); out = rw e (g′ .out) }
+
+  pub reads-closed
+      : {why : Refusal}
+      → openOf f names area ≡ Closed why
+      → Gives (length before) [] (Refused why) r after
+      → TextReads f names area before i r after
+  unfolding textAnswer textBuffer
+  reads-closed e g = record { answer = rw e (ap textNumbersOf (g .same)); out = rw e (g .out) }
+
+-- ---- the content question
+
+module _ (f names area : List ℕ) (i : ℕ) where
+  pub content-open : {h : Head} {t : List ℕ} → openOf f names area ≡ Open h → t ≡ tablesIn f h → rawOf (contentOf h t names area i) ≡ contentAnswer f names area i
+  unfolding contentAnswer
+  content-open e q = rw (q, e)
+
+  pub content-closed : {why : Refusal} → openOf f names area ≡ Closed why → [] ≡ contentAnswer f names area i
+  unfolding contentAnswer
+  content-closed e = rw e

@@ -1,0 +1,182 @@
+// The text question and the content question: head and lent names are checked again at each call.
+//
+// Mirrors structs/res_string_pool.rs (apk-info 13770539b8), `get_with_resources`, for a caller who holds the file alone.
+// Answers: `TextAnswer`, the length of the text or a refusal. Definitions: specs/Ask.antt.
+use super::HeadEnd;
+use super::OpenRead;
+use super::open_head;
+use super::refusal_of;
+use super::tables_of;
+ghost use mathlib.Core.Path.{_≡_};
+ghost use mathlib.Core.List.{_++_, List};
+ghost use Prim.Native.Nat.{_-_, _≤_};
+ghost use lib.ListN.{length, take, replicate};
+ghost use Rattle.errors.specs.declared.TextAnswer.the-variants.{Refused};
+ghost use Rattle.text.specs.Content.{contentOf, rawOf, textIn};
+ghost use Rattle.text.specs.Found.{partOf, Inside, isFound, Asks};
+ghost use Rattle.head.specs.Head.{openedOf};
+ghost use Rattle.head.specs.Ask.{isWhole, headCheck, openBy, openOf, fitted, textBy, contentAnswer, Gives, TextReads};
+use common::StringIndex;
+use errors::Refusal;
+use errors::TextAnswer;
+use system_types::NamesRead;
+use system_types::check_names;
+use text::Found;
+use text::Head;
+use text::content_of;
+use text::find;
+use text::found_into;
+use text::found_len;
+use text::is_found;
+
+// ---- what refuses before an index is looked at
+
+fn is_whole(e: HeadEnd) -> bool
+    ensures { λ r. ⌜ r ≡ isWhole e ⌝ }
+{
+    match e {
+        HeadEnd::Whole => true,
+        HeadEnd::TooSmall(_) => false,
+        HeadEnd::HeaderSize(_) => false,
+        HeadEnd::PoolShort(_) => false,
+        HeadEnd::MapShort(_) => false,
+    }
+}
+
+fn open_whole(file: &[u8]) -> OpenRead
+    requires { ⌜ length (now file) ≤ 16777216 ⌝ }
+    ensures { λ r. ⌜ r ≡ openBy (openedOf (now (file .entry)) .head) (headCheck (now (file .entry))) ⌝ }
+{
+    let opened = open_head(file);
+    let end = opened.end;
+    let head = opened.head;
+    if is_whole(end) {
+        return OpenRead::Open(head);
+    }
+    OpenRead::Closed(refusal_of(end))
+}
+
+// The head of a file, or the first refusal: the file's length, the lent names, the head.
+// Ruled out: 1 for a file of 7 bytes with names that break their rule, and a head for a file past the limit.
+pub fn open_file(file: &[u8], names: &[u32], area: &[u8]) -> OpenRead
+    ensures { λ r. ⌜ r ≡ openOf (now (file .entry)) (now (names .entry)) (now (area .entry)) ⌝ }
+{
+    if 16777216 < file.len() {
+        return OpenRead::Closed(Refusal::TooLargeError);
+    }
+    let read = check_names(names, area);
+    match read {
+        NamesRead::Good => open_whole(file),
+        NamesRead::Bad(k) => OpenRead::Closed(Refusal::SystemNamesError(k)),
+    }
+}
+
+// ---- the text question
+
+fn zero_all(out: &mut [u8])
+    ensures { λ _. ⌜ now (out .exit) ≡ replicate (length (now (out .entry))) 0 ⌝ }
+{
+    let mut i = 0;
+    while i < out.len() {
+        out[i] = 0;
+        i += 1;
+    }
+}
+
+fn zero_from(out: &mut [u8], from: usize)
+    requires { ⌜ from ≤ length (now out) ⌝ }
+    ensures { λ _. ⌜ now (out .exit) ≡ take from (now (out .entry)) ++ replicate (length (now (out .entry)) - from) 0 ⌝ }
+{
+    zero_all(&mut out[from..]);
+}
+
+fn refuse(out: &mut [u8], why: Refusal) -> TextAnswer
+    ensures { λ r. ⌜ ((text : List _) → Gives (length (now (out .entry))) text (Refused why) r (now (out .exit))) ⌝ }
+{
+    zero_all(out);
+    TextAnswer::Refused(why)
+}
+
+// The text of what was found, if the buffer holds it whole.
+fn write_found(t: &[u8], area: &[u8], wide: bool, f: Found, out: &mut [u8]) -> TextAnswer
+    requires { ⌜ Inside (now t) (now area) f × (length (now t) ≤ 16777216) ⌝ }
+    ensures { λ r. ⌜ Gives (length (now (out .entry))) (textIn (partOf wide (now (t .entry)) (now (area .entry)) f))
+        (fitted (length (now (out .entry))) (textIn (partOf wide (now (t .entry)) (now (area .entry)) f))) r (now (out .exit)) ⌝ }
+{
+    let n = found_len(t, area, wide, f);
+    if out.len() < n {
+        zero_from(out, 0);
+        return TextAnswer::Refused(Refusal::TextShort(n));
+    }
+    let k = found_into(t, area, wide, f, out);
+    zero_from(out, k);
+    TextAnswer::Text(k)
+}
+
+fn text_in(
+    t: &[u8],
+    names: &[u32],
+    area: &[u8],
+    h: Head,
+    out: &mut [u8],
+    index: StringIndex,
+) -> TextAnswer
+    requires { ⌜ Asks (now t) (now names) (now area) h ⌝ }
+    ensures { λ r. ⌜ Gives (length (now (out .entry))) (textIn (contentOf h (now (t .entry)) (now (names .entry)) (now (area .entry)) (index .0)))
+        (textBy (length (now (out .entry))) (contentOf h (now (t .entry)) (now (names .entry)) (now (area .entry)) (index .0))) r (now (out .exit)) ⌝ }
+{
+    let f = find(t, names, area, h, index);
+    if !is_found(f) {
+        return refuse(out, Refusal::NothingFound);
+    }
+    write_found(t, area, h.wide, f, out)
+}
+
+// The text of a string index, in `out`: its UTF-8 and zeros behind it; on a refusal zeros alone. Head and names are checked again at
+// each call, and the answer tells the first that is amiss: 2, 7, 1, 3, 4, 5, then 12 (no text) and 11 (with the bytes needed).
+// Ruled out: the front of a text that does not fit, and 12 for an empty text.
+pub fn text(
+    file: &[u8],
+    names: &[u32],
+    area: &[u8],
+    out: &mut [u8],
+    index: StringIndex,
+) -> TextAnswer
+    ensures { λ r. ⌜ TextReads (now (file .entry)) (now (names .entry)) (now (area .entry)) (now (out .entry)) (index .0) r (now (out .exit)) ⌝ }
+{
+    let opened = open_file(file, names, area);
+    match opened {
+        OpenRead::Open(h) => text_in(tables_of(file, h), names, area, h, out, index),
+        OpenRead::Closed(why) => refuse(out, why),
+    }
+}
+
+// ---- the content question
+
+fn content_in<'a>(
+    t: &'a [u8],
+    names: &[u32],
+    area: &'a [u8],
+    h: Head,
+    index: StringIndex,
+) -> &'a [u8]
+    requires { ⌜ Asks (now t) (now names) (now area) h ⌝ }
+    ensures { λ r. ⌜ now r ≡ rawOf (contentOf h (now (t .entry)) (now (names .entry)) (now (area .entry)) (index .0)) ⌝ }
+{
+    let f = find(t, names, area, h, index);
+    content_of(t, area, f)
+}
+
+// The content of a string index: of a system name its text, as a part of the area; of a string of the pool its bytes before decoding,
+// as a part of the file. It is empty where the text question refuses with anything but 11, and for a string cut or outside. Head and
+// names are checked again at each call.
+// Ruled out: `android:attr/` in front of a system name, and the closing byte of a string among its content.
+pub fn content<'a>(file: &'a [u8], names: &[u32], area: &'a [u8], index: StringIndex) -> &'a [u8]
+    ensures { λ r. ⌜ now r ≡ contentAnswer (now (file .entry)) (now (names .entry)) (now (area .entry)) (index .0) ⌝ }
+{
+    let opened = open_file(file, names, area);
+    match opened {
+        OpenRead::Open(h) => content_in(tables_of(file, h), names, area, h, index),
+        OpenRead::Closed(_) => &file[0..0],
+    }
+}

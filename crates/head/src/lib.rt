@@ -1,0 +1,247 @@
+// The head of an AXML file, and the two questions that need nothing more: the text and the content of a string index.
+//
+// Mirrors axml.rs (apk-info 13770539b8), `AXML::new` up to the tree. Answers: `Opened`, what the head says and what is amiss with it;
+// `OpenRead`, the head or the first refusal. Definitions: specs/Head.antt, specs/Ask.antt.
+pub mod ask;
+
+pub use ask::content;
+pub use ask::open_file;
+pub use ask::text;
+ghost use mathlib.Core.Path.{_≡_};
+ghost use Prim.Native.Nat.{_+_, _*_, _≤_, min};
+ghost use lib.ListN.{length, drop};
+ghost use Rattle.resource_map.specs.Map.{mapOf};
+ghost use Rattle.text.specs.Found.{Fits};
+ghost use Rattle.head.specs.Head.{headBy, unopened, cutPool, cutMap, wholeHead, mappedBy, tablesOf, openedOf, headLen, tablesIn, bodyIn, refusalOf, outsideIn};
+use errors::Refusal;
+use field::u16_at;
+use res_string_pool::Garbage;
+use res_string_pool::Pool;
+use res_string_pool::PoolEnd;
+use res_string_pool::outside_of;
+use res_string_pool::pool_of;
+use resource_map::MapRead;
+use resource_map::map_of;
+use text::Head;
+
+// What is amiss with a head, or that it is whole.
+pub enum HeadEnd {
+    Whole,
+    // the file's length
+    TooSmall(usize),
+    // the header size
+    HeaderSize(u32),
+    // the part of the pool that ran out
+    PoolShort(PoolEnd),
+    // the part of the map that ran out
+    MapShort(MapRead),
+}
+
+// What the head says: the chunk in the pool's place, the declared count, what is amiss, what texts are read by.
+pub struct Opened {
+    pub garbage: Garbage,
+    pub declared: u32,
+    pub end: HeadEnd,
+    pub head: Head,
+}
+
+// The head of a file that is not refused before its body is looked at.
+pub enum OpenRead {
+    Open(Head),
+    Closed(Refusal),
+}
+
+// ---- the head
+
+fn head_by(p: Pool, map: usize, ids: u32) -> Head
+    ensures { λ r. ⌜ r ≡ headBy p map ids ⌝ }
+{
+    Head {
+        wide: p.wide,
+        count: p.count,
+        offsets: p.offsets,
+        strings: p.strings,
+        size: p.size,
+        map,
+        ids,
+    }
+}
+
+// A head of which not even the pool's place is known.
+fn not_opened(end: HeadEnd) -> Opened
+    ensures { λ r. ⌜ r ≡ unopened end ⌝ }
+{
+    Opened {
+        garbage: Garbage {
+            found: false,
+            kind: 0,
+            skipped: 0,
+        },
+        declared: 0,
+        end,
+        head: Head {
+            wide: false,
+            count: 0,
+            offsets: 0,
+            strings: 0,
+            size: 0,
+            map: 0,
+            ids: 0,
+        },
+    }
+}
+
+fn pool_short(garbage: Garbage, p: Pool, e: PoolEnd) -> Opened
+    ensures { λ r. ⌜ r ≡ cutPool garbage p e ⌝ }
+{
+    Opened {
+        garbage,
+        declared: p.declared,
+        end: HeadEnd::PoolShort(e),
+        head: head_by(p, 0, 0),
+    }
+}
+
+fn map_short(garbage: Garbage, p: Pool, at: usize, e: MapRead) -> Opened
+    ensures { λ r. ⌜ r ≡ cutMap garbage p at e ⌝ }
+{
+    Opened {
+        garbage,
+        declared: p.declared,
+        end: HeadEnd::MapShort(e),
+        head: head_by(p, at, 0),
+    }
+}
+
+fn whole(garbage: Garbage, p: Pool, map: usize, ids: u32) -> Opened
+    ensures { λ r. ⌜ r ≡ wholeHead garbage p map ids ⌝ }
+{
+    Opened {
+        garbage,
+        declared: p.declared,
+        end: HeadEnd::Whole,
+        head: head_by(p, map, ids),
+    }
+}
+
+// Behind a whole pool the map.
+fn mapped(t: &[u8], garbage: Garbage, p: Pool) -> Opened
+    requires { ⌜ (p .strings + p .size ≤ length (now t)) × (length (now t) ≤ 16777216) ⌝ }
+    ensures { λ r. ⌜ r ≡ mappedBy garbage p (mapOf (drop (p .strings + p .size) (now (t .entry)))) ⌝ }
+{
+    let at = p.strings + p.size;
+    let read = map_of(&t[at..]);
+    match read {
+        MapRead::Ids(n) => whole(garbage, p, at + 8, n),
+        MapRead::HeaderShort(k) => map_short(garbage, p, at, MapRead::HeaderShort(k)),
+        MapRead::IdsShort(k) => map_short(garbage, p, at, MapRead::IdsShort(k)),
+    }
+}
+
+// Pool and map, t being the bytes behind the file's header.
+fn tables_at(t: &[u8]) -> Opened
+    requires { ⌜ length (now t) ≤ 16777216 ⌝ }
+    ensures { λ r. ⌜ r ≡ tablesOf (now (t .entry)) ⌝ }
+{
+    let read = pool_of(t);
+    let garbage = read.garbage;
+    let pool = read.pool;
+    let end = read.end;
+    match end {
+        PoolEnd::Complete => mapped(t, garbage, pool),
+        PoolEnd::GarbageShort(k) => pool_short(garbage, pool, PoolEnd::GarbageShort(k)),
+        PoolEnd::HeaderShort(k) => pool_short(garbage, pool, PoolEnd::HeaderShort(k)),
+        PoolEnd::OffsetsShort(k) => pool_short(garbage, pool, PoolEnd::OffsetsShort(k)),
+        PoolEnd::StylesShort(k) => pool_short(garbage, pool, PoolEnd::StylesShort(k)),
+        PoolEnd::DataShort(k) => pool_short(garbage, pool, PoolEnd::DataShort(k)),
+    }
+}
+
+// The head of a file. Type and total size of its header are not looked at.
+// Ruled out: a refusal for a file of type 0, and a head that is whole where the last id of the map is cut.
+pub fn open_head(file: &[u8]) -> Opened
+    requires { ⌜ length (now file) ≤ 16777216 ⌝ }
+    ensures { λ r. ⌜ r ≡ openedOf (now (file .entry)) ⌝ }
+{
+    if file.len() < 8 {
+        return not_opened(HeadEnd::TooSmall(file.len()));
+    }
+    let size = u16_at(file, 2);
+    if size != 8 {
+        return not_opened(HeadEnd::HeaderSize(size));
+    }
+    tables_at(&file[8..])
+}
+
+// ---- its parts
+
+fn wide(x: u32) -> usize
+    ensures { λ r. ⌜ r ≡ x ⌝ }
+{
+    x as usize
+}
+
+// How many of n bytes the tables take, of a head that may be any.
+fn head_len(h: Head, n: usize) -> usize
+    ensures { λ r. ⌜ r ≡ min (headLen h) n ⌝ }
+{
+    let ids = 4 * wide(h.ids);
+    if n <= ids {
+        return n;
+    }
+    if n - ids <= h.map {
+        return n;
+    }
+    h.map + ids
+}
+
+// The bytes that texts are read from: pool and map. Of a head that is not the file's, as much of them as is there.
+// Ruled out: the 8 bytes of the file's header among them, and a byte behind the last id.
+pub fn tables_of<'a>(file: &'a [u8], h: Head) -> &'a [u8]
+    ensures { λ r. ⌜ now r ≡ tablesIn (now (file .entry)) h ⌝ }
+{
+    if file.len() < 8 {
+        return &file[0..0];
+    }
+    let n = head_len(h, file.len() - 8);
+    &file[8..8 + n]
+}
+
+// The bytes behind them, which are walked.
+// Ruled out: the last id among them, and a body that begins at the map's size.
+pub fn body_of<'a>(file: &'a [u8], h: Head) -> &'a [u8]
+    ensures { λ r. ⌜ now r ≡ bodyIn (now (file .entry)) h ⌝ }
+{
+    if file.len() < 8 {
+        return &file[0..0];
+    }
+    let n = head_len(h, file.len() - 8);
+    &file[8 + n..]
+}
+
+// ---- what it says
+
+// The refusal of a head that is not whole. (Of one that is, the refusal that is left: no start.)
+// Ruled out: one number for a short pool and a short map, and 0 in place of the header size.
+pub fn refusal_of(e: HeadEnd) -> Refusal
+    ensures { λ r. ⌜ r ≡ refusalOf e ⌝ }
+{
+    match e {
+        HeadEnd::Whole => Refusal::MissingRoot,
+        HeadEnd::TooSmall(n) => Refusal::TooSmallError(n),
+        HeadEnd::HeaderSize(n) => Refusal::HeaderSizeError(n),
+        HeadEnd::PoolShort(_) => Refusal::StringPoolError,
+        HeadEnd::MapShort(_) => Refusal::ResourceMapError,
+    }
+}
+
+// How many of the pool's offsets are at or past the data's length, t being the bytes behind the file's header: one pass over them.
+// Ruled out: 1 for any number of them, and the styles' offsets among them.
+pub fn outside_in(t: &[u8], h: Head) -> u32
+    requires { ⌜ Fits (now t) h ⌝ }
+    ensures { λ r. ⌜ r ≡ outsideIn (now (t .entry)) h ⌝ }
+{
+    let from = h.offsets;
+    let n = 4 * wide(h.count);
+    outside_of(&t[from..from + n], h.size)
+}

@@ -1,0 +1,4 @@
+-- The root of the crate's definitions.
+pub mod Keys
+pub mod Listing
+pub mod Printed
