@@ -4,6 +4,8 @@
   python3 cases.py reads PROGRAM OUT       whole readings: tables, notes, caps, rooms
   python3 cases.py questions PROGRAM OUT   first values, text questions with odd names and buffers, valid names, complex values
   python3 cases.py check OUT               replays a file of cases with model.py and says what is in it
+  python3 cases.py pack PROGRAM TEXTS QUESTIONS OUT
+                                           the text questions of two files of cases, and those of every system name, for crates/text_cases
 
 PROGRAM is build's OUT_DIR/axml-oracle. The same program and this folder give the same bytes.
 
@@ -25,6 +27,13 @@ Layout. A word is four bytes, the low one first. A text is a word n, n bytes, an
                     attribute count; words refusal, value, type, data, reference
   kind 5, name:     text; word 1 if it is a valid name, else 0
   kind 6, complex:  words data, low half and high half of the f64's bits
+
+Layout of pack's OUT, where a place is two words, where a part of OUT begins and how many bytes it has:
+
+  places of the list of sets and of the list of files; then the lists, and all parts
+  list of sets:     places of words, area and questions of a set, 24 bytes each
+  list of files:    places, numbered from 0 in the order in which the questions come to them
+  question:         words number of the file, index, room, refusal, value; places of text and content (a part of the file or area); 36 bytes
 """
 import os
 import random
@@ -469,7 +478,100 @@ def valid(program, texts):
     return map(int, lines(program, "--valid", [model.lossy(t, "").hex() for t in texts])) if program else []
 
 
+# ---- the text questions, for a program that has no heap
+
+def named_files():
+    """Every id of the system names, and ids that are none but near, in maps behind a pool of three strings."""
+    ids = NAMES[1].words[::3]
+    next_to = {x for i in ids for x in (i - 1, i + 1)} - set(ids)
+    p = pool([utf8("a"), utf8(""), utf8("é")])
+    r = random.Random(SEED + 3)
+    mixed = r.sample(ids, len(ids))
+    for k in range(0, len(ids), 700):
+        yield whole(p, id_map(*mixed[k:k + 700]))
+    yield whole(p, id_map(*sorted(next_to), *(i ^ 0x1000000 for i in mixed[:100]), *(i ^ 0x3000000 for i in mixed[100:200])))
+
+
+def text_questions(program, texts, questions):
+    """(names, file, index, room, refusal, value, text, content as (where, start, length)) each."""
+    names, cases = open_cases(texts)
+    files = list(named_files())
+    answers = rust.ask(program, SETS, [(rust.TEXTS, 16, 1, f, []) for f in files])
+    cases += [Reader(texts_case(f, [(1, a)])) for f, a in zip(files, answers)]
+    for j, c in enumerate(cases):
+        assert c.word() == 1
+        f = c.text()
+        refusal, value, count, lists = c.words(4)
+        if refusal:
+            for k, i in ((0, j % 4), (1, NONE), (2, 0)):
+                yield names[k], f, i, j % 10, refusal, value, b"", (0, 0, 0)
+        for _ in range(lists):
+            k = c.word()
+            for i in range(count):
+                yield question(names[k], f, i, c.words(3), c.none() or c.text())
+    for c in open_cases(questions)[1]:
+        if c.word() == 3:
+            own = model.Names(c.words(c.word()), c.text())
+            (room, i), f = c.words(2), c.text()
+            (refusal, value), t = c.words(2), c.text()
+            yield own, f, i, room, refusal, value, t, c.words(3)
+
+
+def question(names, f, i, content, t):
+    """Of an index that has a text, or NONE; with more room than it needs."""
+    return (names, f, i, 9, 12, 0, b"", content) if t == NONE else (names, f, i, len(t) + 1 + i % 5, 0, 0, t, content)
+
+
+def pack(program, texts, questions, path):
+    sets = {}
+    for names, *q in text_questions(program, texts, questions):
+        sets.setdefault((tuple(names.words), names.area), []).append(q)
+    many, rows = sum(map(len, sets.values())), []
+    files = list(dict.fromkeys(q[0] for qs in sets.values() for q in qs))
+    number = {f: i for i, f in enumerate(files)}
+    parts, at = {}, 16 + 24 * len(sets) + 8 * len(files) + 36 * many
+    body = bytearray()
+
+    def place(b):
+        if b and b not in parts:
+            parts[b] = at + len(body)
+            body.extend(b)
+        return (parts[b] if b else 0), len(b)
+    out = words(16, 24 * len(sets), 16 + 24 * len(sets), 8 * len(files))
+    begin = 16 + 24 * len(sets) + 8 * len(files)
+    for (table, area), qs in sets.items():
+        out += words(*place(words(*table)), *place(area), begin, 36 * len(qs))
+        begin += 36 * len(qs)
+        for f, i, room, refusal, value, t, (where, start, n) in qs:
+            base = place(f if where == 1 else area)[0]
+            assert n == 0 or where
+            rows.append(words(number[f], i, room, refusal, value, *place(t), base + start if n else 0, n))
+    out += b"".join(words(*place(f)) for f in files) + b"".join(rows)
+    assert len(out) == at
+    with open(path, "wb") as f:
+        f.write(out + body)
+    print(f"{path}: {len(sets)} sets, {len(files)} files, {many} questions, {len(out) + len(body)} bytes")
+
+
 # ---- walking a file of cases
+
+def open_cases(path):
+    """The name sets of a file of cases, and a Reader for each case."""
+    r = Reader(open(path, "rb").read())
+    assert r.b[:4] == b"AXC1"
+    r.at = 4
+    sets = [model.NO_NAMES]
+    for _ in range(r.word()):
+        w = r.words(r.word())
+        sets.append(model.Names(w, r.text()))
+    cases = []
+    for _ in range(r.word()):
+        n = r.word()
+        cases.append(Reader(r.b[r.at:r.at + n]))
+        r.at += n
+    assert r.at == len(r.b)
+    return sets, cases
+
 
 class Reader:
     def __init__(self, b):
@@ -489,6 +591,12 @@ class Reader:
         self.at += n + -n % 4
         assert len(t) == n
         return t
+
+    def none(self):
+        """NONE, past the word, where that is the next one; else 0."""
+        if struct.unpack_from("<I", self.b, self.at)[0] != NONE:
+            return 0
+        return self.word()
 
 
 def check(path):
@@ -577,4 +685,4 @@ if __name__ == "__main__":
     if what == "check":
         check(sys.argv[2])
     else:
-        {"texts": make_texts, "reads": make_reads, "questions": make_questions}[what](sys.argv[2], sys.argv[3])
+        {"texts": make_texts, "reads": make_reads, "questions": make_questions, "pack": pack}[what](*sys.argv[2:])

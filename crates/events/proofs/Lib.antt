@@ -6,5 +6,6 @@ pub mod Heads
 pub mod Starts
 pub mod Chunks
 pub mod Steps
+pub mod Local
 mod Asked
 mod Tests

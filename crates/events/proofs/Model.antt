@@ -1,5 +1,5 @@
 -- Laws of specs/Events.antt. No contract cites this file.
--- In order: the equations of the walk (`eventsOn-stop`, `eventsOn-turn`, `eventsOn-end`), of attributes (`attributesOf-step`), of a start that
+-- In order: the equations of the walk (`eventsOn-stop`, `eventsOn-step`, `eventsOn-turn`, `eventsOn-end`), of attributes (`attributesOf-step`), of a start that
 -- makes none of the notes 6, 7, 8 (`fromGap-plain`); events as lists (`the-..`) and events that are no end (`Goes`); room for attributes (`fit-..`).
 use Prim.Native.Nat.{ℕ, zero, suc, _+_, _-_, _*_, _≤_, _<_}
 use native.Mathlib.Omega.{arith}
@@ -36,14 +36,19 @@ module _ (N : Names) where
   eventsOn-stop l p e = trace-stop used (out N) next lastOf l p (ap (usedOf (length l)) e) ∙ rw e
 
   -- where the turn takes n bytes, the walk goes on behind them
+  pub eventsOn-step : (l : List ℕ) (p : Spot) (n : ℕ) {T : Turn} → turnOf l ≡ T → usedOf (length l) T ≡ n → 0 < n
+      → eventsOn N l p ≡ yieldOf N l p T ++ eventsOn N (drop n l) (nextOf p T)
+  unfolding eventsOn
+  eventsOn-step l p zero e q h = absurd (omega arith)
+  eventsOn-step l p (suc m) {T} e q h =
+      let u : used l p ≡ suc m = ap (usedOf (length l)) e ∙ q in
+      let f : suc m ≤ length l = rw (← q) (usedOf-le l T (told l e)) in
+      trace-step used (out N) next lastOf l p m u f ∙ rw e
+
+  -- the same at a place of a body
   pub eventsOn-turn : (s : List ℕ) (at : ℕ) (p : Spot) (n : ℕ) {T : Turn} → turnOf (drop at s) ≡ T → usedOf (length (drop at s)) T ≡ n → 0 < n
       → eventsOn N (drop at s) p ≡ yieldOf N (drop at s) p T ++ eventsOn N (drop (at + n) s) (nextOf p T)
-  unfolding eventsOn
-  eventsOn-turn s at p zero e q h = absurd (omega arith)
-  eventsOn-turn s at p (suc m) {T} e q h =
-      let u : used (drop at s) p ≡ suc m = ap (usedOf (length (drop at s))) e ∙ q in
-      let f : suc m ≤ length (drop at s) = rw (← q) (usedOf-le (drop at s) T (told (drop at s) e)) in
-      trace-step used (out N) next lastOf (drop at s) p m u f ∙ rw (drop-drop, e)
+  eventsOn-turn s at p n e q h = eventsOn-step (drop at s) p n e q h ∙ rw drop-drop
 
   -- behind the last byte
   pub eventsOn-end : (s : List ℕ) (p : Spot) → eventsOn N (drop (length s) s) p ≡ lastOf p

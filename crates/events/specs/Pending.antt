@@ -1,5 +1,12 @@
--- What holds of a cursor, what is pending from it on, and how far it is from the end: what the loop above goes by.
--- Not part of what a reader must believe.
+-- What holds of a cursor, what is pending from it on, and how far it is from the end: what the loop above goes by. Not part of what a
+-- reader must believe.
+--
+--   Ready     what a step asks of the head and the names: the names keep their rule, and the head fits where the pool is there
+--   Within    what it asks of the cursor; Held by its phase: of a start begun, that its bytes are there if it says so
+--   pending   what is still to be made from a cursor on; at first it is what the file makes
+--   steps     more than the steps that are left; 0 at the earliest once all is made
+--   the       an event as a list: none for `Nothing` and `Finish`
+--   Stepped   the promise of a step: it makes the first of what is pending, stays within, and comes nearer to the end
 use Prim.Native.Nat.{ℕ, _+_, _-_, _*_, _≤_, _<_}
 use mathlib.Core.Path.{_≡_}
 use mathlib.Core.List.{List, [], _∷_, _++_}

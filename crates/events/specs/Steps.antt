@@ -1,5 +1,12 @@
--- The steps of the cursor, as the code takes them: each makes one event, or none, and goes on. What they make in all is
--- specs/Events.antt's; proofs/Steps.antt says so. Not part of what a reader must believe.
+-- The steps of the cursor, as the code takes them: each makes one event, or none, and goes on. Not part of what a reader must believe:
+-- what they make in all is what specs/Events.antt says, by the law `stepped` (proofs/Steps.antt).
+--
+--   firstCursor   before the head; from it on the steps make all that the file makes
+--   openedBy      past a start's own bytes; with no attributes also past what lies behind them; movedBy the same past one attribute
+--   isPlain       a start that makes none of the notes 6, 7, 8 goes to its name at once; plainNext that phase
+--   foreignStep   passes a whole stretch of chunks of one sort (docs/FORMAT.md, W4); no event where the chunk before was of that sort
+--   cutStep       what is cut takes all that is left, n bytes being the body; an end closes all the same
+--   stepOf        the step from a cursor, by its phase; `Finish`, and nothing moves, once all is made
 use Prim.Native.Nat.{ℕ, _+_, _-_, _*_}
 use mathlib.Core.List.{List}
 use mathlib.Core.Bool.{Bool, true, false, cond, _&&_, not}

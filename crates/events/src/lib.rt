@@ -21,6 +21,7 @@ mod naming;
 mod notes;
 mod turns;
 
+use moves::over_step;
 use naming::attribute_step;
 use naming::lead_step;
 use naming::name_step;
@@ -34,7 +35,6 @@ use notes::refuse_step;
 use notes::root_step;
 use notes::short_step;
 use notes::size_step;
-use notes::to_step;
 use notes::trailing_step;
 use turns::turn_step;
 
@@ -145,6 +145,6 @@ pub fn step_at(t: &[u8], names: &[u32], area: &[u8], o: Opened, b: &[u8], c: Cur
         Phase::AtAttribute => attribute_step(t, names, area, h, b, c),
         Phase::AtLast => last_step(c),
         Phase::AtRoot => root_step(c),
-        Phase::Over => to_step(c, Event::Finish, Phase::Over),
+        Phase::Over => over_step(c),
     }
 }

@@ -1,9 +1,13 @@
-// Where the cursor goes: each function gives the cursor that the definition of its name in specs/Steps.antt gives.
+// Where the cursor goes, and steps that only change its phase. Each function gives what the definition of its name in specs/Steps.antt gives.
 ghost use mathlib.Core.Path.{_≡_};
 ghost use Prim.Native.Nat.{_-_, _≤_, _<_};
-ghost use Rattle.events.specs.Steps.{toPhase, begunBy, passedTo, closedTo, leftNext, behindOf, openedBy, movedBy, afterOpen};
+ghost use Rattle.events.specs.Steps.{toPhase, begunBy, passedTo, closedTo, leftNext, behindOf, openedBy, movedBy, afterOpen, toStep};
+ghost use Rattle.events.specs.declared.Event.the-variants.{Nothing, Finish};
+ghost use Rattle.events.specs.declared.Phase.the-variants.{Over};
 use crate::Cursor;
+use crate::Event;
 use crate::Phase;
+use crate::Step;
 use xml_elements::XmlStartElement;
 use xml_elements::attributes_at;
 use xml_elements::stride_of;
@@ -148,4 +152,30 @@ pub fn after_open(c: Cursor) -> Cursor
         return to_phase(c, Phase::AtLead);
     }
     opened_by(c)
+}
+
+// ---- steps
+
+// The event, and the same place at another phase.
+pub fn to_step(c: Cursor, event: Event, phase: Phase) -> Step
+    ensures { λ r. ⌜ r ≡ toStep c event phase ⌝ }
+{
+    Step {
+        event,
+        cur: to_phase(c, phase),
+    }
+}
+
+// No event, the same place at another phase.
+pub fn quiet_step(c: Cursor, phase: Phase) -> Step
+    ensures { λ r. ⌜ r ≡ toStep c Nothing phase ⌝ }
+{
+    to_step(c, Event::Nothing, phase)
+}
+
+// Once all is made.
+pub fn over_step(c: Cursor) -> Step
+    ensures { λ r. ⌜ r ≡ toStep c Finish Over ⌝ }
+{
+    to_step(c, Event::Finish, Phase::Over)
 }

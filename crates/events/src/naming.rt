@@ -16,7 +16,7 @@ use crate::Step;
 use crate::moves::after_open;
 use crate::moves::moved_by;
 use crate::moves::opened_by;
-use crate::notes::to_step;
+use crate::moves::to_step;
 use anomaly::ResAnomaly;
 use common::StringIndex;
 use text::Head;

@@ -17,7 +17,7 @@ use crate::Cursor;
 use crate::Event;
 use crate::Phase;
 use crate::Step;
-use crate::moves::to_phase;
+use crate::moves::to_step;
 use anomaly::ResAnomaly;
 use errors::Refusal;
 use head::HeadEnd;
@@ -26,16 +26,6 @@ use head::outside_in;
 use head::refusal_of;
 use res_string_pool::Garbage;
 use xml_elements::trailing_of;
-
-// The event, and the same place at another phase.
-pub fn to_step(c: Cursor, event: Event, phase: Phase) -> Step
-    ensures { λ r. ⌜ r ≡ toStep c event phase ⌝ }
-{
-    Step {
-        event,
-        cur: to_phase(c, phase),
-    }
-}
 
 // ---- the head
 

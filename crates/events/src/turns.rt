@@ -18,7 +18,7 @@ use crate::Step;
 use crate::moves::begun_by;
 use crate::moves::closed_to;
 use crate::moves::passed_to;
-use crate::notes::to_step;
+use crate::moves::quiet_step;
 use anomaly::ResAnomaly;
 use chunk::skip_run;
 use xml_elements::Chunk;
@@ -73,6 +73,12 @@ fn pass_step(c: Cursor, event: Event, at: usize) -> Step
     }
 }
 
+fn skip_step(c: Cursor, at: usize) -> Step
+    ensures { λ r. ⌜ r ≡ record { event = Nothing; cur = passedTo c at 2 } ⌝ }
+{
+    pass_step(c, Event::Nothing, at)
+}
+
 fn end_step(c: Cursor) -> Step
     requires { ⌜ c .at + 24 ≤ 16777216 ⌝ }
     ensures { λ r. ⌜ r ≡ chunkStep c End ⌝ }
@@ -84,7 +90,7 @@ fn other_step(c: Cursor, n: usize) -> Step
     requires { ⌜ c .at + n ≤ 16777216 ⌝ }
     ensures { λ r. ⌜ r ≡ chunkStep c (Other n) ⌝ }
 {
-    pass_step(c, Event::Nothing, c.at + n)
+    skip_step(c, c.at + n)
 }
 
 // Beyond line and comment nothing of type 0x17f is passed.
@@ -123,13 +129,13 @@ fn cut_step(n: usize, c: Cursor, x: CutChunk) -> Step
     ensures { λ r. ⌜ r ≡ cutStep n c x ⌝ }
 {
     match x {
-        CutChunk::CutLine => to_step(c, Event::Nothing, Phase::AtShort),
-        CutChunk::CutHead => to_step(c, Event::Nothing, Phase::AtShort),
+        CutChunk::CutLine => quiet_step(c, Phase::AtShort),
+        CutChunk::CutHead => quiet_step(c, Phase::AtShort),
         CutChunk::CutGap(s) => begin_step(c, s, 0),
         CutChunk::CutAttributes(s) => begin_step(c, s, 1),
         CutChunk::CutTrailing(s) => begin_step(c, s, 2),
         CutChunk::CutEnd => close_step(c, n),
-        CutChunk::CutOther => pass_step(c, Event::Nothing, n),
+        CutChunk::CutOther => skip_step(c, n),
     }
 }
 
@@ -176,7 +182,7 @@ pub fn turn_step(b: &[u8], c: Cursor) -> Step
     let l = &b[at..];
     let turn = look(l);
     match turn {
-        Turn::Stop => to_step(c, Event::Nothing, Phase::AtLast),
+        Turn::Stop => quiet_step(c, Phase::AtLast),
         Turn::Foreign(sort, number, used) => foreign_step(b, c, sort, number, used),
         Turn::Met(x) => chunk_step(c, x),
         Turn::Cut(x) => cut_step(n, c, x),

@@ -8,16 +8,16 @@ use mathlib.Core.Path.{_≡_, refl, sym, ap, _∙_}
 use mathlib.Core.List.{List, []}
 use mathlib.Core.Bool.{Bool, true, false}
 use borrow.Author.Tests.{leb-true, leb-false, lt-ltb, le-ltb, eq-eqb, ne-eqb}
-use lib.ListN.{length, take, drop, length-take, length-drop, drop-of-length-le}
+use lib.ListN.{length, take, drop, length-drop, drop-of-length-le}
 use lib.Seq.{take-all, drop-drop, take-nil, length-take-le}
-use lib.Dec.{ltb, leb, eqb}
+use lib.Dec.{leb}
 use Rattle.field.specs.Le.{u16le}
 use Rattle.res_string_pool.specs.Pool.{poolOf, outsideOf}
 use Rattle.res_string_pool.specs.declared.Garbage.{Garbage}
 use Rattle.res_string_pool.specs.declared.Pool.{Pool}
 use Rattle.res_string_pool.specs.declared.PoolRead.{PoolRead}
 use Rattle.res_string_pool.specs.declared.PoolEnd.{PoolEnd}
-use Rattle.res_string_pool.specs.declared.PoolEnd.the-variants.{Complete, GarbageShort, HeaderShort, OffsetsShort, StylesShort, DataShort}
+use Rattle.res_string_pool.specs.declared.PoolEnd.the-variants.{Complete}
 use Rattle.res_string_pool.proofs.Offsets.{outsideOf-take}
 use Rattle.res_string_pool.proofs.Laws.{poolOf-fits}
 use Rattle.resource_map.specs.Map.{mapOf}
@@ -33,7 +33,11 @@ rest-all at l = take-all (length l - at) (drop at l) (le-of-eq (length-drop at l
 
 -- ---- the map
 
-pub mappedBy-of : (g : Garbage) (p : Pool) (at : ℕ) (t : List ℕ) {r m : MapRead} → r ≡ mapOf (take (length t - at) (drop at t)) → r ≡ m → mappedBy g p m ≡ mappedBy g p (mapOf (drop at t))
+pub mappedBy-of
+    : (g : Garbage) (p : Pool) (at : ℕ) (t : List ℕ) {r m : MapRead}
+    → r ≡ mapOf (take (length t - at) (drop at t))
+    → r ≡ m
+    → mappedBy g p m ≡ mappedBy g p (mapOf (drop at t))
 mappedBy-of g p at t e f = ap (mappedBy g p) (sym f ∙ e ∙ ap mapOf (rest-all at t))
 
 -- ---- the pool
@@ -43,7 +47,9 @@ module _ (t : List ℕ) {r : PoolRead} (e : r ≡ poolOf t) where
   unfolding tablesOf
   tablesOf-by = rw e
 
-  pub tablesOf-complete : r .end ≡ Complete → mappedBy (r .garbage) (r .pool) (mapOf (drop (r .pool .strings + r .pool .size) t)) ≡ tablesOf t
+  pub tablesOf-complete
+      : r .end ≡ Complete
+      → mappedBy (r .garbage) (r .pool) (mapOf (drop (r .pool .strings + r .pool .size) t)) ≡ tablesOf t
   tablesOf-complete q = ap (pooledBy t (r .garbage) (r .pool)) (sym q) ∙ tablesOf-by
 
   pub pool-fits : r .end ≡ Complete → r .pool .strings + r .pool .size ≤ length t
@@ -51,7 +57,11 @@ module _ (t : List ℕ) {r : PoolRead} (e : r ≡ poolOf t) where
       let all : poolOf t .end ≡ Complete = ap (λ (x : PoolRead). x .end) (sym e) ∙ q in
       rw e (poolOf-fits t all)
 
-  pub tablesOf-cut : {s : PoolEnd} → r .end ≡ s → (cutPool (r .garbage) (r .pool) s ≡ pooledBy t (r .garbage) (r .pool) s) → cutPool (r .garbage) (r .pool) s ≡ tablesOf t
+  pub tablesOf-cut
+      : {s : PoolEnd}
+      → r .end ≡ s
+      → cutPool (r .garbage) (r .pool) s ≡ pooledBy t (r .garbage) (r .pool) s
+      → cutPool (r .garbage) (r .pool) s ≡ tablesOf t
   tablesOf-cut q i = i ∙ ap (pooledBy t (r .garbage) (r .pool)) (sym q) ∙ tablesOf-by
 
 -- ---- the file's header

@@ -1,14 +1,14 @@
 -- Laws of specs/Head.antt, for the crates above. No contract cites this file.
--- In order: where the pool is there, the head's places lie in its tables (`openedOf-fits`); a whole head looks at nothing behind
--- its map (`openedOf-append`, `tablesIn-append`, `bodyIn-append`).
-use Prim.Native.Nat.{ℕ, _+_, _-_, _*_, _≤_, _<_, min}
+-- In order: the file's header by its header size alone (`openedOf-same`); where the pool is there, the head's places lie in its
+-- tables (`openedOf-fits`); a whole head looks at nothing behind its map (`openedOf-append`, `tablesIn-append`, `bodyIn-append`).
+use Prim.Native.Nat.{ℕ, _+_, _-_, _*_, _≤_}
 use native.Mathlib.Omega.{arith}
 use native.Mathlib.Nat.{le-trans}
 use mathlib.Core.Path.{_≡_, refl, sym, ap, _∙_}
 use mathlib.Core.List.{List, _++_}
 use mathlib.Core.Bool.{Bool, true, false}
 use borrow.Author.Tests.{ltb-true, ltb-false, eqb-true, eqb-false}
-use lib.ListN.{length, take, drop, length-take, length-drop, length-append}
+use lib.ListN.{length, take, drop, length-drop, length-append}
 use lib.Seq.{take-append-le, drop-append-le, length-take-le}
 use lib.Dec.{ltb, eqb}
 use Rattle.field.specs.Le.{u16le}
@@ -27,10 +27,20 @@ use Rattle.resource_map.proofs.Laws.{mapOf-fits, mapOf-append}
 use Rattle.text.specs.declared.Head.{Head}
 use Rattle.text.specs.Found.{Fits}
 use Rattle.head.specs.Head.{headBy, mappedBy, pooledBy, tablesOf, openedOf, headLen, tablesIn, bodyIn, PoolThere}
-use Rattle.head.specs.declared.HeadEnd.{HeadEnd}
-use Rattle.head.specs.declared.HeadEnd.the-variants.{Whole, TooSmall, HeaderSize, PoolShort, MapShort}
+use Rattle.head.specs.declared.HeadEnd.the-variants.{Whole}
 use Rattle.head.specs.declared.Opened.{Opened}
 use Rattle.head.proofs.Cases.{openedOf-small, openedOf-size, openedOf-tables}
+
+-- ---- of the file's header its size alone is looked at, not the type and not the total size
+
+pub openedOf-same
+    : (f f′ : List ℕ)
+    → length f ≡ length f′
+    → u16le f 2 ≡ u16le f′ 2
+    → drop 8 f ≡ drop 8 f′
+    → openedOf f ≡ openedOf f′
+unfolding openedOf
+openedOf-same f f′ l h d = rw (l, h, d)
 
 -- ---- the head's places lie in its tables
 
@@ -103,7 +113,10 @@ openedOf-fits f short there = go (ltb (length f) 8) refl (eqb (u16le f 2) 8) ref
 
 -- ---- a whole head looks at nothing behind its map
 
-mappedBy-behind : (g : Garbage) (p : Pool) (r : MapRead) → mappedBy g p r .end ≡ Whole → p .strings + p .size ≤ headLen (mappedBy g p r .head)
+mappedBy-behind
+    : (g : Garbage) (p : Pool) (r : MapRead)
+    → mappedBy g p r .end ≡ Whole
+    → p .strings + p .size ≤ headLen (mappedBy g p r .head)
 mappedBy-behind g p (Ids n) w = omega arith
 mappedBy-behind g p (MapHeaderShort k) w = omega arith
 mappedBy-behind g p (IdsShort k) w = omega arith
@@ -179,8 +192,8 @@ module _ (c m m′ : List ℕ) where
           absurd (let y : ⊥ = omega arith in y)
       go true t =
           let q = eqb-true (u16le c 2) 8 t in
-          let e : openedOf (c ++ m) ≡ tablesOf (drop 8 c ++ m) = openedOf-tables (c ++ m) (long m) (size m ∙ q) ∙ ap tablesOf (behind m) in
-          let e′ : openedOf (c ++ m′) ≡ tablesOf (drop 8 c ++ m′) = openedOf-tables (c ++ m′) (long m′) (size m′ ∙ q) ∙ ap tablesOf (behind m′) in
+          let e = openedOf-tables (c ++ m) (long m) (size m ∙ q) ∙ ap tablesOf (behind m) in
+          let e′ = openedOf-tables (c ++ m′) (long m′) (size m′ ∙ q) ∙ ap tablesOf (behind m′) in
           let w′ = rw e at w in
           let h′ : headLen (tablesOf (drop 8 c ++ m) .head) ≤ length (drop 8 c) = rw (← e, length-drop) (omega arith) in
           e′ ∙ tablesOf-append (drop 8 c) m m′ w′ h′ ∙ sym e

@@ -3,3 +3,4 @@ pub mod Cases
 pub mod Laws
 pub mod Zeros
 pub mod Questions
+pub mod Unique

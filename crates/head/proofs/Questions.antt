@@ -1,6 +1,7 @@
 -- Laws of specs/Ask.antt, for the questions and for the crates above. No contract cites this file.
 -- In order: the checks (`openBy-whole`, `openOf-long`, `-names`, `-good`); what an open file tells (`openOf-open`, `openOf-asks`);
--- the text question (`gives-..`, `reads-open`, `reads-closed`) and the content question (`content-open`, `content-closed`).
+-- the text question (`gives-..`, `reads-open`, `reads-closed`) and the content question (`content-open`, `content-closed`). What
+-- follows from the promises: proofs/Unique.antt.
 use Prim.Native.Nat.{ℕ, _-_, _≤_, _<_}
 use native.Mathlib.Omega.{arith}
 use mathlib.Core.Path.{_≡_, refl, sym, ap, _∙_}
@@ -23,8 +24,8 @@ use Rattle.text.specs.declared.Found.the-variants.{Nothing, Cut, System, Pool}
 use Rattle.text.specs.Content.{Content, none, contentOf, textIn, rawOf}
 use Rattle.text.specs.Found.{partOf, isFound, Asks}
 use Rattle.head.specs.Head.{openedOf, tablesIn, refusalOf, PoolThere}
-use Rattle.head.specs.Ask.{Check, passes, fails, firstOf, isWhole, lengthCheck, headCheck, openBy, openOf, fitted, textBy, bufferBy, contentAsked}
-use Rattle.head.specs.Ask.{textAnswer, textBuffer, contentAnswer, Gives, TextReads}
+use Rattle.head.specs.Ask.{Check, passes, fails, firstOf, isWhole, lengthCheck, headCheck, openBy, openOf, fitted, textBy, textAnswer}
+use Rattle.head.specs.Ask.{textBuffer, contentAnswer, Gives, TextReads}
 use Rattle.head.specs.declared.HeadEnd.{HeadEnd}
 use Rattle.head.specs.declared.HeadEnd.the-variants.{Whole, TooSmall, HeaderSize, PoolShort, MapShort}
 use Rattle.head.specs.declared.Opened.{Opened}
@@ -139,7 +140,10 @@ partOf-none w t area Cut e = let z : _≡_ {A = ℕ} 0 1 = cc in absurd (let y :
 partOf-none w t area (System at n) e = let z : _≡_ {A = ℕ} 0 1 = cc in absurd (let y : ⊥ = omega arith in y)
 partOf-none w t area (Pool at n) e = let z : _≡_ {A = ℕ} 0 1 = cc in absurd (let y : ⊥ = omega arith in y)
 
-textBy-found : (n : ℕ) (w : Bool) (t area : List ℕ) (f : Found) → isFound f ≡ true → textBy n (partOf w t area f) ≡ fitted n (textIn (partOf w t area f))
+textBy-found
+    : (n : ℕ) (w : Bool) (t area : List ℕ) (f : Found)
+    → isFound f ≡ true
+    → textBy n (partOf w t area f) ≡ fitted n (textIn (partOf w t area f))
 textBy-found n w t area Nothing e = let z : _≡_ {A = ℕ} 0 1 = cc in absurd (let y : ⊥ = omega arith in y)
 textBy-found n w t area Cut e = refl
 textBy-found n w t area (System at k) e = refl
@@ -176,7 +180,11 @@ module _ (f names area before after : List ℕ) (i : ℕ) {r : TextAnswer} where
 -- ---- the content question
 
 module _ (f names area : List ℕ) (i : ℕ) where
-  pub content-open : {h : Head} {t : List ℕ} → openOf f names area ≡ Open h → t ≡ tablesIn f h → rawOf (contentOf h t names area i) ≡ contentAnswer f names area i
+  pub content-open
+      : {h : Head} {t : List ℕ}
+      → openOf f names area ≡ Open h
+      → t ≡ tablesIn f h
+      → rawOf (contentOf h t names area i) ≡ contentAnswer f names area i
   unfolding contentAnswer
   content-open e q = rw (q, e)
 

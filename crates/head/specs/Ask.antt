@@ -1,9 +1,12 @@
--- The text question and the content question: docs/FORMAT.md, B2, Q1 to Q3.
+-- The text question and the content question: docs/FORMAT.md, B2, B7, B8, Q1 to Q3.
 --
---   checks       what refuses before an index is looked at, in order: 2, 7, then the head's 1, 3, 4, 5
---   openOf       the head, or the first refusal
---   textAnswer   the answer of the text question; textBuffer what then stands in the lent buffer, whole
+--   checks        what refuses before an index is looked at, in order: 2, 7, then the head's 1, 3, 4, 5
+--   openOf        the head, or the first refusal
+--   textAnswer    the answer of the text question; textBuffer what then stands in the lent buffer, whole
+--   TextReads     the promise of the text question: the numbers of its answer and every byte of the buffer
 --   contentAnswer the answer of the content question: empty on a refusal, for no text, and for a string cut or outside
+--
+-- An empty text is an answer of length 0, also where the buffer has no bytes. Laws: proofs/Questions.antt, proofs/Unique.antt.
 use Prim.Native.Nat.{ℕ, _-_}
 use mathlib.Core.Path.{_≡_}
 use mathlib.Core.List.{List, [], _∷_, _++_}

@@ -1,10 +1,13 @@
 -- The head of a file, from its first byte to the end of the resource map: docs/FORMAT.md, H1 to H17.
 --
 --   openedOf     what the head says, and whether all of it is there or what is amiss
+--   tablesIn     the bytes that texts are read from, pool and map; bodyIn all that is behind them, which is walked
+--   PoolThere    the pool is there whole, so that texts can be read; the map may be short
 --   refusalOf    the refusal of a head that is not whole
 --   garbageNotes note 0, countNotes note 1: both fall due before the pool is known to be whole; offsetNotes note 2, before the map
 --
--- The type and the total size of the file's header are not looked at. A number that the bytes do not reach is 0.
+-- The type and the total size of the file's header are not looked at. A number that the bytes do not reach is 0. A place is counted
+-- from the first byte behind the file's header. Laws: proofs/Laws.antt.
 use Prim.Native.Nat.{ℕ, _+_, _-_, _*_, _/_}
 use mathlib.Core.List.{List, [], _∷_}
 use mathlib.Core.Bool.{Bool, true, false, cond, not}

@@ -2,3 +2,4 @@
 pub mod Parts
 pub mod Index
 pub mod Read
+pub mod Laws

@@ -125,7 +125,11 @@ part-lt t at n b i = go (ltb i n) refl
         rw (List·getD-eq-default (take n (drop at t)) 0 p) (omega arith)
 
 -- what comes out as a text is UTF-8
-sound-part : (w : Bool) (t area : List ℕ) (f : Found) → ((i : ℕ) → getD t i 0 < 256) → ((i : ℕ) → getD area i 0 < 256) → isSound false (textIn (partOf w t area f)) ≡ true
+sound-part
+    : (w : Bool) (t area : List ℕ) (f : Found)
+    → ((i : ℕ) → getD t i 0 < 256)
+    → ((i : ℕ) → getD area i 0 < 256)
+    → isSound false (textIn (partOf w t area f)) ≡ true
 unfolding allSound stepsAfter
 sound-part w t area Nothing p q = refl
 sound-part w t area Cut p q = refl
@@ -160,7 +164,11 @@ ascii-at s e i = go (ltb i (length s)) refl
 pub textOf-system : (s : List ℕ) → allAscii s ≡ true → textOf false s ≡ s
 textOf-system s e = textOf-ascii s (ascii-at s e)
 
-pub textIn-system : (w : Bool) (t area : List ℕ) {f : Found} {at n : ℕ} → Inside t area f → f ≡ System at n → n ≡ length (textIn (partOf w t area f))
+pub textIn-system
+    : (w : Bool) (t area : List ℕ) {f : Found} {at n : ℕ}
+    → Inside t area f
+    → f ≡ System at n
+    → n ≡ length (textIn (partOf w t area f))
 textIn-system w t area {f} {at} {n} i e =
     let q : (at + n ≤ length area) × (allAscii (take n (drop at area)) ≡ true) = rw e at i in
     let l : length (take n (drop at area)) ≡ n = length-take-le n (drop at area) (rw length-drop (omega arith)) in
@@ -168,5 +176,10 @@ textIn-system w t area {f} {at} {n} i e =
 
 -- ---- a text that is written
 
-pub wrote-by : (x : List ℕ) {y before after : List ℕ} {n : ℕ} → x ≡ y → n ≡ length x → after ≡ x ++ drop (length x) before → Wrote y before after n
+pub wrote-by
+    : (x : List ℕ) {y before after : List ℕ} {n : ℕ}
+    → x ≡ y
+    → n ≡ length x
+    → after ≡ x ++ drop (length x) before
+    → Wrote y before after n
 wrote-by x e k b = rw (← e) (record { count = k; bytes = b })

@@ -1,10 +1,11 @@
--- What a string index stands for: docs/FORMAT.md, N1 to N9.
+-- What a string index stands for: docs/FORMAT.md, N1, N2, N7 to N10, T6 and T9 to T11.
 --
 --   systemOf    the system name of map entry i, one leading `android:attr/` stripped; none where the entry or its name is missing
 --   stringOf    pool string i: its content, or cut (also where its offset is outside); none past the pool
 --   contentOf   the system name, else the pool string, else none
---   textIn      its text as UTF-8: empty where the string is cut or outside, and where there is no text at all
+--   rawOf       its bytes before decoding; textIn its text as UTF-8: both empty for no text and for a string cut or outside
 --   hasText     whether there is a text: an empty text is one
+--   stateIn     no text, a text that is no valid name (the empty one too), a valid name
 --   sameText    whether two have texts and these are equal; isText the same against lent bytes
 --
 -- t is the bytes behind the file's header; places in it are those of `Head`. Laws: proofs/Laws.antt.

@@ -1,4 +1,12 @@
--- Where the code found a text, read back as what it stands for, and what the code relies on: places lie inside.
+-- Where the code found a text, read back as what it stands for, and what the code relies on: places lie inside. docs/FORMAT.md, N8.
+--
+--   Fits     the head's places lie in t
+--   Asks     what every question of an index asks: a head that fits, and names that keep their rule
+--   partOf   what a place stands for; Inside that its part lies in what was lent
+--   Finds    what the answer of `find` tells: it stands for the content of the index
+--   Wrote    a text at the front of a lent buffer, and behind it what stood there
+--
+-- t is the bytes behind the file's header. A file keeps to 16,777,216 bytes, so t does too.
 use Prim.Native.Nat.{ℕ, _+_, _*_, _≤_}
 use mathlib.Core.Path.{_≡_}
 use mathlib.Core.List.{List, _++_}
@@ -18,7 +26,6 @@ pub record Fits (t : List ℕ) (h : Head) : Type 0 where
   pub strings : h .strings + h .size ≤ length t
   pub ids : h .map + 4 * h .ids ≤ length t
 
--- what every question of an index asks: a head that fits, names that keep their rule
 pub record Asks (t names area : List ℕ) (h : Head) : Type 0 where
   pub fits : Fits t h
   pub good : namesOf area names ≡ Good

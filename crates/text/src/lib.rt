@@ -2,16 +2,22 @@
 //
 // Mirrors structs/res_string_pool.rs (apk-info 13770539b8): `get`, `get_with_resources`, `contains_with_resources`.
 // A text is never copied: the code answers where it lies (`Found`). Definitions: specs/Content.antt, specs/Found.antt.
+pub mod part;
+
+pub use part::content_of;
+pub use part::found_into;
+pub use part::found_len;
+use part::found_state;
 ghost use mathlib.Core.Path.{_≡_};
-ghost use mathlib.Core.List.{_++_, List};
+ghost use mathlib.Core.List.{List};
 ghost use mathlib.Core.Bool.{Bool, true};
 ghost use Prim.Native.Nat.{_+_, _≤_};
 ghost use lib.ListN.{length, take, drop};
 ghost use Rattle.system_types.specs.Names.{allAscii};
 ghost use Rattle.system_types.specs.declared.Lookup.the-variants.{Name};
 ghost use Rattle.utf.specs.Text.{textOf};
-ghost use Rattle.text.specs.Content.{namedBy, systemOf, stringAt, stringOf, contentOf, rawOf, textIn, hasText, validBy, stateIn, sameText, isText};
-ghost use Rattle.text.specs.Found.{Fits, Asks, partOf, Inside, Stands, Finds, isFound, Wrote};
+ghost use Rattle.text.specs.Content.{namedBy, systemOf, stringAt, stringOf, contentOf, hasText, stateIn, sameText, isText};
+ghost use Rattle.text.specs.Found.{Fits, Asks, partOf, Inside, Stands, Finds, isFound};
 use common::StringIndex;
 use field::u32_at;
 use res_string_pool::Split;
@@ -22,9 +28,6 @@ use system_types::get_type_name;
 use system_types::without_attr;
 use utf::is_sound;
 use utf::same_text;
-use utf::text_into;
-use utf::text_len;
-use xml::valid_name;
 
 // What texts are read by: the pool's numbers and the map's, as places in the bytes behind the file's header.
 pub struct Head {
@@ -131,6 +134,8 @@ pub fn find(t: &[u8], names: &[u32], area: &[u8], h: Head, index: StringIndex) -
 
 // ---- what was found
 
+// Whether there is a text.
+// Ruled out: no for a string that is cut, whose text is empty, and no for a name of the pool that is empty.
 pub fn is_found(f: Found) -> bool
     ensures { λ r. ⌜ r ≡ isFound f ⌝ }
 {
@@ -153,43 +158,6 @@ pub fn has_text(t: &[u8], names: &[u32], area: &[u8], h: Head, index: StringInde
     }
     let named = find_system(t, names, area, h, index.0);
     is_found(named)
-}
-
-// The content bytes of what was found, a part of one of two lent slices: never a copy. It is empty for no text, and for a string that
-// is cut or outside.
-// Ruled out: the pool's bytes for a system name, and the closing byte among them.
-pub fn content_of<'a>(t: &'a [u8], area: &'a [u8], f: Found) -> &'a [u8]
-    requires { ⌜ Inside (now t) (now area) f ⌝ }
-    ensures { λ r. ⌜ ((w : Bool) → now r ≡ rawOf (partOf w (now (t .entry)) (now (area .entry)) f)) ⌝ }
-{
-    match f {
-        Found::Nothing => &t[0..0],
-        Found::Cut => &t[0..0],
-        Found::System(at, n) => &area[at..at + n],
-        Found::Pool(at, n) => &t[at..at + n],
-    }
-}
-
-fn state_of(valid: bool) -> NameState
-    ensures { λ r. ⌜ r ≡ validBy valid ⌝ }
-{
-    if valid {
-        return NameState::Valid;
-    }
-    NameState::Invalid
-}
-
-// Whether there is a text, and whether it is a valid name: a string that is cut is an empty text, and no name.
-fn found_state(t: &[u8], area: &[u8], wide: bool, f: Found) -> NameState
-    requires { ⌜ Inside (now t) (now area) f ⌝ }
-    ensures { λ r. ⌜ r ≡ stateIn (partOf wide (now (t .entry)) (now (area .entry)) f) ⌝ }
-{
-    match f {
-        Found::Nothing => NameState::NoText,
-        Found::Cut => NameState::Invalid,
-        Found::System(at, n) => state_of(valid_name(false, &area[at..at + n])),
-        Found::Pool(at, n) => state_of(valid_name(wide, &t[at..at + n])),
-    }
 }
 
 // Whether an index has a text, and whether it is a valid name.
@@ -242,7 +210,8 @@ pub fn same_index(
     j: StringIndex,
 ) -> bool
     requires { ⌜ Asks (now t) (now names) (now area) h ⌝ }
-    ensures { λ r. ⌜ r ≡ sameText (contentOf h (now (t .entry)) (now (names .entry)) (now (area .entry)) (i .0)) (contentOf h (now (t .entry)) (now (names .entry)) (now (area .entry)) (j .0)) ⌝ }
+    ensures { λ r. ⌜ r ≡ sameText (contentOf h (now (t .entry)) (now (names .entry)) (now (area .entry)) (i .0))
+        (contentOf h (now (t .entry)) (now (names .entry)) (now (area .entry)) (j .0)) ⌝ }
 {
     let f = find(t, names, area, h, i);
     let g = find(t, names, area, h, j);
@@ -267,34 +236,4 @@ pub fn is_index_text(
         return false;
     }
     same_part(t, area, h.wide, false, bytes, f)
-}
-
-// ---- the text itself
-
-// How long the text of what was found is as UTF-8. A system name is ASCII, and so its own text.
-// Ruled out: the length of the content bytes for UTF-16, and 3 for a string that is cut.
-pub fn found_len(t: &[u8], area: &[u8], wide: bool, f: Found) -> usize
-    requires { ⌜ Inside (now t) (now area) f × (length (now t) ≤ 16777216) ⌝ }
-    ensures { λ r. ⌜ r ≡ length (textIn (partOf wide (now (t .entry)) (now (area .entry)) f)) ⌝ }
-{
-    match f {
-        Found::Nothing => 0,
-        Found::Cut => 0,
-        Found::System(_, n) => n,
-        Found::Pool(at, n) => text_len(wide, &t[at..at + n]),
-    }
-}
-
-// Writes the text of what was found as UTF-8 at the front of `out`, and returns its length; what stands behind it stays.
-// Ruled out: the content bytes as they stand for UTF-16, and a byte changed behind the text.
-pub fn found_into(t: &[u8], area: &[u8], wide: bool, f: Found, out: &mut [u8]) -> usize
-    requires { ⌜ Inside (now t) (now area) f × (length (textIn (partOf wide (now t) (now area) f)) ≤ length (now out)) ⌝ }
-    ensures { λ r. ⌜ Wrote (textIn (partOf wide (now (t .entry)) (now (area .entry)) f)) (now (out .entry)) (now (out .exit)) r ⌝ }
-{
-    match f {
-        Found::Nothing => 0,
-        Found::Cut => 0,
-        Found::System(at, n) => text_into(false, &area[at..at + n], out),
-        Found::Pool(at, n) => text_into(wide, &t[at..at + n], out),
-    }
 }

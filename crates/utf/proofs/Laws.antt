@@ -1,6 +1,6 @@
 -- Laws of specs/Text.antt, by which a reader can check the definitions, and for callers. No contract cites this file.
 -- In order: the empty text and ASCII; a sound UTF-8 text is its own text (`textOf-whole`); what comes out is sound UTF-8 (`textOf-sound`), so
--- reading it again changes nothing (`textOf-back`); equal texts, value by value and byte by byte (`bytesOf-values`); its length; its damage.
+-- reading it again changes nothing (`textOf-back`); equal texts are equal byte for byte, in either encoding (`textOf-scalars`); its length; its damage.
 -- Elsewhere: the steps by Table 3-7, `step8-sound` and `step8-width` (Sound8); encoding and decoding, `step8-encode` (Decode), `pairOf-back`
 -- (Scalars); `eqBytes-true`, `eqBytes-false`, `eqBytes-refl` (Equal).
 use mathlib.Core.Path.{_≡_, refl, sym, ap, _∙_}
@@ -119,6 +119,22 @@ bytesOf-values [] (u ∷ us) = eqBytes-some (encode (valueOf u) ++ bytesOf us) (
 bytesOf-values (t ∷ ts) [] = eqBytes-some (encode (valueOf t) ++ bytesOf ts) (cons-some t ts) .0
 bytesOf-values (t ∷ ts) (u ∷ us) =
     eqBytes-encode (valueOf t) (valueOf u) (bytesOf ts) (bytesOf us) ∙ ap (λ (b : Bool). eqb (valueOf t) (valueOf u) && b) (bytesOf-values ts us)
+
+-- a text's scalar values; in either encoding two texts have the same ones where they have the same bytes
+pub scalarsOf : Bool → List ℕ → List ℕ
+scalarsOf wide s = cond (refused wide s) [] (valuesOf (stepsOf wide s))
+
+pub textOf-scalars : (wa : Bool) (a : List ℕ) (wb : Bool) (b : List ℕ) → eqBytes (textOf wa a) (textOf wb b) ≡ eqBytes (scalarsOf wa a) (scalarsOf wb b)
+unfolding textOf scalarsOf bytesOf valuesOf
+textOf-scalars wa a wb b = go (refused wa a) (refused wb b)
+  where
+    go : (r t : Bool)
+        → eqBytes (cond r [] (bytesOf (stepsOf wa a))) (cond t [] (bytesOf (stepsOf wb b)))
+        ≡ eqBytes (cond r [] (valuesOf (stepsOf wa a))) (cond t [] (valuesOf (stepsOf wb b)))
+    go true true = bytesOf-values [] []
+    go true false = bytesOf-values [] (stepsOf wb b)
+    go false true = bytesOf-values (stepsOf wa a) []
+    go false false = bytesOf-values (stepsOf wa a) (stepsOf wb b)
 
 -- ---- its length
 

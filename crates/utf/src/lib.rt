@@ -144,7 +144,7 @@ fn bytes_into(wide: bool, s: &[u8], out: &mut [u8]) -> usize
 }
 
 // How long the text is as UTF-8. The bound, 2 ^ 24 bytes, is that of a file.
-// Ruled out: 3 for C2 with no byte after it and 2 for C2 A9 counted apart; a length other than 0 for UTF-16 with an unpaired surrogate.
+// Ruled out: 1 for FF, whose text is U+FFFD, three bytes; any length but 0 for UTF-16 with an unpaired surrogate.
 pub fn text_len(wide: bool, s: &[u8]) -> usize
     requires { ⌜ length (now s) ≤ 0x1000000 ⌝ }
     ensures { λ r. ⌜ r ≡ length (textOf wide (now (s .entry))) ⌝ }

@@ -1,5 +1,4 @@
 -- The root of the crate's laws.
-pub mod Tests
 pub mod Classes
 pub mod Ranges
 pub mod Names

@@ -1,17 +1,18 @@
 -- One turn of the loop over a name, and where it starts and ends.
-use mathlib.Core.Path.{_≡_, sym, ap, _∙_}
+use mathlib.Core.Path.{_≡_, refl, sym, ap, _∙_}
 use mathlib.Core.Bool.{Bool, true, false, not, _&&_}
 use mathlib.Core.List.{List}
 use Prim.Native.Nat.{ℕ, _+_, _≤_, _<_}
 use native.Mathlib.Omega.{arith}
+use borrow.Author.Tests.{ne-eqb}
 use lib.Dec.{eqb}
 use lib.ListN.{length, getD, drop}
 use Rattle.utf.specs.Text.{stepOf, valueOf, stepsOf, refused}
 use Rattle.utf.specs.Told.{Took}
 use Rattle.utf.proofs.Steps.{stepsOf-next, stepsOf-end}
-use Rattle.utf.proofs.Turns.{took-ascii}
+use Rattle.utf.proofs.Turns.{took-ascii, goes}
 use Rattle.xml.specs.NCName.{sortOf, classOf, allChar, nameOf, validName}
-use Rattle.xml.specs.Told.{Told}
+use Rattle.xml.specs.Told.{Told, Passed}
 use Rattle.xml.proofs.Ranges.{sortOf-start, sortOf-char, classOf-ascii, ascii-of-class}
 
 -- ---- what is told of a step
@@ -42,6 +43,17 @@ module _ (wide : Bool) (s : List ℕ) (at sort width : ℕ) (h : at < length s) 
       ap nameOf (stepsOf-next wide s at width h (t .width-is) (t .least))
       ∙ ap (λ (b : Bool). b && allChar (stepsOf wide (drop (at + width) s)))
       (sym (sortOf-start (valueOf (stepOf wide (drop at s)))) ∙ ap (λ (k : ℕ). eqb k 1) (sym (t .sort-is)))
+
+-- ---- a run of ASCII
+
+pub passed-none : (wide : Bool) (s : List ℕ) (at : ℕ) → Passed wide s at at
+passed-none wide s at = record { later = omega arith; rest = refl }
+
+pub passed-more : (wide : Bool) (s : List ℕ) (at i sort : ℕ) → Passed wide s at i → wide ≡ false → i < length s → sort ≡ classOf (getD s i 0)
+    → (sort ≡ 0 → ⊥) → (sort ≡ 3 → ⊥) → Passed wide s at (i + 1)
+passed-more wide s at i sort p w h e n m =
+    let turn = turn-char wide s i sort 1 h (told-ascii wide s i sort w h e m) in
+    record { later = omega arith; rest = sym (goes _ _ (not (eqb sort 0)) turn (ap not (ne-eqb sort 0 n))) ∙ p .rest }
 
 -- ---- the ends
 

@@ -12,7 +12,7 @@ ghost use lib.ListN.{length};
 ghost use Rattle.utf.specs.Utf8.{inside};
 ghost use Rattle.utf.specs.Text.{stepsOf};
 ghost use Rattle.xml.specs.NCName.{inRanges, isStart, isChar, sortOf, classOf, nameOf, validName};
-ghost use Rattle.xml.specs.Told.{IsTable, Told};
+ghost use Rattle.xml.specs.Told.{IsTable, Told, Passed};
 
 // The class of each byte: 0 in no name, 1 first or later, 2 later only, 3 beyond ASCII.
 const CLASSES: [u8; 256] = *b"\
@@ -147,7 +147,30 @@ fn char_at(classes: &[u8], wide: bool, s: &[u8], at: usize) -> Char
     }
 }
 
-// Whether the steps' values are those of a name.
+// The first place from `at` on that holds no char of ASCII; `at` itself in UTF-16.
+fn ascii_run(classes: &[u8], wide: bool, s: &[u8], at: usize) -> usize
+    requires { ⌜ IsTable (now classes) ⌝ }
+    ensures { λ r. ⌜ Passed wide (now (s .entry)) at r ⌝ }
+{
+    if wide {
+        return at;
+    }
+    let mut i = at;
+    while i < s.len() {
+        let b = s[i];
+        let k = classes[b as usize];
+        if k == 0 {
+            return i;
+        }
+        if k == 3 {
+            return i;
+        }
+        i += 1;
+    }
+    i
+}
+
+// Whether the steps' values are those of a name: what a run of ASCII leaves is decoded, one step and then the next run.
 fn name_of(wide: bool, s: &[u8]) -> bool
     ensures { λ r. ⌜ r ≡ nameOf (stepsOf wide (now (s .entry))) ⌝ }
 {
@@ -159,13 +182,13 @@ fn name_of(wide: bool, s: &[u8]) -> bool
     if t.sort != 1 {
         return false;
     }
-    let mut at = t.width;
+    let mut at = ascii_run(&classes, wide, s, t.width);
     while at < s.len() {
         let u = char_at(&classes, wide, s, at);
         if u.sort == 0 {
             return false;
         }
-        at += u.width;
+        at = ascii_run(&classes, wide, s, at + u.width);
     }
     true
 }

@@ -104,8 +104,8 @@ root-step-requires c κs = search needs
 enum-told-16 : tie.Need-enum-told-16
 enum-told-16 c = search needs
 
-to-step-requires : tie.Need-to-step-requires
-to-step-requires c κs = search needs
+over-step-requires : tie.Need-over-step-requires
+over-step-requires c κs = search needs
 
 returns : tie.Need-returns
 returns c = c .garbage-step .ensures ∙ stepOf-at _ _ _ _ _ (c .before .enum-told .given .1)
@@ -153,7 +153,7 @@ returns-15 : tie.Need-returns-15
 returns-15 c = c .root-step .ensures ∙ stepOf-at _ _ _ _ _ (c .before .enum-told15 .given .1)
 
 returns-16 : tie.Need-returns-16
-returns-16 c = c .to-step .ensures ∙ stepOf-at _ _ _ _ _ (c .before .enum-told16 .given .1)
+returns-16 c = c .over-step .ensures ∙ stepOf-at _ _ _ _ _ (c .before .enum-told16 .given .1)
 
 pub step-at-spec : {M : Type 1} → statement M
 step-at-spec =
@@ -190,7 +190,7 @@ step-at-spec =
     enum-told-15
     root-step-requires
     enum-told-16
-    to-step-requires
+    over-step-requires
     returns
     returns-2
     returns-3

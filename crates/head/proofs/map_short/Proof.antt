@@ -1,15 +1,11 @@
+-- `head::map_short` meets its contract: its head is `headBy` of the pool.
 use borrow.Author.Needs.{needs}
 use Rattle.head.proofs.map_short.Statement.{statement}
 use Rattle.head.proofs.map_short.Tie as tie
-use Rattle.head.proofs.map_short.Reads as reads
-use Rattle.head.proofs.map_short.Lts as lts
-use Rattle.head.proofs.head_by.Reads as head-by-reads
 
--- src/lib.rt:107:15
 head-by-requires : tie.Need-head-by-requires
 head-by-requires c κs = search needs
 
--- src/lib.rt:100:1
 returns : tie.Need-returns
 returns c = rw (c .head-by .ensures)
 

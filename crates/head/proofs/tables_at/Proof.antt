@@ -1,92 +1,94 @@
-use Rattle.head.proofs.Cases.{tablesOf-complete, tablesOf-cut, pool-fits}
-use Rattle.res_string_pool.proofs.Laws.{poolOf-fits}
-use native.Mathlib.Omega.{arith}
-use mathlib.Core.Path.{_∙_, ap, sym, refl}
-use denote.Ref.{now}
+-- `head::tables_at` meets its contract: by the end of the pool (`tablesOf-complete`, `tablesOf-cut`).
+use mathlib.Core.Path.{_∙_, refl}
 use borrow.Author.Needs.{needs}
+use denote.Ref.{now}
+use Rattle.head.proofs.Cases.{tablesOf-complete, tablesOf-cut, pool-fits}
 use Rattle.head.proofs.tables_at.Statement.{statement}
 use Rattle.head.proofs.tables_at.Tie as tie
-use Rattle.head.proofs.tables_at.Reads as reads
-use Rattle.head.proofs.tables_at.Lts as lts
-use Rattle.head.proofs.mapped.Reads as mapped-reads
-use Rattle.head.proofs.pool_short.Reads as pool-short-reads
-use Rattle.res_string_pool.proofs.pool_of.Reads as pool-of-reads
 
--- src/lib.rt:141:9
 pool-of-requires : tie.Need-pool-of-requires
 pool-of-requires c κs = search needs
 
--- src/lib.rt:146:30
 enum-told : tie.Need-enum-told
 enum-told c = search needs
 
--- src/lib.rt:146:30
 mapped-requires : tie.Need-mapped-requires
-mapped-requires c κs = let a = c .before .before .before .before .before .before .args in (pool-fits (now (a .t)) (c .before .before .before .before .pool-of .ensures) (c .enum-told .given .1), c .before .before .before .before .before .before .pre)
+mapped-requires c κs =
+    let s = c .before .before .before .before .before .before in
+    let a = s .args in
+    (pool-fits (now (a .t)) (c .before .before .before .before .pool-of .ensures) (c .enum-told .given .1), s .pre)
 
--- src/lib.rt:147:31
 enum-known-end : tie.Need-enum-known-end
 enum-known-end c = search needs
 
--- src/lib.rt:147:37
 pool-short-requires : tie.Need-pool-short-requires
 pool-short-requires c κs = search needs
 
--- src/lib.rt:148:30
 enum-known-end-2 : tie.Need-enum-known-end-2
 enum-known-end-2 c = search needs
 
--- src/lib.rt:148:36
 pool-short-requires-2 : tie.Need-pool-short-requires-2
 pool-short-requires-2 c κs = search needs
 
--- src/lib.rt:149:31
 enum-known-end-3 : tie.Need-enum-known-end-3
 enum-known-end-3 c = search needs
 
--- src/lib.rt:149:37
 pool-short-requires-3 : tie.Need-pool-short-requires-3
 pool-short-requires-3 c κs = search needs
 
--- src/lib.rt:150:30
 enum-known-end-4 : tie.Need-enum-known-end-4
 enum-known-end-4 c = search needs
 
--- src/lib.rt:150:36
 pool-short-requires-4 : tie.Need-pool-short-requires-4
 pool-short-requires-4 c κs = search needs
 
--- src/lib.rt:151:28
 enum-known-end-5 : tie.Need-enum-known-end-5
 enum-known-end-5 c = search needs
 
--- src/lib.rt:151:34
 pool-short-requires-5 : tie.Need-pool-short-requires-5
 pool-short-requires-5 c κs = search needs
 
--- src/lib.rt:137:1
 returns : tie.Need-returns
-returns c = let a = c .before .before .before .before .before .before .before .args in c .mapped .ensures ∙ tablesOf-complete (now (a .t)) (c .before .before .before .before .before .pool-of .ensures) (c .before .enum-told .given .1)
+returns c =
+    let s = c .before .before .before .before .before .before .before in
+    let p5 = c .before .before .before .before .before in
+    let a = s .args in
+    c .mapped .ensures ∙ tablesOf-complete (now (a .t)) (p5 .pool-of .ensures) (c .before .enum-told .given .1)
 
--- src/lib.rt:137:1
 returns-2 : tie.Need-returns-2
-returns-2 c = let a = c .before .before .before .before .before .before .before .before .args in c .pool-short .ensures ∙ tablesOf-cut (now (a .t)) (c .before .before .before .before .before .before .pool-of .ensures) (c .before .before .end .given .1) refl
+returns-2 c =
+    let s = c .before .before .before .before .before .before .before .before in
+    let p6 = c .before .before .before .before .before .before in
+    let a = s .args in
+    c .pool-short .ensures ∙ tablesOf-cut (now (a .t)) (p6 .pool-of .ensures) (c .before .before .end .given .1) refl
 
--- src/lib.rt:137:1
 returns-3 : tie.Need-returns-3
-returns-3 c = let a = c .before .before .before .before .before .before .before .before .args in c .pool-short2 .ensures ∙ tablesOf-cut (now (a .t)) (c .before .before .before .before .before .before .pool-of .ensures) (c .before .before .end2 .given .1) refl
+returns-3 c =
+    let s = c .before .before .before .before .before .before .before .before in
+    let p6 = c .before .before .before .before .before .before in
+    let a = s .args in
+    c .pool-short2 .ensures ∙ tablesOf-cut (now (a .t)) (p6 .pool-of .ensures) (c .before .before .end2 .given .1) refl
 
--- src/lib.rt:137:1
 returns-4 : tie.Need-returns-4
-returns-4 c = let a = c .before .before .before .before .before .before .before .before .args in c .pool-short3 .ensures ∙ tablesOf-cut (now (a .t)) (c .before .before .before .before .before .before .pool-of .ensures) (c .before .before .end3 .given .1) refl
+returns-4 c =
+    let s = c .before .before .before .before .before .before .before .before in
+    let p6 = c .before .before .before .before .before .before in
+    let a = s .args in
+    c .pool-short3 .ensures ∙ tablesOf-cut (now (a .t)) (p6 .pool-of .ensures) (c .before .before .end3 .given .1) refl
 
--- src/lib.rt:137:1
 returns-5 : tie.Need-returns-5
-returns-5 c = let a = c .before .before .before .before .before .before .before .before .args in c .pool-short4 .ensures ∙ tablesOf-cut (now (a .t)) (c .before .before .before .before .before .before .pool-of .ensures) (c .before .before .end4 .given .1) refl
+returns-5 c =
+    let s = c .before .before .before .before .before .before .before .before in
+    let p6 = c .before .before .before .before .before .before in
+    let a = s .args in
+    c .pool-short4 .ensures ∙ tablesOf-cut (now (a .t)) (p6 .pool-of .ensures) (c .before .before .end4 .given .1) refl
 
--- src/lib.rt:137:1
 returns-6 : tie.Need-returns-6
-returns-6 c = let a = c .before .before .before .before .before .before .before .before .args in c .pool-short5 .ensures ∙ tablesOf-cut (now (a .t)) (c .before .before .before .before .before .before .pool-of .ensures) (c .before .before .end5 .given .1) refl
+returns-6 c =
+    let s = c .before .before .before .before .before .before .before .before in
+    let p6 = c .before .before .before .before .before .before in
+    let a = s .args in
+    c .pool-short5 .ensures ∙ tablesOf-cut (now (a .t)) (p6 .pool-of .ensures) (c .before .before .end5 .given .1) refl
 
 pub tables-at-spec : {M : Type 1} → statement M
 tables-at-spec =

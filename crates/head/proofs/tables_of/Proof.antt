@@ -1,55 +1,48 @@
-use Rattle.head.proofs.Cases.{tablesIn-small, tablesIn-by}
-use denote.Ref.{now}
+-- `head::tables_of` meets its contract: as many bytes as are there (`tablesIn-by`); of fewer than 8 none.
 use borrow.Author.Needs.{needs}
+use denote.Ref.{now}
+use Rattle.head.proofs.Cases.{tablesIn-small, tablesIn-by}
 use Rattle.head.proofs.tables_of.Statement.{statement}
 use Rattle.head.proofs.tables_of.Tie as tie
-use Rattle.head.proofs.tables_of.Reads as reads
-use Rattle.head.proofs.tables_of.Lts as lts
-use Rattle.head.proofs.head_len.Reads as head-len-reads
 
--- src/lib.rt:199:16
 sub-result : tie.Need-sub-result
 sub-result c = search needs
 
--- src/lib.rt:199:16
 part-result-start : tie.Need-part-result-start
 part-result-start c = search needs
 
--- src/lib.rt:199:16
 part-result-end : tie.Need-part-result-end
 part-result-end c = search needs
 
--- src/lib.rt:199:9
 returns : tie.Need-returns
-returns c = let a = c .before .before .before .args in tablesIn-small (now (a .file)) (a .h) (c .before .if1 .taken)
+returns c =
+    let s = c .before .before .before in
+    let a = s .args in
+    tablesIn-small (now (a .file)) (a .h) (c .before .if1 .taken)
 
--- src/lib.rt:201:25
 sub-head-len : tie.Need-sub-head-len
 sub-head-len c = search needs
 
--- src/lib.rt:201:9
 head-len-requires : tie.Need-head-len-requires
 head-len-requires c κs = search needs
 
--- src/lib.rt:202:14
 add-result : tie.Need-add-result
 add-result c = search needs
 
--- src/lib.rt:202:5
 sub-result-2 : tie.Need-sub-result-2
 sub-result-2 c = search needs
 
--- src/lib.rt:202:5
 part-result-start-2 : tie.Need-part-result-start-2
 part-result-start-2 c = search needs
 
--- src/lib.rt:202:5
 part-result-end-2 : tie.Need-part-result-end-2
 part-result-end-2 c = search needs
 
--- src/lib.rt:195:1
 returns-2 : tie.Need-returns-2
-returns-2 c = let a = c .before .before .before .before .args in tablesIn-by (now (a .file)) (a .h) (c .before .head-len .result) (c .before .head-len .ensures)
+returns-2 c =
+    let s = c .before .before .before .before in
+    let a = s .args in
+    tablesIn-by (now (a .file)) (a .h) (c .before .head-len .result) (c .before .head-len .ensures)
 
 pub tables-of-spec : {M : Type 1} → statement M
 tables-of-spec =

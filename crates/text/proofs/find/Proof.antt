@@ -25,20 +25,32 @@ enum-known-named-2 : tie.Need-enum-known-named-2
 enum-known-named-2 c = search needs
 
 returns : tie.Need-returns
-returns c = let a = c .before .before .before .before .before .before .before .args in
-    contentOf-string (a .h) (now (a .t)) (now (a .names)) (now (a .area)) (a .index .0) (a .h .wide) (c .find-string .result) (rw (← c .before .enum-told .given .1) (c .before .before .before .find-system .ensures)) (c .find-string .ensures (now (a .area)))
+returns c =
+    let s = c .before .before .before .before .before .before .before in
+    let a = s .args in
+    contentOf-string (a .h) (now (a .t)) (now (a .names)) (now (a .area)) (a .index .0) (a .h .wide) (c .find-string .result)
+    (rw (← c .before .enum-told .given .1) (c .before .before .before .find-system .ensures)) (c .find-string .ensures (now (a .area)))
 
 returns-2 : tie.Need-returns-2
-returns-2 c = let a = c .before .before .before .before .before .before .args in
-    contentOf-system (a .h) (now (a .t)) (now (a .names)) (now (a .area)) (a .index .0) (a .h .wide) _ refl (rw (← c .enum-told2 .given .1) (c .before .before .find-system .ensures))
+returns-2 c =
+    let s = c .before .before .before .before .before .before in
+    let a = s .args in
+    contentOf-system (a .h) (now (a .t)) (now (a .names)) (now (a .area)) (a .index .0) (a .h .wide) _ refl
+    (rw (← c .enum-told2 .given .1) (c .before .before .find-system .ensures))
 
 returns-3 : tie.Need-returns-3
-returns-3 c = let a = c .before .before .before .before .before .before .before .args in
-    contentOf-system (a .h) (now (a .t)) (now (a .names)) (now (a .area)) (a .index .0) (a .h .wide) _ refl (rw (← c .before .named .given .1) (c .before .before .before .find-system .ensures))
+returns-3 c =
+    let s = c .before .before .before .before .before .before .before in
+    let a = s .args in
+    contentOf-system (a .h) (now (a .t)) (now (a .names)) (now (a .area)) (a .index .0) (a .h .wide) _ refl
+    (rw (← c .before .named .given .1) (c .before .before .before .find-system .ensures))
 
 returns-4 : tie.Need-returns-4
-returns-4 c = let a = c .before .before .before .before .before .before .before .args in
-    contentOf-system (a .h) (now (a .t)) (now (a .names)) (now (a .area)) (a .index .0) (a .h .wide) _ refl (rw (← c .before .named2 .given .1) (c .before .before .before .find-system .ensures))
+returns-4 c =
+    let s = c .before .before .before .before .before .before .before in
+    let a = s .args in
+    contentOf-system (a .h) (now (a .t)) (now (a .names)) (now (a .area)) (a .index .0) (a .h .wide) _ refl
+    (rw (← c .before .named2 .given .1) (c .before .before .before .find-system .ensures))
 
 pub find-spec : {M : Type 1} → statement M
 find-spec =

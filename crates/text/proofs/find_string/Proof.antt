@@ -6,7 +6,10 @@ use Rattle.text.proofs.find_string.Statement.{statement}
 use Rattle.text.proofs.find_string.Tie as tie
 
 returns : tie.Need-returns
-returns c = let a = c .before .before .before .args in λ area. string-past (a .h) (now (a .t)) (a .i) area (c .if1 .taken)
+returns c =
+    let s = c .before .before .before in
+    let a = s .args in
+    λ area. string-past (a .h) (now (a .t)) (a .i) area (c .if1 .taken)
 
 mul-u32-at : tie.Need-mul-u32-at
 mul-u32-at c = search needs
@@ -24,8 +27,11 @@ string-at-requires : tie.Need-string-at-requires
 string-at-requires c κs = search needs
 
 returns-2 : tie.Need-returns-2
-returns-2 c = let a = c .before .before .before .before .before .before .args in
-    λ area. string-in (a .h) (now (a .t)) (a .i) area (c .string-at .result) (c .before .u32-at .result) (c .before .before .before .if1 .left) (c .before .u32-at .ensures) (c .string-at .ensures area)
+returns-2 c =
+    let s = c .before .before .before .before .before .before in
+    let a = s .args in
+    λ area. string-in (a .h) (now (a .t)) (a .i) area (c .string-at .result) (c .before .u32-at .result)
+    (c .before .before .before .if1 .left) (c .before .u32-at .ensures) (c .string-at .ensures area)
 
 pub find-string-spec : {M : Type 1} → statement M
 find-string-spec =

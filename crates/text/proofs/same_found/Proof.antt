@@ -31,7 +31,11 @@ enum-known-g : tie.Need-enum-known-g
 enum-known-g c = search needs
 
 add-same-part : tie.Need-add-same-part
-add-same-part c = let a = c .before .before .before .before .before .args in let q = inside-system (now (a .t)) (now (a .area)) (c .before .before .before .before .before .pre .1) (c .before .g .given .1) in omega arith
+add-same-part c =
+    let s = c .before .before .before .before .before in
+    let a = s .args in
+    let q = inside-system (now (a .t)) (now (a .area)) (s .pre .1) (c .before .g .given .1) in
+    omega arith
 
 sub-same-part-2 : tie.Need-sub-same-part-2
 sub-same-part-2 c = search needs
@@ -40,7 +44,10 @@ part-same-part-start-2 : tie.Need-part-same-part-start-2
 part-same-part-start-2 c = search needs
 
 part-same-part-end-2 : tie.Need-part-same-part-end-2
-part-same-part-end-2 c = let a = c .before .before .before .before .before .args in inside-system (now (a .t)) (now (a .area)) (c .before .before .before .before .before .pre .1) (c .before .g .given .1)
+part-same-part-end-2 c =
+    let s = c .before .before .before .before .before in
+    let a = s .args in
+    inside-system (now (a .t)) (now (a .area)) (s .pre .1) (c .before .g .given .1)
 
 same-part-requires-2 : tie.Need-same-part-requires-2
 same-part-requires-2 c κs = search needs
@@ -49,7 +56,11 @@ enum-known-g-2 : tie.Need-enum-known-g-2
 enum-known-g-2 c = search needs
 
 add-same-part-2 : tie.Need-add-same-part-2
-add-same-part-2 c = let a = c .before .before .before .before .before .args in let q = inside-pool (now (a .t)) (now (a .area)) (c .before .before .before .before .before .pre .1) (c .before .g2 .given .1) in omega arith
+add-same-part-2 c =
+    let s = c .before .before .before .before .before in
+    let a = s .args in
+    let q = inside-pool (now (a .t)) (now (a .area)) (s .pre .1) (c .before .g2 .given .1) in
+    omega arith
 
 sub-same-part-3 : tie.Need-sub-same-part-3
 sub-same-part-3 c = search needs
@@ -58,22 +69,43 @@ part-same-part-start-3 : tie.Need-part-same-part-start-3
 part-same-part-start-3 c = search needs
 
 part-same-part-end-3 : tie.Need-part-same-part-end-3
-part-same-part-end-3 c = let a = c .before .before .before .before .before .args in inside-pool (now (a .t)) (now (a .area)) (c .before .before .before .before .before .pre .1) (c .before .g2 .given .1)
+part-same-part-end-3 c =
+    let s = c .before .before .before .before .before in
+    let a = s .args in
+    inside-pool (now (a .t)) (now (a .area)) (s .pre .1) (c .before .g2 .given .1)
 
 same-part-requires-3 : tie.Need-same-part-requires-3
 same-part-requires-3 c κs = search needs
 
 returns : tie.Need-returns
-returns c = let a = c .before .before .before .before .args in sym (ap (sameText (partOf (a .wide) (now (a .t)) (now (a .area)) (a .f))) (partOf-nothing (a .wide) (now (a .t)) (now (a .area)) (c .enum-told .given .1)) ∙ sameText-none (partOf (a .wide) (now (a .t)) (now (a .area)) (a .f)))
+returns c =
+    let s = c .before .before .before .before in
+    let a = s .args in
+    sym (ap (sameText (partOf (a .wide) (now (a .t)) (now (a .area)) (a .f)))
+    (partOf-nothing (a .wide) (now (a .t)) (now (a .area)) (c .enum-told .given .1)) ∙ sameText-none
+    (partOf (a .wide) (now (a .t)) (now (a .area)) (a .f)))
 
 returns-2 : tie.Need-returns-2
-returns-2 c = let a = c .before .before .before .before .before .before .args in c .same-part .ensures ∙ sameText-cut (partOf (a .wide) (now (a .t)) (now (a .area)) (a .f)) (a .wide) ∙ sym (ap (sameText (partOf (a .wide) (now (a .t)) (now (a .area)) (a .f))) (partOf-cut (a .wide) (now (a .t)) (now (a .area)) (c .before .before .enum-told2 .given .1)))
+returns-2 c =
+    let s = c .before .before .before .before .before .before in
+    let a = s .args in
+    c .same-part .ensures ∙ sameText-cut (partOf (a .wide) (now (a .t)) (now (a .area)) (a .f)) (a .wide) ∙ sym (ap
+    (sameText (partOf (a .wide) (now (a .t)) (now (a .area)) (a .f)))
+    (partOf-cut (a .wide) (now (a .t)) (now (a .area)) (c .before .before .enum-told2 .given .1)))
 
 returns-3 : tie.Need-returns-3
-returns-3 c = let a = c .before .before .before .before .before .before .before .args in c .same-part2 .ensures ∙ sym (ap (sameText (partOf (a .wide) (now (a .t)) (now (a .area)) (a .f))) (partOf-system (a .wide) (now (a .t)) (now (a .area)) (c .before .before .before .g .given .1)))
+returns-3 c =
+    let s = c .before .before .before .before .before .before .before in
+    let a = s .args in
+    c .same-part2 .ensures ∙ sym (ap (sameText (partOf (a .wide) (now (a .t)) (now (a .area)) (a .f)))
+    (partOf-system (a .wide) (now (a .t)) (now (a .area)) (c .before .before .before .g .given .1)))
 
 returns-4 : tie.Need-returns-4
-returns-4 c = let a = c .before .before .before .before .before .before .before .args in c .same-part3 .ensures ∙ sym (ap (sameText (partOf (a .wide) (now (a .t)) (now (a .area)) (a .f))) (partOf-pool (a .wide) (now (a .t)) (now (a .area)) (c .before .before .before .g2 .given .1)))
+returns-4 c =
+    let s = c .before .before .before .before .before .before .before in
+    let a = s .args in
+    c .same-part3 .ensures ∙ sym (ap (sameText (partOf (a .wide) (now (a .t)) (now (a .area)) (a .f)))
+    (partOf-pool (a .wide) (now (a .t)) (now (a .area)) (c .before .before .before .g2 .given .1)))
 
 pub same-found-spec : {M : Type 1} → statement M
 same-found-spec =

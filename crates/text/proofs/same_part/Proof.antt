@@ -31,7 +31,11 @@ enum-known-f : tie.Need-enum-known-f
 enum-known-f c = search needs
 
 add-same-text : tie.Need-add-same-text
-add-same-text c = let a = c .before .before .before .before .before .before .args in let q = inside-system (now (a .t)) (now (a .area)) (c .before .before .before .before .before .before .pre) (c .before .f .given .1) in omega arith
+add-same-text c =
+    let s = c .before .before .before .before .before .before in
+    let a = s .args in
+    let q = inside-system (now (a .t)) (now (a .area)) (s .pre) (c .before .f .given .1) in
+    omega arith
 
 sub-same-text-2 : tie.Need-sub-same-text-2
 sub-same-text-2 c = search needs
@@ -40,7 +44,10 @@ part-same-text-start-2 : tie.Need-part-same-text-start-2
 part-same-text-start-2 c = search needs
 
 part-same-text-end-2 : tie.Need-part-same-text-end-2
-part-same-text-end-2 c = let a = c .before .before .before .before .before .before .args in inside-system (now (a .t)) (now (a .area)) (c .before .before .before .before .before .before .pre) (c .before .f .given .1)
+part-same-text-end-2 c =
+    let s = c .before .before .before .before .before .before in
+    let a = s .args in
+    inside-system (now (a .t)) (now (a .area)) (s .pre) (c .before .f .given .1)
 
 same-text-requires-2 : tie.Need-same-text-requires-2
 same-text-requires-2 c κs = search needs
@@ -49,7 +56,11 @@ enum-known-f-2 : tie.Need-enum-known-f-2
 enum-known-f-2 c = search needs
 
 add-same-text-2 : tie.Need-add-same-text-2
-add-same-text-2 c = let a = c .before .before .before .before .before .before .args in let q = inside-pool (now (a .t)) (now (a .area)) (c .before .before .before .before .before .before .pre) (c .before .f2 .given .1) in omega arith
+add-same-text-2 c =
+    let s = c .before .before .before .before .before .before in
+    let a = s .args in
+    let q = inside-pool (now (a .t)) (now (a .area)) (s .pre) (c .before .f2 .given .1) in
+    omega arith
 
 sub-same-text-3 : tie.Need-sub-same-text-3
 sub-same-text-3 c = search needs
@@ -58,7 +69,10 @@ part-same-text-start-3 : tie.Need-part-same-text-start-3
 part-same-text-start-3 c = search needs
 
 part-same-text-end-3 : tie.Need-part-same-text-end-3
-part-same-text-end-3 c = let a = c .before .before .before .before .before .before .args in inside-pool (now (a .t)) (now (a .area)) (c .before .before .before .before .before .before .pre) (c .before .f2 .given .1)
+part-same-text-end-3 c =
+    let s = c .before .before .before .before .before .before in
+    let a = s .args in
+    inside-pool (now (a .t)) (now (a .area)) (s .pre) (c .before .f2 .given .1)
 
 same-text-requires-3 : tie.Need-same-text-requires-3
 same-text-requires-3 c κs = search needs
@@ -67,13 +81,26 @@ returns : tie.Need-returns
 returns c = search needs
 
 returns-2 : tie.Need-returns-2
-returns-2 c = let a = c .before .before .before .before .before .before .before .args in c .same-text .ensures ∙ isText-cut (a .wide) (textOf (a .wide-s) (now (a .s))) ∙ sym (ap (λ (p : Content). isText p (textOf (a .wide-s) (now (a .s)))) (partOf-cut (a .wide) (now (a .t)) (now (a .area)) (c .before .before .enum-told2 .given .1)))
+returns-2 c =
+    let s = c .before .before .before .before .before .before .before in
+    let a = s .args in
+    c .same-text .ensures ∙ isText-cut (a .wide) (textOf (a .wide-s) (now (a .s))) ∙ sym (ap
+    (λ (p : Content). isText p (textOf (a .wide-s) (now (a .s))))
+    (partOf-cut (a .wide) (now (a .t)) (now (a .area)) (c .before .before .enum-told2 .given .1)))
 
 returns-3 : tie.Need-returns-3
-returns-3 c = let a = c .before .before .before .before .before .before .before .before .args in c .same-text2 .ensures ∙ sym (ap (λ (p : Content). isText p (textOf (a .wide-s) (now (a .s)))) (partOf-system (a .wide) (now (a .t)) (now (a .area)) (c .before .before .before .f .given .1)))
+returns-3 c =
+    let s = c .before .before .before .before .before .before .before .before in
+    let a = s .args in
+    c .same-text2 .ensures ∙ sym (ap (λ (p : Content). isText p (textOf (a .wide-s) (now (a .s))))
+    (partOf-system (a .wide) (now (a .t)) (now (a .area)) (c .before .before .before .f .given .1)))
 
 returns-4 : tie.Need-returns-4
-returns-4 c = let a = c .before .before .before .before .before .before .before .before .args in c .same-text3 .ensures ∙ sym (ap (λ (p : Content). isText p (textOf (a .wide-s) (now (a .s)))) (partOf-pool (a .wide) (now (a .t)) (now (a .area)) (c .before .before .before .f2 .given .1)))
+returns-4 c =
+    let s = c .before .before .before .before .before .before .before .before in
+    let a = s .args in
+    c .same-text3 .ensures ∙ sym (ap (λ (p : Content). isText p (textOf (a .wide-s) (now (a .s))))
+    (partOf-pool (a .wide) (now (a .t)) (now (a .area)) (c .before .before .before .f2 .given .1)))
 
 pub same-part-spec : {M : Type 1} → statement M
 same-part-spec =

@@ -9,7 +9,10 @@ use Rattle.text.proofs.string_at.Statement.{statement}
 use Rattle.text.proofs.string_at.Tie as tie
 
 returns : tie.Need-returns
-returns c = let a = c .before .before .args in λ area. string-outside (a .wide) (now (a .t)) (a .strings) (a .size) (a .o) (c .before .before .pre) area (c .if1 .taken)
+returns c =
+    let s = c .before .before in
+    let a = s .args in
+    λ area. string-outside (a .wide) (now (a .t)) (a .strings) (a .size) (a .o) (s .pre) area (c .if1 .taken)
 
 add-split-string : tie.Need-add-split-string
 add-split-string c = search needs
@@ -39,20 +42,31 @@ add-t17 : tie.Need-add-t17
 add-t17 c = search needs
 
 add-t18 : tie.Need-add-t18
-add-t18 c = let a = c .before .before .before .before .before .before .before .args in
+add-t18 c =
+    let s = c .before .before .before .before .before .before .before in
+    let p5 = c .before .before .before .before .before in
+    let a = s .args in
     let e = sym (c .before .before .before .split-string .ensures) ∙ c .before .split .given .1 in
-    let q = string-pool-le (a .wide) (now (a .t)) (a .strings) (a .size) (a .o) (c .before .before .before .before .before .before .before .pre) (c .before .before .before .before .before .if1 .left) (data-slice (a .wide) (now (a .t)) (a .strings) (a .size) (a .o) e) in
+    let q = string-pool-le (a .wide) (now (a .t)) (a .strings) (a .size) (a .o) (s .pre) (p5 .if1 .left)
+    (data-slice (a .wide) (now (a .t)) (a .strings) (a .size) (a .o) e) in
     omega arith
 
 returns-2 : tie.Need-returns-2
-returns-2 c = let a = c .before .before .before .before .before .before .args in
+returns-2 c =
+    let s = c .before .before .before .before .before .before in
+    let a = s .args in
     let e = sym (c .before .before .split-string .ensures) ∙ c .enum-told .given .1 in
-    λ area. string-cut (a .wide) (now (a .t)) (a .strings) (a .size) (a .o) (c .before .before .before .before .before .before .pre) area (c .before .before .before .before .if1 .left) (data-slice (a .wide) (now (a .t)) (a .strings) (a .size) (a .o) e)
+    λ area. string-cut (a .wide) (now (a .t)) (a .strings) (a .size) (a .o) (s .pre) area (c .before .before .before .before .if1 .left)
+    (data-slice (a .wide) (now (a .t)) (a .strings) (a .size) (a .o) e)
 
 returns-3 : tie.Need-returns-3
-returns-3 c = let a = c .before .before .before .before .before .before .before .args in
+returns-3 c =
+    let s = c .before .before .before .before .before .before .before in
+    let p5 = c .before .before .before .before .before in
+    let a = s .args in
     let e = sym (c .before .before .before .split-string .ensures) ∙ c .before .split .given .1 in
-    λ area. string-pool (a .wide) (now (a .t)) (a .strings) (a .size) (a .o) (c .before .before .before .before .before .before .before .pre) area _ _ (c .before .before .before .before .before .if1 .left) (data-slice (a .wide) (now (a .t)) (a .strings) (a .size) (a .o) e)
+    λ area. string-pool (a .wide) (now (a .t)) (a .strings) (a .size) (a .o) (s .pre) area _ _ (p5 .if1 .left)
+    (data-slice (a .wide) (now (a .t)) (a .strings) (a .size) (a .o) e)
 
 pub string-at-spec : {M : Type 1} → statement M
 string-at-spec =

@@ -28,14 +28,20 @@ add-t6 : tie.Need-add-t6
 add-t6 c = search needs
 
 sub-t10 : tie.Need-sub-t10
-sub-t10 c = let a = c .before .before .before .args in
+sub-t10 c =
+    let s = c .before .before .before in
+    let a = s .args in
     let e = c .without-attr .ensures in
-    stripped-le (now (a .area)) (a .start) (a .n) (length (now (c .without-attr .result))) (c .before .before .before .pre .0) (ap length e ∙ ap (λ (k : _). length (without androidAttr (take k (drop (a .start) (now (a .area)))))) (slice-of (a .start) (a .n)))
+    stripped-le (now (a .area)) (a .start) (a .n) (length (now (c .without-attr .result))) (s .pre .0) (ap length e ∙ ap
+    (λ (k : _). length (without androidAttr (take k (drop (a .start) (now (a .area)))))) (slice-of (a .start) (a .n)))
 
 returns : tie.Need-returns
-returns c = let a = c .before .before .before .args in
+returns c =
+    let s = c .before .before .before in
+    let a = s .args in
     let e = c .without-attr .ensures in
-    λ w t. stripped-stands w t (now (a .area)) (a .start) (a .n) (length (now (c .without-attr .result))) (c .before .before .before .pre .0) (c .before .before .before .pre .1) (ap length e ∙ ap (λ (k : _). length (without androidAttr (take k (drop (a .start) (now (a .area)))))) (slice-of (a .start) (a .n)))
+    λ w t. stripped-stands w t (now (a .area)) (a .start) (a .n) (length (now (c .without-attr .result))) (s .pre .0) (s .pre .1) (ap length
+    e ∙ ap (λ (k : _). length (without androidAttr (take k (drop (a .start) (now (a .area)))))) (slice-of (a .start) (a .n)))
 
 pub stripped-spec : {M : Type 1} → statement M
 stripped-spec =

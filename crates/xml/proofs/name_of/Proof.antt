@@ -39,14 +39,21 @@ returns-2 c =
     let turn = turn-name _ _ 0 _ _ (omega arith) (q .char-at .ensures) in
     sym (stops _ _ _ turn (ne-eqb _ 1 (c .if2 .taken)))
 
+slice-aggregate-ascii-run : tie.Need-slice-aggregate-ascii-run Inv-loop μ-loop
+slice-aggregate-ascii-run c = search needs
+
+ascii-run-requires : tie.Need-ascii-run-requires Inv-loop μ-loop
+ascii-run-requires c κs = classes-right
+
 loop-holds : tie.Need-loop-holds Inv-loop μ-loop
 loop-holds c =
-    let q = c .before .before in
-    let a = c .before .before .before .before .before .before .args in
+    let q = c .before .before .before .before in
+    let a = q .before .before .before .before .args in
     let turn = turn-name (a .wide) (now (a .s)) 0 _ _ (omega arith) (q .char-at .ensures) in
     let w = q .char-at .result .width in
     let at : drop (0 + w) (now (a .s)) ≡ drop w (now (a .s)) = rw (zero-add w) in
-    (classes-right, sym (ap (λ (l : List ℕ). allChar (stepsOf (a .wide) l)) at) ∙ sym (goes _ _ _ turn (eq-eqb _ 1 (c .if2 .left))))
+    let first = sym (ap (λ (l : List ℕ). allChar (stepsOf (a .wide) l)) at) ∙ sym (goes _ _ _ turn (eq-eqb _ 1 (c .before .before .if2 .left))) in
+    (classes-right, c .ascii-run .ensures .rest ∙ first)
 
 slice-aggregate-char-at-2 : tie.Need-slice-aggregate-char-at-2 Inv-loop μ-loop
 slice-aggregate-char-at-2 c = search needs
@@ -60,18 +67,24 @@ returns-3 c =
     let turn = turn-char _ _ _ _ _ (q .before .before .loop-test .taken) (q .char-at2 .ensures) in
     sym (stops _ _ _ turn (ap not (eq-eqb _ 0 (c .if3 .taken)))) ∙ q .before .before .before .loop .inv .1
 
-add-at : tie.Need-add-at Inv-loop μ-loop
-add-at c = omega (arith, c .before .before .before .char-at2 .ensures)
+slice-aggregate-ascii-run-2 : tie.Need-slice-aggregate-ascii-run-2 Inv-loop μ-loop
+slice-aggregate-ascii-run-2 c = search needs
+
+add-ascii-run : tie.Need-add-ascii-run Inv-loop μ-loop
+add-ascii-run c = omega (arith, c .before .before .before .before .char-at2 .ensures)
+
+ascii-run-requires-2 : tie.Need-ascii-run-requires-2 Inv-loop μ-loop
+ascii-run-requires-2 c κs = c .before .before .before .before .before .before .before .loop .inv .0
 
 loop-less : tie.Need-loop-less Inv-loop μ-loop
-loop-less c = omega (arith, c .before .before .before .char-at2 .ensures)
+loop-less c = omega (arith, c .before .before .before .before .before .char-at2 .ensures, c .ascii-run2 .ensures .later)
 
 loop-again : tie.Need-loop-again Inv-loop μ-loop
 loop-again c =
-    let q = c .before .before .before in
-    let turn = turn-char _ _ _ _ _ (q .before .before .loop-test .taken) (q .char-at2 .ensures) in
+    let q = c .before .before .before .before .before in
     let inv = q .before .before .before .loop .inv in
-    (inv .0, sym (goes _ _ _ turn (ap not (ne-eqb _ 0 (c .before .if3 .left)))) ∙ inv .1)
+    let turn = turn-char _ _ _ _ _ (q .before .before .loop-test .taken) (q .char-at2 .ensures) in
+    (inv .0, c .ascii-run2 .ensures .rest ∙ sym (goes _ _ _ turn (ap not (ne-eqb _ 0 (c .before .before .before .if3 .left)))) ∙ inv .1)
 
 returns-4 : tie.Need-returns-4 Inv-loop μ-loop
 returns-4 c = sym (end-char _ _ _ (c .loop-test .left)) ∙ c .before .loop .inv .1
@@ -86,11 +99,15 @@ name-of-spec =
     slice-aggregate-char-at
     char-at-requires
     returns-2
+    slice-aggregate-ascii-run
+    ascii-run-requires
     loop-holds
     slice-aggregate-char-at-2
     char-at-requires-2
     returns-3
-    add-at
+    slice-aggregate-ascii-run-2
+    add-ascii-run
+    ascii-run-requires-2
     loop-less
     loop-again
     returns-4)

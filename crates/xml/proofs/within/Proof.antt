@@ -1,5 +1,5 @@
 -- `xml::within` meets its contract.
-use Rattle.xml.proofs.Tests.{tests}
+use Rattle.utf.proofs.Tests.{tests}
 use Rattle.xml.proofs.within.Statement.{statement}
 use Rattle.xml.proofs.within.Tie as tie
 

@@ -8,14 +8,14 @@ use Rattle.events.proofs.turns.cut_step.Tie as tie
 enum-told : tie.Need-enum-told
 enum-told c = search needs
 
-to-step-requires : tie.Need-to-step-requires
-to-step-requires c κs = search needs
+quiet-step-requires : tie.Need-quiet-step-requires
+quiet-step-requires c κs = search needs
 
 enum-told-2 : tie.Need-enum-told-2
 enum-told-2 c = search needs
 
-to-step-requires-2 : tie.Need-to-step-requires-2
-to-step-requires-2 c κs = search needs
+quiet-step-requires-2 : tie.Need-quiet-step-requires-2
+quiet-step-requires-2 c κs = search needs
 
 enum-known-x : tie.Need-enum-known-x
 enum-known-x c = search needs
@@ -44,18 +44,18 @@ close-step-requires c κs = search needs
 enum-told-4 : tie.Need-enum-told-4
 enum-told-4 c = search needs
 
-pass-step-requires : tie.Need-pass-step-requires
-pass-step-requires c κs = search needs
+skip-step-requires : tie.Need-skip-step-requires
+skip-step-requires c κs = search needs
 
 returns : tie.Need-returns
 returns c =
     let a = c .before .before .before .args in
-    c .to-step .ensures ∙ ap (cutStep (a .n) (a .c)) (sym (c .before .enum-told .given .1))
+    c .quiet-step .ensures ∙ ap (cutStep (a .n) (a .c)) (sym (c .before .enum-told .given .1))
 
 returns-2 : tie.Need-returns-2
 returns-2 c =
     let a = c .before .before .before .args in
-    c .to-step2 .ensures ∙ ap (cutStep (a .n) (a .c)) (sym (c .before .enum-told2 .given .1))
+    c .quiet-step2 .ensures ∙ ap (cutStep (a .n) (a .c)) (sym (c .before .enum-told2 .given .1))
 
 returns-3 : tie.Need-returns-3
 returns-3 c =
@@ -80,16 +80,16 @@ returns-6 c =
 returns-7 : tie.Need-returns-7
 returns-7 c =
     let a = c .before .before .before .args in
-    c .pass-step .ensures ∙ ap (cutStep (a .n) (a .c)) (sym (c .before .enum-told4 .given .1))
+    c .skip-step .ensures ∙ ap (cutStep (a .n) (a .c)) (sym (c .before .enum-told4 .given .1))
 
 pub cut-step-spec : {M : Type 1} → statement M
 cut-step-spec =
     tie.close
     (tie.spec
     enum-told
-    to-step-requires
+    quiet-step-requires
     enum-told-2
-    to-step-requires-2
+    quiet-step-requires-2
     enum-known-x
     begin-step-requires
     enum-known-x-2
@@ -99,7 +99,7 @@ cut-step-spec =
     enum-told-3
     close-step-requires
     enum-told-4
-    pass-step-requires
+    skip-step-requires
     returns
     returns-2
     returns-3

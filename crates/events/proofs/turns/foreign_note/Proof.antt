@@ -5,13 +5,13 @@ use Rattle.events.proofs.turns.foreign_note.Statement.{statement}
 use Rattle.events.proofs.turns.foreign_note.Tie as tie
 
 returns : tie.Need-returns
-returns c = rw (eq-eqb _ _ (c .if1 .taken))
+returns c = rw (eq-eqb (c .before .args .sort) (c .before .args .run) (c .if1 .taken))
 
 number-note-requires : tie.Need-number-note-requires
 number-note-requires c κs = search needs
 
 returns-2 : tie.Need-returns-2
-returns-2 c = rw (ne-eqb _ _ (c .before .if1 .left), c .number-note .ensures)
+returns-2 c = rw (ne-eqb (c .before .before .args .sort) (c .before .before .args .run) (c .before .if1 .left), c .number-note .ensures)
 
 pub foreign-note-spec : {M : Type 1} → statement M
 foreign-note-spec = tie.close (tie.spec returns number-note-requires returns-2)

@@ -24,8 +24,8 @@ look-requires c κs = search needs
 enum-told : tie.Need-enum-told
 enum-told c = search needs
 
-to-step-requires : tie.Need-to-step-requires
-to-step-requires c κs = search needs
+quiet-step-requires : tie.Need-quiet-step-requires
+quiet-step-requires c κs = search needs
 
 enum-known-turn : tie.Need-enum-known-turn
 enum-known-turn c = search needs
@@ -61,7 +61,7 @@ returns : tie.Need-returns
 returns c =
     let a = c .before .before .before .before .before .before .args in
     let e = c .before .before .before .look .ensures ∙ ap turnOf (rest (a .b .now) (a .c .at)) in
-    c .to-step .ensures ∙ ap (turnStep (a .b .now) (a .c)) (sym (c .before .enum-told .given .1) ∙ e)
+    c .quiet-step .ensures ∙ ap (turnStep (a .b .now) (a .c)) (sym (c .before .enum-told .given .1) ∙ e)
 
 returns-2 : tie.Need-returns-2
 returns-2 c =
@@ -90,7 +90,7 @@ turn-step-spec =
     part-l-end
     look-requires
     enum-told
-    to-step-requires
+    quiet-step-requires
     enum-known-turn
     foreign-step-requires
     enum-known-turn-2

@@ -1,32 +1,24 @@
+-- `head::ask::zero_from` meets its contract: zeros in the part from the place on (`zero-tail`).
 use borrow.Author.Needs.{needs}
 use Rattle.head.proofs.Zeros.{zero-tail}
 use Rattle.head.proofs.ask.zero_from.Statement.{statement}
 use Rattle.head.proofs.ask.zero_from.Tie as tie
-use Rattle.head.proofs.ask.zero_from.Reads as reads
-use Rattle.head.proofs.ask.zero_from.Lts as lts
-use Rattle.head.proofs.ask.zero_all.Reads as zero-all-reads
 
--- src/lib.rt:105:14
 sub-zero-all : tie.Need-sub-zero-all
 sub-zero-all c = search needs
 
--- src/lib.rt:105:14
 part-zero-all-start : tie.Need-part-zero-all-start
 part-zero-all-start c = search needs
 
--- src/lib.rt:105:14
 part-zero-all-end : tie.Need-part-zero-all-end
 part-zero-all-end c = search needs
 
--- src/lib.rt:105:5
 zero-all-requires : tie.Need-zero-all-requires
 zero-all-requires c κs = search needs
 
--- src/lib.rt:101:1
 same-length : tie.Need-same-length
 same-length c = search needs
 
--- src/lib.rt:101:1
 returns : tie.Need-returns
 returns c =
     let a = c .before .before .before .before .before .args in

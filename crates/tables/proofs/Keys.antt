@@ -1,0 +1,47 @@
+-- Laws of `hasKey`, for `has` and for the walk: what a list of records says at a place. No contract cites this file.
+-- In order: one record on (`hasKey-step`), then the four ways of the loop: found, another prefix, another name, the end.
+use Prim.Native.Nat.{ℕ, _+_, _-_, _≤_, _<_}
+use mathlib.Core.Path.{_≡_, refl, sym, _∙_}
+use mathlib.Core.List.{List}
+use mathlib.Core.Bool.{Bool, true, false, _&&_}
+use borrow.Author.Tests.{lt-ltb, le-ltb, eq-eqb, ne-eqb}
+use lib.ListN.{length, getD, drop, length-drop}
+use lib.Seq.{getD-drop, drop-drop}
+use lib.Dec.{eqb}
+use Rattle.chunk.specs.Walk.{walk}
+use Rattle.chunk.proofs.Walk.{walk-stop, walk-step}
+use Rattle.text.specs.Content.{sameText}
+use Rattle.text.specs.Found.{partOf, Finds}
+use Rattle.text.specs.declared.Head.{Head}
+use Rattle.text.specs.declared.Found.{Found}
+use Rattle.tables.specs.Keep.{keyUsed, keyNext, hasKey, sameIn}
+
+module _ (same : ℕ → ℕ → Bool) (p n : ℕ) (l : List ℕ) (i : ℕ) where
+  pub hasKey-end : length l - i < 5 → hasKey same p n (drop i l) ≡ false
+  unfolding hasKey
+  hasKey-end h =
+      let short : length (drop i l) < 5 = rw length-drop h in
+      walk-stop keyUsed (keyNext same p n) (drop i l) false (rw (lt-ltb _ _ short))
+
+  hasKey-step : 5 ≤ length l - i
+      → hasKey same p n (drop i l) ≡ walk keyUsed (keyNext same p n) (drop (i + 5) l) (eqb (getD l (i + 1) 0) p && same (getD l (i + 2) 0) n)
+  unfolding hasKey
+  hasKey-step h =
+      let long : 5 ≤ length (drop i l) = rw length-drop h in
+      walk-step keyUsed (keyNext same p n) (drop i l) false 4 (rw (le-ltb _ _ long)) long ∙ rw (drop-drop, getD-drop i l 1 0, getD-drop i l 2 0)
+
+  pub hasKey-found : 5 ≤ length l - i → getD l (i + 1) 0 ≡ p → same (getD l (i + 2) 0) n ≡ true → hasKey same p n (drop i l) ≡ true
+  hasKey-found h e f = hasKey-step h ∙ rw (eq-eqb _ _ e, f) (walk-stop keyUsed (keyNext same p n) (drop (i + 5) l) true refl)
+
+  pub hasKey-prefix : 5 ≤ length l - i → (getD l (i + 1) 0 ≡ p → ⊥) → hasKey same p n (drop i l) ≡ hasKey same p n (drop (i + 5) l)
+  unfolding hasKey
+  hasKey-prefix h e = hasKey-step h ∙ rw (ne-eqb _ _ e)
+
+  pub hasKey-name : 5 ≤ length l - i → getD l (i + 1) 0 ≡ p → same (getD l (i + 2) 0) n ≡ false → hasKey same p n (drop i l) ≡ hasKey same p n (drop (i + 5) l)
+  unfolding hasKey
+  hasKey-name h e f = hasKey-step h ∙ rw (eq-eqb _ _ e, f)
+
+-- what the code compares is what the indices stand for
+pub sameIn-found : (h : Head) (t names area : List ℕ) (i n : ℕ) (other wanted : Found) → Finds t names area h i other → Finds t names area h n wanted
+    → (r b : Bool) → r ≡ sameText (partOf (h .wide) t area other) (partOf (h .wide) t area wanted) → r ≡ b → sameIn h t names area i n ≡ b
+sameIn-found h t names area i n other wanted f g r b e q = sym (rw (f .same, g .same) at e) ∙ q

@@ -1,0 +1,88 @@
+// Records of five words in lent tables: they are stored, zeroed, and asked for a prefix and a name.
+//
+// Stands for the vectors of axml.rs (apk-info 13770539b8), and `has` for its `HashSet` of attribute names.
+// Definitions: specs/Keep.antt. Differs from the Rust: names are compared where they lie, by text, and nothing is copied.
+ghost use mathlib.Core.Path.{_≡_};
+ghost use mathlib.Core.List.{_++_, [], _∷_};
+ghost use Prim.Native.Nat.{_+_, _-_, _≤_, _<_};
+ghost use lib.ListN.{length, drop, take, replicate, set};
+ghost use Rattle.text.specs.Found.{Asks};
+ghost use Rattle.tables.specs.Keep.{hasKey, sameIn};
+use common::StringIndex;
+use text::Head;
+use text::find;
+use text::same_found;
+
+// A number of the file as a place.
+pub fn wide(x: u32) -> usize
+    ensures { λ r. ⌜ r ≡ x ⌝ }
+{
+    x as usize
+}
+
+// Five words from the place `i` on. Ruled out: the words in another order, and a word changed before or behind them.
+pub fn put_five(words: &mut [u32], i: usize, a: u32, b: u32, c: u32, d: u32, e: u32)
+    requires { ⌜ i + 5 ≤ length (now words) ⌝ }
+    ensures { λ _. ⌜ now (words .exit) ≡ take i (now (words .entry)) ++ (a ∷ b ∷ c ∷ d ∷ e ∷ []) ++ drop (i + 5) (now (words .entry)) ⌝ }
+{
+    words[i] = a;
+    words[i + 1] = b;
+    words[i + 2] = c;
+    words[i + 3] = d;
+    words[i + 4] = e;
+}
+
+// One word. Ruled out: another word changed, and the word left as it was.
+pub fn put_one(words: &mut [u32], i: usize, a: u32)
+    requires { ⌜ i < length (now words) ⌝ }
+    ensures { λ _. ⌜ now (words .exit) ≡ set (now (words .entry)) i a ⌝ }
+{
+    words[i] = a;
+}
+
+// Zeros all over. Ruled out: the words behind the last record left as they were, and a last word left out.
+pub fn zero_all(words: &mut [u32])
+    ensures { λ _. ⌜ now (words .exit) ≡ replicate (length (now (words .entry))) 0 ⌝ }
+{
+    let mut i = 0;
+    while i < words.len() {
+        words[i] = 0;
+        i += 1;
+    }
+}
+
+// Zeros from the place `from` on. Ruled out: a word before it changed, and one behind it kept.
+pub fn zero_from(words: &mut [u32], from: usize)
+    requires { ⌜ from ≤ length (now words) ⌝ }
+    ensures { λ _. ⌜ now (words .exit) ≡ take from (now (words .entry)) ++ replicate (length (now (words .entry)) - from) 0 ⌝ }
+{
+    zero_all(&mut words[from..]);
+}
+
+// Whether one of these attributes has this prefix and a name of the same text (W23). The name's own text is found once.
+// Ruled out: yes for the same index under another prefix, and no for another index whose text is the same.
+pub fn has(
+    t: &[u8],
+    names: &[u32],
+    area: &[u8],
+    h: Head,
+    words: &[u32],
+    prefix: u32,
+    name: StringIndex,
+) -> bool
+    requires { ⌜ Asks (now t) (now names) (now area) h ⌝ }
+    ensures { λ r. ⌜ r ≡ hasKey (sameIn h (now (t .entry)) (now (names .entry)) (now (area .entry))) prefix (name .0) (now (words .entry)) ⌝ }
+{
+    let wanted = find(t, names, area, h, name);
+    let mut i = 0;
+    while 5 <= words.len() - i {
+        if words[i + 1] == prefix {
+            let other = find(t, names, area, h, StringIndex(words[i + 2]));
+            if same_found(t, area, h.wide, other, wanted) {
+                return true;
+            }
+        }
+        i += 5;
+    }
+    false
+}

@@ -1,0 +1,81 @@
+// What was found, as a part of what was lent: its content as it stands, whether it is a valid name, and its text as UTF-8.
+//
+// Mirrors structs/res_string_pool.rs (apk-info 13770539b8), `decode`; there a text is a string of its own, here it is written into a lent
+// buffer. Definitions: specs/Content.antt, specs/Found.antt.
+use super::Found;
+use super::NameState;
+ghost use mathlib.Core.Path.{_≡_};
+ghost use mathlib.Core.Bool.{Bool};
+ghost use Prim.Native.Nat.{_≤_};
+ghost use lib.ListN.{length};
+ghost use Rattle.text.specs.Content.{rawOf, textIn, validBy, stateIn};
+ghost use Rattle.text.specs.Found.{partOf, Inside, Wrote};
+use utf::text_into;
+use utf::text_len;
+use xml::valid_name;
+
+// The content bytes of what was found, a part of one of two lent slices: never a copy. It is empty for no text, and for a string that
+// is cut or outside.
+// Ruled out: the pool's bytes for a system name, and the closing byte among them.
+pub fn content_of<'a>(t: &'a [u8], area: &'a [u8], f: Found) -> &'a [u8]
+    requires { ⌜ Inside (now t) (now area) f ⌝ }
+    ensures { λ r. ⌜ ((w : Bool) → now r ≡ rawOf (partOf w (now (t .entry)) (now (area .entry)) f)) ⌝ }
+{
+    match f {
+        Found::Nothing => &t[0..0],
+        Found::Cut => &t[0..0],
+        Found::System(at, n) => &area[at..at + n],
+        Found::Pool(at, n) => &t[at..at + n],
+    }
+}
+
+fn state_of(valid: bool) -> NameState
+    ensures { λ r. ⌜ r ≡ validBy valid ⌝ }
+{
+    if valid {
+        return NameState::Valid;
+    }
+    NameState::Invalid
+}
+
+// Whether there is a text, and whether it is a valid name: a string that is cut is an empty text, and no name.
+// Ruled out: a system name read as UTF-16 because the pool is, and no text for a string that is cut.
+pub fn found_state(t: &[u8], area: &[u8], wide: bool, f: Found) -> NameState
+    requires { ⌜ Inside (now t) (now area) f ⌝ }
+    ensures { λ r. ⌜ r ≡ stateIn (partOf wide (now (t .entry)) (now (area .entry)) f) ⌝ }
+{
+    match f {
+        Found::Nothing => NameState::NoText,
+        Found::Cut => NameState::Invalid,
+        Found::System(at, n) => state_of(valid_name(false, &area[at..at + n])),
+        Found::Pool(at, n) => state_of(valid_name(wide, &t[at..at + n])),
+    }
+}
+
+// How long the text of what was found is as UTF-8. A system name is ASCII, and so its own text.
+// Ruled out: the length of the content bytes for UTF-16, and 3 for a string that is cut.
+pub fn found_len(t: &[u8], area: &[u8], wide: bool, f: Found) -> usize
+    requires { ⌜ Inside (now t) (now area) f × (length (now t) ≤ 16777216) ⌝ }
+    ensures { λ r. ⌜ r ≡ length (textIn (partOf wide (now (t .entry)) (now (area .entry)) f)) ⌝ }
+{
+    match f {
+        Found::Nothing => 0,
+        Found::Cut => 0,
+        Found::System(_, n) => n,
+        Found::Pool(at, n) => text_len(wide, &t[at..at + n]),
+    }
+}
+
+// Writes the text of what was found as UTF-8 at the front of `out`, and returns its length; what stands behind it stays.
+// Ruled out: the content bytes as they stand for UTF-16, and a byte changed behind the text.
+pub fn found_into(t: &[u8], area: &[u8], wide: bool, f: Found, out: &mut [u8]) -> usize
+    requires { ⌜ Inside (now t) (now area) f × (length (textIn (partOf wide (now t) (now area) f)) ≤ length (now out)) ⌝ }
+    ensures { λ r. ⌜ Wrote (textIn (partOf wide (now (t .entry)) (now (area .entry)) f)) (now (out .entry)) (now (out .exit)) r ⌝ }
+{
+    match f {
+        Found::Nothing => 0,
+        Found::Cut => 0,
+        Found::System(at, n) => text_into(false, &area[at..at + n], out),
+        Found::Pool(at, n) => text_into(wide, &t[at..at + n], out),
+    }
+}

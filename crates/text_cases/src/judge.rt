@@ -1,0 +1,180 @@
+// One question of the data: it is asked again, and what comes back is held to what is stored.
+use crate::count;
+use check::same;
+use common::StringIndex;
+use errors::TextNumbers;
+use errors::text_numbers;
+use field::u32_at;
+use head::content;
+use head::text;
+ghost use mathlib.Core.Path.{_≡_};
+ghost use lib.ListN.{length};
+
+// A part of the data, by its place and its length; nothing where it does not lie inside.
+pub fn part<'a>(data: &'a [u8], place: &[u8]) -> &'a [u8]
+    requires { ⌜ length (now place) ≡ 8 ⌝ }
+{
+    let from = u32_at(place, 0) as usize;
+    let n = u32_at(place, 4) as usize;
+    if data.len() < from {
+        return &data[0..0];
+    }
+    if data.len() - from < n {
+        return &data[0..0];
+    }
+    &data[from..from + n]
+}
+
+// A file by its number in the list of files, 8 bytes each.
+fn file_of<'a>(data: &'a [u8], files: &[u8], number: u32) -> &'a [u8] {
+    let at = 8 * (number as usize);
+    if files.len() < at + 8 {
+        return &data[0..0];
+    }
+    part(data, &files[at..at + 8])
+}
+
+// ---- the buffer
+
+// What the buffer holds before a question: no byte of it is 0.
+fn soil(out: &mut [u8]) {
+    let mut i = 0;
+    while i < out.len() {
+        out[i] = 170;
+        i += 1;
+    }
+}
+
+fn is_zero(s: &[u8]) -> bool {
+    let mut i = 0;
+    while i < s.len() {
+        if s[i] != 0 {
+            return false;
+        }
+        i += 1;
+    }
+    true
+}
+
+// ---- an answer
+
+// Whether refusal and value are those wanted, the buffer begins with `want`, and the rest of it is 0. A refused answer wants no text.
+fn is_right(a: TextNumbers, out: &[u8], refusal: u32, value: usize, want: &[u8]) -> bool {
+    if a.refusal != refusal {
+        return false;
+    }
+    if a.value != value as u64 {
+        return false;
+    }
+    let n = want.len();
+    if a.length != n as u64 {
+        return false;
+    }
+    if out.len() < n {
+        return false;
+    }
+    if !same(&out[0..n], want) {
+        return false;
+    }
+    is_zero(&out[n..])
+}
+
+// Whether the text question answers so, in the whole of `out`.
+fn answers(
+    file: &[u8],
+    names: &[u32],
+    area: &[u8],
+    out: &mut [u8],
+    index: u32,
+    refusal: u32,
+    value: usize,
+    want: &[u8],
+) -> bool {
+    soil(out);
+    let a = text(file, names, area, out, StringIndex(index));
+    is_right(text_numbers(a), out, refusal, value, want)
+}
+
+// The same with the first `room` bytes of the buffer; a room that it does not have is not right.
+fn answers_in(
+    file: &[u8],
+    names: &[u32],
+    area: &[u8],
+    out: &mut [u8],
+    room: usize,
+    index: u32,
+    refusal: u32,
+    value: usize,
+    want: &[u8],
+) -> bool {
+    if out.len() < room {
+        return false;
+    }
+    answers(
+        file,
+        names,
+        area,
+        &mut out[0..room],
+        index,
+        refusal,
+        value,
+        want,
+    )
+}
+
+// A text in a buffer that is just right, and in one that is a byte short: refusal 11 with the bytes needed. Nothing where there is none.
+fn judge_buffers(
+    file: &[u8],
+    names: &[u32],
+    area: &[u8],
+    out: &mut [u8],
+    index: u32,
+    refusal: u32,
+    want: &[u8],
+    counts: &mut [u32],
+) {
+    if refusal != 0 {
+        return;
+    }
+    let n = want.len();
+    let right = answers_in(file, names, area, out, n, index, 0, 0, want);
+    count::tally(counts, count::BUFFERS, right);
+    if n == 0 {
+        return;
+    }
+    let short = answers_in(file, names, area, out, n - 1, index, 11, n, &want[0..0]);
+    count::tally(counts, count::BUFFERS, short);
+}
+
+// Whether the content of an index is `want`.
+fn holds<'a>(file: &'a [u8], names: &[u32], area: &'a [u8], index: u32, want: &[u8]) -> bool {
+    same(content(file, names, area, StringIndex(index)), want)
+}
+
+// A question is 36 bytes: the file's number, index, room, refusal, value, then the places of text and content.
+pub fn judge<'a>(
+    data: &'a [u8],
+    files: &[u8],
+    row: &[u8],
+    names: &[u32],
+    area: &'a [u8],
+    out: &mut [u8],
+    counts: &mut [u32],
+)
+    requires { ⌜ length (now row) ≡ 36 ⌝ }
+{
+    let number = u32_at(row, 0);
+    let index = u32_at(row, 4);
+    let room = u32_at(row, 8) as usize;
+    let refusal = u32_at(row, 12);
+    let value = u32_at(row, 16) as usize;
+    let want = part(data, &row[20..28]);
+    let held = part(data, &row[28..36]);
+    let file = file_of(data, files, number);
+    count::new_file(counts, number);
+    let right = answers_in(file, names, area, out, room, index, refusal, value, want);
+    count::tally(counts, refusal as usize, right);
+    judge_buffers(file, names, area, out, index, refusal, want, counts);
+    let same_content = holds(file, names, area, index, held);
+    count::tally(counts, count::CONTENTS, same_content);
+}

@@ -1,0 +1,214 @@
+// Runs the proved functions of utf and xml over published examples, and over vectors whose answers are python's (tools/unicode_vectors.py).
+//
+// For each text: its length and bytes as UTF-8 against the answer, whether it is a name, and whether it is the same as the text before it.
+// A group of texts is one line with counts; every count of wrong answers is 0 in the file `stdout`, to which the run is held.
+mod published;
+
+use field::u16_at;
+use libc::STDOUT_FILENO;
+use utf::same_text;
+use utf::text_into;
+use utf::text_len;
+use xml::valid_name;
+ghost use mathlib.Core.Path.{_≡_};
+ghost use Prim.Native.Nat.{_≤_, _<_};
+ghost use lib.ListN.{length};
+ghost use Rattle.unicode_cases.specs.Lies.{Lies};
+
+pub struct Tally {
+    pub texts: u64,
+    pub wrong_texts: u64,
+    pub wrong_names: u64,
+    pub wrong_pairs: u64,
+}
+
+// Which of the three answers on a text are right.
+pub struct Verdict {
+    pub text: bool,
+    pub name: bool,
+    pub pair: bool,
+}
+
+fn none() -> Tally {
+    Tally {
+        texts: 0,
+        wrong_texts: 0,
+        wrong_names: 0,
+        wrong_pairs: 0,
+    }
+}
+
+fn counted(n: u64, more: bool) -> u64 {
+    if more {
+        if n < 0xffffffff {
+            return n + 1;
+        }
+    }
+    n
+}
+
+fn with(t: Tally, v: Verdict) -> Tally {
+    Tally {
+        texts: counted(t.texts, true),
+        wrong_texts: counted(t.wrong_texts, !v.text),
+        wrong_names: counted(t.wrong_names, !v.name),
+        wrong_pairs: counted(t.wrong_pairs, !v.pair),
+    }
+}
+
+// Whether the text of s is `want`, by its length and by its bytes.
+fn text_right(wide: bool, s: &[u8], want: &[u8]) -> bool
+    requires { ⌜ length (now s) ≤ 65536 ⌝ }
+{
+    let mut out = [0u8; 4096];
+    let n = text_len(wide, s);
+    if 4096 < n {
+        return false;
+    }
+    let m = text_into(wide, s, &mut out);
+    if m != n {
+        return false;
+    }
+    check::same(&out[..n], want)
+}
+
+// ---- the vectors
+
+// A record of a file: its marks, and where its bytes and their text lie.
+pub struct Record {
+    pub whole: bool,
+    pub wide: bool,
+    pub name: bool,
+    pub same: bool,
+    pub start: usize,
+    pub middle: usize,
+    pub end: usize,
+}
+
+// The record at a place. One that is cut stands for all that is left, and counts as wrong.
+fn record_at(file: &[u8], at: usize) -> Record
+    requires { ⌜ at < length (now file) ⌝ }
+    ensures { λ r. ⌜ Lies (length (now (file .entry))) (r .start) (r .middle) (r .end) × (at < r .end) ⌝ }
+{
+    let size = file.len();
+    let left = size - at;
+    if left < 5 {
+        return cut(size);
+    }
+    let n = u16_at(file, at) as usize;
+    let m = u16_at(file, at + 2) as usize;
+    let marks = file[at + 4];
+    if left - 5 < n + m {
+        return cut(size);
+    }
+    Record {
+        whole: true,
+        wide: marks % 2 == 1,
+        name: marks / 2 % 2 == 1,
+        same: marks / 4 % 2 == 1,
+        start: at + 5,
+        middle: at + 5 + n,
+        end: at + 5 + n + m,
+    }
+}
+
+fn cut(size: usize) -> Record
+    ensures { λ r. ⌜ (r .start ≡ size) × (r .middle ≡ size) × (r .end ≡ size) ⌝ }
+{
+    Record {
+        whole: false,
+        wide: false,
+        name: false,
+        same: false,
+        start: size,
+        middle: size,
+        end: size,
+    }
+}
+
+// The text of a record, against its answers and against the text before it, which lies from `from` to `to`.
+fn judge(file: &[u8], r: Record, wide: bool, from: usize, to: usize) -> Verdict
+    requires { ⌜ Lies (length (now file)) (r .start) (r .middle) (r .end) × (from ≤ to) × (to ≤ length (now file)) ⌝ }
+{
+    let s = &file[r.start..r.middle];
+    let text = text_right(r.wide, s, &file[r.middle..r.end]);
+    let name = valid_name(r.wide, s);
+    let pair = same_text(wide, &file[from..to], r.wide, s);
+    Verdict {
+        text: text && r.whole,
+        name: name == r.name,
+        pair: pair == r.same,
+    }
+}
+
+// All records of a file, each beside the one before it; before the first stands the empty text.
+fn walk(file: &[u8]) -> Tally {
+    let mut tally = none();
+    let mut wide = false;
+    let mut from = 0;
+    let mut to = 0;
+    let mut at = 0;
+    while at < file.len() {
+        let r = record_at(file, at);
+        let v = judge(file, r, wide, from, to);
+        tally = with(tally, v);
+        wide = r.wide;
+        from = r.start;
+        to = r.middle;
+        at = r.end;
+    }
+    tally
+}
+
+// ---- the report
+
+fn say(s: &[u8]) {
+    io::write_all(STDOUT_FILENO, s);
+}
+
+fn report(label: &[u8], t: Tally) {
+    say(label);
+    say(b": ");
+    io::print_decimal(STDOUT_FILENO, t.texts);
+    say(b" texts; wrong: ");
+    io::print_decimal(STDOUT_FILENO, t.wrong_texts);
+    say(b" texts, ");
+    io::print_decimal(STDOUT_FILENO, t.wrong_names);
+    say(b" names, ");
+    io::print_decimal(STDOUT_FILENO, t.wrong_pairs);
+    say(b" comparisons\n");
+}
+
+// The vectors of one file, which has at most 262,144 bytes.
+fn vectors(path: &[u8], label: &[u8]) {
+    let fd = os::open_read(path);
+    if fd < 0 {
+        os::fail(path);
+        return;
+    }
+    let mut space = [0u8; 262144];
+    let n = io::read_full(fd, &mut space);
+    libc::close(fd);
+    report(label, walk(&space[..n]));
+}
+
+fn main() {
+    report(b"Unicode, chapter 3", published::unicode());
+    report(b"names of XML and of the Rust", published::names());
+    vectors(
+        b"pairs-0",
+        b"UTF-8, first bytes 00 to 7F with every second byte",
+    );
+    vectors(
+        b"pairs-1",
+        b"UTF-8, first bytes 80 to FF with every second byte",
+    );
+    vectors(
+        b"sequences",
+        b"UTF-8, first bytes C0 to FF with every second byte, then 80 80",
+    );
+    vectors(b"utf8", b"UTF-8 made at random");
+    vectors(b"utf16", b"UTF-16 made at random");
+    vectors(b"both", b"UTF-8 beside UTF-16");
+    vectors(b"names", b"every boundary of a range of names, and ASCII");
+}

@@ -1,0 +1,114 @@
+// The published examples: of Unicode, chapter 3, and of XML's names.
+use super::Tally;
+use super::Verdict;
+use super::none;
+use super::text_right;
+use super::with;
+use utf::same_text;
+use xml::valid_name;
+ghost use Prim.Native.Nat.{_≤_};
+ghost use lib.ListN.{length};
+
+fn text_case(t: Tally, wide: bool, s: &[u8], want: &[u8]) -> Tally
+    requires { ⌜ length (now s) ≤ 65536 ⌝ }
+{
+    let text = text_right(wide, s, want);
+    let pair = same_text(wide, s, false, want);
+    with(
+        t,
+        Verdict {
+            text,
+            name: true,
+            pair,
+        },
+    )
+}
+
+fn name_case(t: Tally, s: &[u8], valid: bool) -> Tally {
+    let name = valid_name(false, s);
+    with(
+        t,
+        Verdict {
+            text: true,
+            name: name == valid,
+            pair: true,
+        },
+    )
+}
+
+// The Unicode Standard, chapter 3, section 3.9: U+FFFD for each maximal subpart, by its tables and by the examples in its text; and Table
+// 3-4's four characters, 004D 0430 4E8C 10302, in UTF-8 and in UTF-16.
+pub fn unicode() -> Tally {
+    let mut t = none();
+    // Table 3-8: non-shortest forms
+    t = text_case(
+        t,
+        false,
+        b"\xc0\xaf\xe0\x80\xbf\xf0\x81\x82A",
+        b"\xef\xbf\xbd\xef\xbf\xbd\xef\xbf\xbd\xef\xbf\xbd\xef\xbf\xbd\xef\xbf\xbd\xef\xbf\xbd\xef\xbf\xbdA",
+    );
+    // Table 3-9: surrogates
+    t = text_case(
+        t,
+        false,
+        b"\xed\xa0\x80\xed\xbf\xbf\xed\xafA",
+        b"\xef\xbf\xbd\xef\xbf\xbd\xef\xbf\xbd\xef\xbf\xbd\xef\xbf\xbd\xef\xbf\xbd\xef\xbf\xbd\xef\xbf\xbdA",
+    );
+    // Table 3-10: other ill-formed sequences
+    t = text_case(
+        t,
+        false,
+        b"\xf4\x91\x92\x93\xffA\x80\xbfB",
+        b"\xef\xbf\xbd\xef\xbf\xbd\xef\xbf\xbd\xef\xbf\xbd\xef\xbf\xbdA\xef\xbf\xbd\xef\xbf\xbdB",
+    );
+    // Table 3-11: truncated sequences
+    t = text_case(
+        t,
+        false,
+        b"\xe1\x80\xe2\xf0\x91\x92\xf1\xbfA",
+        b"\xef\xbf\xbd\xef\xbf\xbd\xef\xbf\xbd\xef\xbf\xbdA",
+    );
+    // the text on D93b
+    t = text_case(
+        t,
+        false,
+        b"A\xc0\xafA\xf4\x80\x80A",
+        b"A\xef\xbf\xbd\xef\xbf\xbdA\xef\xbf\xbdA",
+    );
+    // the text on conversion: C2 does not swallow what follows
+    t = text_case(t, false, b"\xc2AB", b"\xef\xbf\xbdAB");
+    // Table 3-4
+    t = text_case(
+        t,
+        false,
+        b"M\xd0\xb0\xe4\xba\x8c\xf0\x90\x8c\x82",
+        b"M\xd0\xb0\xe4\xba\x8c\xf0\x90\x8c\x82",
+    );
+    text_case(
+        t,
+        true,
+        b"M\x00\x30\x04\x8c\x4e\x00\xd8\x02\xdf",
+        b"M\xd0\xb0\xe4\xba\x8c\xf0\x90\x8c\x82",
+    )
+}
+
+// Names from the examples of XML 1.0 (Fifth Edition) and of Namespaces in XML 1.0, whose qualified names have a colon and so are none here;
+// and those from the documentation of the Rust's `is_valid_name`.
+pub fn names() -> Tally {
+    let mut t = none();
+    t = name_case(t, b"greeting", true);
+    t = name_case(t, b"termdef", true);
+    t = name_case(t, b"IMG", true);
+    t = name_case(t, b"dictionary-body", true);
+    t = name_case(t, b"div1", true);
+    t = name_case(t, b"edi", true);
+    t = name_case(t, b"price", true);
+    t = name_case(t, b"edi:price", false);
+    t = name_case(t, b"xml:lang", false);
+    t = name_case(t, b"isbn:number", false);
+    t = name_case(t, b"versionCode", true);
+    t = name_case(t, b"intent-filter", true);
+    t = name_case(t, b"1.0", false);
+    t = name_case(t, b"a:b", false);
+    name_case(t, b"", false)
+}

@@ -1,0 +1,123 @@
+-- What an attribute does to the tables, as one push of specs/Settle.antt. No contract cites this file.
+-- In order: the words of the last node's attributes, the four ways (`attribute-none`, `-same`, `-full`, `-kept`), and the same as `keep` says it.
+use Prim.Native.Nat.{ℕ, _+_, _-_, _*_, _/_, _≤_, _<_}
+use native.Mathlib.Omega.{arith}
+use native.Mathlib.Nat.{pos-of-ne-zero}
+use mathlib.Core.Path.{_≡_, refl, sym, _∙_, ap}
+use mathlib.Core.List.{List, _++_}
+use mathlib.Core.Bool.{Bool, true, false}
+use borrow.Author.Tests.{le-leb, lt-leb, eq-eqb, ne-eqb, eqb-true, eqb-false}
+use lib.ListN.{length, take, drop, set}
+use lib.Seq.{drop-at, take-add, length-take-le, getD-set-other, take-set-lt}
+use lib.Dec.{eqb}
+use Rattle.errors.specs.declared.Refusal.the-variants.{AttributesFull}
+use Rattle.xml_elements.specs.declared.XmlAttributeElement.{XmlAttributeElement}
+use Rattle.tables.specs.Keep.{hasKey}
+use Rattle.events.specs.declared.Event.the-variants.{Attribute}
+use Rattle.walk.specs.declared.tree.Tree.{Tree}
+use Rattle.walk.specs.declared.tree.Put.{Put}
+use Rattle.walk.specs.declared.tree.Put.the-variants.{Same, Full as NoPlace, Stored}
+use Rattle.walk.specs.declared.placing.Placed.the-variants.{Done, Full}
+use Rattle.walk.specs.Tree.{keptTree, ownWords, attributeWords, Tied, PlacesBy, Keeps}
+use Rattle.walk.proofs.Trees.{take-put, linked-set}
+
+-- the words of the last node's attributes, from the table and from its front
+own : (l : List ℕ) (a b : ℕ) → a ≤ b → b ≤ length l → take (b - a) (drop a l) ≡ drop a (take b l)
+own l a b h k =
+    let e : a + (b - a) ≡ b = omega arith in
+    sym
+    (ap (λ (x : List ℕ). drop a x) (ap (λ (j : ℕ). take j l) (sym e) ∙ take-add a (b - a) l)
+    ∙ drop-at (take a l) (take (b - a) (drop a l)) a (length-take-le a l (omega arith)))
+
+module _ (same : ℕ → ℕ → Bool) (ns ats : List ℕ) (t : Tree) (o : List ℕ) (h : Tied ns ats t o) (p : ℕ) (a : XmlAttributeElement) where
+  lu : length (take (5 * t .nodes) ns) ≡ 5 * t .nodes
+  lu = length-take-le (5 * t .nodes) ns (h .sized .nodes)
+
+  la : length (take (5 * t .attributes) ats) ≡ 5 * t .attributes
+  la = length-take-le (5 * t .attributes) ats (h .sized .attributes)
+
+  owned : ownWords t ats ≡ drop (5 * t .first) (take (5 * t .attributes) ats)
+  owned = own ats (5 * t .first) (5 * t .attributes) (omega (arith, h .sized .first)) (h .sized .attributes)
+
+  some : (t .nodes ≡ 0 → ⊥) → length (take (5 * t .nodes) ns) ≡ 0 → ⊥
+  some z e = z (omega (arith, lu))
+
+  pub attribute-none : t .nodes ≡ 0 → PlacesBy same (Done t) ns ats t o (Attribute p a) ns ats
+  attribute-none z =
+      (o, (h, omega arith, λ r os cs rn ra. (let y : length (take (5 * t .nodes) ns) ≡ 0 = omega (arith, lu) in rw (eq-eqb _ 0 y))))
+
+  pub attribute-same : (t .nodes ≡ 0 → ⊥) → hasKey same p (a .name .0) (ownWords t ats) ≡ true → PlacesBy same (Done t) ns ats t o (Attribute p a) ns ats
+  attribute-same z e = (o, (h, omega arith, λ r os cs rn ra. rw (ne-eqb _ 0 (some z), ← owned, e)))
+
+  pub attribute-full : (ns′ ats′ : List ℕ) (m : ℕ) → m ≡ length ats → (t .nodes ≡ 0 → ⊥) → hasKey same p (a .name .0) (ownWords t ats) ≡ false
+      → length ats < 5 * t .attributes + 5 → PlacesBy same (Full (AttributesFull (m / 5))) ns ats t o (Attribute p a) ns′ ats′
+  attribute-full ns′ ats′ m em z e none r os cs rn ra =
+      let over : r .attributes < length (take (5 * t .attributes) ats) + 5 = omega (arith, la) in
+      rw (ne-eqb _ 0 (some z), ← owned, e, lt-leb _ _ over, em, ra)
+
+  pub attribute-kept : (ns′ ats′ : List ℕ) → (t .nodes ≡ 0 → ⊥) → hasKey same p (a .name .0) (ownWords t ats) ≡ false → 5 * t .attributes + 5 ≤ length ats
+      → length ns′ ≡ length ns → length ats′ ≡ length ats → ats′ ≡ take (5 * t .attributes) ats ++ attributeWords t p a ++ drop (5 * t .attributes + 5) ats
+      → ns′ ≡ set ns (5 * t .nodes - 1) (t .attributes + 1 - t .first) → PlacesBy same (Done (keptTree t)) ns ats t o (Attribute p a) ns′ ats′
+  attribute-kept ns′ ats′ z e room ln lats put one = (
+    o,
+    (
+      record {
+        sized = record {
+          nodes = rw ln (h .sized .nodes);
+          attributes = rw lats (omega arith);
+          first = omega
+              (arith, h .sized .first);
+          inside = h .sized .inside;
+        };
+        linked = rw words (linked-set (take (5 * t .nodes) ns) (5 * t .nodes - 1) (t .attributes + 1 - t .first) (t .nodes) o at-end (h .linked));
+        top = h .top;
+        second = h .second;
+        upto = λ q.
+            rw words
+            (getD-set-other (take (5 * t .nodes) ns) (5 * t .nodes - 1) (5 * t .second + 3) (t .attributes + 1 - t .first) 0 (λ y. omega (arith, at-end))
+            ∙ h .upto q);
+        below = omega (arith, h .below);
+      },
+      omega arith,
+      λ r os cs rn ra. (
+          let fit : length (take (5 * t .attributes) ats) + 5 ≤ r .attributes = omega (arith, la) in
+          let count : (5 * t .attributes + 5 - 5 * t .first) / 5 ≡ t .attributes + 1 - t .first = omega (arith, h .sized .first) in
+          let dn : 5 * t .nodes / 5 ≡ t .nodes = omega arith in
+          rw (ne-eqb _ 0 (some z), ← owned, e, le-leb _ _ fit, words, more, la, lu, count, dn)),
+    ),
+  )
+    where
+      pos : 0 < t .nodes
+      pos = pos-of-ne-zero z
+
+      at-end : 5 * t .nodes - 1 + 1 ≡ 5 * t .nodes
+      at-end = omega (arith, pos)
+
+      words : take (5 * t .nodes) ns′ ≡ set (take (5 * t .nodes) ns) (5 * t .nodes - 1) (t .attributes + 1 - t .first)
+      words = rw one (take-set-lt (5 * t .nodes) ns (5 * t .nodes - 1) (t .attributes + 1 - t .first) (omega (arith, pos)))
+
+      more : take (5 * (t .attributes + 1)) ats′ ≡ take (5 * t .attributes) ats ++ attributeWords t p a
+      more =
+          let q : 5 * t .attributes + 5 ≡ 5 * (t .attributes + 1) = omega arith in
+          take-put ats ats′ (attributeWords t p a) (5 * t .attributes) (5 * (t .attributes + 1)) (omega arith) q (rw q at put)
+
+-- ---- as `keep` says it
+
+module _ (same : ℕ → ℕ → Bool) (ns ats ns′ ats′ : List ℕ) (t : Tree) (o : List ℕ) (h : Tied ns ats t o) (p : ℕ) (a : XmlAttributeElement) where
+  pub keep-same : {r : Put} → r ≡ Same → Keeps same r t p a ns ats ns′ ats′ → PlacesBy same (Done t) ns ats t o (Attribute p a) ns′ ats′
+  keep-same e q₀ = let q = rw e at q₀ in rw (q .1, q .2) (go (eqb (t .nodes) 0) refl (q .0))
+    where
+      go : (b : Bool) → eqb (t .nodes) 0 ≡ b → ((t .nodes ≡ 0 → ⊥) → hasKey same p (a .name .0) (ownWords t ats) ≡ true)
+          → PlacesBy same (Done t) ns ats t o (Attribute p a) ns ats
+      go true z q = attribute-none same ns ats t o h p a (eqb-true _ _ z)
+      go false z q = attribute-same same ns ats t o h p a (eqb-false _ _ z) (q (eqb-false _ _ z))
+
+  pub keep-full : {r : Put} (m : ℕ) → r ≡ NoPlace → Keeps same r t p a ns ats ns′ ats′ → m ≡ length ats
+      → PlacesBy same (Full (AttributesFull (m / 5))) ns ats t o (Attribute p a) ns′ ats′
+  keep-full m e q₀ em = let q = rw e at q₀ in attribute-full same ns ats t o h p a ns′ ats′ m em (q .0) (q .1) (q .2)
+
+  pub keep-stored : {r : Put} (u : Tree) → r ≡ Stored u → Keeps same r t p a ns ats ns′ ats′ → length ns′ ≡ length ns → length ats′ ≡ length ats
+      → PlacesBy same (Done u) ns ats t o (Attribute p a) ns′ ats′
+  keep-stored u e q₀ ln la =
+      let q = rw e at q₀ in
+      rw (q .3) (attribute-kept same ns ats t o h p a ns′ ats′ (q .0) (q .1) (q .2) ln la (q .4) (q .5))

@@ -1,0 +1,141 @@
+-- The end of the loop of `read_on`: what is kept stays, zeros come behind it, and this is what the promise says. No contract cites this file.
+-- In order: what is kept is there (`kept-nodes-le`, `kept-attributes-le`), what `finish` asks (`read-keepable`), `read-done`.
+use Prim.Native.Nat.{ℕ, _+_, _-_, _*_, _/_, _≤_}
+use native.Mathlib.Omega.{arith}
+use mathlib.Core.Path.{_≡_, refl, sym, _∙_, ap}
+use mathlib.Core.List.{List, _++_}
+use mathlib.Core.Bool.{Bool, true, false, cond}
+use borrow.Author.Tests.{eqb-false}
+use lib.ListN.{length, take, getD, replicate}
+use lib.Seq.{take-take, length-take-le}
+use lib.Dec.{eqb}
+use Rattle.anomaly.specs.declared.Note.{Note as NoteOf}
+use Rattle.errors.specs.declared.ReadAnswer.the-variants.{Done}
+use Rattle.events.specs.declared.Cursor.{Cursor}
+use Rattle.walk.specs.declared.tree.Tree.{Tree}
+use Rattle.walk.specs.declared.State.{State}
+use Rattle.walk.specs.declared.placing.Halt.{Halt}
+use Rattle.walk.specs.declared.placing.Stop.the-variants.{Finished}
+use Rattle.walk.specs.Settle.{Room, Tables, going}
+use Rattle.walk.specs.Reading.{Reading, zeroNote, finalOf, nodesKept, attributesKept, secondOf}
+use Rattle.walk.specs.Tree.{Tied, tablesOf, keptNodes, keptAttributes}
+use Rattle.walk.specs.Run.{Running, RanBy, Ran}
+use Rattle.walk.specs.Outcome.{doneAnswer, Keepable, Finishes, roomOf, cleared, outcome, Good, Advanced}
+use Rattle.walk.proofs.Trees.{second-in}
+use Rattle.walk.proofs.Clearing.{clears}
+use Rattle.walk.proofs.Advancing.{tables, body, ReadHead}
+
+-- ---- what is kept is there
+
+pub kept-nodes-le : (ns ats : List ℕ) (t : Tree) (o : List ℕ) → Tied ns ats t o → keptNodes t ≤ t .nodes
+kept-nodes-le ns ats t o h = go (eqb (t .second) 0) refl
+  where
+    lw : length (take (5 * t .nodes) ns) ≡ 5 * t .nodes
+    lw = length-take-le (5 * t .nodes) ns (h .sized .nodes)
+
+    go : (b : Bool) → eqb (t .second) 0 ≡ b → cond b (t .nodes) (t .second) ≤ t .nodes
+    go true e = omega arith
+    go false e =
+        let n : (secondOf o ≡ 0 → ⊥) = λ z. eqb-false _ _ e (sym (h .second) ∙ z) in
+        omega (arith, second-in (take (5 * t .nodes) ns) o (h .linked) n, h .second, lw)
+
+pub kept-attributes-le : (ns ats : List ℕ) (t : Tree) (o : List ℕ) → Tied ns ats t o → keptAttributes t ≤ t .attributes
+kept-attributes-le ns ats t o h = go (eqb (t .second) 0)
+  where
+    go : (b : Bool) → cond b (t .attributes) (t .upto) ≤ t .attributes
+    go true = omega arith
+    go false = h .below
+
+module _ (f names area ns₀ ats₀ : List ℕ) (st : State) (g : Good f names area ns₀ ats₀ st) (ns ats : List ℕ) (c : Cursor) (tree : Tree)
+    (hd : ReadHead f names area ns₀ ats₀ st g ns ats c tree) (h : Halt) (ns′ ats′ : List ℕ) (ln : length ns′ ≡ length ns) (la : length ats′ ≡ length ats)
+    (ran : (x : Running (tables f names area st) names area (body f names area st) (st .opened) ns ats c tree)
+    → Ran (tables f names area st) names area (body f names area st) (st .opened) ns ats c tree x h ns′ ats′) (e : h .stop ≡ Finished) where
+  abbrev R : Room
+  R = roomOf ns₀ ats₀ st
+
+  abbrev os-of : List NoteOf → List NoteOf
+  os-of os = take (st .notes .used) os
+
+  stored-len : (os : List NoteOf) → length os ≡ st .room → length (os-of os) ≡ st .notes .used
+  stored-len os l = length-take-le (st .notes .used) os (omega (arith, hd .stored))
+
+  fin : RanBy (tables f names area st) names area (body f names area st) (st .opened) Finished ns ats c tree (hd .now .stack) (h .cur) (h .tree) ns′ ats′
+  fin = rw e at (ran (hd .now))
+
+  kn : keptNodes (h .tree) ≤ h .tree .nodes
+  kn = kept-nodes-le ns′ ats′ (h .tree) (fin .0) (fin .1 .0)
+
+  ka : keptAttributes (h .tree) ≤ h .tree .attributes
+  ka = kept-attributes-le ns′ ats′ (h .tree) (fin .0) (fin .1 .0)
+
+  -- what `finish` asks
+  pub read-keepable : Keepable ns′ ats′ st (h .tree)
+  read-keepable = record {
+    nodes = omega (arith, kn, fin .1 .0 .sized .nodes);
+    attributes = omega (arith, ka, fin .1 .0 .sized .attributes);
+    notes = omega (arith, hd .few);
+  }
+
+  abbrev F : List NoteOf → Tables
+  F os = tablesOf ns′ ats′ (h .tree) (fin .0) (os-of os) (st .notes .counts)
+
+  ended : (os : List NoteOf) → length os ≡ st .room → outcome f names area ns₀ ats₀ os st (g .stack) ≡ finalOf R (going (F os))
+  ended os l = hd .same os l ∙ ap (finalOf R) (fin .1 .1 R (os-of os) (st .notes .counts) (sym (hd .ln)) (sym (hd .la)))
+
+  lw : length (take (5 * h .tree .nodes) ns′) ≡ 5 * h .tree .nodes
+  lw = length-take-le (5 * h .tree .nodes) ns′ (fin .1 .0 .sized .nodes)
+
+  lv : length (take (5 * h .tree .attributes) ats′) ≡ 5 * h .tree .attributes
+  lv = length-take-le (5 * h .tree .attributes) ats′ (fin .1 .0 .sized .attributes)
+
+  nodes-kept : (os : List NoteOf) → nodesKept (F os) ≡ keptNodes (h .tree)
+  nodes-kept os = let d : 5 * h .tree .nodes / 5 ≡ h .tree .nodes = omega arith in rw (lw, d, fin .1 .0 .second)
+
+  attributes-kept : (os : List NoteOf) → attributesKept (F os) ≡ keptAttributes (h .tree)
+  attributes-kept os = rw (lv, d, fin .1 .0 .second) (go (eqb (h .tree .second) 0) refl)
+    where
+      d : 5 * h .tree .attributes / 5 ≡ h .tree .attributes
+      d = omega arith
+
+      go : (b : Bool) → eqb (h .tree .second) 0 ≡ b
+          → cond b (h .tree .attributes) (getD (take (5 * h .tree .nodes) ns′) (5 * h .tree .second + 3) 0) ≡ cond b (h .tree .attributes) (h .tree .upto)
+      go true q = refl
+      go false q = fin .1 .0 .upto (eqb-false _ _ q)
+
+  unfoldable shape : List NoteOf → ℕ → ℕ → ℕ → ℕ → Reading
+  shape os n k a m = record {
+    answer = Done (record { starts = n; nodes = k; attributes = a; notes = m });
+    nodes = take (5 * k) (take (5 * h .tree .nodes) ns′) ++ replicate (length ns₀ - 5 * k) 0;
+    attributes = take (5 * a) (take (5 * h .tree .attributes) ats′) ++ replicate (length ats₀ - 5 * a) 0;
+    notes = os-of os ++ replicate (st .room - m) zeroNote;
+  }
+
+  pub read-done : (r : State) (ns″ ats″ : List ℕ) → Finishes ns′ ats′ st (h .tree) r ns″ ats″ → Advanced f names area ns₀ ats₀ st g r ns″ ats″
+  unfolding shape
+  read-done r ns″ ats″ w =
+      rw (w .state)
+      (clears f names area ns₀ ats₀ st g ns″ ats″ (st .notes .used) (doneAnswer (h .tree) (st .notes .used)) (λ lt. omega (arith, hd .much)) out)
+    where
+      out : (os : List NoteOf) → length os ≡ st .room → outcome f names area ns₀ ats₀ os st (g .stack) ≡ record {
+        answer = doneAnswer (h .tree) (st .notes .used);
+        nodes = ns″;
+        attributes = ats″;
+        notes = cleared os (st .notes .used) (st .room);
+      }
+      out os l =
+          let d : length (take (5 * h .tree .nodes) ns′) / 5 ≡ h .tree .nodes = omega (arith, lw) in
+          let m : length (os-of os) ≡ st .notes .used = stored-len os l in
+          let nk = nodes-kept os in
+          let ak = attributes-kept os in
+          ended os l
+          ∙ ((λ i. shape os (d i) (nk i) (ak i) (m i))
+          ∙ rw (
+            w .nodes,
+            w .attributes,
+            take-take (5 * keptNodes (h .tree)) (5 * h .tree .nodes) ns′ (omega (arith, kn)),
+            take-take (5 * keptAttributes (h .tree)) (5 * h .tree .attributes) ats′ (omega (arith, ka)),
+            ln,
+            la,
+            hd .ln,
+            hd .la,
+          ))

@@ -1,0 +1,213 @@
+-- What an element that opens or closes does to the tables, as one push of specs/Settle.antt. No contract cites this file.
+-- In order: words put at a place, the list of open elements, a node opens (`node-opens`, `node-full`), an element closes (`node-closes`).
+-- Not here: attributes (Attributes.antt).
+use Prim.Native.Nat.{ℕ, _+_, _-_, _*_, _/_, _≤_, _<_}
+use native.Mathlib.Omega.{arith}
+use mathlib.Core.Path.{_≡_, refl, sym, _∙_, ap}
+use mathlib.Core.List.{List, [], _∷_, _++_}
+use mathlib.Core.Bool.{Bool, cond}
+use borrow.Author.Tests.{le-leb, lt-leb, eq-eqb, ne-eqb}
+use lib.ListN.{length, take, drop, set, getD, length-append, length-set, List·getD-append}
+use lib.Seq.{take-at, length-take-le, getD-set-other, getD-append-add, getD-take}
+use lib.Dec.{eqb}
+use Rattle.common.specs.declared.StringIndex.{StringIndex}
+use Rattle.anomaly.specs.declared.Note.{Note as NoteOf}
+use Rattle.errors.specs.declared.Refusal.the-variants.{NodesFull}
+use Rattle.events.specs.declared.Event.the-variants.{Open, Close}
+use Rattle.walk.specs.declared.tree.Tree.{Tree}
+use Rattle.walk.specs.declared.placing.Placed.the-variants.{Done, Full}
+use Rattle.walk.specs.Settle.{Room, going, push, parentIn, closedIn}
+use Rattle.walk.specs.Reading.{secondOf}
+use Rattle.walk.specs.Tree.{parentOf, openedTree, closedTree, fiveOf, Linked, Tied, tablesOf, PlacesBy}
+
+pub take-put : (l l′ w : List ℕ) (i j : ℕ) → i ≤ length l → i + length w ≡ j → l′ ≡ take i l ++ w ++ drop j l → take j l′ ≡ take i l ++ w
+take-put l l′ w i j h e q = rw (q, take-at (take i l ++ w) (drop j l) j (length-append (take i l) w ∙ rw (length-take-le i l h) e))
+
+getD-behind : (w v : List ℕ) (n m : ℕ) → length w ≡ n → getD (w ++ v) (n + m) 0 ≡ getD v m 0
+getD-behind w v n m e = ap (λ (i : ℕ). getD (w ++ v) (i + m) 0) (sym e) ∙ getD-append-add w v m 0
+
+-- ---- the list of open elements
+
+linked-some : (w : List ℕ) (k : ℕ) (r : List ℕ) → Linked w (k ∷ r) → 5 ≤ length w
+linked-some w k [] h = h .1
+linked-some w k (j ∷ r) h = omega (arith, h .1)
+
+linked-append : (w v : List ℕ) (k : ℕ) (r : List ℕ) → Linked w (k ∷ r) → Linked (w ++ v) (k ∷ r)
+linked-append w v k [] h = (h .0, rw length-append (omega (arith, h .1)))
+linked-append w v k (j ∷ r) h = (
+  h .0,
+  rw length-append (omega (arith, h .1)),
+  List·getD-append w v 0 (5 * k + 2) (omega (arith, h .1)) ∙ h .2,
+  linked-append w v j r (h .3),
+)
+
+-- a count of attributes is no parent
+pub linked-set : (w : List ℕ) (i x n : ℕ) (o : List ℕ) → i + 1 ≡ 5 * n → Linked w o → Linked (set w i x) o
+linked-set w i x n [] e h = rw length-set h
+linked-set w i x n (k ∷ []) e h = (h .0, rw length-set (h .1))
+linked-set w i x n (k ∷ j ∷ r) e h = (
+  h .0,
+  rw length-set (h .1),
+  getD-set-other w i (5 * k + 2) x 0 (λ z. omega arith) ∙ h .2,
+  linked-set w i x n (j ∷ r) e (h .3),
+)
+
+pub second-in : (w o : List ℕ) → Linked w o → (secondOf o ≡ 0 → ⊥) → 5 * secondOf o + 5 ≤ length w
+second-in w [] h n = absurd (n refl)
+second-in w (k ∷ []) h n = absurd (n refl)
+second-in w (k ∷ j ∷ []) h n = h .1
+second-in w (k ∷ j ∷ i ∷ r) h n = second-in w (j ∷ i ∷ r) (h .3) n
+
+-- ---- a node opens
+
+module _ (same : ℕ → ℕ → Bool) (ns ats ns′ : List ℕ) (t : Tree) (name : StringIndex) (fixed line : ℕ) (room : 5 * t .nodes + 5 ≤ length ns)
+    (len : length ns′ ≡ length ns) (put : ns′ ≡ take (5 * t .nodes) ns ++ fiveOf t (name .0) fixed ++ drop (5 * t .nodes + 5) ns) where
+  abbrev w : List ℕ
+  w = take (5 * t .nodes) ns
+
+  abbrev five : List ℕ
+  five = fiveOf t (name .0) fixed
+
+  lw : length w ≡ 5 * t .nodes
+  lw = length-take-le (5 * t .nodes) ns (omega arith)
+
+  words : take (5 * (t .nodes + 1)) ns′ ≡ w ++ five
+  words =
+      let e : 5 * t .nodes + 5 ≡ 5 * (t .nodes + 1) = omega arith in
+      take-put ns ns′ five (5 * t .nodes) (5 * (t .nodes + 1)) (omega arith) e (rw e at put)
+
+  parent : (o : List ℕ) → Tied ns ats t o → parentOf t ≡ parentIn o
+  parent [] h = let z : t .nodes ≡ 0 = omega (arith, h .linked, lw) in rw (eq-eqb (t .nodes) 0 z)
+  parent (k ∷ r) h = let q = linked-some w k r (h .linked) in rw (ne-eqb (t .nodes) 0 (λ z. omega (arith, lw))) (sym (h .top))
+
+  linked : (o : List ℕ) → Tied ns ats t o → Linked (w ++ five) (t .nodes ∷ o)
+  linked [] h = (omega (arith, h .linked, lw), rw length-append (omega (arith, lw)))
+  linked (k ∷ r) h =
+      let q = linked-some w k r (h .linked) in (
+        omega (arith, lw),
+        rw length-append (omega (arith, lw)),
+        getD-behind w five (5 * t .nodes) 2 lw ∙ parent (k ∷ r) h,
+        linked-append w five k r (h .linked),
+      )
+
+  module _ (o : List ℕ) (h : Tied ns ats t o) (u : Tree) (un : u .nodes ≡ t .nodes + 1) (ua : u .attributes ≡ t .attributes)
+      (uf : u .first ≡ t .attributes) (ui : u .inner ≡ t .nodes) (us : secondOf (t .nodes ∷ o) ≡ u .second)
+      (uu : (u .second ≡ 0 → ⊥) → getD (w ++ five) (5 * u .second + 3) 0 ≡ u .upto) (ub : u .upto ≤ t .attributes) where
+    pushed : (r : Room) (os : List NoteOf) (cs : List ℕ) → r .nodes ≡ length ns → r .attributes ≡ length ats
+        → push same r (going (tablesOf ns ats t o os cs)) (Open name fixed line) ≡ going (tablesOf ns′ ats u (t .nodes ∷ o) os cs)
+    pushed r os cs rn ra =
+        let la : length (take (5 * t .attributes) ats) ≡ 5 * t .attributes = length-take-le (5 * t .attributes) ats (h .sized .attributes) in
+        let fit : length w + 5 ≤ r .nodes = omega (arith, lw) in
+        let da : 5 * t .attributes / 5 ≡ t .attributes = omega arith in
+        let dn : 5 * t .nodes / 5 ≡ t .nodes = omega arith in
+        rw (le-leb _ _ fit, un, ua, uf, words, ← parent o h, la, lw, da, dn)
+
+    tied : Tied ns′ ats u (t .nodes ∷ o)
+    tied = record {
+      sized = record {
+        nodes = rw (un, len) (omega arith);
+        attributes = rw ua (h .sized .attributes);
+        first = rw (uf, ua) (omega arith);
+        inside = λ _. rw (un, ui) (omega arith);
+      };
+      linked = rw (un, words) (linked o h);
+      top = sym ui;
+      second = us;
+      upto = rw (un, words) uu;
+      below = rw ua ub;
+    }
+
+    done : PlacesBy same (Done u) ns ats t o (Open name fixed line) ns′ ats
+    done = (t .nodes ∷ o, (tied, rw (un, ua) (omega arith), pushed))
+
+  pub node-opens : (o : List ℕ) → Tied ns ats t o → PlacesBy same (Done (openedTree t)) ns ats t o (Open name fixed line) ns′ ats
+  node-opens [] h =
+      let z : t .nodes ≡ 0 = omega (arith, h .linked, lw) in
+      rw (eq-eqb (t .nodes) 0 z)
+      (done [] h (record { nodes = 1; attributes = t .attributes; first = t .attributes; inner = 0; second = 0; upto = 0 }) (omega arith) refl refl (sym z)
+      refl (λ n. absurd (n refl)) (omega arith))
+  node-opens (k ∷ []) h =
+      let q = linked-some w k [] (h .linked) in
+      let e : t .inner ≡ 0 = sym (h .top) ∙ h .linked .0 in
+      rw (ne-eqb (t .nodes) 0 (λ z. omega (arith, lw)), eq-eqb (t .inner) 0 e)
+      (done (k ∷ []) h
+      (record { nodes = t .nodes + 1; attributes = t .attributes; first = t .attributes; inner = t .nodes; second = t .nodes; upto = t .attributes })
+      refl refl refl refl refl (λ _. getD-behind w five (5 * t .nodes) 3 lw) (omega arith))
+  node-opens (k ∷ j ∷ r) h =
+      let q = linked-some w k (j ∷ r) (h .linked) in
+      let e : (t .inner ≡ 0 → ⊥) = λ z. omega (arith, h .top, h .linked .0) in
+      let b : (t .second ≡ 0 → ⊥) → 5 * t .second + 5 ≤ length w =
+      λ n. rw (h .second) at (second-in w (k ∷ j ∷ r) (h .linked) (rw (h .second) n)) in
+      rw (ne-eqb (t .nodes) 0 (λ z. omega (arith, lw)), ne-eqb (t .inner) 0 e)
+      (done (k ∷ j ∷ r) h
+      (record { nodes = t .nodes + 1; attributes = t .attributes; first = t .attributes; inner = t .nodes; second = t .second; upto = t .upto })
+      refl refl refl refl (h .second) (λ n. List·getD-append w five 0 (5 * t .second + 3) (omega (arith, b n)) ∙ h .upto n) (h .below))
+
+-- no place for it
+pub node-full : (same : ℕ → ℕ → Bool) (ns ats ns′ : List ℕ) (t : Tree) (name : StringIndex) (fixed line : ℕ) (o : List ℕ) → Tied ns ats t o
+    → length ns < 5 * t .nodes + 5 → PlacesBy same (Full (NodesFull (length ns / 5))) ns ats t o (Open name fixed line) ns′ ats
+node-full same ns ats ns′ t name fixed line o h none r os cs rn ra =
+    let lw : length (take (5 * t .nodes) ns) ≡ 5 * t .nodes = length-take-le (5 * t .nodes) ns (h .sized .nodes) in
+    let over : r .nodes < length (take (5 * t .nodes) ns) + 5 = omega (arith, lw) in
+    rw (lt-leb _ _ over, rn)
+
+-- ---- an element closes
+
+module _ (same : ℕ → ℕ → Bool) (ns ats : List ℕ) (t : Tree) where
+  abbrev u : List ℕ
+  u = take (5 * t .nodes) ns
+
+  stays : (o : List ℕ) → Tied ns ats t o → closedIn o ≡ o → PlacesBy same (Done t) ns ats t o Close ns ats
+  stays o h e = (o, (h, omega arith, λ r os cs rn ra. rw e))
+
+  -- the parent word of the innermost is the next of the open elements
+  parent-word : (k j : ℕ) (r : List ℕ) → Tied ns ats t (k ∷ j ∷ r) → getD ns (5 * t .inner + 2) 0 ≡ j
+  parent-word k j r h =
+      let lu : length u ≡ 5 * t .nodes = length-take-le (5 * t .nodes) ns (h .sized .nodes) in
+      rw (← h .top) (sym (getD-take (5 * t .nodes) ns (5 * k + 2) 0 (omega (arith, h .linked .1, lu))) ∙ h .linked .2)
+
+  pub node-closes : (o : List ℕ) → Tied ns ats t o
+      → PlacesBy same (Done (cond (eqb (t .inner) 0) t (closedTree t (getD ns (5 * t .inner + 2) 0)))) ns ats t o Close ns ats
+  node-closes [] h = rw (eq-eqb (t .inner) 0 (sym (h .top))) (stays [] h refl)
+  node-closes (k ∷ []) h = rw (eq-eqb (t .inner) 0 (sym (h .top) ∙ h .linked .0)) (stays (k ∷ []) h refl)
+  node-closes (k ∷ j ∷ []) h =
+      let e : (t .inner ≡ 0 → ⊥) = λ z. omega (arith, h .top, h .linked .0) in
+      rw (ne-eqb (t .inner) 0 e, parent-word k j [] h, eq-eqb j 0 (h .linked .3 .0)) (
+        j ∷ [],
+        (
+          record {
+            sized = record { nodes = h .sized .nodes; attributes = h .sized .attributes; first = h .sized .first; inside = λ n. absurd (n refl) };
+            linked = h .linked .3;
+            top = h .linked .3 .0;
+            second = refl;
+            upto = λ n. absurd (n refl);
+            below = omega arith;
+          },
+          omega arith,
+          λ r os cs rn ra. refl,
+        ),
+      )
+  node-closes (k ∷ j ∷ i ∷ r) h =
+      let lu : length u ≡ 5 * t .nodes = length-take-le (5 * t .nodes) ns (h .sized .nodes) in
+      let e : (t .inner ≡ 0 → ⊥) = λ z. omega (arith, h .top, h .linked .0) in
+      let p : (j ≡ 0 → ⊥) = λ z. omega (arith, h .linked .3 .0) in
+      rw (ne-eqb (t .inner) 0 e, parent-word k j (i ∷ r) h, ne-eqb j 0 p) (
+        j ∷ i ∷ r,
+        (
+          record {
+            sized = record {
+              nodes = h .sized .nodes;
+              attributes = h .sized .attributes;
+              first = h .sized .first;
+              inside = λ n. omega (arith, h .linked .3 .1, lu);
+            };
+            linked = h .linked .3;
+            top = refl;
+            second = h .second;
+            upto = h .upto;
+            below = h .below;
+          },
+          omega arith,
+          λ s os cs rn ra. refl,
+        ),
+      )

@@ -1,0 +1,66 @@
+use Rattle.walk.proofs.Clearing.{goes-clearing}
+use borrow.Author.Needs.{needs}
+use Rattle.walk.proofs.advance.Statement.{statement}
+use Rattle.walk.proofs.advance.Tie as tie
+
+enum-told : tie.Need-enum-told
+enum-told c = search needs
+
+start-requires : tie.Need-start-requires
+start-requires c κs = search needs
+
+enum-told-2 : tie.Need-enum-told-2
+enum-told-2 c = search needs
+
+read-on-requires : tie.Need-read-on-requires
+read-on-requires c κs = search needs
+
+enum-told-3 : tie.Need-enum-told-3
+enum-told-3 c = search needs
+
+clear-next-requires : tie.Need-clear-next-requires
+clear-next-requires c κs = search needs
+
+same-length : tie.Need-same-length
+same-length c = search needs
+
+same-length-2 : tie.Need-same-length-2
+same-length-2 c = search needs
+
+returns : tie.Need-returns
+returns c = search needs
+
+same-length-3 : tie.Need-same-length-3
+same-length-3 c = search needs
+
+same-length-4 : tie.Need-same-length-4
+same-length-4 c = search needs
+
+returns-2 : tie.Need-returns-2
+returns-2 c = search needs
+
+returns-3 : tie.Need-returns-3
+returns-3 c =
+    let at-start = c .before .before .before .before .before .before .before .before in
+    let a = at-start .args in
+    λ g.
+    rw (c .clear-next .ensures)
+    (goes-clearing (a .file .now) (a .names .now) (a .area .now) (a .nodes .now) (a .attributes .now) (a .st) g (c .before .enum-told3 .given .1))
+
+pub advance-spec : {M : Type 1} → statement M
+advance-spec =
+    tie.close
+    (tie.spec
+    enum-told
+    start-requires
+    enum-told-2
+    read-on-requires
+    enum-told-3
+    clear-next-requires
+    same-length
+    same-length-2
+    returns
+    same-length-3
+    same-length-4
+    returns-2
+    returns-3)

@@ -1,0 +1,234 @@
+-- `walk::read_on` meets its contract: each way out of its loop keeps the outcome of the whole reading.
+-- Invariant: the outcome is that of the reading from here. Measure: the cursor's steps. The mathematics of a turn: proofs/Advancing.antt, Finishing.antt.
+use native.Mathlib.Omega.{arith}
+use mathlib.Core.Path.{_≡_, refl, sym, _∙_}
+use borrow.Author.Needs.{needs}
+use borrow.Author.Tests.{ltb-true, ltb-false}
+use lib.ListN.{length}
+use Rattle.anomaly.proofs.Laws.{kindIndex-lt}
+use Rattle.head.specs.Head.{bodyIn}
+use Rattle.events.specs.Pending.{steps}
+use Rattle.walk.specs.Outcome.{Good}
+use Rattle.walk.proofs.Advancing.{ReadHead, read-first, read-full, due-less, read-past, read-due}
+use Rattle.walk.proofs.Finishing.{read-keepable, read-done}
+use Rattle.walk.proofs.read_on.Statement.{statement}
+use Rattle.walk.proofs.read_on.Tie as tie
+
+abbrev Inv-loop : tie.InvT-loop
+Inv-loop file names area nodes₀ attributes₀ st opened notes cur₀ tree₀ nodes attributes cur tree =
+    (length nodes ≡ length nodes₀) × (length attributes ≡ length attributes₀) ×
+    ((g : Good file names area nodes₀ attributes₀ st) → ReadHead file names area nodes₀ attributes₀ st g nodes attributes cur tree)
+
+abbrev μ-loop : tie.MeasureT-loop
+μ-loop file names area nodes₀ attributes₀ st opened notes cur₀ tree₀ nodes attributes cur tree = steps (bodyIn file (st .opened .head)) cur
+
+loop-holds : tie.Need-loop-holds Inv-loop μ-loop
+loop-holds c =
+    let at-start = c .before .before .before .before .before .before .before .before .before in
+    (refl, refl, λ g. read-first _ _ _ _ _ _ g (at-start .pre .1))
+
+run-in-requires : tie.Need-run-in-requires Inv-loop μ-loop
+run-in-requires c κs =
+    let at-start = c .before .before .before .before .before .before .before .before .before .before .before .before in
+    c .before .before .loop .inv .2 (at-start .pre .0) .now
+
+enum-known-stop : tie.Need-enum-known-stop Inv-loop μ-loop
+enum-known-stop c = search needs
+
+refuse-requires : tie.Need-refuse-requires Inv-loop μ-loop
+refuse-requires c κs = search needs
+
+same-length : tie.Need-same-length Inv-loop μ-loop
+same-length c =
+    let at-refuse = c .before .before .before .before in
+    let at-run-in = at-refuse .before .before .before .before .before .before .before .before .before .before .before .before in
+    let at-loop = at-run-in .before .before .before in
+    at-refuse .refuse .kept .0 ∙ at-run-in .run-in .kept .1 .1 .1 .1 .0 ∙ at-loop .loop .inv .0
+
+same-length-2 : tie.Need-same-length-2 Inv-loop μ-loop
+same-length-2 c =
+    let at-refuse = c .before .before .before .before in
+    let at-run-in = at-refuse .before .before .before .before .before .before .before .before .before .before .before .before in
+    let at-loop = at-run-in .before .before .before in
+    at-refuse .refuse .kept .1 .0 ∙ at-run-in .run-in .kept .1 .1 .1 .1 .1 .0 ∙ at-loop .loop .inv .1
+
+returns : tie.Need-returns Inv-loop μ-loop
+returns c =
+    let at-refuse = c .before .before .before .before in
+    let at-stop = at-refuse .before .before .before .before in
+    let at-run-in = at-stop .before .before .before .before .before .before .before .before in
+    let at-loop = at-run-in .before .before .before in
+    let at-start = at-loop .before .before .before .before .before .before .before .before .before .before in
+    let a = at-start .args in
+    let l = at-loop .loop in
+    let q = at-run-in .run-in in
+    let r = at-refuse .refuse in
+    let s = at-stop .stop .given in
+    λ g.
+    read-full (a .file .now) (a .names .now) (a .area .now) (a .nodes .now) (a .attributes .now) (a .st) g (l .nodes) (l .attributes) (l .cur)
+    (l .tree) (l .inv .2 g)
+    (q .result) (q .last .1 .1 .1 .1 .0) (q .last .1 .1 .1 .1 .1 .0) (q .kept .1 .1 .1 .1 .0) (q .kept .1 .1 .1 .1 .1 .0) (q .ensures)
+    (s .0 .0) (s .1) (r .result) (r .last .0) (r .last .1 .0) (r .ensures)
+
+enum-told : tie.Need-enum-told Inv-loop μ-loop
+enum-told c = search needs
+
+finish-requires : tie.Need-finish-requires Inv-loop μ-loop
+finish-requires c κs =
+    let at-run-in = c .before .before .before .before .before .before .before .before .before .before in
+    let at-loop = at-run-in .before .before .before in
+    let at-start = at-loop .before .before .before .before .before .before .before .before .before .before in
+    let a = at-start .args in
+    let l = at-loop .loop in
+    let q = at-run-in .run-in in
+    let g = at-start .pre .0 in
+    read-keepable (a .file .now) (a .names .now) (a .area .now) (a .nodes .now) (a .attributes .now) (a .st) g (l .nodes) (l .attributes) (l .cur)
+    (l .tree) (l .inv .2 g)
+    (q .result) (q .last .1 .1 .1 .1 .0) (q .last .1 .1 .1 .1 .1 .0) (q .kept .1 .1 .1 .1 .0) (q .kept .1 .1 .1 .1 .1 .0) (q .ensures)
+    (c .before .before .enum-told .given .1)
+
+same-length-3 : tie.Need-same-length-3 Inv-loop μ-loop
+same-length-3 c =
+    let at-finish = c .before .before .before .before in
+    let at-run-in = at-finish .before .before .before .before .before .before .before .before .before .before .before in
+    let at-loop = at-run-in .before .before .before in
+    at-finish .finish .kept .0 ∙ at-run-in .run-in .kept .1 .1 .1 .1 .0 ∙ at-loop .loop .inv .0
+
+same-length-4 : tie.Need-same-length-4 Inv-loop μ-loop
+same-length-4 c =
+    let at-finish = c .before .before .before .before in
+    let at-run-in = at-finish .before .before .before .before .before .before .before .before .before .before .before in
+    let at-loop = at-run-in .before .before .before in
+    at-finish .finish .kept .1 .0 ∙ at-run-in .run-in .kept .1 .1 .1 .1 .1 .0 ∙ at-loop .loop .inv .1
+
+returns-2 : tie.Need-returns-2 Inv-loop μ-loop
+returns-2 c =
+    let at-finish = c .before .before .before .before in
+    let at-enum-told = at-finish .before .before .before in
+    let at-run-in = at-enum-told .before .before .before .before .before .before .before .before in
+    let at-loop = at-run-in .before .before .before in
+    let at-start = at-loop .before .before .before .before .before .before .before .before .before .before in
+    let a = at-start .args in
+    let l = at-loop .loop in
+    let q = at-run-in .run-in in
+    let r = at-finish .finish in
+    λ g.
+    read-done (a .file .now) (a .names .now) (a .area .now) (a .nodes .now) (a .attributes .now) (a .st) g (l .nodes) (l .attributes) (l .cur)
+    (l .tree) (l .inv .2 g)
+    (q .result) (q .last .1 .1 .1 .1 .0) (q .last .1 .1 .1 .1 .1 .0) (q .kept .1 .1 .1 .1 .0) (q .kept .1 .1 .1 .1 .1 .0) (q .ensures)
+    (at-enum-told .enum-told .given .1) (r .result) (r .last .0) (r .last .1 .0) (r .ensures)
+
+enum-known-stop-2 : tie.Need-enum-known-stop-2 Inv-loop μ-loop
+enum-known-stop-2 c = search needs
+
+kind-index-requires : tie.Need-kind-index-requires Inv-loop μ-loop
+kind-index-requires c κs = search needs
+
+is-due-requires : tie.Need-is-due-requires Inv-loop μ-loop
+is-due-requires c κs = omega (arith, c .kind-index .ensures, kindIndex-lt (c .before .before .stop2 .given .0 .0))
+
+note-due-requires : tie.Need-note-due-requires Inv-loop μ-loop
+note-due-requires c κs =
+    let at-is-due = c .before .before .before in
+    let at-kind-index = at-is-due .before in
+    ltb-true _ _ (sym (rw (at-kind-index .kind-index .ensures) at (at-is-due .is-due .ensures)) ∙ c .before .before .if1 .taken)
+
+same-length-5 : tie.Need-same-length-5 Inv-loop μ-loop
+same-length-5 c =
+    let at-note-due = c .before .before .before .before in
+    let at-run-in = at-note-due .before .before .before .before .before .before .before .before .before .before .before .before .before .before .before in
+    let at-loop = at-run-in .before .before .before in
+    at-note-due .note-due .kept .0 ∙ at-run-in .run-in .kept .1 .1 .1 .1 .0 ∙ at-loop .loop .inv .0
+
+same-length-6 : tie.Need-same-length-6 Inv-loop μ-loop
+same-length-6 c =
+    let at-note-due = c .before .before .before .before in
+    let at-run-in = at-note-due .before .before .before .before .before .before .before .before .before .before .before .before .before .before .before in
+    let at-loop = at-run-in .before .before .before in
+    at-note-due .note-due .kept .1 .0 ∙ at-run-in .run-in .kept .1 .1 .1 .1 .1 .0 ∙ at-loop .loop .inv .1
+
+returns-3 : tie.Need-returns-3 Inv-loop μ-loop
+returns-3 c =
+    let at-note-due = c .before .before .before .before in
+    let at-if1 = at-note-due .before .before .before in
+    let at-is-due = at-if1 .before in
+    let at-kind-index = at-is-due .before in
+    let at-stop2 = at-kind-index .before .before in
+    let at-run-in = at-stop2 .before .before .before .before .before .before .before .before in
+    let at-loop = at-run-in .before .before .before in
+    let at-start = at-loop .before .before .before .before .before .before .before .before .before .before in
+    let a = at-start .args in
+    let l = at-loop .loop in
+    let q = at-run-in .run-in in
+    let r = at-note-due .note-due in
+    let s = at-stop2 .stop2 .given in
+    let under = ltb-true _ _ (sym (rw (at-kind-index .kind-index .ensures) at (at-is-due .is-due .ensures)) ∙ at-if1 .if1 .taken) in
+    λ g.
+    read-due (a .file .now) (a .names .now) (a .area .now) (a .nodes .now) (a .attributes .now) (a .st) g (l .nodes) (l .attributes) (l .cur) (l .tree)
+    (l .inv .2 g)
+    (q .result) (q .last .1 .1 .1 .1 .0) (q .last .1 .1 .1 .1 .1 .0) (q .kept .1 .1 .1 .1 .0) (q .kept .1 .1 .1 .1 .1 .0) (q .ensures)
+    (s .0 .0) (s .1) under (r .result) (r .last .0) (r .last .1 .0) (r .ensures)
+
+loop-less : tie.Need-loop-less Inv-loop μ-loop
+loop-less c =
+    let at-stop2 = c .before .before .before .before in
+    let at-run-in = at-stop2 .before .before .before .before .before .before .before .before in
+    let at-loop = at-run-in .before .before .before in
+    let at-start = at-loop .before .before .before .before .before .before .before .before .before .before in
+    let a = at-start .args in
+    let l = at-loop .loop in
+    let q = at-run-in .run-in in
+    let s = at-stop2 .stop2 .given in
+    let g = at-start .pre .0 in
+    due-less (a .file .now) (a .names .now) (a .area .now) (a .nodes .now) (a .attributes .now) (a .st) g (l .nodes) (l .attributes) (l .cur) (l .tree)
+    (l .inv .2 g)
+    (q .result) (q .last .1 .1 .1 .1 .0) (q .last .1 .1 .1 .1 .1 .0) (q .kept .1 .1 .1 .1 .0) (q .kept .1 .1 .1 .1 .1 .0) (q .ensures)
+    (s .0 .0) (s .1)
+
+loop-again : tie.Need-loop-again Inv-loop μ-loop
+loop-again c =
+    let at-stop2 = c .before .before .before .before in
+    let at-run-in = at-stop2 .before .before .before .before .before .before .before .before in
+    let at-loop = at-run-in .before .before .before in
+    let at-start = at-loop .before .before .before .before .before .before .before .before .before .before in
+    let a = at-start .args in
+    let l = at-loop .loop in
+    let q = at-run-in .run-in in
+    let s = at-stop2 .stop2 .given in
+    let past = ltb-false _ _ (sym (rw (c .before .before .kind-index .ensures) at (c .before .is-due .ensures)) ∙ c .if1 .left) in (
+      q .kept .1 .1 .1 .1 .0 ∙ l .inv .0,
+      q .kept .1 .1 .1 .1 .1 .0 ∙ l .inv .1,
+      λ g.
+          read-past (a .file .now) (a .names .now) (a .area .now) (a .nodes .now) (a .attributes .now) (a .st) g (l .nodes) (l .attributes) (l .cur)
+          (l .tree) (l .inv .2 g)
+          (q .result) (q .last .1 .1 .1 .1 .0) (q .last .1 .1 .1 .1 .1 .0) (q .kept .1 .1 .1 .1 .0) (q .kept .1 .1 .1 .1 .1 .0) (q .ensures)
+          (s .0 .0) (s .1) past,
+    )
+
+pub read-on-spec : {M : Type 1} → statement M
+read-on-spec =
+    tie.close
+    (tie.spec
+    Inv-loop
+    μ-loop
+    loop-holds
+    run-in-requires
+    enum-known-stop
+    refuse-requires
+    same-length
+    same-length-2
+    returns
+    enum-told
+    finish-requires
+    same-length-3
+    same-length-4
+    returns-2
+    enum-known-stop-2
+    kind-index-requires
+    is-due-requires
+    note-due-requires
+    same-length-5
+    same-length-6
+    returns-3
+    loop-less
+    loop-again)

@@ -1,0 +1,206 @@
+-- What `advance` does: a call keeps the outcome of the whole reading, and comes nearer to its end. Not part of what a reader must believe.
+--
+--   first       the state before the first call
+--   outcome     what comes back in the end, from a state at the head of the loop: nodes and attributes as they are, notes as written so far
+--   Good        a state at the head of the loop, with the list of open elements as a field
+--   left        the measure: while it reads, steps and all places of the note table; while it clears, places
+--   Advanced    what one call leaves, given how its state was good; Adv the same of every such way
+use Prim.Native.Nat.{ℕ, _+_, _-_, _*_, _≤_, _<_}
+use mathlib.Core.Path.{_≡_}
+use mathlib.Core.List.{List, _++_}
+use mathlib.Core.Bool.{true, false, cond}
+use lib.ListN.{length, take, set, replicate}
+use lib.Dec.{ltb}
+use Rattle.anomaly.specs.Note.{kindIndex, noteOf}
+use Rattle.anomaly.specs.Kept.{noNotes, storedIn}
+use Rattle.anomaly.specs.declared.Note.{Note as NoteOf}
+use Rattle.anomaly.specs.declared.ResAnomaly.{ResAnomaly}
+use Rattle.errors.specs.declared.Refusal.{Refusal}
+use Rattle.errors.specs.declared.Refusal.the-variants.{MissingRoot, NotesFull}
+use Rattle.errors.specs.declared.ReadAnswer.{ReadAnswer}
+use Rattle.errors.specs.declared.ReadAnswer.the-variants.{Done, Refused}
+use Rattle.head.specs.declared.HeadEnd.the-variants.{Whole}
+use Rattle.head.specs.declared.Opened.{Opened}
+use Rattle.head.specs.Head.{unopened, tablesIn, bodyIn}
+use Rattle.events.specs.declared.Cursor.{Cursor}
+use Rattle.events.specs.Events.{namesIn}
+use Rattle.events.specs.Steps.{firstCursor}
+use Rattle.events.specs.Pending.{Ready, Within, steps}
+use Rattle.walk.specs.declared.tree.Tree.{Tree}
+use Rattle.walk.specs.declared.Mode.{Mode}
+use Rattle.walk.specs.declared.Mode.the-variants.{Fresh, Reading as InBody, Clearing}
+use Rattle.walk.specs.declared.State.{State}
+use Rattle.walk.specs.Settle.{Room}
+use Rattle.walk.specs.Reading.{Reading, zeroNote, finalOf, reading, roomIn}
+use Rattle.walk.specs.Tree.{Tied, keptNodes, keptAttributes}
+use Rattle.walk.specs.Run.{onFrom}
+
+-- ---- states
+
+abbrev pub noTree : Tree
+noTree = record { nodes = 0; attributes = 0; first = 0; inner = 0; second = 0; upto = 0 }
+
+-- the answer and the head are none yet
+abbrev pub first : ℕ → ℕ → State
+first room cap = record {
+  done = false;
+  slot = 0;
+  note = zeroNote;
+  answer = Refused MissingRoot;
+  room = room;
+  cap = cap;
+  mode = Fresh;
+  opened = unopened Whole;
+  cur = firstCursor;
+  tree = noTree;
+  notes = noNotes;
+}
+
+-- the head o is opened
+abbrev pub startedBy : State → Opened → State
+startedBy st o = record {
+  done = false;
+  slot = 0;
+  note = zeroNote;
+  answer = st .answer;
+  room = st .room;
+  cap = st .cap;
+  mode = InBody;
+  opened = o;
+  cur = firstCursor;
+  tree = noTree;
+  notes = noNotes;
+}
+
+-- the answer is a; the note table is to be cleared from the place c on
+abbrev pub clearingAt : State → ℕ → ReadAnswer → State
+clearingAt st c a = record {
+  done = cond (ltb c (st .room)) false true;
+  slot = c;
+  note = zeroNote;
+  answer = a;
+  room = st .room;
+  cap = st .cap;
+  mode = Clearing;
+  opened = st .opened;
+  cur = st .cur;
+  tree = st .tree;
+  notes = st .notes;
+}
+
+abbrev pub clearNext : State → State
+clearNext st = clearingAt st (cond (ltb (st .slot) (st .room)) (st .slot + 1) (st .slot)) (st .answer)
+
+-- a note is to be written
+abbrev pub notedBy : State → Cursor → Tree → ResAnomaly → State
+notedBy st c t x = record {
+  done = false;
+  slot = st .notes .used;
+  note = noteOf x;
+  answer = st .answer;
+  room = st .room;
+  cap = st .cap;
+  mode = InBody;
+  opened = st .opened;
+  cur = c;
+  tree = t;
+  notes = storedIn (st .notes) (kindIndex x);
+}
+
+abbrev pub doneAnswer : Tree → ℕ → ReadAnswer
+doneAnswer t n = Done (record { starts = t .nodes; nodes = keptNodes t; attributes = keptAttributes t; notes = n })
+
+-- ---- ends
+
+-- a refusal: zeros all over
+pub record Refuses (ns ats : List ℕ) (st : State) (x : Refusal) (r : State) (ns′ ats′ : List ℕ) : Type 0 where
+  pub state : r ≡ clearingAt st 0 (Refused x)
+  pub nodes : ns′ ≡ replicate (length ns) 0
+  pub attributes : ats′ ≡ replicate (length ats) 0
+
+-- the kept records are there, and the notes can be counted
+pub record Keepable (ns ats : List ℕ) (st : State) (t : Tree) : Type 0 where
+  pub nodes : 5 * keptNodes t ≤ length ns
+  pub attributes : 5 * keptAttributes t ≤ length ats
+  pub notes : st .notes .used < 4294967296
+
+-- a success: the kept records, and zeros behind
+pub record Finishes (ns ats : List ℕ) (st : State) (t : Tree) (r : State) (ns′ ats′ : List ℕ) : Type 0 where
+  pub state : r ≡ clearingAt st (st .notes .used) (doneAnswer t (st .notes .used))
+  pub nodes : ns′ ≡ take (5 * keptNodes t) ns ++ replicate (length ns - 5 * keptNodes t) 0
+  pub attributes : ats′ ≡ take (5 * keptAttributes t) ats ++ replicate (length ats - 5 * keptAttributes t) 0
+
+-- the tables are as they were, and a note is to be written
+pub record Writes (ns ats : List ℕ) (st : State) (c : Cursor) (t : Tree) (x : ResAnomaly) (r : State) (ns′ ats′ : List ℕ) : Type 0 where
+  pub state : r ≡ notedBy st c t x
+  pub nodes : ns′ ≡ ns
+  pub attributes : ats′ ≡ ats
+
+-- a note within its cap
+pub record Noted (ns ats : List ℕ) (st : State) (c : Cursor) (t : Tree) (x : ResAnomaly) (r : State) (ns′ ats′ : List ℕ) : Type 0 where
+  pub place : st .notes .used < st .room → Writes ns ats st c t x r ns′ ats′
+  pub none : st .room ≤ st .notes .used → Refuses ns ats st (NotesFull (st .room)) r ns′ ats′
+
+-- ---- the outcome
+
+abbrev pub roomOf : List ℕ → List ℕ → State → Room
+roomOf ns ats st = record { nodes = length ns; attributes = length ats; notes = st .room; cap = st .cap }
+
+-- with zeros from the place c on
+abbrev pub cleared : List NoteOf → ℕ → ℕ → List NoteOf
+cleared os c room = take c os ++ replicate (room - c) zeroNote
+
+abbrev pub outcomeBy : Mode → List ℕ → List ℕ → List ℕ → List ℕ → List ℕ → List NoteOf → State → List ℕ → Reading
+outcomeBy Fresh f names area ns ats os st stack = reading (roomOf ns ats st) f names area
+outcomeBy InBody f names area ns ats os st stack =
+    let t = tablesIn f (st .opened .head) in
+    let N = namesIn (st .opened .head) t names area in
+    finalOf (roomOf ns ats st)
+    (onFrom (roomOf ns ats st) N (st .opened) t (bodyIn f (st .opened .head)) ns ats (st .cur) (st .tree) stack (take (st .notes .used) os)
+    (st .notes .counts))
+outcomeBy Clearing f names area ns ats os st stack =
+    record { answer = st .answer; nodes = ns; attributes = ats; notes = cleared os (st .slot + 1) (st .room) }
+
+abbrev pub outcome : List ℕ → List ℕ → List ℕ → List ℕ → List ℕ → List NoteOf → State → List ℕ → Reading
+outcome f names area ns ats os st stack = outcomeBy (st .mode) f names area ns ats os st stack
+
+-- ---- what holds at the head of the loop
+
+pub record OnWay (f names area ns ats : List ℕ) (st : State) (stack : List ℕ) : Type 0 where
+  pub ready : Ready (tablesIn f (st .opened .head)) names area (st .opened)
+  pub within : Within (st .opened) (bodyIn f (st .opened .head)) (st .cur)
+  pub tied : Tied ns ats (st .tree) stack
+  pub budget : st .tree .nodes + st .tree .attributes + steps (bodyIn f (st .opened .head)) (st .cur) ≤ 400000000
+  pub few : st .notes .used + steps (bodyIn f (st .opened .head)) (st .cur) ≤ 400000000
+  pub stored : st .notes .used ≤ st .room
+
+pub record Good (f names area ns ats : List ℕ) (st : State) : Type 0 where
+  pub stack : List ℕ
+  pub onWay : st .mode ≡ InBody → OnWay f names area ns ats st stack
+
+-- a fresh state has at most 20 steps for each byte, and 15 for the head, before it
+abbrev pub leftBy : Mode → List ℕ → State → ℕ
+leftBy Fresh f st = 20 * length f + 15 + st .room + 1
+leftBy InBody f st = steps (bodyIn f (st .opened .head)) (st .cur) + st .room + 1
+leftBy Clearing f st = st .room - st .slot
+
+abbrev pub left : List ℕ → List ℕ → List ℕ → State → ℕ
+left f names area st = leftBy (st .mode) f st
+
+pub record Advanced (f names area ns ats : List ℕ) (st : State) (g : Good f names area ns ats st) (r : State) (ns′ ats′ : List ℕ) : Type 0 where
+  pub good : Good f names area ns′ ats′ r
+  pub room : r .room ≡ st .room
+  pub due : r .done ≡ false → (r .slot < r .room) × (left f names area r < left f names area st)
+  pub goes : r .done ≡ false → (os : List NoteOf) → length os ≡ st .room
+      → outcome f names area ns ats os st (g .stack) ≡ outcome f names area ns′ ats′ (set os (r .slot) (r .note)) r (good .stack)
+  pub ends : r .done ≡ true → (os : List NoteOf) → length os ≡ st .room
+      → outcome f names area ns ats os st (g .stack) ≡ record { answer = r .answer; nodes = ns′; attributes = ats′; notes = os }
+
+abbrev pub Adv : List ℕ → List ℕ → List ℕ → List ℕ → List ℕ → State → State → List ℕ → List ℕ → Type 0
+Adv f names area ns ats st r ns′ ats′ = (g : Good f names area ns ats st) → Advanced f names area ns ats st g r ns′ ats′
+
+-- ---- the whole
+
+-- what a call of `read` leaves, as one equation
+pub record Leaves (f names area ns ats : List ℕ) (os : List NoteOf) (cap : ℕ) (r : ReadAnswer) (ns′ ats′ : List ℕ) (os′ : List NoteOf) : Type 0 where
+  pub whole : record { answer = r; nodes = ns′; attributes = ats′; notes = os′ } ≡ reading (roomIn ns ats os cap) f names area

@@ -1,0 +1,94 @@
+-- What a reading leaves: the answer and every word of the three lent tables. docs/FORMAT.md, W29, B1, B2, B5, B7, B8, B15.
+--
+--   reading     THE PROMISE of `read`: what a file, with these names, leaves in tables of this room
+--   refuses     a refusal: zeros all over
+--   succeeds    the kept records and the notes, and zeros behind them
+--   secondOf    the element that is open above the first; it and all starts after it are dropped
+--   Reads       the same as what a call promises, by the paper's numbers
+use Prim.Native.Nat.{ℕ, _+_, _-_, _*_, _/_}
+use mathlib.Core.Path.{_≡_}
+use mathlib.Core.List.{List, [], _∷_, _++_}
+use mathlib.Core.Bool.{cond}
+use lib.ListN.{length, take, getD, replicate}
+use lib.Dec.{eqb}
+use Rattle.anomaly.specs.declared.Note.{Note as NoteOf}
+use Rattle.errors.specs.declared.Refusal.{Refusal}
+use Rattle.errors.specs.declared.ReadAnswer.{ReadAnswer}
+use Rattle.errors.specs.declared.ReadAnswer.the-variants.{Done, Refused}
+use Rattle.errors.specs.Refusal.{numbersOf}
+use Rattle.head.specs.declared.Opened.{Opened}
+use Rattle.head.specs.Head.{openedOf, tablesIn, bodyIn}
+use Rattle.head.specs.Ask.{Check, passes, fails, firstOf, lengthCheck, namesCheck}
+use Rattle.events.specs.Events.{namesIn, fileEvents}
+use Rattle.tables.specs.Keep.{nodeWidth, attributeWidth}
+use Rattle.walk.specs.Settle.{Room, Tables, Out, going, refused, settle, nothingYet}
+
+pub record Reading : Type 0 where
+  pub answer : ReadAnswer
+  pub nodes : List ℕ
+  pub attributes : List ℕ
+  pub notes : List NoteOf
+
+abbrev pub zeroNote : NoteOf
+zeroNote = record { kind = 0; a = 0; b = 0 }
+
+-- ---- a refusal
+
+abbrev pub refuses : Room → Refusal → Reading
+refuses r x = record { answer = Refused x; nodes = replicate (r .nodes) 0; attributes = replicate (r .attributes) 0; notes = replicate (r .notes) zeroNote }
+
+-- ---- a success
+
+-- of the open elements, the innermost first, the one above the first; 0 where there is none, which is the first's own number
+abbrev pub secondOf : List ℕ → ℕ
+secondOf [] = 0
+secondOf (k ∷ []) = 0
+secondOf (k ∷ j ∷ []) = k
+secondOf (k ∷ j ∷ i ∷ r) = secondOf (j ∷ i ∷ r)
+
+abbrev pub nodesKept : Tables → ℕ
+nodesKept t = cond (eqb (secondOf (t .stack)) 0) (length (t .nodes) / nodeWidth) (secondOf (t .stack))
+
+-- those that stood there before the second element's
+abbrev pub attributesKept : Tables → ℕ
+attributesKept t = cond (eqb (secondOf (t .stack)) 0) (length (t .attributes) / attributeWidth) (getD (t .nodes) (nodeWidth * secondOf (t .stack) + 3) 0)
+
+abbrev pub succeeds : Room → Tables → Reading
+succeeds r t = record {
+  answer = Done (record { starts = length (t .nodes) / nodeWidth; nodes = nodesKept t; attributes = attributesKept t; notes = length (t .notes) });
+  nodes = take (nodeWidth * nodesKept t) (t .nodes) ++ replicate (r .nodes - nodeWidth * nodesKept t) 0;
+  attributes = take (attributeWidth * attributesKept t) (t .attributes) ++ replicate (r .attributes - attributeWidth * attributesKept t) 0;
+  notes = t .notes ++ replicate (r .notes - length (t .notes)) zeroNote;
+}
+
+abbrev pub finalOf : Room → Out → Reading
+finalOf r (refused x) = refuses r x
+finalOf r (going t) = succeeds r t
+
+-- ---- the promise
+
+-- the events of a file whose head is o, settled
+abbrev pub settledIn : Room → List ℕ → List ℕ → List ℕ → Opened → Out
+settledIn r f names area o =
+    let t = tablesIn f (o .head) in
+    let N = namesIn (o .head) t names area in
+    settle (N .same) r nothingYet (fileEvents N o t (bodyIn f (o .head)))
+
+-- 2 and 7 come before the file is read
+abbrev pub readingBy : Room → Out → Check → Reading
+readingBy r o passes = finalOf r o
+readingBy r o (fails x) = refuses r x
+
+unfoldable pub reading : Room → List ℕ → List ℕ → List ℕ → Reading
+reading r f names area = readingBy r (settledIn r f names area (openedOf f)) (firstOf (lengthCheck f ∷ namesCheck area names ∷ []))
+
+-- the room of tables with these contents before the call
+abbrev pub roomIn : List ℕ → List ℕ → List NoteOf → ℕ → Room
+roomIn nodes attributes notes cap = record { nodes = length nodes; attributes = length attributes; notes = length notes; cap = cap }
+
+-- what a call of `read` leaves: the paper's numbers, and each lent table whole
+pub record Reads (f names area ns ats : List ℕ) (os : List NoteOf) (cap : ℕ) (r : ReadAnswer) (ns′ ats′ : List ℕ) (os′ : List NoteOf) : Type 0 where
+  pub answer : numbersOf r ≡ numbersOf (reading (roomIn ns ats os cap) f names area .answer)
+  pub nodes : ns′ ≡ reading (roomIn ns ats os cap) f names area .nodes
+  pub attributes : ats′ ≡ reading (roomIn ns ats os cap) f names area .attributes
+  pub notes : os′ ≡ reading (roomIn ns ats os cap) f names area .notes

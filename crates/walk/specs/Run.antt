@@ -1,0 +1,61 @@
+-- What `run` does: it goes on with the reading, whatever the notes so far. Not part of what a reader must believe.
+--
+--   Running    a place of the reading: t the bytes that texts are read from, b the body, o the head
+--   onFrom     how the reading goes on from a cursor and a tree, with the notes os and the counts cs
+--   Ran        where `run` stopped, and that the reading goes on from there; RunningIn and RanIn the same over a whole file
+use Prim.Native.Nat.{ℕ, _+_, _≤_, _<_}
+use mathlib.Core.Path.{_≡_}
+use mathlib.Core.List.{List, _∷_}
+use lib.ListN.{length}
+use Rattle.anomaly.specs.declared.Note.{Note as NoteOf}
+use Rattle.head.specs.declared.Opened.{Opened}
+use Rattle.head.specs.Head.{tablesIn, bodyIn}
+use Rattle.events.specs.declared.Cursor.{Cursor}
+use Rattle.events.specs.declared.Event.the-variants.{Note}
+use Rattle.events.specs.Events.{Names, namesIn}
+use Rattle.events.specs.Pending.{Ready, Within, pending, steps}
+use Rattle.walk.specs.declared.tree.Tree.{Tree}
+use Rattle.walk.specs.declared.placing.Halt.{Halt}
+use Rattle.walk.specs.declared.placing.Stop.{Stop}
+use Rattle.walk.specs.declared.placing.Stop.the-variants.{Full, Due, Finished}
+use Rattle.walk.specs.Settle.{Room, Out, going, refused, settle}
+use Rattle.walk.specs.Tree.{Tied, tablesOf}
+
+-- the list of open elements is the proof's to know
+pub record Running (t names area b : List ℕ) (o : Opened) (ns ats : List ℕ) (c : Cursor) (tree : Tree) : Type 0 where
+  pub stack : List ℕ
+  pub ready : Ready t names area o
+  pub within : Within o b c
+  pub tied : Tied ns ats tree stack
+  pub budget : tree .nodes + tree .attributes + steps b c ≤ 400000000
+
+abbrev pub onFrom : Room → Names → Opened → List ℕ → List ℕ → List ℕ → List ℕ → Cursor → Tree → List ℕ → List NoteOf → List ℕ → Out
+onFrom r N o t b ns ats c tree stack os cs = settle (N .same) r (going (tablesOf ns ats tree stack os cs)) (pending N o t b c)
+
+module _ (t names area b : List ℕ) (o : Opened) where
+  abbrev pub N : Names
+  N = namesIn (o .head) t names area
+
+  abbrev pub RanBy : Stop → List ℕ → List ℕ → Cursor → Tree → List ℕ → Cursor → Tree → List ℕ → List ℕ → Type 0
+  RanBy (Due x) ns ats c tree stack c′ tree′ ns′ ats′ =
+      (g : Running t names area b o ns′ ats′ c′ tree′) × ((steps b c′ < steps b c)
+      × ((r : Room) (os : List NoteOf) (cs : List ℕ) → r .nodes ≡ length ns → r .attributes ≡ length ats
+      → onFrom r N o t b ns ats c tree stack os cs ≡ settle (N .same) r (going (tablesOf ns′ ats′ tree′ (g .stack) os cs)) (Note x ∷ pending N o t b c′)))
+  RanBy (Full x) ns ats c tree stack c′ tree′ ns′ ats′ =
+      (r : Room) (os : List NoteOf) (cs : List ℕ) → r .nodes ≡ length ns → r .attributes ≡ length ats → onFrom r N o t b ns ats c tree stack os cs ≡ refused x
+  RanBy Finished ns ats c tree stack c′ tree′ ns′ ats′ =
+      (stack′ : List ℕ) × (Tied ns′ ats′ tree′ stack′
+      × ((r : Room) (os : List NoteOf) (cs : List ℕ) → r .nodes ≡ length ns → r .attributes ≡ length ats
+      → onFrom r N o t b ns ats c tree stack os cs ≡ going (tablesOf ns′ ats′ tree′ stack′ os cs)))
+
+  abbrev pub Ran : (ns ats : List ℕ) (c : Cursor) (tree : Tree) → Running t names area b o ns ats c tree → Halt → List ℕ → List ℕ → Type 0
+  Ran ns ats c tree g h ns′ ats′ = RanBy (h .stop) ns ats c tree (g .stack) (h .cur) (h .tree) ns′ ats′
+
+-- ---- over a whole file
+
+abbrev pub RunningIn : List ℕ → List ℕ → List ℕ → Opened → List ℕ → List ℕ → Cursor → Tree → Type 0
+RunningIn f names area o ns ats c tree = Running (tablesIn f (o .head)) names area (bodyIn f (o .head)) o ns ats c tree
+
+abbrev pub RanIn : List ℕ → List ℕ → List ℕ → Opened → List ℕ → List ℕ → Cursor → Tree → Halt → List ℕ → List ℕ → Type 0
+RanIn f names area o ns ats c tree h ns′ ats′ =
+    (g : RunningIn f names area o ns ats c tree) → Ran (tablesIn f (o .head)) names area (bodyIn f (o .head)) o ns ats c tree g h ns′ ats′

@@ -1,0 +1,144 @@
+-- What the functions on the tree do to the words. Not part of what a reader must believe.
+--
+--   openedTree, closedTree, keptTree   the numbers of a tree behind a start, an end, a kept attribute
+--   Sized, Fit   the numbers fit the tables, and more fit a u32
+--   Tied         the numbers tell the tables: the open elements are the list o, linked by the parent words
+--   Keeps        what `keep` does with an attribute; Places what `place` does with an event: one push of specs/Settle.antt
+--   AsksFor      an attribute asks for texts; no other event does
+use Prim.Native.Nat.{ℕ, _+_, _-_, _*_, _≤_, _<_}
+use mathlib.Core.Path.{_≡_}
+use mathlib.Core.List.{List, [], _∷_, _++_}
+use mathlib.Core.Bool.{Bool, true, false, cond}
+use lib.ListN.{length, take, drop, set, getD}
+use lib.Dec.{eqb}
+use Rattle.anomaly.specs.declared.Note.{Note as NoteOf}
+use Rattle.text.specs.Found.{Asks}
+use Rattle.text.specs.declared.Head.{Head}
+use Rattle.xml_elements.specs.declared.XmlAttributeElement.{XmlAttributeElement}
+use Rattle.tables.specs.Keep.{hasKey}
+use Rattle.events.specs.declared.Event.{Event}
+use Rattle.events.specs.declared.Event.the-variants.{Nothing, Open, Attribute, LeftOut, Close, Note, Refuse, Finish}
+use Rattle.walk.specs.declared.tree.Tree.{Tree}
+use Rattle.walk.specs.declared.tree.Put.{Put}
+use Rattle.walk.specs.declared.tree.Put.the-variants.{Same, Full as NoPlace, Stored}
+use Rattle.walk.specs.declared.placing.Placed.{Placed}
+use Rattle.walk.specs.declared.placing.Placed.the-variants.{Done, Full, Due, Finished}
+use Rattle.walk.specs.Settle.{Room, Tables, going, refused, push}
+use Rattle.walk.specs.Reading.{secondOf}
+
+-- ---- the numbers of a tree
+
+abbrev pub parentOf : Tree → ℕ
+parentOf t = cond (eqb (t .nodes) 0) 4294967295 (t .inner)
+
+abbrev pub openedTree : Tree → Tree
+openedTree t =
+    cond (eqb (t .nodes) 0) (record { nodes = 1; attributes = t .attributes; first = t .attributes; inner = 0; second = 0; upto = 0 })
+    (cond (eqb (t .inner) 0)
+    (record { nodes = t .nodes + 1; attributes = t .attributes; first = t .attributes; inner = t .nodes; second = t .nodes; upto = t .attributes })
+    (record { nodes = t .nodes + 1; attributes = t .attributes; first = t .attributes; inner = t .nodes; second = t .second; upto = t .upto }))
+
+abbrev pub closedTree : Tree → ℕ → Tree
+closedTree t p =
+    cond (eqb p 0) (record { nodes = t .nodes; attributes = t .attributes; first = t .first; inner = 0; second = 0; upto = 0 })
+    (record { nodes = t .nodes; attributes = t .attributes; first = t .first; inner = p; second = t .second; upto = t .upto })
+
+abbrev pub keptTree : Tree → Tree
+keptTree t = record { nodes = t .nodes; attributes = t .attributes + 1; first = t .first; inner = t .inner; second = t .second; upto = t .upto }
+
+-- the words of the node that opens
+abbrev pub fiveOf : Tree → ℕ → ℕ → List ℕ
+fiveOf t name fixed = name ∷ fixed ∷ parentOf t ∷ t .attributes ∷ 0 ∷ []
+
+abbrev pub keptNodes : Tree → ℕ
+keptNodes t = cond (eqb (t .second) 0) (t .nodes) (t .second)
+
+abbrev pub keptAttributes : Tree → ℕ
+keptAttributes t = cond (eqb (t .second) 0) (t .attributes) (t .upto)
+
+-- ---- the numbers and the tables
+
+pub record Sized (ns ats : List ℕ) (t : Tree) : Type 0 where
+  pub nodes : 5 * t .nodes ≤ length ns
+  pub attributes : 5 * t .attributes ≤ length ats
+  pub first : t .first ≤ t .attributes
+  pub inside : (t .inner ≡ 0 → ⊥) → t .inner < t .nodes
+
+pub record Fit (ns ats : List ℕ) (t : Tree) : Type 0 where
+  pub sized : Sized ns ats t
+  pub many : t .nodes + t .attributes < 4294967295
+
+-- the numbers of the open elements, the innermost first, as the parent words w link them
+abbrev pub Linked : List ℕ → List ℕ → Type 0
+Linked w [] = length w ≡ 0
+Linked w (k ∷ []) = (k ≡ 0) × (5 ≤ length w)
+Linked w (k ∷ j ∷ r) = (0 < k) × (5 * k + 5 ≤ length w) × (getD w (5 * k + 2) 0 ≡ j) × Linked w (j ∷ r)
+
+abbrev pub topOf : List ℕ → ℕ
+topOf [] = 0
+topOf (k ∷ r) = k
+
+pub record Tied (ns ats : List ℕ) (t : Tree) (o : List ℕ) : Type 0 where
+  pub sized : Sized ns ats t
+  pub linked : Linked (take (5 * t .nodes) ns) o
+  pub top : topOf o ≡ t .inner
+  pub second : secondOf o ≡ t .second
+  pub upto : (t .second ≡ 0 → ⊥) → getD (take (5 * t .nodes) ns) (5 * t .second + 3) 0 ≡ t .upto
+  pub below : t .upto ≤ t .attributes
+
+-- with the notes os and the counts cs
+abbrev pub tablesOf : List ℕ → List ℕ → Tree → List ℕ → List NoteOf → List ℕ → Tables
+tablesOf ns ats t o os cs =
+    record { nodes = take (5 * t .nodes) ns; attributes = take (5 * t .attributes) ats; first = 5 * t .first; stack = o; notes = os; counts = cs }
+
+-- ---- an attribute
+
+-- the words of the last node's attributes
+abbrev pub ownWords : Tree → List ℕ → List ℕ
+ownWords t ats = take (5 * t .attributes - 5 * t .first) (drop (5 * t .first) ats)
+
+abbrev pub attributeWords : Tree → ℕ → XmlAttributeElement → List ℕ
+attributeWords t p a = (t .nodes - 1) ∷ p ∷ a .name .0 ∷ a .«data_type» ∷ a .«data» ∷ []
+
+abbrev pub Keeps : (ℕ → ℕ → Bool) → Put → Tree → ℕ → XmlAttributeElement → List ℕ → List ℕ → List ℕ → List ℕ → Type 0
+Keeps same Same t p a ns ats ns′ ats′ = ((t .nodes ≡ 0 → ⊥) → hasKey same p (a .name .0) (ownWords t ats) ≡ true) × (ns′ ≡ ns) × (ats′ ≡ ats)
+Keeps same NoPlace t p a ns ats ns′ ats′ =
+    (t .nodes ≡ 0 → ⊥) × (hasKey same p (a .name .0) (ownWords t ats) ≡ false) × (length ats < 5 * t .attributes + 5)
+Keeps same (Stored u) t p a ns ats ns′ ats′ =
+    (t .nodes ≡ 0 → ⊥) × (hasKey same p (a .name .0) (ownWords t ats) ≡ false) × (5 * t .attributes + 5 ≤ length ats) × (u ≡ keptTree t)
+    × (ats′ ≡ take (5 * t .attributes) ats ++ attributeWords t p a ++ drop (5 * t .attributes + 5) ats)
+    × (ns′ ≡ set ns (5 * t .nodes - 1) (t .attributes + 1 - t .first))
+
+-- ---- an event
+
+-- it is put away, or refuses, or is not the tables'
+abbrev pub PlacesBy : (ℕ → ℕ → Bool) → Placed → List ℕ → List ℕ → Tree → List ℕ → Event → List ℕ → List ℕ → Type 0
+PlacesBy same (Done u) ns ats t o e ns′ ats′ =
+    (o′ : List ℕ) × (Tied ns′ ats′ u o′ × (u .nodes + u .attributes ≤ t .nodes + t .attributes + 1)
+    × ((r : Room) (os : List NoteOf) (cs : List ℕ) → r .nodes ≡ length ns → r .attributes ≡ length ats
+    → push same r (going (tablesOf ns ats t o os cs)) e ≡ going (tablesOf ns′ ats′ u o′ os cs)))
+PlacesBy same (Full x) ns ats t o e ns′ ats′ =
+    (r : Room) (os : List NoteOf) (cs : List ℕ) → r .nodes ≡ length ns → r .attributes ≡ length ats → push same r (going (tablesOf ns ats t o os cs)) e
+    ≡ refused x
+PlacesBy same (Due x) ns ats t o e ns′ ats′ = (e ≡ Note x) × (ns′ ≡ ns) × (ats′ ≡ ats)
+PlacesBy same Finished ns ats t o e ns′ ats′ = (e ≡ Finish) × (ns′ ≡ ns) × (ats′ ≡ ats)
+
+abbrev pub Places : (ℕ → ℕ → Bool) → Placed → List ℕ → List ℕ → Tree → Event → List ℕ → List ℕ → Type 0
+Places same p ns ats t e ns′ ats′ = (o : List ℕ) → Tied ns ats t o → PlacesBy same p ns ats t o e ns′ ats′
+
+-- what is put away is not the end
+abbrev pub NotEnd : Placed → Event → Type 0
+NotEnd (Done u) e = e ≡ Finish → ⊥
+NotEnd (Full x) e = Unit {0}
+NotEnd (Due x) e = Unit {0}
+NotEnd Finished e = Unit {0}
+
+abbrev pub AsksFor : Event → List ℕ → List ℕ → List ℕ → Head → Type 0
+AsksFor (Attribute p a) t names area h = Asks t names area h
+AsksFor Nothing t names area h = Unit {0}
+AsksFor (Open n x l) t names area h = Unit {0}
+AsksFor (LeftOut n) t names area h = Unit {0}
+AsksFor Close t names area h = Unit {0}
+AsksFor (Note x) t names area h = Unit {0}
+AsksFor (Refuse x) t names area h = Unit {0}
+AsksFor Finish t names area h = Unit {0}

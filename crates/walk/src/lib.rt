@@ -1,0 +1,233 @@
+// The covered core of the reading: what a file leaves in lent tables, up to the note table, which is the caller's to write.
+//
+// Mirrors axml.rs (apk-info 13770539b8): `AXML::new` and `get_xml_tree`. tree.rt keeps the tree, placing.rt puts events away, ending.rt
+// ends a reading. Definitions: specs/Reading.antt and specs/Settle.antt say what comes back, the others what the code does on its way.
+// Differs from the Rust: tables are lent and have limited room, and the reading stops at each note for the caller to write it.
+pub mod ending;
+pub mod placing;
+pub mod tree;
+
+ghost use mathlib.Core.Path.{_≡_};
+ghost use Rattle.walk.specs.declared.Mode.the-variants.{Fresh, Reading as InBody};
+ghost use Rattle.walk.specs.Outcome.{noTree, first, startedBy, Good, Adv};
+use anomaly::Note;
+use anomaly::Notes;
+use anomaly::kind_index;
+use ending::clear_next;
+use ending::finish;
+use ending::note_due;
+use ending::refuse;
+use errors::ReadAnswer;
+use errors::Refusal;
+use events::Cursor;
+use events::first_cursor;
+use head::HeadEnd;
+use head::Opened;
+use head::open_head;
+use placing::Stop;
+use placing::run_in;
+use res_string_pool::Garbage;
+use system_types::NamesRead;
+use system_types::check_names;
+use text::Head;
+use tree::Tree;
+
+pub enum Mode {
+    // nothing is read
+    Fresh,
+    // the head is opened, and events come
+    Reading,
+    // the answer is known, and the note table is cleared
+    Clearing,
+}
+
+// The reader between two notes: whether all is done, the place and the note that the caller is to write, the answer once it is known, how
+// many places the note table has and how many notes of a kind are kept, the head, where the reading stands, the tree and the note state.
+pub struct State {
+    pub done: bool,
+    pub slot: usize,
+    pub note: Note,
+    pub answer: ReadAnswer,
+    pub room: usize,
+    pub cap: u32,
+    pub mode: Mode,
+    pub opened: Opened,
+    pub cur: Cursor,
+    pub tree: Tree,
+    pub notes: Notes,
+}
+
+fn no_tree() -> Tree
+    ensures { λ r. ⌜ r ≡ noTree ⌝ }
+{
+    Tree {
+        nodes: 0,
+        attributes: 0,
+        first: 0,
+        inner: 0,
+        second: 0,
+        upto: 0,
+    }
+}
+
+// The state before the first call, for a note table of `room` places and `cap` notes of each kind.
+// Ruled out: a state that has counted notes, and one that takes the head for opened.
+pub fn begin(room: usize, cap: u32) -> State
+    ensures { λ r. ⌜ r ≡ first room cap ⌝ }
+{
+    let cur = first_cursor();
+    let tree = no_tree();
+    let notes = Notes::new();
+    let opened = Opened {
+        garbage: Garbage {
+            found: false,
+            kind: 0,
+            skipped: 0,
+        },
+        declared: 0,
+        end: HeadEnd::Whole,
+        head: Head {
+            wide: false,
+            count: 0,
+            offsets: 0,
+            strings: 0,
+            size: 0,
+            map: 0,
+            ids: 0,
+        },
+    };
+    State {
+        done: false,
+        slot: 0,
+        note: Note {
+            kind: 0,
+            a: 0,
+            b: 0,
+        },
+        answer: ReadAnswer::Refused(Refusal::MissingRoot),
+        room,
+        cap,
+        mode: Mode::Fresh,
+        opened,
+        cur,
+        tree,
+        notes,
+    }
+}
+
+// The head is opened, and the reading begins.
+fn started(st: State, opened: Opened) -> State
+    ensures { λ r. ⌜ r ≡ startedBy st opened ⌝ }
+{
+    let answer = st.answer;
+    let cur = first_cursor();
+    let tree = no_tree();
+    let notes = Notes::new();
+    State {
+        done: false,
+        slot: 0,
+        note: Note {
+            kind: 0,
+            a: 0,
+            b: 0,
+        },
+        answer,
+        room: st.room,
+        cap: st.cap,
+        mode: Mode::Reading,
+        opened,
+        cur,
+        tree,
+        notes,
+    }
+}
+
+// Reads on behind the head, to the next note that is kept or to the answer.
+fn read_on(
+    file: &[u8],
+    names: &[u32],
+    area: &[u8],
+    nodes: &mut [u32],
+    attributes: &mut [u32],
+    st: State,
+) -> State
+    requires { ⌜ Good (now file) (now names) (now area) (now nodes) (now attributes) st × (st .mode ≡ InBody) ⌝ }
+    ensures { λ r. ⌜ Adv (now (file .entry)) (now (names .entry)) (now (area .entry)) (now (nodes .entry)) (now (attributes .entry)) st r
+        (now (nodes .exit)) (now (attributes .exit)) ⌝ }
+{
+    let opened = st.opened;
+    let notes = st.notes;
+    let mut cur = st.cur;
+    let mut tree = st.tree;
+    loop {
+        let h = run_in(file, names, area, opened, nodes, attributes, cur, tree);
+        cur = h.cur;
+        tree = h.tree;
+        let stop = h.stop;
+        match stop {
+            Stop::Full(x) => {
+                return refuse(nodes, attributes, st, x);
+            }
+            Stop::Finished => {
+                return finish(nodes, attributes, st, tree);
+            }
+            Stop::Due(x) => {
+                if notes.is_due(st.cap, kind_index(x)) {
+                    return note_due(nodes, attributes, st, cur, tree, x);
+                }
+            }
+        }
+    }
+}
+
+// The first call: the file's length, the lent names, and then the head (B2).
+fn start(
+    file: &[u8],
+    names: &[u32],
+    area: &[u8],
+    nodes: &mut [u32],
+    attributes: &mut [u32],
+    st: State,
+) -> State
+    requires { ⌜ Good (now file) (now names) (now area) (now nodes) (now attributes) st × (st .mode ≡ Fresh) ⌝ }
+    ensures { λ r. ⌜ Adv (now (file .entry)) (now (names .entry)) (now (area .entry)) (now (nodes .entry)) (now (attributes .entry)) st r
+        (now (nodes .exit)) (now (attributes .exit)) ⌝ }
+{
+    if 16777216 < file.len() {
+        return refuse(nodes, attributes, st, Refusal::TooLargeError);
+    }
+    let checked = check_names(names, area);
+    match checked {
+        NamesRead::Bad(k) => refuse(nodes, attributes, st, Refusal::SystemNamesError(k)),
+        NamesRead::Good => read_on(
+            file,
+            names,
+            area,
+            nodes,
+            attributes,
+            started(st, open_head(file)),
+        ),
+    }
+}
+
+// Reads on until a place of the note table is to be written, or nothing is left to do.
+// Ruled out: a call that loses what was read before it, and calls without end.
+pub fn advance(
+    file: &[u8],
+    names: &[u32],
+    area: &[u8],
+    nodes: &mut [u32],
+    attributes: &mut [u32],
+    st: State,
+) -> State
+    requires { ⌜ Good (now file) (now names) (now area) (now nodes) (now attributes) st ⌝ }
+    ensures { λ r. ⌜ Adv (now (file .entry)) (now (names .entry)) (now (area .entry)) (now (nodes .entry)) (now (attributes .entry)) st r
+        (now (nodes .exit)) (now (attributes .exit)) ⌝ }
+{
+    let mode = st.mode;
+    match mode {
+        Mode::Fresh => start(file, names, area, nodes, attributes, st),
+        Mode::Reading => read_on(file, names, area, nodes, attributes, st),
+        Mode::Clearing => clear_next(st),
+    }
+}

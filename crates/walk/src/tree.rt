@@ -1,0 +1,212 @@
+// The tree in its two lent tables: elements open and close, and attributes are kept.
+//
+// Mirrors axml.rs (apk-info 13770539b8): the stack of elements of `get_xml_tree`, and its `HashSet` of attribute names.
+// Definitions: specs/Tree.antt. Differs from the Rust: the stack is the parent words of the nodes, and what is dropped at the end is told by
+// two numbers, the element open above the first and the attributes before it.
+ghost use mathlib.Core.Path.{_≡_};
+ghost use mathlib.Core.List.{_++_};
+ghost use mathlib.Core.Bool.{cond};
+ghost use Prim.Native.Nat.{_+_, _*_, _≤_, _<_};
+ghost use lib.ListN.{length, drop, take, getD};
+ghost use lib.Dec.{eqb};
+ghost use Rattle.text.specs.Found.{Asks};
+ghost use Rattle.tables.specs.Keep.{sameIn};
+ghost use Rattle.walk.specs.Tree.{parentOf, openedTree, closedTree, keptTree, fiveOf, keptNodes, keptAttributes, Fit, Keeps};
+use common::StringIndex;
+use tables::has;
+use tables::put_five;
+use tables::put_one;
+use tables::wide;
+use text::Head;
+use xml_elements::XmlAttributeElement;
+
+// How many nodes and attributes are stored, how many attributes before those of the last node, the innermost open element, the one that is
+// open above the first (0: none), and how many attributes were there before it.
+pub struct Tree {
+    pub nodes: u32,
+    pub attributes: u32,
+    pub first: u32,
+    pub inner: u32,
+    pub second: u32,
+    pub upto: u32,
+}
+
+// What became of an attribute.
+pub enum Put {
+    // its element has one of this prefix and name, or there is no element
+    Same,
+    // no place
+    Full,
+    Stored(Tree),
+}
+
+impl Tree {
+    fn opened(self) -> Tree
+        requires { ⌜ self .nodes < 4294967295 ⌝ }
+        ensures { λ r. ⌜ r ≡ openedTree self ⌝ }
+    {
+        let n = self.nodes;
+        if n == 0 {
+            return Tree {
+                nodes: 1,
+                attributes: self.attributes,
+                first: self.attributes,
+                inner: 0,
+                second: 0,
+                upto: 0,
+            };
+        }
+        let open = self.inner;
+        if open == 0 {
+            return Tree {
+                nodes: n + 1,
+                attributes: self.attributes,
+                first: self.attributes,
+                inner: n,
+                second: n,
+                upto: self.attributes,
+            };
+        }
+        Tree {
+            nodes: n + 1,
+            attributes: self.attributes,
+            first: self.attributes,
+            inner: n,
+            second: self.second,
+            upto: self.upto,
+        }
+    }
+
+    fn closed(self, parent: u32) -> Tree
+        ensures { λ r. ⌜ r ≡ closedTree self parent ⌝ }
+    {
+        if parent == 0 {
+            return Tree {
+                nodes: self.nodes,
+                attributes: self.attributes,
+                first: self.first,
+                inner: 0,
+                second: 0,
+                upto: 0,
+            };
+        }
+        Tree {
+            nodes: self.nodes,
+            attributes: self.attributes,
+            first: self.first,
+            inner: parent,
+            second: self.second,
+            upto: self.upto,
+        }
+    }
+
+    fn kept(self) -> Tree
+        requires { ⌜ self .attributes < 4294967295 ⌝ }
+        ensures { λ r. ⌜ r ≡ keptTree self ⌝ }
+    {
+        Tree {
+            nodes: self.nodes,
+            attributes: self.attributes + 1,
+            first: self.first,
+            inner: self.inner,
+            second: self.second,
+            upto: self.upto,
+        }
+    }
+}
+
+fn parent_of(tree: Tree) -> u32
+    ensures { λ r. ⌜ r ≡ parentOf tree ⌝ }
+{
+    if tree.nodes == 0 {
+        return 4294967295;
+    }
+    tree.inner
+}
+
+// An element opens: its node is stored behind the others.
+// Ruled out: a parent that is not the innermost open element, and a count of attributes that is not 0.
+pub fn open_node(nodes: &mut [u32], tree: Tree, name: StringIndex, fixed: u32) -> Tree
+    requires { ⌜ (5 * tree .nodes + 5 ≤ length (now nodes)) × (tree .nodes < 4294967295) ⌝ }
+    ensures { λ r. ⌜ (r ≡ openedTree tree)
+        × (now (nodes .exit) ≡ take (5 * tree .nodes) (now (nodes .entry)) ++ fiveOf tree (name .0) fixed ++ drop (5 * tree .nodes + 5) (now (nodes .entry))) ⌝ }
+{
+    put_five(
+        nodes,
+        5 * wide(tree.nodes),
+        name.0,
+        fixed,
+        parent_of(tree),
+        tree.attributes,
+        0,
+    );
+    tree.opened()
+}
+
+// The innermost element closes and becomes a child of the one below; the first stays open for ever.
+// Ruled out: the first closed, and an element open above the first after it was closed.
+pub fn close_node(nodes: &[u32], tree: Tree) -> Tree
+    requires { ⌜ ((tree .inner ≡ 0 → ⊥) → 5 * tree .inner + 5 ≤ length (now nodes)) ⌝ }
+    ensures { λ r. ⌜ r ≡ cond (eqb (tree .inner) 0) tree (closedTree tree (getD (now (nodes .entry)) (5 * tree .inner + 2) 0)) ⌝ }
+{
+    let open = tree.inner;
+    if open == 0 {
+        return tree;
+    }
+    let i = 5 * wide(open) + 2;
+    tree.closed(nodes[i])
+}
+
+// An attribute of the last node, unless it has one of the same prefix and name text.
+// Ruled out: a place asked for a repeat, and the node's count of attributes left as it was.
+pub fn keep(
+    t: &[u8],
+    names: &[u32],
+    area: &[u8],
+    h: Head,
+    nodes: &mut [u32],
+    attributes: &mut [u32],
+    tree: Tree,
+    prefix: u32,
+    a: XmlAttributeElement,
+) -> Put
+    requires { ⌜ Asks (now t) (now names) (now area) h × Fit (now nodes) (now attributes) tree ⌝ }
+    ensures { λ r. ⌜ Keeps (sameIn h (now (t .entry)) (now (names .entry)) (now (area .entry))) r tree prefix a (now (nodes .entry)) (now (attributes .entry)) (now (nodes .exit)) (now (attributes .exit)) ⌝ }
+{
+    let n = tree.nodes;
+    if n == 0 {
+        return Put::Same;
+    }
+    let from = 5 * wide(tree.first);
+    let used = 5 * wide(tree.attributes);
+    let name = a.name;
+    if has(t, names, area, h, &attributes[from..used], prefix, name) {
+        return Put::Same;
+    }
+    if attributes.len() - used < 5 {
+        return Put::Full;
+    }
+    put_five(attributes, used, n - 1, prefix, name.0, a.data_type, a.data);
+    put_one(nodes, 5 * wide(n) - 1, tree.attributes + 1 - tree.first);
+    Put::Stored(tree.kept())
+}
+
+// How many nodes are kept at the end: all before the second open element (W29).
+pub fn kept_nodes(tree: Tree) -> u32
+    ensures { λ r. ⌜ r ≡ keptNodes tree ⌝ }
+{
+    if tree.second == 0 {
+        return tree.nodes;
+    }
+    tree.second
+}
+
+// How many attributes are kept: those of the kept nodes.
+pub fn kept_attributes(tree: Tree) -> u32
+    ensures { λ r. ⌜ r ≡ keptAttributes tree ⌝ }
+{
+    if tree.second == 0 {
+        return tree.attributes;
+    }
+    tree.upto
+}

@@ -1,0 +1,26 @@
+"""The table: what to change when a name, a parameter or a field changes."""
+
+CRATE = "axml"                      # the crate of the functions by hand
+CORE = "walk"                       # the crate of `begin`, `advance` and `State`
+ANSWER = ("errors", "ReadAnswer")   # crate and name of the answer, an enum
+NOTE = ("anomaly", "Note")          # crate and name of the note, a struct
+NOTE_FIELDS = 3                     # its fields, all u32
+STATE = {"done": 0, "slot": 1, "note": 2, "answer": 3}  # which fields of `State` they are
+ANSWERS = None                      # `read` ends in `st.answer`; ("answer_of", "answerOf"): in that call of the core, which ensures r ≡ answerOf st
+
+SHARED = [("file", "u8"), ("names", "u32"), ("area", "u8")]  # `&[T]`, the first parameters of `read`
+TABLES = [("nodes", "u32"), ("attributes", "u32")]           # `&mut [T]`, the next
+NOTES = "notes"                                              # `&mut [Note]`
+NUMBERS = [("cap", "u32")]                                   # by value, the last
+
+# the definitions that the proofs name, and their modules; x=y is x under the name y, which the generators use
+OUTCOME = ("Rattle.walk.specs.Outcome", "Adv Good first")    # what `advance` leaves and asks, and what `begin` makes
+READING = ("Rattle.walk.specs.Reading", "Reads")             # what `read` leaves
+ZERO = ("Rattle.walk.specs.Reading", "zeroNote")             # what the array of notes is made of
+
+LISTED = "Listed"                   # the struct that `read_listed` answers: the answer, and the array of notes
+COUNT = 104                         # notes of that array
+EMPTY = ["names", "area"]           # what `read_listed` lends `read` as `&[]`
+FIXED = {"cap": 8}                  # and the numbers that it passes
+
+WIDTH = 150                         # columns of a generated line
