@@ -1,1 +1,2 @@
--- The crate has no definitions of its own.
+-- The root of the crate's definitions.
+pub mod Insertion
