@@ -1,5 +1,5 @@
--- Laws of stores into a table.
--- Assumes nothing.
+-- Laws of stores into a table of words. No contract cites this file.
+-- In order: five words put at a place, zeros from the front on (`fill-next`, `fill-end`), zeros in the part from a place on.
 use Prim.Native.Nat.{ℕ, _+_, _-_, _≤_, _<_}
 use native.Mathlib.Omega.{arith}
 use native.Mathlib.Numerals.{add-one, add-two, add-three, add-four}

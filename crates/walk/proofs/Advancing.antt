@@ -30,7 +30,7 @@ use Rattle.walk.specs.declared.placing.Stop.the-variants.{Full, Due}
 use Rattle.walk.specs.Settle.{Room, Tables, Out, going, refused, push, settle, noted}
 use Rattle.walk.specs.Reading.{finalOf}
 use Rattle.walk.specs.Tree.{tablesOf}
-use Rattle.walk.specs.Run.{Running, onFrom, RanBy, Ran}
+use Rattle.walk.specs.Run.{Running, onFrom, RanBy, Ran, RanIn}
 use Rattle.walk.specs.Outcome.{notedBy, Refuses, Noted, roomOf, outcome, Good, left, Advanced}
 use Rattle.walk.proofs.Settle.{settle-cons, settle-refused}
 use Rattle.walk.proofs.Clearing.{clears, false-true}
@@ -81,8 +81,7 @@ read-first f names area ns ats st g e =
 
 module _ (f names area ns₀ ats₀ : List ℕ) (st : State) (g : Good f names area ns₀ ats₀ st) (ns ats : List ℕ) (c : Cursor) (tree : Tree)
     (hd : ReadHead f names area ns₀ ats₀ st g ns ats c tree) (h : Halt) (ns′ ats′ : List ℕ) (ln : length ns′ ≡ length ns) (la : length ats′ ≡ length ats)
-    (ran : (x : Running (tables f names area st) names area (body f names area st) (st .opened) ns ats c tree)
-    → Ran (tables f names area st) names area (body f names area st) (st .opened) ns ats c tree x h ns′ ats′) where
+    (ran : RanIn f names area (st .opened) ns ats c tree h ns′ ats′) where
   abbrev R : Room
   R = roomOf ns₀ ats₀ st
 
@@ -127,20 +126,20 @@ module _ (f names area ns₀ ats₀ : List ℕ) (st : State) (g : Good f names a
     due = rw e at ran-here
 
     pub due-less : steps B (h .cur) < steps B c
-    due-less = due .1 .0
+    due-less = due .less
 
     abbrev U : List NoteOf → Tables
-    U os = tablesOf ns′ ats′ (h .tree) (due .0 .stack) (os-of os) (st .notes .counts)
+    U os = tablesOf ns′ ats′ (h .tree) (due .now .stack) (os-of os) (st .notes .counts)
 
     pushed : (os : List NoteOf) → here os ≡ settle (M .same) R (push (M .same) R (going (U os)) (Note x)) (pending M (st .opened) T B (h .cur))
     pushed os =
-        due .1 .1 R (os-of os) (st .notes .counts) (sym (hd .ln)) (sym (hd .la))
+        due .goes R (os-of os) (st .notes .counts) (sym (hd .ln)) (sym (hd .la))
         ∙ settle-cons (M .same) R (going (U os)) (Note x) (pending M (st .opened) T B (h .cur))
 
     -- past its cap
     pub read-past : st .cap ≤ getD (st .notes .counts) (kindIndex x) 0 → ReadHead f names area ns₀ ats₀ st g ns′ ats′ (h .cur) (h .tree)
     read-past past = record {
-      now = due .0;
+      now = due .now;
       ln = ln ∙ hd .ln;
       la = la ∙ hd .la;
       low = omega (arith, due-less, hd .low);
@@ -151,7 +150,7 @@ module _ (f names area ns₀ ats₀ : List ℕ) (st : State) (g : Good f names a
     }
       where
         on : (os : List NoteOf)
-            → here os ≡ onFrom R M (st .opened) T B ns′ ats′ (h .cur) (h .tree) (due .0 .stack) (os-of os) (st .notes .counts)
+            → here os ≡ onFrom R M (st .opened) T B ns′ ats′ (h .cur) (h .tree) (due .now .stack) (os-of os) (st .notes .counts)
         on os = pushed os ∙ rw (le-ltb (getD (st .notes .counts) (kindIndex x) 0) (st .cap) past)
 
     -- no place for it
@@ -172,12 +171,12 @@ module _ (f names area ns₀ ats₀ : List ℕ) (st : State) (g : Good f names a
         → Advanced f names area ns₀ ats₀ st g (notedBy st (h .cur) (h .tree) x) ns′ ats′
     read-noted under some = record {
       good = record {
-        stack = due .0 .stack;
+        stack = due .now .stack;
         onWay = λ _. record {
-          ready = due .0 .ready;
-          within = due .0 .within;
-          tied = due .0 .tied;
-          budget = due .0 .budget;
+          ready = due .now .ready;
+          within = due .now .within;
+          tied = due .now .tied;
+          budget = due .now .budget;
           few = omega (arith, hd .few, due-less, hd .low);
           stored = omega arith;
         };

@@ -121,10 +121,10 @@ module _ (same : ℕ → ℕ → Bool) (ns ats : List ℕ) (t : Tree) (o : List 
   place-as p ns′ ats′ e′ q h = rw q h
 
   pub place-nothing : Tied ns ats t o → e ≡ Nothing → PlacesBy same (Done t) ns ats t o e ns ats
-  place-nothing h q = rw q (o, (h, omega arith, λ r os cs rn ra. refl))
+  place-nothing h q = rw q (record { stack = o; tied = h; few = omega arith; pushed = λ r os cs rn ra. refl })
 
   pub place-left : (n : StringIndex) → Tied ns ats t o → e ≡ LeftOut n → PlacesBy same (Done t) ns ats t o e ns ats
-  place-left n h q = rw q (o, (h, omega arith, λ r os cs rn ra. refl))
+  place-left n h q = rw q (record { stack = o; tied = h; few = omega arith; pushed = λ r os cs rn ra. refl })
 
   pub place-refused : (x : Refusal) → e ≡ Refuse x → PlacesBy same (Full x) ns ats t o e ns ats
   place-refused x q = rw q (λ r os cs rn ra. refl)

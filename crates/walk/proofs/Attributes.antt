@@ -44,10 +44,11 @@ module _ (same : ℕ → ℕ → Bool) (ns ats : List ℕ) (t : Tree) (o : List 
 
   pub attribute-none : t .nodes ≡ 0 → PlacesBy same (Done t) ns ats t o (Attribute p a) ns ats
   attribute-none z =
-      (o, (h, omega arith, λ r os cs rn ra. (let y : length (take (5 * t .nodes) ns) ≡ 0 = omega (arith, lu) in rw (eq-eqb _ 0 y))))
+      let y : length (take (5 * t .nodes) ns) ≡ 0 = omega (arith, lu) in
+      record { stack = o; tied = h; few = omega arith; pushed = λ r os cs rn ra. rw (eq-eqb _ 0 y) }
 
   pub attribute-same : (t .nodes ≡ 0 → ⊥) → hasKey same p (a .name .0) (ownWords t ats) ≡ true → PlacesBy same (Done t) ns ats t o (Attribute p a) ns ats
-  attribute-same z e = (o, (h, omega arith, λ r os cs rn ra. rw (ne-eqb _ 0 (some z), ← owned, e)))
+  attribute-same z e = record { stack = o; tied = h; few = omega arith; pushed = λ r os cs rn ra. rw (ne-eqb _ 0 (some z), ← owned, e) }
 
   pub attribute-full : (ns′ ats′ : List ℕ) (m : ℕ) → m ≡ length ats → (t .nodes ≡ 0 → ⊥) → hasKey same p (a .name .0) (ownWords t ats) ≡ false
       → length ats < 5 * t .attributes + 5 → PlacesBy same (Full (AttributesFull (m / 5))) ns ats t o (Attribute p a) ns′ ats′
@@ -58,34 +59,31 @@ module _ (same : ℕ → ℕ → Bool) (ns ats : List ℕ) (t : Tree) (o : List 
   pub attribute-kept : (ns′ ats′ : List ℕ) → (t .nodes ≡ 0 → ⊥) → hasKey same p (a .name .0) (ownWords t ats) ≡ false → 5 * t .attributes + 5 ≤ length ats
       → length ns′ ≡ length ns → length ats′ ≡ length ats → ats′ ≡ take (5 * t .attributes) ats ++ attributeWords t p a ++ drop (5 * t .attributes + 5) ats
       → ns′ ≡ set ns (5 * t .nodes - 1) (t .attributes + 1 - t .first) → PlacesBy same (Done (keptTree t)) ns ats t o (Attribute p a) ns′ ats′
-  attribute-kept ns′ ats′ z e room ln lats put one = (
-    o,
-    (
-      record {
-        sized = record {
-          nodes = rw ln (h .sized .nodes);
-          attributes = rw lats (omega arith);
-          first = omega
-              (arith, h .sized .first);
-          inside = h .sized .inside;
-        };
-        linked = rw words (linked-set (take (5 * t .nodes) ns) (5 * t .nodes - 1) (t .attributes + 1 - t .first) (t .nodes) o at-end (h .linked));
-        top = h .top;
-        second = h .second;
-        upto = λ q.
-            rw words
-            (getD-set-other (take (5 * t .nodes) ns) (5 * t .nodes - 1) (5 * t .second + 3) (t .attributes + 1 - t .first) 0 (λ y. omega (arith, at-end))
-            ∙ h .upto q);
-        below = omega (arith, h .below);
-      },
-      omega arith,
-      λ r os cs rn ra. (
-          let fit : length (take (5 * t .attributes) ats) + 5 ≤ r .attributes = omega (arith, la) in
-          let count : (5 * t .attributes + 5 - 5 * t .first) / 5 ≡ t .attributes + 1 - t .first = omega (arith, h .sized .first) in
-          let dn : 5 * t .nodes / 5 ≡ t .nodes = omega arith in
-          rw (ne-eqb _ 0 (some z), ← owned, e, le-leb _ _ fit, words, more, la, lu, count, dn)),
-    ),
-  )
+  attribute-kept ns′ ats′ z e room ln lats put one = record {
+    stack = o;
+    tied = record {
+      sized = record {
+        nodes = rw ln (h .sized .nodes);
+        attributes = rw lats (omega arith);
+        first = omega (arith, h .sized .first);
+        inside = h .sized .inside;
+      };
+      linked = rw words (linked-set (take (5 * t .nodes) ns) (5 * t .nodes - 1) (t .attributes + 1 - t .first) (t .nodes) o at-end (h .linked));
+      top = h .top;
+      second = h .second;
+      upto = λ q.
+          rw words
+          (getD-set-other (take (5 * t .nodes) ns) (5 * t .nodes - 1) (5 * t .second + 3) (t .attributes + 1 - t .first) 0 (λ y. omega (arith, at-end))
+          ∙ h .upto q);
+      below = omega (arith, h .below);
+    };
+    few = omega arith;
+    pushed = λ r os cs rn ra. (
+        let fit : length (take (5 * t .attributes) ats) + 5 ≤ r .attributes = omega (arith, la) in
+        let count : (5 * t .attributes + 5 - 5 * t .first) / 5 ≡ t .attributes + 1 - t .first = omega (arith, h .sized .first) in
+        let dn : 5 * t .nodes / 5 ≡ t .nodes = omega arith in
+        rw (ne-eqb _ 0 (some z), ← owned, e, le-leb _ _ fit, words, more, la, lu, count, dn));
+  }
     where
       pos : 0 < t .nodes
       pos = pos-of-ne-zero z
@@ -103,9 +101,14 @@ module _ (same : ℕ → ℕ → Bool) (ns ats : List ℕ) (t : Tree) (o : List 
 
 -- ---- as `keep` says it
 
+-- what `has` answers for the words between the code's places f and u
+pub own-key : (same : ℕ → ℕ → Bool) (p n : ℕ) (ats : List ℕ) (t : Tree) (f u : ℕ) (r b : Bool) → f ≡ t .first → u ≡ t .attributes
+    → r ≡ hasKey same p n (take (5 * u - 5 * f) (drop (5 * f) ats)) → r ≡ b → hasKey same p n (ownWords t ats) ≡ b
+own-key same p n ats t f u r b ef eu e q = sym (rw (ef, eu) at e) ∙ q
+
 module _ (same : ℕ → ℕ → Bool) (ns ats ns′ ats′ : List ℕ) (t : Tree) (o : List ℕ) (h : Tied ns ats t o) (p : ℕ) (a : XmlAttributeElement) where
   pub keep-same : {r : Put} → r ≡ Same → Keeps same r t p a ns ats ns′ ats′ → PlacesBy same (Done t) ns ats t o (Attribute p a) ns′ ats′
-  keep-same e q₀ = let q = rw e at q₀ in rw (q .1, q .2) (go (eqb (t .nodes) 0) refl (q .0))
+  keep-same e q₀ = let q = rw e at q₀ in rw (q .nodes, q .attributes) (go (eqb (t .nodes) 0) refl (q .there))
     where
       go : (b : Bool) → eqb (t .nodes) 0 ≡ b → ((t .nodes ≡ 0 → ⊥) → hasKey same p (a .name .0) (ownWords t ats) ≡ true)
           → PlacesBy same (Done t) ns ats t o (Attribute p a) ns ats
@@ -114,10 +117,10 @@ module _ (same : ℕ → ℕ → Bool) (ns ats ns′ ats′ : List ℕ) (t : Tre
 
   pub keep-full : {r : Put} (m : ℕ) → r ≡ NoPlace → Keeps same r t p a ns ats ns′ ats′ → m ≡ length ats
       → PlacesBy same (Full (AttributesFull (m / 5))) ns ats t o (Attribute p a) ns′ ats′
-  keep-full m e q₀ em = let q = rw e at q₀ in attribute-full same ns ats t o h p a ns′ ats′ m em (q .0) (q .1) (q .2)
+  keep-full m e q₀ em = let q = rw e at q₀ in attribute-full same ns ats t o h p a ns′ ats′ m em (q .some) (q .new) (q .full)
 
   pub keep-stored : {r : Put} (u : Tree) → r ≡ Stored u → Keeps same r t p a ns ats ns′ ats′ → length ns′ ≡ length ns → length ats′ ≡ length ats
       → PlacesBy same (Done u) ns ats t o (Attribute p a) ns′ ats′
   keep-stored u e q₀ ln la =
       let q = rw e at q₀ in
-      rw (q .3) (attribute-kept same ns ats t o h p a ns′ ats′ (q .0) (q .1) (q .2) ln la (q .4) (q .5))
+      rw (q .tree) (attribute-kept same ns ats t o h p a ns′ ats′ (q .some) (q .new) (q .room) ln la (q .attributes) (q .nodes))

@@ -19,7 +19,7 @@ use Rattle.walk.specs.declared.placing.Stop.the-variants.{Finished}
 use Rattle.walk.specs.Settle.{Room, Tables, going}
 use Rattle.walk.specs.Reading.{Reading, zeroNote, finalOf, nodesKept, attributesKept, secondOf}
 use Rattle.walk.specs.Tree.{Tied, tablesOf, keptNodes, keptAttributes}
-use Rattle.walk.specs.Run.{Running, RanBy, Ran}
+use Rattle.walk.specs.Run.{RanBy, RanIn}
 use Rattle.walk.specs.Outcome.{doneAnswer, Keepable, Finishes, roomOf, cleared, outcome, Good, Advanced}
 use Rattle.walk.proofs.Trees.{second-in}
 use Rattle.walk.proofs.Clearing.{clears}
@@ -48,8 +48,7 @@ kept-attributes-le ns ats t o h = go (eqb (t .second) 0)
 
 module _ (f names area ns₀ ats₀ : List ℕ) (st : State) (g : Good f names area ns₀ ats₀ st) (ns ats : List ℕ) (c : Cursor) (tree : Tree)
     (hd : ReadHead f names area ns₀ ats₀ st g ns ats c tree) (h : Halt) (ns′ ats′ : List ℕ) (ln : length ns′ ≡ length ns) (la : length ats′ ≡ length ats)
-    (ran : (x : Running (tables f names area st) names area (body f names area st) (st .opened) ns ats c tree)
-    → Ran (tables f names area st) names area (body f names area st) (st .opened) ns ats c tree x h ns′ ats′) (e : h .stop ≡ Finished) where
+    (ran : RanIn f names area (st .opened) ns ats c tree h ns′ ats′) (e : h .stop ≡ Finished) where
   abbrev R : Room
   R = roomOf ns₀ ats₀ st
 
@@ -63,36 +62,36 @@ module _ (f names area ns₀ ats₀ : List ℕ) (st : State) (g : Good f names a
   fin = rw e at (ran (hd .now))
 
   kn : keptNodes (h .tree) ≤ h .tree .nodes
-  kn = kept-nodes-le ns′ ats′ (h .tree) (fin .0) (fin .1 .0)
+  kn = kept-nodes-le ns′ ats′ (h .tree) (fin .last) (fin .tied)
 
   ka : keptAttributes (h .tree) ≤ h .tree .attributes
-  ka = kept-attributes-le ns′ ats′ (h .tree) (fin .0) (fin .1 .0)
+  ka = kept-attributes-le ns′ ats′ (h .tree) (fin .last) (fin .tied)
 
   -- what `finish` asks
   pub read-keepable : Keepable ns′ ats′ st (h .tree)
   read-keepable = record {
-    nodes = omega (arith, kn, fin .1 .0 .sized .nodes);
-    attributes = omega (arith, ka, fin .1 .0 .sized .attributes);
+    nodes = omega (arith, kn, fin .tied .sized .nodes);
+    attributes = omega (arith, ka, fin .tied .sized .attributes);
     notes = omega (arith, hd .few);
   }
 
   abbrev F : List NoteOf → Tables
-  F os = tablesOf ns′ ats′ (h .tree) (fin .0) (os-of os) (st .notes .counts)
+  F os = tablesOf ns′ ats′ (h .tree) (fin .last) (os-of os) (st .notes .counts)
 
   ended : (os : List NoteOf) → length os ≡ st .room → outcome f names area ns₀ ats₀ os st (g .stack) ≡ finalOf R (going (F os))
-  ended os l = hd .same os l ∙ ap (finalOf R) (fin .1 .1 R (os-of os) (st .notes .counts) (sym (hd .ln)) (sym (hd .la)))
+  ended os l = hd .same os l ∙ ap (finalOf R) (fin .goes R (os-of os) (st .notes .counts) (sym (hd .ln)) (sym (hd .la)))
 
   lw : length (take (5 * h .tree .nodes) ns′) ≡ 5 * h .tree .nodes
-  lw = length-take-le (5 * h .tree .nodes) ns′ (fin .1 .0 .sized .nodes)
+  lw = length-take-le (5 * h .tree .nodes) ns′ (fin .tied .sized .nodes)
 
   lv : length (take (5 * h .tree .attributes) ats′) ≡ 5 * h .tree .attributes
-  lv = length-take-le (5 * h .tree .attributes) ats′ (fin .1 .0 .sized .attributes)
+  lv = length-take-le (5 * h .tree .attributes) ats′ (fin .tied .sized .attributes)
 
   nodes-kept : (os : List NoteOf) → nodesKept (F os) ≡ keptNodes (h .tree)
-  nodes-kept os = let d : 5 * h .tree .nodes / 5 ≡ h .tree .nodes = omega arith in rw (lw, d, fin .1 .0 .second)
+  nodes-kept os = let d : 5 * h .tree .nodes / 5 ≡ h .tree .nodes = omega arith in rw (lw, d, fin .tied .second)
 
   attributes-kept : (os : List NoteOf) → attributesKept (F os) ≡ keptAttributes (h .tree)
-  attributes-kept os = rw (lv, d, fin .1 .0 .second) (go (eqb (h .tree .second) 0) refl)
+  attributes-kept os = rw (lv, d, fin .tied .second) (go (eqb (h .tree .second) 0) refl)
     where
       d : 5 * h .tree .attributes / 5 ≡ h .tree .attributes
       d = omega arith
@@ -100,7 +99,7 @@ module _ (f names area ns₀ ats₀ : List ℕ) (st : State) (g : Good f names a
       go : (b : Bool) → eqb (h .tree .second) 0 ≡ b
           → cond b (h .tree .attributes) (getD (take (5 * h .tree .nodes) ns′) (5 * h .tree .second + 3) 0) ≡ cond b (h .tree .attributes) (h .tree .upto)
       go true q = refl
-      go false q = fin .1 .0 .upto (eqb-false _ _ q)
+      go false q = fin .tied .upto (eqb-false _ _ q)
 
   unfoldable shape : List NoteOf → ℕ → ℕ → ℕ → ℕ → Reading
   shape os n k a m = record {

@@ -82,11 +82,11 @@ module _ (t names area b : List ℕ) (o : Opened) where
         let q = rw e at put in
         let less : steps b (s .cur) < steps b c = run-less u e in
         record {
-          now = record { stack = q .0; ready = h .now .ready; within = st .within; tied = q .1 .0; budget = omega (arith, q .1 .1, h .now .budget) };
+          now = record { stack = q .stack; ready = h .now .ready; within = st .within; tied = q .tied; budget = omega (arith, q .few, h .now .budget) };
           ln = ln ∙ h .ln;
           la = la ∙ h .la;
           low = omega (arith, h .low);
-          same = λ r os cs rn ra. pushed r os cs _ rn ra (q .1 .2 r os cs (rn ∙ sym (h .ln)) (ra ∙ sym (h .la)));
+          same = λ r os cs rn ra. pushed r os cs _ rn ra (q .pushed r os cs (rn ∙ sym (h .ln)) (ra ∙ sym (h .la)));
         }
 
     pub run-full : (x : Refusal) (tree′ : Tree) → p ≡ Full x → RanBy t names area b o (StopFull x) ns₀ ats₀ c₀ tree₀ (g .stack) (s .cur) tree′ ns′ ats′
@@ -98,27 +98,25 @@ module _ (t names area b : List ℕ) (o : Opened) where
     pub run-due : (x : ResAnomaly) → p ≡ Due x → RanBy t names area b o (StopDue x) ns₀ ats₀ c₀ tree₀ (g .stack) (s .cur) tree ns′ ats′
     run-due x e =
         let q = rw e at put in
-        let less : steps b (s .cur) < steps b c = st .less (not-other (s .event) (Note x) (q .0) tt) in
-        let first-is : pending N o t b c ≡ Note x ∷ pending N o t b (s .cur) = st .same ∙ ap (λ (y : Event). the y ++ pending N o t b (s .cur)) (q .0) in
-        rw (q .1, q .2) (
-          record { stack = h .now .stack; ready = h .now .ready; within = st .within; tied = h .now .tied; budget = omega (arith, h .now .budget) },
-          (
-            omega (arith, h .low),
-            λ r os cs rn ra.
-                (h .same r os cs rn ra ∙ ap (λ (y : List Event). settle (N .same) r (going (tablesOf ns ats tree (h .now .stack) os cs)) y) first-is),
-          ),
-        )
+        let less : steps b (s .cur) < steps b c = st .less (not-other (s .event) (Note x) (q .event) tt) in
+        let first-is : pending N o t b c ≡ Note x ∷ pending N o t b (s .cur) = st .same ∙ ap (λ (y : Event). the y ++ pending N o t b (s .cur)) (q .event) in
+        rw (q .nodes, q .attributes)
+        (record {
+          now = record { stack = h .now .stack; ready = h .now .ready; within = st .within; tied = h .now .tied; budget = omega (arith, h .now .budget) };
+          less = omega (arith, h .low);
+          goes = λ r os cs rn ra.
+              (h .same r os cs rn ra ∙ ap (λ (y : List Event). settle (N .same) r (going (tablesOf ns ats tree (h .now .stack) os cs)) y) first-is);
+        })
 
     pub run-finished : p ≡ Finished → RanBy t names area b o StopFinished ns₀ ats₀ c₀ tree₀ (g .stack) (s .cur) tree ns′ ats′
     run-finished e =
         let q = rw e at put in
-        rw (q .1, q .2) (
-          h .now .stack,
-          (
-            h .now .tied,
-            λ r os cs rn ra.
-                (h .same r os cs rn ra
-                ∙ ap (λ (y : List Event). settle (N .same) r (going (tablesOf ns ats tree (h .now .stack) os cs)) y) (st .over (q .0))
-                ∙ settle-nil (N .same) r (going (tablesOf ns ats tree (h .now .stack) os cs))),
-          ),
-        )
+        rw (q .nodes, q .attributes)
+        (record {
+          last = h .now .stack;
+          tied = h .now .tied;
+          goes = λ r os cs rn ra.
+              (h .same r os cs rn ra
+              ∙ ap (λ (y : List Event). settle (N .same) r (going (tablesOf ns ats tree (h .now .stack) os cs)) y) (st .over (q .event))
+              ∙ settle-nil (N .same) r (going (tablesOf ns ats tree (h .now .stack) os cs)));
+        })

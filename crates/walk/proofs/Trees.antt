@@ -118,7 +118,7 @@ module _ (same : ℕ → ℕ → Bool) (ns ats ns′ : List ℕ) (t : Tree) (nam
     }
 
     done : PlacesBy same (Done u) ns ats t o (Open name fixed line) ns′ ats
-    done = (t .nodes ∷ o, (tied, rw (un, ua) (omega arith), pushed))
+    done = record { stack = t .nodes ∷ o; tied = tied; few = rw (un, ua) (omega arith); pushed = pushed }
 
   pub node-opens : (o : List ℕ) → Tied ns ats t o → PlacesBy same (Done (openedTree t)) ns ats t o (Open name fixed line) ns′ ats
   node-opens [] h =
@@ -158,7 +158,7 @@ module _ (same : ℕ → ℕ → Bool) (ns ats : List ℕ) (t : Tree) where
   u = take (5 * t .nodes) ns
 
   stays : (o : List ℕ) → Tied ns ats t o → closedIn o ≡ o → PlacesBy same (Done t) ns ats t o Close ns ats
-  stays o h e = (o, (h, omega arith, λ r os cs rn ra. rw e))
+  stays o h e = record { stack = o; tied = h; few = omega arith; pushed = λ r os cs rn ra. rw e }
 
   -- the parent word of the innermost is the next of the open elements
   parent-word : (k j : ℕ) (r : List ℕ) → Tied ns ats t (k ∷ j ∷ r) → getD ns (5 * t .inner + 2) 0 ≡ j
@@ -172,42 +172,36 @@ module _ (same : ℕ → ℕ → Bool) (ns ats : List ℕ) (t : Tree) where
   node-closes (k ∷ []) h = rw (eq-eqb (t .inner) 0 (sym (h .top) ∙ h .linked .0)) (stays (k ∷ []) h refl)
   node-closes (k ∷ j ∷ []) h =
       let e : (t .inner ≡ 0 → ⊥) = λ z. omega (arith, h .top, h .linked .0) in
-      rw (ne-eqb (t .inner) 0 e, parent-word k j [] h, eq-eqb j 0 (h .linked .3 .0)) (
-        j ∷ [],
-        (
-          record {
-            sized = record { nodes = h .sized .nodes; attributes = h .sized .attributes; first = h .sized .first; inside = λ n. absurd (n refl) };
-            linked = h .linked .3;
-            top = h .linked .3 .0;
-            second = refl;
-            upto = λ n. absurd (n refl);
-            below = omega arith;
-          },
-          omega arith,
-          λ r os cs rn ra. refl,
-        ),
-      )
+      rw (ne-eqb (t .inner) 0 e, parent-word k j [] h, eq-eqb j 0 (h .linked .3 .0))
+      (record {
+        stack = j ∷ [];
+        tied = record {
+          sized = record { nodes = h .sized .nodes; attributes = h .sized .attributes; first = h .sized .first; inside = λ n. absurd (n refl) };
+          linked = h .linked .3;
+          top = h .linked .3 .0;
+          second = refl;
+          upto = λ n. absurd (n refl);
+          below = omega arith;
+        };
+        few = omega arith;
+        pushed = λ r os cs rn ra. refl;
+      })
   node-closes (k ∷ j ∷ i ∷ r) h =
       let lu : length u ≡ 5 * t .nodes = length-take-le (5 * t .nodes) ns (h .sized .nodes) in
       let e : (t .inner ≡ 0 → ⊥) = λ z. omega (arith, h .top, h .linked .0) in
       let p : (j ≡ 0 → ⊥) = λ z. omega (arith, h .linked .3 .0) in
-      rw (ne-eqb (t .inner) 0 e, parent-word k j (i ∷ r) h, ne-eqb j 0 p) (
-        j ∷ i ∷ r,
-        (
-          record {
-            sized = record {
-              nodes = h .sized .nodes;
-              attributes = h .sized .attributes;
-              first = h .sized .first;
-              inside = λ n. omega (arith, h .linked .3 .1, lu);
-            };
-            linked = h .linked .3;
-            top = refl;
-            second = h .second;
-            upto = h .upto;
-            below = h .below;
-          },
-          omega arith,
-          λ s os cs rn ra. refl,
-        ),
-      )
+      let in-tree : j < t .nodes = omega (arith, h .linked .3 .1, lu) in
+      rw (ne-eqb (t .inner) 0 e, parent-word k j (i ∷ r) h, ne-eqb j 0 p)
+      (record {
+        stack = j ∷ i ∷ r;
+        tied = record {
+          sized = record { nodes = h .sized .nodes; attributes = h .sized .attributes; first = h .sized .first; inside = λ n. in-tree };
+          linked = h .linked .3;
+          top = refl;
+          second = h .second;
+          upto = h .upto;
+          below = h .below;
+        };
+        few = omega arith;
+        pushed = λ s os cs rn ra. refl;
+      })

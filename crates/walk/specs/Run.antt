@@ -2,12 +2,14 @@
 --
 --   Running    a place of the reading: t the bytes that texts are read from, b the body, o the head
 --   onFrom     how the reading goes on from a cursor and a tree, with the notes os and the counts cs
---   Ran        where `run` stopped, and that the reading goes on from there; RunningIn and RanIn the same over a whole file
+--   Ran        where `run` stopped, and that the reading goes on from there; RanOn the same of every such place
+--   RunningIn, RanIn   the same over a whole file, which is split behind the head
 use Prim.Native.Nat.{ℕ, _+_, _≤_, _<_}
 use mathlib.Core.Path.{_≡_}
 use mathlib.Core.List.{List, _∷_}
 use lib.ListN.{length}
 use Rattle.anomaly.specs.declared.Note.{Note as NoteOf}
+use Rattle.anomaly.specs.declared.ResAnomaly.{ResAnomaly}
 use Rattle.head.specs.declared.Opened.{Opened}
 use Rattle.head.specs.Head.{tablesIn, bodyIn}
 use Rattle.events.specs.declared.Cursor.{Cursor}
@@ -36,20 +38,36 @@ module _ (t names area b : List ℕ) (o : Opened) where
   abbrev pub N : Names
   N = namesIn (o .head) t names area
 
+  -- what the reading comes to from here, in every room of these lengths
+  abbrev pub ComesTo : List ℕ → List ℕ → Cursor → Tree → List ℕ → (Room → List NoteOf → List ℕ → Out) → Type 0
+  ComesTo ns ats c tree stack out =
+      (r : Room) (os : List NoteOf) (cs : List ℕ) → r .nodes ≡ length ns → r .attributes ≡ length ats
+      → onFrom r N o t b ns ats c tree stack os cs ≡ out r os cs
+
+  -- a note is next
+  pub record StopsDue (x : ResAnomaly) (ns ats : List ℕ) (c : Cursor) (tree : Tree) (stack : List ℕ) (c′ : Cursor) (tree′ : Tree) (ns′ ats′ : List ℕ)
+      : Type 0 where
+    pub now : Running t names area b o ns′ ats′ c′ tree′
+    pub less : steps b c′ < steps b c
+    pub goes : ComesTo ns ats c tree stack (λ r os cs.
+        settle (N .same) r (going (tablesOf ns′ ats′ tree′ (now .stack) os cs)) (Note x ∷ pending N o t b c′))
+
+  -- nothing is left
+  pub record StopsDone (ns ats : List ℕ) (c : Cursor) (tree : Tree) (stack : List ℕ) (tree′ : Tree) (ns′ ats′ : List ℕ) : Type 0 where
+    pub last : List ℕ
+    pub tied : Tied ns′ ats′ tree′ last
+    pub goes : ComesTo ns ats c tree stack (λ r os cs. going (tablesOf ns′ ats′ tree′ last os cs))
+
   abbrev pub RanBy : Stop → List ℕ → List ℕ → Cursor → Tree → List ℕ → Cursor → Tree → List ℕ → List ℕ → Type 0
-  RanBy (Due x) ns ats c tree stack c′ tree′ ns′ ats′ =
-      (g : Running t names area b o ns′ ats′ c′ tree′) × ((steps b c′ < steps b c)
-      × ((r : Room) (os : List NoteOf) (cs : List ℕ) → r .nodes ≡ length ns → r .attributes ≡ length ats
-      → onFrom r N o t b ns ats c tree stack os cs ≡ settle (N .same) r (going (tablesOf ns′ ats′ tree′ (g .stack) os cs)) (Note x ∷ pending N o t b c′)))
-  RanBy (Full x) ns ats c tree stack c′ tree′ ns′ ats′ =
-      (r : Room) (os : List NoteOf) (cs : List ℕ) → r .nodes ≡ length ns → r .attributes ≡ length ats → onFrom r N o t b ns ats c tree stack os cs ≡ refused x
-  RanBy Finished ns ats c tree stack c′ tree′ ns′ ats′ =
-      (stack′ : List ℕ) × (Tied ns′ ats′ tree′ stack′
-      × ((r : Room) (os : List NoteOf) (cs : List ℕ) → r .nodes ≡ length ns → r .attributes ≡ length ats
-      → onFrom r N o t b ns ats c tree stack os cs ≡ going (tablesOf ns′ ats′ tree′ stack′ os cs)))
+  RanBy (Due x) ns ats c tree stack c′ tree′ ns′ ats′ = StopsDue x ns ats c tree stack c′ tree′ ns′ ats′
+  RanBy (Full x) ns ats c tree stack c′ tree′ ns′ ats′ = ComesTo ns ats c tree stack (λ r os cs. refused x)
+  RanBy Finished ns ats c tree stack c′ tree′ ns′ ats′ = StopsDone ns ats c tree stack tree′ ns′ ats′
 
   abbrev pub Ran : (ns ats : List ℕ) (c : Cursor) (tree : Tree) → Running t names area b o ns ats c tree → Halt → List ℕ → List ℕ → Type 0
   Ran ns ats c tree g h ns′ ats′ = RanBy (h .stop) ns ats c tree (g .stack) (h .cur) (h .tree) ns′ ats′
+
+  abbrev pub RanOn : List ℕ → List ℕ → Cursor → Tree → Halt → List ℕ → List ℕ → Type 0
+  RanOn ns ats c tree h ns′ ats′ = (g : Running t names area b o ns ats c tree) → Ran ns ats c tree g h ns′ ats′
 
 -- ---- over a whole file
 
@@ -57,5 +75,4 @@ abbrev pub RunningIn : List ℕ → List ℕ → List ℕ → Opened → List �
 RunningIn f names area o ns ats c tree = Running (tablesIn f (o .head)) names area (bodyIn f (o .head)) o ns ats c tree
 
 abbrev pub RanIn : List ℕ → List ℕ → List ℕ → Opened → List ℕ → List ℕ → Cursor → Tree → Halt → List ℕ → List ℕ → Type 0
-RanIn f names area o ns ats c tree h ns′ ats′ =
-    (g : RunningIn f names area o ns ats c tree) → Ran (tablesIn f (o .head)) names area (bodyIn f (o .head)) o ns ats c tree g h ns′ ats′
+RanIn f names area o ns ats c tree h ns′ ats′ = RanOn (tablesIn f (o .head)) names area (bodyIn f (o .head)) o ns ats c tree h ns′ ats′

@@ -100,28 +100,55 @@ ownWords t ats = take (5 * t .attributes - 5 * t .first) (drop (5 * t .first) at
 abbrev pub attributeWords : Tree → ℕ → XmlAttributeElement → List ℕ
 attributeWords t p a = (t .nodes - 1) ∷ p ∷ a .name .0 ∷ a .«data_type» ∷ a .«data» ∷ []
 
+-- the element has one of this prefix and name text, or there is no element
+pub record Repeats (same : ℕ → ℕ → Bool) (t : Tree) (p : ℕ) (a : XmlAttributeElement) (ns ats ns′ ats′ : List ℕ) : Type 0 where
+  pub there : (t .nodes ≡ 0 → ⊥) → hasKey same p (a .name .0) (ownWords t ats) ≡ true
+  pub nodes : ns′ ≡ ns
+  pub attributes : ats′ ≡ ats
+
+-- it has no place
+pub record Lacks (same : ℕ → ℕ → Bool) (t : Tree) (p : ℕ) (a : XmlAttributeElement) (ats : List ℕ) : Type 0 where
+  pub some : t .nodes ≡ 0 → ⊥
+  pub new : hasKey same p (a .name .0) (ownWords t ats) ≡ false
+  pub full : length ats < 5 * t .attributes + 5
+
+-- it is stored, and its element counts it
+pub record Stores (same : ℕ → ℕ → Bool) (u t : Tree) (p : ℕ) (a : XmlAttributeElement) (ns ats ns′ ats′ : List ℕ) : Type 0 where
+  pub some : t .nodes ≡ 0 → ⊥
+  pub new : hasKey same p (a .name .0) (ownWords t ats) ≡ false
+  pub room : 5 * t .attributes + 5 ≤ length ats
+  pub tree : u ≡ keptTree t
+  pub attributes : ats′ ≡ take (5 * t .attributes) ats ++ attributeWords t p a ++ drop (5 * t .attributes + 5) ats
+  pub nodes : ns′ ≡ set ns (5 * t .nodes - 1) (t .attributes + 1 - t .first)
+
 abbrev pub Keeps : (ℕ → ℕ → Bool) → Put → Tree → ℕ → XmlAttributeElement → List ℕ → List ℕ → List ℕ → List ℕ → Type 0
-Keeps same Same t p a ns ats ns′ ats′ = ((t .nodes ≡ 0 → ⊥) → hasKey same p (a .name .0) (ownWords t ats) ≡ true) × (ns′ ≡ ns) × (ats′ ≡ ats)
-Keeps same NoPlace t p a ns ats ns′ ats′ =
-    (t .nodes ≡ 0 → ⊥) × (hasKey same p (a .name .0) (ownWords t ats) ≡ false) × (length ats < 5 * t .attributes + 5)
-Keeps same (Stored u) t p a ns ats ns′ ats′ =
-    (t .nodes ≡ 0 → ⊥) × (hasKey same p (a .name .0) (ownWords t ats) ≡ false) × (5 * t .attributes + 5 ≤ length ats) × (u ≡ keptTree t)
-    × (ats′ ≡ take (5 * t .attributes) ats ++ attributeWords t p a ++ drop (5 * t .attributes + 5) ats)
-    × (ns′ ≡ set ns (5 * t .nodes - 1) (t .attributes + 1 - t .first))
+Keeps same Same t p a ns ats ns′ ats′ = Repeats same t p a ns ats ns′ ats′
+Keeps same NoPlace t p a ns ats ns′ ats′ = Lacks same t p a ats
+Keeps same (Stored u) t p a ns ats ns′ ats′ = Stores same u t p a ns ats ns′ ats′
 
 -- ---- an event
 
--- it is put away, or refuses, or is not the tables'
+-- it is put away, and the tree is u: one push
+pub record PutAway (same : ℕ → ℕ → Bool) (u : Tree) (ns ats : List ℕ) (t : Tree) (o : List ℕ) (e : Event) (ns′ ats′ : List ℕ) : Type 0 where
+  pub stack : List ℕ
+  pub tied : Tied ns′ ats′ u stack
+  pub few : u .nodes + u .attributes ≤ t .nodes + t .attributes + 1
+  pub pushed : (r : Room) (os : List NoteOf) (cs : List ℕ) → r .nodes ≡ length ns → r .attributes ≡ length ats
+      → push same r (going (tablesOf ns ats t o os cs)) e ≡ going (tablesOf ns′ ats′ u stack os cs)
+
+-- it is e′, which is not the tables'
+pub record Passes (e e′ : Event) (ns ats ns′ ats′ : List ℕ) : Type 0 where
+  pub event : e ≡ e′
+  pub nodes : ns′ ≡ ns
+  pub attributes : ats′ ≡ ats
+
 abbrev pub PlacesBy : (ℕ → ℕ → Bool) → Placed → List ℕ → List ℕ → Tree → List ℕ → Event → List ℕ → List ℕ → Type 0
-PlacesBy same (Done u) ns ats t o e ns′ ats′ =
-    (o′ : List ℕ) × (Tied ns′ ats′ u o′ × (u .nodes + u .attributes ≤ t .nodes + t .attributes + 1)
-    × ((r : Room) (os : List NoteOf) (cs : List ℕ) → r .nodes ≡ length ns → r .attributes ≡ length ats
-    → push same r (going (tablesOf ns ats t o os cs)) e ≡ going (tablesOf ns′ ats′ u o′ os cs)))
+PlacesBy same (Done u) ns ats t o e ns′ ats′ = PutAway same u ns ats t o e ns′ ats′
 PlacesBy same (Full x) ns ats t o e ns′ ats′ =
-    (r : Room) (os : List NoteOf) (cs : List ℕ) → r .nodes ≡ length ns → r .attributes ≡ length ats → push same r (going (tablesOf ns ats t o os cs)) e
-    ≡ refused x
-PlacesBy same (Due x) ns ats t o e ns′ ats′ = (e ≡ Note x) × (ns′ ≡ ns) × (ats′ ≡ ats)
-PlacesBy same Finished ns ats t o e ns′ ats′ = (e ≡ Finish) × (ns′ ≡ ns) × (ats′ ≡ ats)
+    (r : Room) (os : List NoteOf) (cs : List ℕ) → r .nodes ≡ length ns → r .attributes ≡ length ats
+    → push same r (going (tablesOf ns ats t o os cs)) e ≡ refused x
+PlacesBy same (Due x) ns ats t o e ns′ ats′ = Passes e (Note x) ns ats ns′ ats′
+PlacesBy same Finished ns ats t o e ns′ ats′ = Passes e Finish ns ats ns′ ats′
 
 abbrev pub Places : (ℕ → ℕ → Bool) → Placed → List ℕ → List ℕ → Tree → Event → List ℕ → List ℕ → Type 0
 Places same p ns ats t e ns′ ats′ = (o : List ℕ) → Tied ns ats t o → PlacesBy same p ns ats t o e ns′ ats′

@@ -8,7 +8,7 @@ ghost use Rattle.tables.specs.Keep.{sameIn};
 ghost use Rattle.text.specs.Found.{Asks};
 ghost use Rattle.events.specs.declared.Event.the-variants.{Open, Attribute, Close};
 ghost use Rattle.walk.specs.Tree.{Fit, Places, NotEnd, AsksFor};
-ghost use Rattle.walk.specs.Run.{Running, Ran, RunningIn, RanIn};
+ghost use Rattle.walk.specs.Run.{Running, RanOn, RunningIn, RanIn};
 use crate::tree::Put;
 use crate::tree::Tree;
 use crate::tree::close_node;
@@ -57,7 +57,8 @@ fn open_place(
     fixed: u32,
 ) -> Placed
     requires { ⌜ Fit (now nodes) (now attributes) tree ⌝ }
-    ensures { λ r. ⌜ ((same : ℕ → ℕ → Bool) (line : ℕ) → Places same r (now (nodes .entry)) (now (attributes .entry)) tree (Open name fixed line) (now (nodes .exit)) (now (attributes .entry))) ⌝ }
+    ensures { λ r. ⌜ ((same : ℕ → ℕ → Bool) (line : ℕ) → Places same r (now (nodes .entry)) (now (attributes .entry)) tree (Open name fixed line)
+        (now (nodes .exit)) (now (attributes .entry))) ⌝ }
 {
     if nodes.len() - 5 * wide(tree.nodes) < 5 {
         return Placed::Full(Refusal::NodesFull(nodes.len() / 5));
@@ -68,7 +69,8 @@ fn open_place(
 // The innermost element closes.
 fn close_place(nodes: &[u32], attributes: &[u32], tree: Tree) -> Placed
     requires { ⌜ Fit (now nodes) (now attributes) tree ⌝ }
-    ensures { λ r. ⌜ ((same : ℕ → ℕ → Bool) → Places same r (now (nodes .entry)) (now (attributes .entry)) tree Close (now (nodes .entry)) (now (attributes .entry))) ⌝ }
+    ensures { λ r. ⌜ ((same : ℕ → ℕ → Bool) → Places same r (now (nodes .entry)) (now (attributes .entry)) tree Close
+        (now (nodes .entry)) (now (attributes .entry))) ⌝ }
 {
     Placed::Done(close_node(nodes, tree))
 }
@@ -86,7 +88,8 @@ fn keep_place(
     a: XmlAttributeElement,
 ) -> Placed
     requires { ⌜ Asks (now t) (now names) (now area) h × Fit (now nodes) (now attributes) tree ⌝ }
-    ensures { λ r. ⌜ Places (sameIn h (now (t .entry)) (now (names .entry)) (now (area .entry))) r (now (nodes .entry)) (now (attributes .entry)) tree (Attribute prefix a) (now (nodes .exit)) (now (attributes .exit)) ⌝ }
+    ensures { λ r. ⌜ Places (sameIn h (now (t .entry)) (now (names .entry)) (now (area .entry))) r
+        (now (nodes .entry)) (now (attributes .entry)) tree (Attribute prefix a) (now (nodes .exit)) (now (attributes .exit)) ⌝ }
 {
     let p = keep(t, names, area, h, nodes, attributes, tree, prefix, a);
     match p {
@@ -108,8 +111,8 @@ pub fn place(
     e: Event,
 ) -> Placed
     requires { ⌜ AsksFor e (now t) (now names) (now area) h × Fit (now nodes) (now attributes) tree ⌝ }
-    ensures { λ r. ⌜ Places (sameIn h (now (t .entry)) (now (names .entry)) (now (area .entry))) r (now (nodes .entry)) (now (attributes .entry)) tree e (now (nodes .exit)) (now (attributes .exit))
-        × NotEnd r e ⌝ }
+    ensures { λ r. ⌜ Places (sameIn h (now (t .entry)) (now (names .entry)) (now (area .entry))) r
+        (now (nodes .entry)) (now (attributes .entry)) tree e (now (nodes .exit)) (now (attributes .exit)) × NotEnd r e ⌝ }
 {
     match e {
         Event::Nothing => Placed::Done(tree),
@@ -147,8 +150,8 @@ pub fn run(
     tree: Tree,
 ) -> Halt
     requires { ⌜ Running (now t) (now names) (now area) (now b) o (now nodes) (now attributes) c tree ⌝ }
-    ensures { λ r. ⌜ ((g : Running (now (t .entry)) (now (names .entry)) (now (area .entry)) (now (b .entry)) o (now (nodes .entry)) (now (attributes .entry)) c tree)
-        → Ran (now (t .entry)) (now (names .entry)) (now (area .entry)) (now (b .entry)) o (now (nodes .entry)) (now (attributes .entry)) c tree g r (now (nodes .exit)) (now (attributes .exit))) ⌝ }
+    ensures { λ r. ⌜ RanOn (now (t .entry)) (now (names .entry)) (now (area .entry)) (now (b .entry)) o (now (nodes .entry)) (now (attributes .entry)) c tree r
+        (now (nodes .exit)) (now (attributes .exit)) ⌝ }
 {
     let mut cur = c;
     let mut grown = tree;

@@ -129,7 +129,8 @@ fn parent_of(tree: Tree) -> u32
 pub fn open_node(nodes: &mut [u32], tree: Tree, name: StringIndex, fixed: u32) -> Tree
     requires { ⌜ (5 * tree .nodes + 5 ≤ length (now nodes)) × (tree .nodes < 4294967295) ⌝ }
     ensures { λ r. ⌜ (r ≡ openedTree tree)
-        × (now (nodes .exit) ≡ take (5 * tree .nodes) (now (nodes .entry)) ++ fiveOf tree (name .0) fixed ++ drop (5 * tree .nodes + 5) (now (nodes .entry))) ⌝ }
+        × (now (nodes .exit)
+        ≡ take (5 * tree .nodes) (now (nodes .entry)) ++ fiveOf tree (name .0) fixed ++ drop (5 * tree .nodes + 5) (now (nodes .entry))) ⌝ }
 {
     put_five(
         nodes,
@@ -171,7 +172,8 @@ pub fn keep(
     a: XmlAttributeElement,
 ) -> Put
     requires { ⌜ Asks (now t) (now names) (now area) h × Fit (now nodes) (now attributes) tree ⌝ }
-    ensures { λ r. ⌜ Keeps (sameIn h (now (t .entry)) (now (names .entry)) (now (area .entry))) r tree prefix a (now (nodes .entry)) (now (attributes .entry)) (now (nodes .exit)) (now (attributes .exit)) ⌝ }
+    ensures { λ r. ⌜ Keeps (sameIn h (now (t .entry)) (now (names .entry)) (now (area .entry))) r tree prefix a
+        (now (nodes .entry)) (now (attributes .entry)) (now (nodes .exit)) (now (attributes .exit)) ⌝ }
 {
     let n = tree.nodes;
     if n == 0 {

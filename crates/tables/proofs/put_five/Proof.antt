@@ -1,3 +1,4 @@
+-- `tables::put_five` meets its contract: five stores in a row are five words put at a place (proofs/Tables.antt).
 use borrow.Author.Needs.{needs}
 use native.Mathlib.Omega.{arith}
 use lib.ListN.{length-set}

@@ -1,3 +1,4 @@
+-- `tables::zero_all` meets its contract. Invariant: zeros up to i, and behind it what stood there. Measure: the words left.
 use Prim.Native.Nat.{_+_, _-_, _≤_}
 use mathlib.Core.Path.{_≡_, refl}
 use mathlib.Core.List.{_++_}

@@ -1,3 +1,4 @@
+-- `tables::zero_from` meets its contract: zeros in the part from a place on (proofs/Tables.antt).
 use borrow.Author.Needs.{needs}
 use Rattle.tables.proofs.Tables.{zero-tail}
 use Rattle.tables.proofs.zero_from.Statement.{statement}

@@ -1,3 +1,4 @@
+-- `walk::advance` meets its contract: each mode has its own function, and clearing goes on (proofs/Clearing.antt).
 use Rattle.walk.proofs.Clearing.{goes-clearing}
 use borrow.Author.Needs.{needs}
 use Rattle.walk.proofs.advance.Statement.{statement}

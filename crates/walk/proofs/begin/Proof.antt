@@ -1,3 +1,4 @@
+-- `walk::begin` meets its contract: nothing is read, counted or stored.
 use borrow.Author.Needs.{needs}
 use Rattle.walk.proofs.begin.Statement.{statement}
 use Rattle.walk.proofs.begin.Tie as tie

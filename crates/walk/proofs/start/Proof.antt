@@ -1,3 +1,4 @@
+-- `walk::start` meets its contract: 2 and 7 refuse before the head is opened, and a call behind it is a call from here (proofs/Opening.antt).
 use mathlib.Core.Path.{sym, _∙_, ap}
 use Rattle.walk.specs.Outcome.{startedBy}
 use Rattle.walk.proofs.Opening.{fresh-long, fresh-names, started-asks, advanced-started}

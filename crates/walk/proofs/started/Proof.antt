@@ -1,3 +1,4 @@
+-- `walk::started` meets its contract: the head is there, and the reading stands before its first note.
 use borrow.Author.Needs.{needs}
 use Rattle.walk.proofs.started.Statement.{statement}
 use Rattle.walk.proofs.started.Tie as tie

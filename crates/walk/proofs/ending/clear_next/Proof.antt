@@ -1,3 +1,4 @@
+-- `walk::ending::clear_next` meets its contract: the next place, where the slot is one.
 use borrow.Author.Tests.{lt-ltb, le-ltb}
 use mathlib.Core.Path.{_∙_}
 use borrow.Author.Needs.{needs}

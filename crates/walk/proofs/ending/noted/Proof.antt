@@ -1,3 +1,4 @@
+-- `walk::ending::noted` meets its contract: the note, and the state that counts it.
 use native.Mathlib.Omega.{arith}
 use mathlib.Core.Path.{_≡_, ap}
 use Prim.Native.Nat.{ℕ}

@@ -1,3 +1,4 @@
+-- `walk::placing::close_place` meets its contract: the innermost element closes (proofs/Trees.antt).
 use native.Mathlib.Omega.{arith}
 use Rattle.walk.proofs.Trees.{node-closes}
 use Rattle.walk.proofs.placing.close_place.Statement.{statement}

@@ -1,3 +1,4 @@
+-- `walk::placing::keep_place` meets its contract: the three answers of `keep`, each one push (proofs/Attributes.antt).
 use lib.ListN.{length}
 use Rattle.tables.specs.Keep.{sameIn}
 use Rattle.walk.proofs.Attributes.{keep-same, keep-full, keep-stored}

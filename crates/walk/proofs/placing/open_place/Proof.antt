@@ -1,3 +1,4 @@
+-- `walk::placing::open_place` meets its contract: the node is pushed where it has a place (proofs/Trees.antt).
 use native.Mathlib.Omega.{arith}
 use Rattle.walk.proofs.Trees.{node-opens, node-full}
 use borrow.Author.Needs.{needs}

@@ -1,3 +1,4 @@
+-- `walk::placing::place` meets its contract: one answer for each event (proofs/Asking.antt).
 use Rattle.tables.specs.Keep.{sameIn}
 use Rattle.walk.proofs.Asking.{not-end, not-other, place-as, place-nothing, place-left, place-refused}
 use borrow.Author.Needs.{needs}

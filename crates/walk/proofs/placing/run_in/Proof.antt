@@ -1,3 +1,4 @@
+-- `walk::placing::run_in` meets its contract: the two parts of the file are the tables and the body that the definitions take.
 use borrow.Author.Needs.{needs}
 use Rattle.walk.proofs.placing.run_in.Statement.{statement}
 use Rattle.walk.proofs.placing.run_in.Tie as tie

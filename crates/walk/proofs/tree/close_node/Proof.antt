@@ -1,3 +1,4 @@
+-- `walk::tree::close_node` meets its contract: the parent word of the innermost is the next innermost.
 use borrow.Author.Tests.{eq-eqb, ne-eqb}
 use native.Mathlib.Omega.{arith}
 use mathlib.Core.Path.{_∙_}

@@ -1,11 +1,14 @@
+-- `walk::tree::keep` meets its contract: a repeat changes nothing, a new attribute is stored where it has a place.
 use native.Mathlib.Omega.{arith}
-use mathlib.Core.Path.{refl, sym, _∙_}
+use mathlib.Core.Path.{refl}
 use borrow.Author.Needs.{needs}
+use Rattle.tables.specs.Keep.{sameIn}
+use Rattle.walk.proofs.Attributes.{own-key}
 use Rattle.walk.proofs.tree.keep.Statement.{statement}
 use Rattle.walk.proofs.tree.keep.Tie as tie
 
 returns : tie.Need-returns
-returns c = ((λ n. absurd (n (c .if1 .taken))), refl, refl)
+returns c = record { there = λ n. absurd (n (c .if1 .taken)); nodes = refl; attributes = refl }
 
 wide-requires : tie.Need-wide-requires
 wide-requires c κs = search needs
@@ -41,7 +44,15 @@ returns-2 : tie.Need-returns-2
 returns-2 c =
     let at-wide2 = c .before .before .before .before .before in
     let at-wide = at-wide2 .before in
-    ((λ _. rw (at-wide .wide .ensures, at-wide2 .wide2 .ensures) at (sym (c .before .has .ensures) ∙ c .if2 .taken)), refl, refl)
+    let at-start = at-wide .before .before .before .before .before .before .before in
+    let a = at-start .args in
+    record {
+      there = λ _. own-key (sameIn (a .h) (a .t .now) (a .names .now) (a .area .now)) (a .prefix) (a .a .name .0) (a .attributes .now) (a .tree)
+          (at-wide .wide .result) (at-wide2 .wide2 .result) (c .before .has .result) _
+          (at-wide .wide .ensures) (at-wide2 .wide2 .ensures) (c .before .has .ensures) (c .if2 .taken);
+      nodes = refl;
+      attributes = refl;
+    }
 
 sub-if3 : tie.Need-sub-if3
 sub-if3 c = search needs
@@ -53,11 +64,16 @@ returns-3 : tie.Need-returns-3
 returns-3 c =
     let at-wide2 = c .before .before .before .before .before .before in
     let at-wide = at-wide2 .before in
-    let at-if1 = at-wide .before in (
-      at-if1 .if1 .left,
-      rw (at-wide .wide .ensures, at-wide2 .wide2 .ensures) at (sym (c .before .before .has .ensures) ∙ c .before .if2 .left),
-      omega (arith, c .if3 .taken, at-wide2 .wide2 .ensures),
-    )
+    let at-if1 = at-wide .before in
+    let at-start = at-if1 .before .before .before .before .before .before in
+    let a = at-start .args in
+    record {
+      some = at-if1 .if1 .left;
+      new = own-key (sameIn (a .h) (a .t .now) (a .names .now) (a .area .now)) (a .prefix) (a .a .name .0) (a .attributes .now) (a .tree)
+          (at-wide .wide .result) (at-wide2 .wide2 .result) (c .before .before .has .result) _
+          (at-wide .wide .ensures) (at-wide2 .wide2 .ensures) (c .before .before .has .ensures) (c .before .if2 .left);
+      full = omega (arith, c .if3 .taken, at-wide2 .wide2 .ensures);
+    }
 
 sub-put-five : tie.Need-sub-put-five
 sub-put-five c = search needs
@@ -79,18 +95,21 @@ add-put-one c = search needs
 
 sub-put-one-2 : tie.Need-sub-put-one-2
 sub-put-one-2 c =
-    let at-start = c .before .before .before .before .before .before .before .before .before .before .before .before .before .before .before .before .before .before .before .before .before .before in
+    let half-way = c .before .before .before .before .before .before .before .before .before .before .before in
+    let at-start = half-way .before .before .before .before .before .before .before .before .before .before .before in
     omega (arith, at-start .pre .1 .sized .first)
 
 put-one-requires : tie.Need-put-one-requires
 put-one-requires c κs =
-    let at-if1 = c .before .before .before .before .before .before .before .before .before .before .before .before .before .before .before .before in
+    let at-place = c .before .before .before .before .before .before .before .before .before .before .before .before .before .before .before .before in
+    let at-if1 = at-place in
     let at-start = at-if1 .before .before .before .before .before .before in
     omega (arith, at-start .pre .1 .sized .nodes, c .before .before .wide3 .ensures, at-if1 .if1 .left)
 
 kept-requires : tie.Need-kept-requires
 kept-requires c κs =
-    let at-start = c .before .before .before .before .before .before .before .before .before .before .before .before .before .before .before .before .before .before .before .before .before .before .before .before .before in
+    let half-way = c .before .before .before .before .before .before .before .before .before .before .before .before in
+    let at-start = half-way .before .before .before .before .before .before .before .before .before .before .before .before .before in
     omega (arith, at-start .pre .1 .many)
 
 same-length-3 : tie.Need-same-length-3
@@ -110,15 +129,19 @@ returns-4 c =
     let at-wide2 = at-has .before .before .before .before in
     let at-wide = at-wide2 .before in
     let at-if1 = at-wide .before in
-    let w1 = at-wide .wide .ensures in
-    let w2 = at-wide2 .wide2 .ensures in (
-      at-if1 .if1 .left,
-      rw (w1, w2) at (sym (at-has .has .ensures) ∙ at-if2 .if2 .left),
-      omega (arith, at-if3 .if3 .left, w2),
-      c .kept .ensures,
-      rw w2 at (at-put-five .put-five .ensures),
-      rw (at-wide3 .wide3 .ensures) at (at-put-one .put-one .ensures),
-    )
+    let at-start = at-if1 .before .before .before .before .before .before in
+    let a = at-start .args in
+    let w2 = at-wide2 .wide2 .ensures in
+    record {
+      some = at-if1 .if1 .left;
+      new = own-key (sameIn (a .h) (a .t .now) (a .names .now) (a .area .now)) (a .prefix) (a .a .name .0) (a .attributes .now) (a .tree)
+          (at-wide .wide .result) (at-wide2 .wide2 .result) (at-has .has .result) _
+          (at-wide .wide .ensures) (at-wide2 .wide2 .ensures) (at-has .has .ensures) (at-if2 .if2 .left);
+      room = omega (arith, at-if3 .if3 .left, w2);
+      tree = c .kept .ensures;
+      attributes = rw w2 at (at-put-five .put-five .ensures);
+      nodes = rw (at-wide3 .wide3 .ensures) at (at-put-one .put-one .ensures);
+    }
 
 pub keep-spec : {M : Type 1} → statement M
 keep-spec =

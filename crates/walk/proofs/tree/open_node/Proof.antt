@@ -1,3 +1,4 @@
+-- `walk::tree::open_node` meets its contract: its five words stand behind the other nodes.
 use borrow.Author.Needs.{needs}
 use Rattle.walk.proofs.tree.open_node.Statement.{statement}
 use Rattle.walk.proofs.tree.open_node.Tie as tie

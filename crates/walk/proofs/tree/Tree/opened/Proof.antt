@@ -1,3 +1,4 @@
+-- `walk::tree::Tree::opened` meets its contract: the first element, the second one open, and all others.
 use Rattle.walk.proofs.Tests.{tests}
 use borrow.Author.Needs.{needs}
 use Rattle.walk.proofs.tree.Tree.opened.Statement.{statement}
