@@ -13,7 +13,7 @@ use text::Head;
 use text::find;
 use text::same_found;
 
-// A number of the file as a place.
+// A number of the file as a place. Ruled out: another number, and one that wraps.
 pub fn wide(x: u32) -> usize
     ensures { λ r. ⌜ r ≡ x ⌝ }
 {

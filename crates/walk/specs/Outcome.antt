@@ -1,6 +1,7 @@
 -- What `advance` does: a call keeps the outcome of the whole reading, and comes nearer to its end. Not part of what a reader must believe.
 --
---   first       the state before the first call
+--   first       the state before the first call; startedBy behind the head, notedBy with a note to write, clearingAt with zeros to write
+--   Refuses, Finishes, Noted   what the ends of a reading leave in the tables
 --   outcome     what comes back in the end, from a state at the head of the loop: nodes and attributes as they are, notes as written so far
 --   Good        a state at the head of the loop, with the list of open elements as a field
 --   left        the measure: while it reads, steps and all places of the note table; while it clears, places

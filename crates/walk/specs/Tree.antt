@@ -3,7 +3,8 @@
 --   openedTree, closedTree, keptTree   the numbers of a tree behind a start, an end, a kept attribute
 --   Sized, Fit   the numbers fit the tables, and more fit a u32
 --   Tied         the numbers tell the tables: the open elements are the list o, linked by the parent words
---   Keeps        what `keep` does with an attribute; Places what `place` does with an event: one push of specs/Settle.antt
+--   Keeps        what `keep` does with an attribute: it Repeats one, Lacks a place, or `keep` Stores it
+--   Places       what `place` does with an event: it is PutAway, one push of specs/Settle.antt; or it is refused, or Passes to the caller
 --   AsksFor      an attribute asks for texts; no other event does
 use Prim.Native.Nat.{ℕ, _+_, _-_, _*_, _≤_, _<_}
 use mathlib.Core.Path.{_≡_}

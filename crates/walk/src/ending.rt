@@ -69,7 +69,7 @@ fn to_clear(st: State, from: usize, answer: ReadAnswer) -> State
     }
 }
 
-// The next place to clear, where there is one.
+// The next place to clear, where there is one. Ruled out: a place passed over, and one behind the last.
 pub fn clear_next(st: State) -> State
     ensures { λ r. ⌜ r ≡ clearNext st ⌝ }
 {
@@ -136,7 +136,7 @@ fn noted(st: State, cur: Cursor, tree: Tree, x: ResAnomaly) -> State
     }
 }
 
-// A note within its cap is written where it has a place; else it refuses.
+// A note within its cap is written where it has a place; else it refuses (B4).
 // Ruled out: a note written behind the last place, and a refusal that keeps the notes before it.
 pub fn note_due(
     nodes: &mut [u32],

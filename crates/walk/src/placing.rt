@@ -191,6 +191,7 @@ pub fn run(
 }
 
 // The same as `run` over a whole file, which is split behind the head.
+// Ruled out: texts read from the body, and the last byte of the map walked.
 pub fn run_in(
     file: &[u8],
     names: &[u32],

@@ -193,7 +193,8 @@ pub fn keep(
     Put::Stored(tree.kept())
 }
 
-// How many nodes are kept at the end: all before the second open element (W29).
+// How many nodes are kept at the end: all before the second open element (W29). Ruled out: a finished child of a dropped element counted, and
+// none kept where the first alone is open.
 pub fn kept_nodes(tree: Tree) -> u32
     ensures { λ r. ⌜ r ≡ keptNodes tree ⌝ }
 {
@@ -203,7 +204,7 @@ pub fn kept_nodes(tree: Tree) -> u32
     tree.second
 }
 
-// How many attributes are kept: those of the kept nodes.
+// How many attributes are kept: those of the kept nodes. Ruled out: an attribute of a dropped node counted, and one of a kept node not.
 pub fn kept_attributes(tree: Tree) -> u32
     ensures { λ r. ⌜ r ≡ keptAttributes tree ⌝ }
 {
