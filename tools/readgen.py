@@ -87,7 +87,7 @@ def code(o):
             o.abbrev("ty-pointer-" + r.name, "Ty", f"tyRef erased mut {r.pointee}")
 
     def get(k):
-        return f"(rvOpd (copy (place {PLACE['st']} (field {STATE[k]} ∷ []))))"
+        return f"(rvOpd (copy (place {PLACE['st']} (field {STATE[k][0]} ∷ []))))"
 
     at, by, ptr, test = PLACE["at"], PLACE["bytes"], PLACE["pointer"], PLACE["test"]
     o.say("-- a turn after its call, which the generated MIR has under no name: the test, and the store")
@@ -224,9 +224,16 @@ def loop(o, kept, asked):
           f"    {' '.join(f'(lz-{t.name} : length zs-{t.name} ≡ length (p .now-{t.name}))' for t in TAB)} where", 6)
     owed = "LL.owed S.the-type S′.the-laws r _ is"
     o.say("-- what is known of the state's fields", 8)
-    o.define("note-holds", "Is N.the-row (r .note) (N′.lowered (r .note) ∷ [])", part(owed, STATE["note"]), 8)
+    o.define("note-holds", "Is N.the-row (r .note) (N′.lowered (r .note) ∷ [])", part(owed, STATE["note"][0]), 8)
     if not ANSWERS:
-        o.define("answer-holds", "Is B.the-row (r .answer) (B′.lowered (r .answer) ∷ [])", f"answer-is (r .answer) _ ({part(owed, STATE['answer'])})", 8)
+        o.define("answer-holds", "Is B.the-row (r .answer) (B′.lowered (r .answer) ∷ [])", f"answer-is (r .answer) _ ({part(owed, STATE['answer'][0])})", 8)
+    o.say("-- a field of the state is read", 8)
+    for x, (k, of, value, d) in STATE.items():
+        if x == "answer" and ANSWERS:
+            continue
+        o.define(x + "-in", f"(Γ : List (Item 𝓤)) (n : ℕ) → nth 𝓤 H A n Γ ≡ ‵ (fat fullShare S′.mir {l('st')} 0 (S′.lowered r))"
+                 f" → Opd (Go {{0}}) W Γ En (copy (place {PLACE['st']} (field {k} ∷ []))) ({value.format('r .' + x)})",
+                 f"gets Γ En ! {PLACE['st']} n {k} S′.mir {l('st')} (S′.lowered r) {of} {d} ({value.format('r .' + x)}) tt tt refl h refl refl", 8, "Γ n h")
     o.abbrev("Next", "SProp 𝓤", f"Below 𝓤 H A (Less {INDEX}) I p", 8)
     o.abbrev("Tested", "List (Item 𝓤)",
              f"put 𝓤 H A {context.index('local test')} (‵ (fat fullShare tyBool {l('test')} 0 (vbool (r .done)))) (At r {ZS} (p .now-{nt}))", 8)
@@ -253,7 +260,7 @@ def out(o, context, full, kept):
         answer, known = "a", "(answer-is a (v ∷ []) holds)"
         leaves = f"subst (λ (x : Answer). Reads {INDEX} x {ZS} (p .now-{nt})) (sym q) ({leaves})"
     else:
-        w.assign(f"of-opd ! {w.field('local st', STATE['answer'])}", "local answer", f"({ANSWER_LAWS} .typed (r .answer) _ answer-holds .0)")
+        w.assign(f"of-opd ! {w.kept('answer-in', 'local st')}", "local answer", f"({ANSWER_LAWS} .typed (r .answer) _ answer-holds .0)")
         answer, known = "(r .answer)", "answer-holds"
     w.turn(2, [nt, "token " + nt], f"shuts ! tt {NOT.place} xs-{nt} (v-{nt} ∷ []) (p .now-{nt}) (p .long-{nt})")
     w.show()
@@ -272,7 +279,7 @@ def out(o, context, full, kept):
 
 def stored(o, context):
     w = Walk(context)
-    w.assign(f"of-opd ! {w.field('local st', STATE['slot'])}", "local at", "(tt, record { fits = small })")
+    w.assign(f"of-opd ! {w.kept('slot-in', 'local st')}", "local at", "(tt, record { fits = small })")
     w.assign(f"bin ! {w.load('local at')} (lit ! tt) (record {{ fits = bytes }})", "local bytes", "(tt, record { fits = bytes })")
     w.assign(f"bin ! {w.field('local ' + nt, 0)} {w.load('local bytes')} tt", "local pointer", "(tt, tt)")
     w.do(f"rewrite ! {w.at('local pointer')} (λ (m : ℕ). ‵ (fat fullShare tyPtr {l('pointer')} 0 (vptr b-{nt} m)))"
@@ -281,7 +288,7 @@ def stored(o, context):
            "elem-out ! N.the-row (Is N.the-row) (shows 𝓤 H A N.the-row) (LL.vals N.the-type N′.the-laws) (LL.tells N.the-type N′.the-laws) fullShare"
            f" (p .now-{nt}) (r .slot) (r .note) b-{nt} o-{nt} within", "_")
     w.show()
-    w.do(f"assigns-last ! (of-opd ! {w.field('local st', STATE['note'])}) (from ! (hop ! (look ! {w.at('local pointer')} refl) (stop !)))"
+    w.do(f"assigns-last ! (of-opd ! {w.kept('note-in', 'local st')}) (from ! (hop ! (look ! {w.at('local pointer')} refl) (stop !)))"
          f" (store-raw ! {w.at('cell')} refl (LL.lawful N.the-type N′.the-laws 𝓤 H A W .typed (r .note) _ note-holds .0))")
     w.drop("old")
     w.own("new", "N.the-row", "LL.makes N.the-type N′.the-plain 𝓤 H A", "(r .note)", "note-holds")
@@ -304,7 +311,7 @@ def stored(o, context):
 
 def after(o, context):
     w = Walk(context)
-    w.assign(f"of-opd ! {w.field('local st', STATE['done'])}", "local test", "(tt, tt)")
+    w.assign(f"of-opd ! {w.kept('done-in', 'local st')}", "local test", "(tt, tt)")
     w.do("into !")
     w.steps += [f"branches ! {w.load('local test')}",
                 "(λ h. jumps ! $ exec ! (𝓣 .C) (𝓣 .Λ) En mir.t-4 (atRet En Post) $ out (holds (r .done) h))",

@@ -27,9 +27,9 @@ prog.Wp: Heap Env Out Wp WpFn Tables afterSeq afterBlock afterTurn atReturn
 ghost.Atoms: Atoms
 contract.Monad: Fun fact
 contract.Running: givenOf tables tablesOf
-types.Kit: Given Item Sq runs anyQ atRet ‵ raw some later _⊛_ ⋆ _$_ _∵_ ! put qed by move keep drop cut use0 use1 split join
+types.Kit: Given Item Sq runs anyQ atRet ‵ raw some later _⊛_ ⋆ _$_ _∵_ ! put nth Go qed by move keep drop cut use0 use1 split join
 types.Kit: pick rewrite fsplit fjoin feqL suffices frame await done
-types.Run: look init store store-raw forget stop hop fld from load lit addr of-opd bin and-then no-more assigns assigns-last
+types.Run: Opd look init store store-raw forget stop hop fld from load lit addr of-opd bin and-then no-more assigns assigns-last
 types.Run: first=into blocks branches jumps skips exec loops again Below land returns enter alloc1 alloc0 params1 pass1 pass0 free1 free0
 types.Part: agg rep whole=all sub look-in
 sound.WpLaws: FmC fmOf WpFn-mono
@@ -61,6 +61,7 @@ Rattle.{CRATE}.specs.declared.{LISTED}: {LISTED}=Listed
 {": ".join(OUTCOME)} {ANSWERS[1] if ANSWERS else ""}
 {": ".join(ZERO)}
 {": ".join(READING)}
+Rattle.{CRATE}.proofs.Fields: gets
 Rattle.{CRATE}.proofs.Lending: slice Opened opens shuts passes-on takes-back holds fails
 Rattle.{CRATE}.proofs.Locals: lends-none lends-array array-back repeat-is each-field
 Rattle.{CRATE}.proofs.read.Proof.Points: Point start onward fewer in-table leaves Less less-wf

@@ -5,7 +5,13 @@ CORE = "walk"                       # the crate of `begin`, `advance` and `State
 ANSWER = ("errors", "ReadAnswer")   # crate and name of the answer, an enum
 NOTE = ("anomaly", "Note")          # crate and name of the note, a struct
 NOTE_FIELDS = 3                     # its fields, all u32
-STATE = {"done": 0, "slot": 1, "note": 2, "answer": 3}  # which fields of `State` they are
+# of `State` which fields they are, their types, their machine values, and how many bytes from its start they begin
+STATE = {
+    "done": (0, "tyBool", "vbool ({})", 0),
+    "slot": (1, "word", "vint w64 ({})", 8),
+    "note": (2, "N′.mir", "N′.lowered ({})", 16),
+    "answer": (3, "B′.mir", "B′.lowered ({})", 32),
+}
 ANSWERS = None                      # `read` ends in `st.answer`; ("answer_of", "answerOf"): in that call of the core, which ensures r ≡ answerOf st
 
 SHARED = [("file", "u8"), ("names", "u32"), ("area", "u8")]  # `&[T]`, the first parameters of `read`

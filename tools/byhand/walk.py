@@ -95,6 +95,10 @@ class Walk:
     def field(self, name, k):
         return f"(load ! (from ! (fld ! refl (stop !))) (look-in ! {self.at(name)} (sub ! {k} refl (all !))))"
 
+    def kept(self, law, name):
+        """A field of a local by a law of the generated file, which has the field's type, place and value written out: to infer them is dear."""
+        return f"({law} _ {self.at(name)} refl)"
+
     def operands(self, items):
         out = "(no-more !)"
         for x in reversed(list(items)):
