@@ -2,29 +2,40 @@
 --
 --   ForeignChunk   a complete foreign chunk: a header, foreign, its size that of its bytes
 --   chunksOf       the chunks that the walk takes in turn, each as its bytes; restOf what is left where it ends
---   placesOf       how many places there are: before each chunk, and at the end if all are whole and nothing follows
+--   placesOf       how many places there are: before each chunk, and at the end if all are whole and nothing follows; placesIn of a file
 --   inserted       a body with a list of foreign chunks at each place; insertedFile the same of a file, behind its head
 --   stretchNotes   of chunks in a row, one anomaly for each stretch of one sort, with its first chunk's number; placeNotes of all places
+--   AllOf          chunks of one sort; BeginsOther of chunks with which no stretch of that sort goes on
+--   HasRoom        no record was without a place; left an answer and what stands in the three tables, as a reading
+--   withNotes      the reading s with the counts c, in tables of other room, with these notes and no other: all that it kept, word for word
 --
--- A place is said by the walk itself: `usedOf` of `turnOf`, the bytes that it takes.
-use Prim.Native.Nat.{ℕ, zero, suc, _+_}
+-- A place is said by the walk itself: `usedOf` of `turnOf`, the bytes that it takes. The theorem: `insertion` of proofs/Claims.antt.
+use Prim.Native.Nat.{ℕ, _+_, _-_, _*_}
 use mathlib.Core.Path.{_≡_}
-use mathlib.Core.List.{List, [], _∷_, _++_}
-use mathlib.Core.Bool.{Bool, true, false, cond, not, _&&_}
-use lib.ListN.{length, take, drop}
-use lib.Dec.{eqb}
+use mathlib.Core.List.{List, [], _∷_, _++_, map}
+use mathlib.Core.Bool.{Bool, true, false, cond, _&&_}
+use lib.ListN.{length, take, drop, replicate}
+use lib.Dec.{leb, eqb}
 use Rattle.common.specs.Header.{headerOf}
 use Rattle.common.specs.declared.ResChunkHeader.{ResChunkHeader}
 use Rattle.common.specs.declared.HeaderRead.the-variants.{Whole}
 use Rattle.chunk.specs.Sort.{sortOf}
 use Rattle.chunk.specs.Walk.{walk}
+use Rattle.errors.specs.Refusal.{numberOf as refusalNumber}
+use Rattle.errors.specs.declared.ReadAnswer.{ReadAnswer}
+use Rattle.errors.specs.declared.ReadAnswer.the-variants.{Done, Refused}
+use Rattle.errors.specs.declared.ReadCounts.{ReadCounts}
+use Rattle.anomaly.specs.Note.{noteOf}
+use Rattle.anomaly.specs.declared.Note.{Note}
 use Rattle.anomaly.specs.declared.ResAnomaly.{ResAnomaly}
-use Rattle.text.specs.declared.Head.{Head}
 use Rattle.head.specs.Head.{headLen, bodyIn, openedOf}
 use Rattle.xml_elements.specs.declared.Turn.{Turn}
 use Rattle.xml_elements.specs.declared.Turn.the-variants.{Stop, Foreign, Met, Cut}
 use Rattle.xml_elements.specs.Chunk.{turnOf, usedOf, numberOf}
 use Rattle.events.specs.Events.{foreignNote}
+use Rattle.tables.specs.Keep.{nodeWidth, attributeWidth}
+use Rattle.walk.specs.Settle.{Room}
+use Rattle.walk.specs.Reading.{Reading, zeroNote}
 
 -- ---- foreign chunks
 
@@ -51,6 +62,16 @@ notesBehind k (f ∷ fs) = cond (eqb (sortOf (f .header)) k) [] (noteFor f ∷ [
 abbrev pub stretchNotes : List ForeignChunk → List ResAnomaly
 stretchNotes [] = []
 stretchNotes (f ∷ fs) = noteFor f ∷ notesBehind (sortOf (f .header)) fs
+
+-- chunks of the sort k
+abbrev pub AllOf : ℕ → List ForeignChunk → Type 0
+AllOf k [] = Unit {0}
+AllOf k (f ∷ fs) = (sortOf (f .header) ≡ k) × AllOf k fs
+
+-- none, or the first is of another sort than k
+abbrev pub BeginsOther : ℕ → List ForeignChunk → Type 0
+BeginsOther k [] = Unit {0}
+BeginsOther k (f ∷ fs) = sortOf (f .header) ≡ k → ⊥
 
 -- ---- places
 
@@ -100,3 +121,24 @@ placeNotes (fs ∷ places) = stretchNotes fs ++ placeNotes places
 -- its head as it stands, and the body with chunks put in
 unfoldable pub insertedFile : List (List ForeignChunk) → List ℕ → List ℕ
 insertedFile places f = take (8 + headLen (openedOf f .head)) f ++ inserted places (bodyIn f (openedOf f .head))
+
+abbrev pub placesIn : List ℕ → ℕ
+placesIn f = placesOf (bodyIn f (openedOf f .head))
+
+-- ---- its reading
+
+-- it is not refused with 8, 9 or 10, the refusals of a record that is due and has no place
+abbrev pub HasRoom : ReadAnswer → Type 0
+HasRoom (Done c) = Unit {0}
+HasRoom (Refused x) = leb 8 (refusalNumber x) && leb (refusalNumber x) 10 ≡ false
+
+abbrev pub withNotes : Room → Reading → ReadCounts → List ResAnomaly → Reading
+withNotes r s c ns = record {
+  answer = Done (record { starts = c .starts; nodes = c .nodes; attributes = c .attributes; notes = length ns });
+  nodes = take (nodeWidth * c .nodes) (s .nodes) ++ replicate (r .nodes - nodeWidth * c .nodes) 0;
+  attributes = take (attributeWidth * c .attributes) (s .attributes) ++ replicate (r .attributes - attributeWidth * c .attributes) 0;
+  notes = map noteOf ns ++ replicate (r .notes - length ns) zeroNote;
+}
+
+abbrev pub left : ReadAnswer → List ℕ → List ℕ → List Note → Reading
+left a nodes attributes notes = record { answer = a; nodes = nodes; attributes = attributes; notes = notes }

@@ -1,0 +1,61 @@
+-- Events taken apart: the notes among them (`notesIn`), and the others (`othersIn`). No contract cites this file.
+-- In order: both of lists that are joined, of a list of notes alone (`-notes`); lists that join to nothing.
+use mathlib.Core.Path.{_≡_, refl, sym, ap}
+use mathlib.Core.List.{List, [], _∷_, _++_, append-assoc, cons≢nil}
+use Rattle.anomaly.specs.declared.ResAnomaly.{ResAnomaly}
+use Rattle.events.specs.declared.Event.{Event}
+use Rattle.events.specs.declared.Event.the-variants.{Nothing, Open, Attribute, LeftOut, Close, Note, Refuse, Finish}
+use Rattle.events.specs.Events.{notesOf}
+
+abbrev pub other : Event → List Event
+other Nothing = Nothing ∷ []
+other (Open n x l) = Open n x l ∷ []
+other (Attribute p a) = Attribute p a ∷ []
+other (LeftOut n) = LeftOut n ∷ []
+other Close = Close ∷ []
+other (Note x) = []
+other (Refuse x) = Refuse x ∷ []
+other Finish = Finish ∷ []
+
+abbrev pub noted : Event → List ResAnomaly
+noted Nothing = []
+noted (Open n x l) = []
+noted (Attribute p a) = []
+noted (LeftOut n) = []
+noted Close = []
+noted (Note x) = x ∷ []
+noted (Refuse x) = []
+noted Finish = []
+
+abbrev pub othersIn : List Event → List Event
+othersIn [] = []
+othersIn (e ∷ es) = other e ++ othersIn es
+
+abbrev pub notesIn : List Event → List ResAnomaly
+notesIn [] = []
+notesIn (e ∷ es) = noted e ++ notesIn es
+
+pub othersIn-append : (ds es : List Event) → othersIn (ds ++ es) ≡ othersIn ds ++ othersIn es
+othersIn-append [] es = refl
+othersIn-append (d ∷ ds) es = rw (othersIn-append ds es) (sym (append-assoc (other d) (othersIn ds) (othersIn es)))
+
+pub notesIn-append : (ds es : List Event) → notesIn (ds ++ es) ≡ notesIn ds ++ notesIn es
+notesIn-append [] es = refl
+notesIn-append (d ∷ ds) es = rw (notesIn-append ds es) (sym (append-assoc (noted d) (notesIn ds) (notesIn es)))
+
+pub othersIn-notes : (ns : List ResAnomaly) → othersIn (notesOf ns) ≡ []
+othersIn-notes [] = refl
+othersIn-notes (x ∷ ns) = othersIn-notes ns
+
+pub notesIn-notes : (ns : List ResAnomaly) → notesIn (notesOf ns) ≡ ns
+notesIn-notes [] = refl
+notesIn-notes (x ∷ ns) = ap (λ (r : List ResAnomaly). x ∷ r) (notesIn-notes ns)
+
+-- two lists that join to nothing are nothing
+pub nil-left : {A : Type 0} (s t : List A) → s ++ t ≡ [] → s ≡ []
+nil-left [] t e = refl
+nil-left (x ∷ s) t e = absurd (cons≢nil e)
+
+pub nil-right : {A : Type 0} (s t : List A) → s ++ t ≡ [] → t ≡ []
+nil-right [] t e = e
+nil-right (x ∷ s) t e = absurd (cons≢nil e)
