@@ -20,6 +20,7 @@ pub use errors::TextNumbers;
 pub use errors::first_numbers;
 pub use errors::read_numbers;
 pub use errors::text_numbers;
+pub use first_value::first_value;
 pub use head::content;
 pub use head::text;
 pub use xml::is_valid_name;

@@ -4,6 +4,7 @@
 --   read-unique      of a reading, `read` and `read_listed` alike: the answer, and all three tables, whole
 --   text-unique      of the text question: the answer, and the whole buffer
 --   content-unique   of the content question: the bytes; of their address the promise says nothing
+--   first-unique     of the first value
 --   complex-unique   of the complex value
 --   numbers-unique   equal numbers are equal answers: of a reading; text-numbers-unique, first-numbers-unique of the two questions
 -- Insertion (P3): a file without a note, and the file with complete foreign chunks at some of its places.
@@ -33,6 +34,7 @@ use Rattle.anomaly.specs.Kept.{ofKind, keptNotes}
 use Rattle.anomaly.proofs.Laws.{keptNotes-of-kind}
 use Rattle.head.specs.Ask.{TextReads, contentAnswer}
 use Rattle.head.specs.Head.{openedOf, headLen}
+use Rattle.first_value.specs.Question.{firstAnswer}
 use Rattle.tables.specs.Keep.{nodeWidth, attributeWidth}
 use Rattle.walk.specs.Settle.{Room}
 use Rattle.walk.specs.Reading.{reading, roomIn, Reads}
@@ -55,6 +57,11 @@ module _ (f names area before : List ℕ) (i : ℕ) where
 
 pub content-unique : (f names area : List ℕ) (i : ℕ) (s s′ : List ℕ) → s ≡ contentAnswer f names area i → s′ ≡ contentAnswer f names area i → s ≡ s′
 content-unique f names area i s s′ p q = p ∙ sym q
+
+module _ (f names area ns ats tag name : List ℕ) (nodes attributes : ℕ) where
+  pub first-unique : (r r′ : FirstAnswer) → r ≡ firstAnswer f names area ns ats tag name nodes attributes
+      → r′ ≡ firstAnswer f names area ns ats tag name nodes attributes → r ≡ r′
+  first-unique r r′ p q = p ∙ sym q
 
 pub complex-unique : (d : ℕ) (r r′ : Float) → Complex d r → Complex d r′ → r ≡ r′
 complex-unique d r r′ p q = Complex-unique d r r′ p q

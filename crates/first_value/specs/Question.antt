@@ -1,19 +1,20 @@
 -- The first-value question: docs/FORMAT.md, Q4 to Q8.
 --
 --   firstAnswer   the answer: the head's refusals, 13 where the tables do not fit, 12 where nothing is found, or type, data and reference
---   fitOf         whether the lent tables fit the counts; the node that does not
+--   fitOf         whether the lent tables fit the counts; the node count, or the first node that does not
+--   tagIs         whether a node has the tag; nameIs whether an attribute has the name
 --   findNode      the first of n nodes with the tag: where its attributes begin and how many it has
 --   findValue     the first of n attributes with the name: its type and its data
 --
 -- The tables may be any words: nothing is asked of them. A record is read where it stands, words past the end as 0.
+-- Laws: proofs/Laws.antt, proofs/Search.antt. Computed on small tables: proofs/Cases.antt.
 use Prim.Native.Nat.{ℕ, zero, suc, _+_, _*_}
 use mathlib.Core.List.{List, [], _∷_}
-use mathlib.Core.Bool.{Bool, true, false, cond, _||_}
+use mathlib.Core.Bool.{Bool, cond, _||_}
 use lib.ListN.{length, drop, getD}
 use lib.Dec.{ltb, eqb}
 use Rattle.utf.specs.Text.{eqBytes}
 use Rattle.common.specs.ValueType.{isReference, valueTypeOf}
-use Rattle.errors.specs.declared.Refusal.{Refusal}
 use Rattle.errors.specs.declared.Refusal.the-variants.{NothingFound, TablesError}
 use Rattle.errors.specs.declared.FirstAnswer.{FirstAnswer}
 use Rattle.errors.specs.declared.FirstAnswer.the-variants.{Found, Refused}
@@ -38,52 +39,65 @@ invalidElement = 105 ∷ 110 ∷ 118 ∷ 97 ∷ 108 ∷ 105 ∷ 100 ∷ 45 ∷ 1
 abbrev pub androidName : List ℕ
 androidName = 97 ∷ 110 ∷ 100 ∷ 114 ∷ 111 ∷ 105 ∷ 100 ∷ []
 
--- ---- whether the tables fit: refusal 13
+-- ---- whether the tables fit, refusal 13: Q6
 
--- the first of n nodes, numbered from k, whose attributes pass the attribute count
+-- the counts, by the words of both tables
+abbrev pub countsFit : List ℕ → List ℕ → ℕ → ℕ → Fit
+countsFit ns ats nodes attributes = cond (ltb (length ns) (5 * nodes) || ltb (length ats) (5 * attributes)) (Unfit nodes) Fitting
+
+-- the first of n nodes, numbered from k, whose attributes pass the attribute count, also where there are none
 unfoldable pub runsFrom : ℕ → ℕ → ℕ → List ℕ → Fit
 runsFrom attributes k zero w = Fitting
 runsFrom attributes k (suc n) w = cond (ltb attributes (getD w 3 0 + getD w 4 0)) (Unfit k) (runsFrom attributes (k + 1) n (drop 5 w))
 
--- counts past the words are looked at first
+abbrev pub firstUnfit : Fit → Fit → Fit
+firstUnfit (Unfit k) b = Unfit k
+firstUnfit Fitting b = b
+
+-- the counts are looked at before any node
 unfoldable pub fitOf : List ℕ → List ℕ → ℕ → ℕ → Fit
-fitOf ns ats nodes attributes =
-    cond (ltb (length ns) (5 * nodes) || ltb (length ats) (5 * attributes)) (Unfit nodes) (runsFrom attributes 0 nodes ns)
+fitOf ns ats nodes attributes = firstUnfit (countsFit ns ats nodes attributes) (runsFrom attributes 0 nodes ns)
 
 -- ---- the search
+
+-- Q5, C7: of type 1 and 7 alone it is a reference
+abbrev pub foundBy : ℕ → ℕ → FirstAnswer
+foundBy kind value = Found kind value (isReference (valueTypeOf kind))
 
 module _ (h : Head) (t names area : List ℕ) where
   -- whether the text of an index is these bytes; an index without a text is never
   abbrev pub textIs : ℕ → List ℕ → Bool
-  textIs i s = isText (contentOf h t names area i) s
+  textIs index s = isText (contentOf h t names area index) s
 
-  -- only a fixed word of 1 means `invalid-element`
-  abbrev pub tagIs : List ℕ → List ℕ → Bool
-  tagIs tag w = cond (eqb (getD w 1 0) 1) (eqBytes invalidElement tag) (textIs (getD w 0 0) tag)
+  -- Q7: a fixed word of 1 alone means `invalid-element`
+  abbrev pub tagIs : List ℕ → ℕ → ℕ → Bool
+  tagIs tag fixed index = cond (eqb fixed 1) (eqBytes tag invalidElement) (textIs index tag)
 
-  -- prefix 2 is named `android`
-  abbrev pub nameIs : List ℕ → List ℕ → Bool
-  nameIs name w = cond (eqb (getD w 1 0) 2) (eqBytes androidName name) (textIs (getD w 2 0) name)
+  -- Q8: prefix 2 is named `android`; prefixes play no other part
+  abbrev pub nameIs : List ℕ → ℕ → ℕ → Bool
+  nameIs name prefix index = cond (eqb prefix 2) (eqBytes name androidName) (textIs index name)
 
+  -- a node is name index, fixed word, parent, first attribute, number of attributes: B9
   unfoldable pub findNode : List ℕ → ℕ → List ℕ → NodeFound
   findNode tag zero w = NoNode
-  findNode tag (suc n) w = cond (tagIs tag w) (Run (getD w 3 0) (getD w 4 0)) (findNode tag n (drop 5 w))
+  findNode tag (suc n) w = cond (tagIs tag (getD w 1 0) (getD w 0 0)) (Run (getD w 3 0) (getD w 4 0)) (findNode tag n (drop 5 w))
 
-  -- type 1 and 7 are references
+  -- an attribute is owner, prefix, name index, type, data: B11
   unfoldable pub findValue : List ℕ → ℕ → List ℕ → FirstAnswer
   findValue name zero w = Refused NothingFound
-  findValue name (suc n) w =
-      cond (nameIs name w) (Found (getD w 3 0) (getD w 4 0) (isReference (valueTypeOf (getD w 3 0)))) (findValue name n (drop 5 w))
+  findValue name (suc n) w = cond (nameIs name (getD w 1 0) (getD w 2 0)) (foundBy (getD w 3 0) (getD w 4 0)) (findValue name n (drop 5 w))
 
+  -- Q5: the attributes of that one node
   abbrev pub valueBy : List ℕ → List ℕ → NodeFound → FirstAnswer
   valueBy name ats NoNode = Refused NothingFound
-  valueBy name ats (Run first count) = findValue name count (drop (5 * first) ats)
+  valueBy name ats (Run first number) = findValue name number (drop (5 * first) ats)
 
+  -- the tables before the search
   abbrev pub firstBy : List ℕ → List ℕ → List ℕ → List ℕ → ℕ → Fit → FirstAnswer
   firstBy ns ats tag name nodes (Unfit k) = Refused (TablesError k)
   firstBy ns ats tag name nodes Fitting = valueBy name ats (findNode tag nodes ns)
 
--- ---- the answer
+-- ---- the answer: Q4
 
 abbrev pub askedBy : List ℕ → List ℕ → List ℕ → List ℕ → List ℕ → List ℕ → List ℕ → ℕ → ℕ → OpenRead → FirstAnswer
 askedBy f names area ns ats tag name nodes attributes (Closed r) = Refused r

@@ -1,7 +1,30 @@
 // The first value of a tag and a name: a question to tables that a reading, or anyone, has filled.
 //
-// Mirrors axml.rs, `get_attribute_value`, without resolving references. Answers: `FirstAnswer`. Definitions: specs/Question.antt. The function
-// itself is to come.
+// Mirrors axml.rs (apk-info 13770539b8), `get_attribute_value`, without resolving references. Answers: `FirstAnswer`.
+// Definitions: specs/Question.antt. Differs from the Rust: the tree is two lent tables, which may hold any words, so they are looked at
+// before they are searched; head and names are checked again at each call.
+pub mod called;
+pub mod runs;
+
+use called::is_named;
+use called::is_tagged;
+use runs::fit_of;
+use runs::place_of;
+ghost use mathlib.Core.Path.{_≡_};
+ghost use Prim.Native.Nat.{_*_, _≤_};
+ghost use lib.ListN.{length};
+ghost use Rattle.text.specs.Found.{Asks};
+ghost use Rattle.first_value.specs.declared.Fit.the-variants.{Fitting};
+ghost use Rattle.first_value.specs.Question.{fitOf, foundBy, findNode, findValue, valueBy, firstBy, firstAnswer};
+use common::StringIndex;
+use common::is_reference;
+use common::value_type_of;
+use errors::FirstAnswer;
+use errors::Refusal;
+use head::OpenRead;
+use head::open_file;
+use head::tables_of;
+use text::Head;
 
 // Whether the lent tables fit the counts, or the first node that does not.
 pub enum Fit {
@@ -13,4 +36,183 @@ pub enum Fit {
 pub enum NodeFound {
     Run(u32, u32),
     NoNode,
+}
+
+// ---- the search
+
+fn find_node(
+    t: &[u8],
+    names: &[u32],
+    area: &[u8],
+    h: Head,
+    tag: &[u8],
+    nodes: &[u32],
+    count: u32,
+) -> NodeFound
+    requires { ⌜ Asks (now t) (now names) (now area) h × (5 * count ≤ length (now nodes)) ⌝ }
+    ensures { λ r. ⌜ r ≡ findNode h (now (t .entry)) (now (names .entry)) (now (area .entry)) (now (tag .entry)) count (now (nodes .entry)) ⌝ }
+{
+    let mut k = 0;
+    while k < count {
+        let at = place_of(k);
+        if is_tagged(
+            t,
+            names,
+            area,
+            h,
+            tag,
+            nodes[at + 1],
+            StringIndex(nodes[at]),
+        ) {
+            return NodeFound::Run(nodes[at + 3], nodes[at + 4]);
+        }
+        k += 1;
+    }
+    NodeFound::NoNode
+}
+
+fn found(kind: u32, value: u32) -> FirstAnswer
+    ensures { λ r. ⌜ r ≡ foundBy kind value ⌝ }
+{
+    let reference = is_reference(value_type_of(kind));
+    FirstAnswer::Found {
+        kind,
+        data: value,
+        reference,
+    }
+}
+
+// In the attributes from the first of a node on.
+fn find_value(
+    t: &[u8],
+    names: &[u32],
+    area: &[u8],
+    h: Head,
+    name: &[u8],
+    attributes: &[u32],
+    count: u32,
+) -> FirstAnswer
+    requires { ⌜ Asks (now t) (now names) (now area) h × (5 * count ≤ length (now attributes)) ⌝ }
+    ensures { λ r. ⌜ r ≡ findValue h (now (t .entry)) (now (names .entry)) (now (area .entry)) (now (name .entry)) count (now (attributes .entry)) ⌝ }
+{
+    let mut k = 0;
+    while k < count {
+        let at = place_of(k);
+        if is_named(
+            t,
+            names,
+            area,
+            h,
+            name,
+            attributes[at + 1],
+            StringIndex(attributes[at + 2]),
+        ) {
+            return found(attributes[at + 3], attributes[at + 4]);
+        }
+        k += 1;
+    }
+    FirstAnswer::Refused(Refusal::NothingFound)
+}
+
+// In tables that fit, a node's attributes lie inside.
+fn value_in(
+    t: &[u8],
+    names: &[u32],
+    area: &[u8],
+    h: Head,
+    nodes: &[u32],
+    attributes: &[u32],
+    tag: &[u8],
+    name: &[u8],
+    node_count: u32,
+    attribute_count: u32,
+) -> FirstAnswer
+    requires { ⌜ Asks (now t) (now names) (now area) h × (fitOf (now nodes) (now attributes) «node_count» «attribute_count» ≡ Fitting) ⌝ }
+    ensures { λ r. ⌜ r ≡ valueBy h (now (t .entry)) (now (names .entry)) (now (area .entry)) (now (name .entry)) (now (attributes .entry))
+        (findNode h (now (t .entry)) (now (names .entry)) (now (area .entry)) (now (tag .entry)) «node_count» (now (nodes .entry))) ⌝ }
+{
+    let node = find_node(t, names, area, h, tag, nodes, node_count);
+    match node {
+        NodeFound::Run(first, number) => find_value(
+            t,
+            names,
+            area,
+            h,
+            name,
+            &attributes[place_of(first)..],
+            number,
+        ),
+        NodeFound::NoNode => FirstAnswer::Refused(Refusal::NothingFound),
+    }
+}
+
+fn first_in(
+    t: &[u8],
+    names: &[u32],
+    area: &[u8],
+    h: Head,
+    nodes: &[u32],
+    attributes: &[u32],
+    tag: &[u8],
+    name: &[u8],
+    node_count: u32,
+    attribute_count: u32,
+) -> FirstAnswer
+    requires { ⌜ Asks (now t) (now names) (now area) h ⌝ }
+    ensures { λ r. ⌜ r ≡ firstBy h (now (t .entry)) (now (names .entry)) (now (area .entry)) (now (nodes .entry)) (now (attributes .entry))
+        (now (tag .entry)) (now (name .entry)) «node_count» (fitOf (now (nodes .entry)) (now (attributes .entry)) «node_count» «attribute_count») ⌝ }
+{
+    let fit = fit_of(nodes, attributes, node_count, attribute_count);
+    match fit {
+        Fit::Fitting => value_in(
+            t,
+            names,
+            area,
+            h,
+            nodes,
+            attributes,
+            tag,
+            name,
+            node_count,
+            attribute_count,
+        ),
+        Fit::Unfit(k) => FirstAnswer::Refused(Refusal::TablesError(k)),
+    }
+}
+
+// ---- the question
+
+// Type and data of the first attribute of that name on the first node of that tag, and whether the type is a reference. The tables may
+// hold any words; the answer tells the first that is amiss: 2, 7, 1, 3, 4, 5, then 13 (the tables, all nodes up to the count) and 12.
+// Ruled out: the value of a later node where the first of that tag has no such attribute, and a value where a node behind it does not fit.
+pub fn first_value(
+    file: &[u8],
+    names: &[u32],
+    area: &[u8],
+    nodes: &[u32],
+    attributes: &[u32],
+    tag: &[u8],
+    name: &[u8],
+    node_count: u32,
+    attribute_count: u32,
+) -> FirstAnswer
+    ensures { λ r. ⌜ r ≡ firstAnswer (now (file .entry)) (now (names .entry)) (now (area .entry)) (now (nodes .entry)) (now (attributes .entry))
+        (now (tag .entry)) (now (name .entry)) «node_count» «attribute_count» ⌝ }
+{
+    let opened = open_file(file, names, area);
+    match opened {
+        OpenRead::Open(h) => first_in(
+            tables_of(file, h),
+            names,
+            area,
+            h,
+            nodes,
+            attributes,
+            tag,
+            name,
+            node_count,
+            attribute_count,
+        ),
+        OpenRead::Closed(why) => FirstAnswer::Refused(why),
+    }
 }
