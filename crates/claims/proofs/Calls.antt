@@ -18,7 +18,7 @@ use Rattle.claims.proofs.Foreign.{placeNotes-room}
 use Rattle.claims.proofs.Insertion.{insertion, insertion-room, insertion-same}
 
 module _ (f names area ns ats : List ℕ) (os : List NoteOf) (cap : ℕ) (a : ReadAnswer) (ns′ ats′ : List ℕ) (os′ : List NoteOf) where
-  left-reading : Reads f names area ns ats os cap a ns′ ats′ os′ → left a ns′ ats′ os′ ≡ reading (roomIn ns ats os cap) f names area
+  pub left-reading : Reads f names area ns ats os cap a ns′ ats′ os′ → left a ns′ ats′ os′ ≡ reading (roomIn ns ats os cap) f names area
   left-reading p = rw (numbersOf-unique a _ (p .answer), p .nodes, p .attributes, p .notes)
 
 module _ (f names area ns ats : List ℕ) (os : List NoteOf) (cap : ℕ) (c : ReadCounts) (ns₁ ats₁ : List ℕ) (os₁ : List NoteOf) (one : 1 ≤ cap)

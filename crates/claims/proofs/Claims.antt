@@ -9,7 +9,7 @@
 --   numbers-unique   equal numbers are equal answers: of a reading; text-numbers-unique, first-numbers-unique of the two questions
 -- Insertion (P3): a file without a note, and the file with complete foreign chunks at some of its places.
 --   insertion        of the promise; insertion-read of two calls. What the hypotheses and the notes mean: insertion-head to insertion-cap
--- The marked cases (L5): `cases-right` of proofs/Cases.antt, one table and one theorem.
+-- The marked cases (L5): `cases-right` of proofs/Cases.antt, one table and one theorem; `cases-read` of proofs/Given.antt: `read` gives them.
 -- Texts and names (P2): what ties them to Unicode's tables and to XML's ranges is named in ARCHITECTURE.md.
 use Prim.Native.Nat.{ℕ, _+_, _*_, _≤_}
 use mathlib.Core.Path.{_≡_, sym, _∙_}

@@ -5,6 +5,7 @@ pub mod Places
 pub mod Erased
 pub mod Rows
 pub mod Woven
+pub mod Given
 pub mod Grown
 pub mod Pushed
 pub mod Settled

@@ -8,8 +8,9 @@ use mathlib.Core.Path.{_≡_, refl, sym, ap, _∙_}
 use mathlib.Core.List.{List, [], _∷_, _++_}
 use mathlib.Core.Bool.{Bool, true, false}
 use borrow.Author.Tests.{ltb-true, ltb-false, lt-ltb, le-ltb, le-leb, lt-leb}
-use lib.ListN.{length, take, drop, replicate}
+use lib.ListN.{length, take, replicate}
 use lib.Dec.{ltb, leb}
+use Rattle.utf.proofs.Filled.{putText-whole, putText-length}
 use Rattle.errors.specs.Refusal.{textNumbersOf}
 use Rattle.errors.specs.declared.Refusal.{Refusal}
 use Rattle.errors.specs.declared.Refusal.the-variants.{TooLargeError, SystemNamesError, NothingFound, TextShort}
@@ -22,7 +23,7 @@ use Rattle.text.specs.declared.Head.{Head}
 use Rattle.text.specs.declared.Found.{Found}
 use Rattle.text.specs.declared.Found.the-variants.{Nothing, Cut, System, Pool}
 use Rattle.text.specs.Content.{Content, none, contentOf, textIn, rawOf}
-use Rattle.text.specs.Found.{partOf, isFound, Asks}
+use Rattle.text.specs.Found.{partOf, isFound, Asks, Wrote}
 use Rattle.head.specs.Head.{openedOf, tablesIn, refusalOf, PoolThere}
 use Rattle.head.specs.Ask.{Check, passes, fails, firstOf, isWhole, lengthCheck, headCheck, openBy, openOf, fitted, textBy, textAnswer}
 use Rattle.head.specs.Ask.{textBuffer, contentAnswer, Gives, TextReads}
@@ -110,29 +111,30 @@ module _ (f names area : List ℕ) {h : Head} (open′ : openOf f names area ≡
 
 -- ---- the text question
 
-module _ (text before after : List ℕ) where
+-- with n the length of the text, and out the buffer that it was written to if it fits
+module _ (text before after out : List ℕ) (n : ℕ) (w : Wrote text before out n) where
+  as-long : length out ≡ length before
+  as-long = ap length (w .bytes) ∙ putText-length text before
+
   -- longer than the buffer
   pub gives-short
-      : (n : ℕ)
-      → n ≡ length text
-      → length before < n
-      → after ≡ replicate (length before - 0) 0
+      : length out < n
+      → after ≡ replicate (length out - 0) 0
       → Gives (length before) text (fitted (length before) text) (Refused (TextShort n)) after
-  gives-short n e p z =
-      let m : length before - 0 ≡ length before = omega arith in
-      let q : leb (length text) (length before) ≡ false = lt-leb (length text) (length before) (omega arith) in
-      rw (q, e) (record { same = refl; out = z ∙ ap (λ (k : ℕ). replicate k 0) m })
+  gives-short p z =
+      let m : length out - 0 ≡ length before = omega (arith, as-long) in
+      let q : leb (length text) (length before) ≡ false = lt-leb (length text) (length before) (omega (arith, as-long, w .count)) in
+      rw (q, w .count) (record { same = refl; out = z ∙ ap (λ (k : ℕ). replicate k 0) m })
 
   pub gives-text
-      : (out : List ℕ) (k : ℕ)
-      → length text ≤ length before
-      → k ≡ length text
-      → out ≡ text ++ drop (length text) before
-      → after ≡ take k out ++ replicate (length out - k) 0
-      → Gives (length before) text (fitted (length before) text) (Text k) after
-  gives-text out k p e o z =
-      let q : leb (length text) (length before) ≡ true = le-leb (length text) (length before) p in
-      rw (q, e) (record { same = refl; out = zero-behind text before out after k p e o z })
+      : n ≤ length out
+      → after ≡ take n out ++ replicate (length out - n) 0
+      → Gives (length before) text (fitted (length before) text) (Text n) after
+  gives-text p z =
+      let l : length text ≤ length before = omega (arith, as-long, w .count) in
+      let q : leb (length text) (length before) ≡ true = le-leb (length text) (length before) l in
+      rw (q, w .count)
+      (record { same = refl; out = zero-behind text before out after n l (w .count) (w .bytes ∙ putText-whole text before l) z })
 
 partOf-none : (w : Bool) (t area : List ℕ) (f : Found) → isFound f ≡ false → partOf w t area f ≡ none
 partOf-none w t area Nothing e = refl

@@ -26,7 +26,6 @@ use text::Head;
 use text::content_of;
 use text::find;
 use text::found_into;
-use text::found_len;
 use text::is_found;
 
 // ---- what refuses before an index is looked at
@@ -103,14 +102,13 @@ fn write_found(t: &[u8], area: &[u8], wide: bool, f: Found, out: &mut [u8]) -> T
     ensures { λ r. ⌜ Gives (length (now (out .entry))) (textIn (partOf wide (now (t .entry)) (now (area .entry)) f))
         (fitted (length (now (out .entry))) (textIn (partOf wide (now (t .entry)) (now (area .entry)) f))) r (now (out .exit)) ⌝ }
 {
-    let n = found_len(t, area, wide, f);
+    let n = found_into(t, area, wide, f, out);
     if out.len() < n {
         zero_from(out, 0);
         return TextAnswer::Refused(Refusal::TextShort(n));
     }
-    let k = found_into(t, area, wide, f, out);
-    zero_from(out, k);
-    TextAnswer::Text(k)
+    zero_from(out, n);
+    TextAnswer::Text(n)
 }
 
 fn text_in(

@@ -9,6 +9,7 @@ ghost use Rattle.resource_map.specs.Map.{idsIn, idsBy, mapOf, idOf};
 use common::HeaderRead;
 use common::ResChunkHeader;
 use common::ResourceId;
+use common::StringIndex;
 use common::header_at;
 use field::u32_at;
 
@@ -53,11 +54,11 @@ pub fn map_of(s: &[u8]) -> MapRead
     }
 }
 
-// Id i of `ids`, the bytes behind the map's header.
-// Ruled out: the number at byte i, and the id with its high byte first.
-pub fn id_at(ids: &[u8], i: usize) -> ResourceId
-    requires { ⌜ 4 * i + 4 ≤ length (now ids) ⌝ }
-    ensures { λ r. ⌜ r .0 ≡ idOf (now (ids .entry)) i ⌝ }
+// The id of a string index, from `ids`, the bytes behind the map's header.
+// Ruled out: the number at the byte of that place, and the id with its high byte first.
+pub fn id_at(ids: &[u8], index: StringIndex) -> ResourceId
+    requires { ⌜ 4 * index .0 + 4 ≤ length (now ids) ⌝ }
+    ensures { λ r. ⌜ r .0 ≡ idOf (now (ids .entry)) (index .0) ⌝ }
 {
-    ResourceId(u32_at(ids, 4 * i))
+    ResourceId(u32_at(ids, 4 * (index.0 as usize)))
 }

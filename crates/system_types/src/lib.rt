@@ -39,13 +39,13 @@ fn all_ascii(s: &[u8]) -> bool
 }
 
 // Whether an entry keeps the rule, behind one with the id `last`. The sum is made as usize, where it does not wrap.
-fn is_good(area: &[u8], last: u32, id: u32, start: u32, n: u32) -> bool
-    ensures { λ r. ⌜ r ≡ isGood (now (area .entry)) last id start n ⌝ }
+fn is_good(area: &[u8], last: ResourceId, id: ResourceId, start: u32, n: u32) -> bool
+    ensures { λ r. ⌜ r ≡ isGood (now (area .entry)) (last .0) (id .0) start n ⌝ }
 {
-    if id <= last {
+    if id.0 <= last.0 {
         return false;
     }
-    if id / 16777216 != 1 {
+    if id.0 / 16777216 != 1 {
         return false;
     }
     if n < 1 {
@@ -69,7 +69,13 @@ pub fn check_names(names: &[u32], area: &[u8]) -> NamesRead
     let mut k = 0;
     while k < whole {
         let id = names[3 * k];
-        if !is_good(area, last, id, names[3 * k + 1], names[3 * k + 2]) {
+        if !is_good(
+            area,
+            ResourceId(last),
+            ResourceId(id),
+            names[3 * k + 1],
+            names[3 * k + 2],
+        ) {
             return NamesRead::Bad(k);
         }
         last = id;

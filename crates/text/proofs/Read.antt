@@ -1,17 +1,18 @@
 -- What was found, read back. No contract cites this file.
 -- In order: a part lies inside (`inside-..`); what a place stands for, by the case, its part as a range gives it (`partOf-..`);
 -- whether there is a text (`isFound-text`, `hasText-in`, `hasText-past`); two texts (`sameText-..`); lent bytes (`isText-..`).
-use Prim.Native.Nat.{ℕ, _+_, _-_, _≤_, _<_}
+use Prim.Native.Nat.{ℕ, _+_, _-_, _≤_, _<_, min}
 use native.Mathlib.Omega.{arith}
 use mathlib.Core.Path.{_≡_, refl, sym, ap, _∙_}
-use mathlib.Core.List.{List, [], _++_}
+use mathlib.Core.List.{List, []}
 use mathlib.Core.Bool.{Bool, true, false, cond, _&&_}
 use borrow.Author.Tests.{ltb-true, ltb-false}
 use lib.ListN.{length, take, drop, getD, length-take, length-drop, List·getD-eq-default}
 use lib.Seq.{getD-take, getD-drop, length-take-le}
 use lib.Dec.{ltb}
-use Rattle.utf.specs.Text.{textOf, eqBytes, isSound, allSound, stepsAfter}
-use Rattle.utf.proofs.Laws.{textOf-nil, textOf-whole, textOf-sound, textOf-ascii}
+use Rattle.utf.specs.Text.{textOf, putText, eqBytes, isSound, allSound, stepsAfter}
+use Rattle.utf.proofs.Filled.{putText-nil}
+use Rattle.utf.proofs.Laws.{textOf-nil, textOf-whole, textOf-sound, textOf-ascii, textOf-length-le}
 use Rattle.utf.proofs.Equal.{eqBytes-true}
 use Rattle.system_types.specs.Names.{allAscii}
 use Rattle.system_types.proofs.Ascii.{allAscii-lt}
@@ -174,12 +175,19 @@ textIn-system w t area {f} {at} {n} i e =
     let l : length (take n (drop at area)) ≡ n = length-take-le n (drop at area) (rw length-drop (omega arith)) in
     sym (ap (λ (g : Found). length (textIn (partOf w t area g))) e ∙ ap length (textOf-system (take n (drop at area)) (q .1)) ∙ l)
 
--- ---- a text that is written
+-- ---- a text that is written, by its equal x; its length is told whole where a usize holds it
 
 pub wrote-by
     : (x : List ℕ) {y before after : List ℕ} {n : ℕ}
     → x ≡ y
-    → n ≡ length x
-    → after ≡ x ++ drop (length x) before
+    → length y ≤ 0xffffffffffffffff
+    → (n ≡ min (length x) 0xffffffffffffffff) × (after ≡ putText x before)
     → Wrote y before after n
-wrote-by x e k b = rw (← e) (record { count = k; bytes = b })
+wrote-by x {y} {before} e l p = record { count = omega (arith, p .0, ap length e); bytes = p .1 ∙ ap (λ (z : List ℕ). putText z before) e }
+
+pub wrote-none : {y : List ℕ} (before : List ℕ) → [] ≡ y → Wrote y before before 0
+wrote-none before e = rw (← e) (record { count = refl; bytes = sym (putText-nil before) })
+
+-- the text of a part of no more bytes than a file has
+pub textOf-held : (w : Bool) (s : List ℕ) {y : List ℕ} → textOf w s ≡ y → length s ≤ 16777216 → length y ≤ 0xffffffffffffffff
+textOf-held w s e l = omega (arith, textOf-length-le w s, ap length e)

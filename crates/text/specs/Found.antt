@@ -4,14 +4,15 @@
 --   Asks     what every question of an index asks: a head that fits, and names that keep their rule
 --   partOf   what a place stands for; Inside that its part lies in what was lent
 --   Finds    what the answer of `find` tells: it stands for the content of the index
---   Wrote    a text at the front of a lent buffer, and behind it what stood there
+--   Wrote    a text at the front of a lent buffer that holds it, its length, and behind it what stood there
 --
 -- t is the bytes behind the file's header. A file keeps to 16,777,216 bytes, so t does too.
 use Prim.Native.Nat.{ℕ, _+_, _*_, _≤_}
 use mathlib.Core.Path.{_≡_}
-use mathlib.Core.List.{List, _++_}
+use mathlib.Core.List.{List}
 use mathlib.Core.Bool.{Bool, true, false}
 use lib.ListN.{length, take, drop}
+use Rattle.utf.specs.Text.{putText}
 use Rattle.system_types.specs.Names.{namesOf, allAscii}
 use Rattle.system_types.specs.declared.NamesRead.the-variants.{Good}
 use Rattle.text.specs.declared.Head.{Head}
@@ -58,7 +59,7 @@ isFound Cut = true
 isFound (System at n) = true
 isFound (Pool at n) = true
 
--- the text at the front of a lent buffer, of n bytes, and what stood behind it
+-- the text of n bytes at the front of a lent buffer, and what stood behind it; the buffer as it was where it does not hold the text
 pub record Wrote (text before after : List ℕ) (n : ℕ) : Type 0 where
   pub count : n ≡ length text
-  pub bytes : after ≡ text ++ drop (length text) before
+  pub bytes : after ≡ putText text before

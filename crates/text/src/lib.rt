@@ -6,7 +6,6 @@ pub mod part;
 
 pub use part::content_of;
 pub use part::found_into;
-pub use part::found_len;
 use part::found_state;
 ghost use mathlib.Core.Path.{_≡_};
 ghost use mathlib.Core.List.{List};
@@ -71,15 +70,16 @@ fn stripped(area: &[u8], start: usize, n: usize) -> Found
     Found::System(start + n - rest.len(), rest.len())
 }
 
-fn find_system(t: &[u8], names: &[u32], area: &[u8], h: Head, i: u32) -> Found
+fn find_system(t: &[u8], names: &[u32], area: &[u8], h: Head, index: StringIndex) -> Found
     requires { ⌜ Asks (now t) (now names) (now area) h ⌝ }
-    ensures { λ r. ⌜ Stands (h .wide) (now (t .entry)) (now (area .entry)) (systemOf h (now (t .entry)) (now (names .entry)) (now (area .entry)) i) r ⌝ }
+    ensures { λ r. ⌜ Stands (h .wide) (now (t .entry)) (now (area .entry))
+        (systemOf h (now (t .entry)) (now (names .entry)) (now (area .entry)) (index .0)) r ⌝ }
 {
-    if h.ids <= i {
+    if h.ids <= index.0 {
         return Found::Nothing;
     }
     let map = h.map;
-    let id = id_at(&t[map..], i as usize);
+    let id = id_at(&t[map..], index);
     let name = get_type_name(names, id);
     match name {
         Lookup::Missing => Found::Nothing,
@@ -104,14 +104,14 @@ fn string_at(t: &[u8], wide: bool, strings: usize, size: usize, o: usize) -> Fou
     }
 }
 
-fn find_string(t: &[u8], h: Head, i: u32) -> Found
+fn find_string(t: &[u8], h: Head, index: StringIndex) -> Found
     requires { ⌜ Fits (now t) h ⌝ }
-    ensures { λ r. ⌜ ((area : List _) → Stands (h .wide) (now (t .entry)) area (stringOf h (now (t .entry)) i) r) ⌝ }
+    ensures { λ r. ⌜ ((area : List _) → Stands (h .wide) (now (t .entry)) area (stringOf h (now (t .entry)) (index .0)) r) ⌝ }
 {
-    if h.count <= i {
+    if h.count <= index.0 {
         return Found::Nothing;
     }
-    let o = u32_at(t, h.offsets + 4 * (i as usize));
+    let o = u32_at(t, h.offsets + 4 * (index.0 as usize));
     string_at(t, h.wide, h.strings, h.size, o as usize)
 }
 
@@ -123,9 +123,9 @@ pub fn find(t: &[u8], names: &[u32], area: &[u8], h: Head, index: StringIndex) -
     requires { ⌜ Asks (now t) (now names) (now area) h ⌝ }
     ensures { λ r. ⌜ Finds (now (t .entry)) (now (names .entry)) (now (area .entry)) h (index .0) r ⌝ }
 {
-    let named = find_system(t, names, area, h, index.0);
+    let named = find_system(t, names, area, h, index);
     match named {
-        Found::Nothing => find_string(t, h, index.0),
+        Found::Nothing => find_string(t, h, index),
         Found::Cut => Found::Cut,
         Found::System(at, n) => Found::System(at, n),
         Found::Pool(at, n) => Found::Pool(at, n),
@@ -156,7 +156,7 @@ pub fn has_text(t: &[u8], names: &[u32], area: &[u8], h: Head, index: StringInde
     if index.0 < h.count {
         return true;
     }
-    let named = find_system(t, names, area, h, index.0);
+    let named = find_system(t, names, area, h, index);
     is_found(named)
 }
 

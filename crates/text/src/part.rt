@@ -11,7 +11,6 @@ ghost use lib.ListN.{length};
 ghost use Rattle.text.specs.Content.{rawOf, textIn, validBy, stateIn};
 ghost use Rattle.text.specs.Found.{partOf, Inside, Wrote};
 use utf::text_into;
-use utf::text_len;
 use xml::valid_name;
 
 // The content bytes of what was found, a part of one of two lent slices: never a copy. It is empty for no text, and for a string that
@@ -52,24 +51,10 @@ pub fn found_state(t: &[u8], area: &[u8], wide: bool, f: Found) -> NameState
     }
 }
 
-// How long the text of what was found is as UTF-8. A system name is ASCII, and so its own text.
-// Ruled out: the length of the content bytes for UTF-16, and 3 for a string that is cut.
-pub fn found_len(t: &[u8], area: &[u8], wide: bool, f: Found) -> usize
-    requires { ⌜ Inside (now t) (now area) f × (length (now t) ≤ 16777216) ⌝ }
-    ensures { λ r. ⌜ r ≡ length (textIn (partOf wide (now (t .entry)) (now (area .entry)) f)) ⌝ }
-{
-    match f {
-        Found::Nothing => 0,
-        Found::Cut => 0,
-        Found::System(_, n) => n,
-        Found::Pool(at, n) => text_len(wide, &t[at..at + n]),
-    }
-}
-
-// Writes the text of what was found as UTF-8 at the front of `out`, and returns its length; what stands behind it stays.
-// Ruled out: the content bytes as they stand for UTF-16, and a byte changed behind the text.
+// Writes the text of what was found as UTF-8 at the front of `out` if it holds it whole, and returns its length; the rest of `out` stays.
+// Ruled out: the content bytes as they stand for UTF-16, and a byte changed where the text does not fit.
 pub fn found_into(t: &[u8], area: &[u8], wide: bool, f: Found, out: &mut [u8]) -> usize
-    requires { ⌜ Inside (now t) (now area) f × (length (textIn (partOf wide (now t) (now area) f)) ≤ length (now out)) ⌝ }
+    requires { ⌜ Inside (now t) (now area) f × (length (now t) ≤ 16777216) ⌝ }
     ensures { λ r. ⌜ Wrote (textIn (partOf wide (now (t .entry)) (now (area .entry)) f)) (now (out .entry)) (now (out .exit)) r ⌝ }
 {
     match f {

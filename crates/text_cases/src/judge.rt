@@ -85,13 +85,13 @@ fn answers(
     names: &[u32],
     area: &[u8],
     out: &mut [u8],
-    index: u32,
+    index: StringIndex,
     refusal: u32,
     value: usize,
     want: &[u8],
 ) -> bool {
     soil(out);
-    let a = text(file, names, area, out, StringIndex(index));
+    let a = text(file, names, area, out, index);
     is_right(text_numbers(a), out, refusal, value, want)
 }
 
@@ -102,7 +102,7 @@ fn answers_in(
     area: &[u8],
     out: &mut [u8],
     room: usize,
-    index: u32,
+    index: StringIndex,
     refusal: u32,
     value: usize,
     want: &[u8],
@@ -128,7 +128,7 @@ fn judge_buffers(
     names: &[u32],
     area: &[u8],
     out: &mut [u8],
-    index: u32,
+    index: StringIndex,
     refusal: u32,
     want: &[u8],
     counts: &mut [u32],
@@ -147,8 +147,14 @@ fn judge_buffers(
 }
 
 // Whether the content of an index is `want`.
-fn holds<'a>(file: &'a [u8], names: &[u32], area: &'a [u8], index: u32, want: &[u8]) -> bool {
-    same(content(file, names, area, StringIndex(index)), want)
+fn holds<'a>(
+    file: &'a [u8],
+    names: &[u32],
+    area: &'a [u8],
+    index: StringIndex,
+    want: &[u8],
+) -> bool {
+    same(content(file, names, area, index), want)
 }
 
 // A question is 36 bytes: the file's number, index, room, refusal, value, then the places of text and content.
@@ -164,7 +170,7 @@ pub fn judge<'a>(
     requires { ⌜ length (now row) ≡ 36 ⌝ }
 {
     let number = u32_at(row, 0);
-    let index = u32_at(row, 4);
+    let index = StringIndex(u32_at(row, 4));
     let room = u32_at(row, 8) as usize;
     let refusal = u32_at(row, 12);
     let value = u32_at(row, 16) as usize;

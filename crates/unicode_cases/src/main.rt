@@ -57,9 +57,7 @@ fn with(t: Tally, v: Verdict) -> Tally {
 }
 
 // Whether the text of s is `want`, by its length and by its bytes.
-fn text_right(wide: bool, s: &[u8], want: &[u8]) -> bool
-    requires { ⌜ length (now s) ≤ 65536 ⌝ }
-{
+fn text_right(wide: bool, s: &[u8], want: &[u8]) -> bool {
     let mut out = [0u8; 4096];
     let n = text_len(wide, s);
     if 4096 < n {

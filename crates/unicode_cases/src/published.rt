@@ -6,12 +6,8 @@ use super::text_right;
 use super::with;
 use utf::same_text;
 use xml::valid_name;
-ghost use Prim.Native.Nat.{_≤_};
-ghost use lib.ListN.{length};
 
-fn text_case(t: Tally, wide: bool, s: &[u8], want: &[u8]) -> Tally
-    requires { ⌜ length (now s) ≤ 65536 ⌝ }
-{
+fn text_case(t: Tally, wide: bool, s: &[u8], want: &[u8]) -> Tally {
     let text = text_right(wide, s, want);
     let pair = same_text(wide, s, false, want);
     with(
@@ -37,47 +33,47 @@ fn name_case(t: Tally, s: &[u8], valid: bool) -> Tally {
 }
 
 // The Unicode Standard, chapter 3, section 3.9: U+FFFD for each maximal subpart, by its tables and by the examples in its text; and Table
-// 3-4's four characters, 004D 0430 4E8C 10302, in UTF-8 and in UTF-16.
+// 3-4's four characters, 004D 0430 4E8C 10302, in UTF-8 (the example of D92) and in UTF-16 (that of D91).
 pub fn unicode() -> Tally {
     let mut t = none();
-    // Table 3-8: non-shortest forms
+    // Table 3-8, U+FFFD for Non-Shortest Form Sequences
     t = text_case(
         t,
         false,
         b"\xc0\xaf\xe0\x80\xbf\xf0\x81\x82A",
         b"\xef\xbf\xbd\xef\xbf\xbd\xef\xbf\xbd\xef\xbf\xbd\xef\xbf\xbd\xef\xbf\xbd\xef\xbf\xbd\xef\xbf\xbdA",
     );
-    // Table 3-9: surrogates
+    // Table 3-9, U+FFFD for Ill-Formed Sequences for Surrogates
     t = text_case(
         t,
         false,
         b"\xed\xa0\x80\xed\xbf\xbf\xed\xafA",
         b"\xef\xbf\xbd\xef\xbf\xbd\xef\xbf\xbd\xef\xbf\xbd\xef\xbf\xbd\xef\xbf\xbd\xef\xbf\xbd\xef\xbf\xbdA",
     );
-    // Table 3-10: other ill-formed sequences
+    // Table 3-10, U+FFFD for Other Ill-Formed Sequences
     t = text_case(
         t,
         false,
         b"\xf4\x91\x92\x93\xffA\x80\xbfB",
         b"\xef\xbf\xbd\xef\xbf\xbd\xef\xbf\xbd\xef\xbf\xbd\xef\xbf\xbdA\xef\xbf\xbd\xef\xbf\xbdB",
     );
-    // Table 3-11: truncated sequences
+    // Table 3-11, U+FFFD for Truncated Sequences
     t = text_case(
         t,
         false,
         b"\xe1\x80\xe2\xf0\x91\x92\xf1\xbfA",
         b"\xef\xbf\xbd\xef\xbf\xbd\xef\xbf\xbd\xef\xbf\xbdA",
     );
-    // the text on D93b
+    // the text on D93b: C0, AF and F4 80 80 are maximal subparts
     t = text_case(
         t,
         false,
         b"A\xc0\xafA\xf4\x80\x80A",
         b"A\xef\xbf\xbd\xef\xbf\xbdA\xef\xbf\xbdA",
     );
-    // the text on conversion: C2 does not swallow what follows
+    // Constraints on Conversion Processes: C2 does not swallow what follows
     t = text_case(t, false, b"\xc2AB", b"\xef\xbf\xbdAB");
-    // Table 3-4
+    // Table 3-4, Examples of Unicode Encoding Forms
     t = text_case(
         t,
         false,

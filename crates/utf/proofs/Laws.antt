@@ -147,13 +147,16 @@ length-after wide zero (a ∷ s) =
     omega (arith, length-append (encode (valueOf t)) r, encode-length-le (valueOf t), length-after wide (widthOf t - 1) s)
 length-after wide (suc k) (a ∷ s) = omega (arith, length-after wide k s)
 
+pub bytesOf-length-le : (wide : Bool) (s : List ℕ) → length (bytesOf (stepsOf wide s)) ≤ 4 * length s
+bytesOf-length-le wide s = length-after wide 0 s
+
 pub textOf-length-le : (wide : Bool) (s : List ℕ) → length (textOf wide s) ≤ 4 * length s
 unfolding textOf
 textOf-length-le wide s = go (refused wide s)
   where
     go : (t : Bool) → length (cond t [] (bytesOf (stepsOf wide s))) ≤ 4 * length s
     go true = omega arith
-    go false = length-after wide 0 s
+    go false = bytesOf-length-le wide s
 
 -- ---- its damage
 

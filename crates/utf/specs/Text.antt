@@ -5,13 +5,15 @@
 --   isSound    no step is bad
 --   refused    UTF-16 with a step that is bad, an unpaired surrogate: it is the empty text
 --   textOf     the text as UTF-8: `bytesOf` of the steps, and nothing where it is refused
+--   putText    a lent buffer with a text put at its front, and the rest of it as it was; all of it as it was where the text does not fit
 --   damageOf   `whole`; `replaced n` by n times U+FFFD, n not 0 (UTF-8 only); `unpaired` (UTF-16 only). `cut` is for those who have no bytes to
 --              read, because the string is cut or lies outside its pool
 --   eqBytes    the two lists are the same
 use Prim.Native.Nat.{ℕ, zero, suc, _-_}
 use mathlib.Core.Bool.{Bool, true, false, not, _&&_, cond}
 use mathlib.Core.List.{List, [], _∷_, _++_}
-use lib.Dec.{eqb}
+use lib.Dec.{eqb, leb}
+use lib.ListN.{length, drop}
 use Rattle.utf.specs.Utf8.{encode, step8}
 use Rattle.utf.specs.Utf16.{step16}
 use Rattle.utf.specs.declared.Step.{Step}
@@ -73,6 +75,9 @@ refused wide s = wide && not (isSound wide s)
 
 unfoldable pub textOf : Bool → List ℕ → List ℕ
 textOf wide s = cond (refused wide s) [] (bytesOf (stepsOf wide s))
+
+unfoldable pub putText : List ℕ → List ℕ → List ℕ
+putText text out = cond (leb (length text) (length out)) (text ++ drop (length text) out) out
 
 pub data Damage : Type 0 where
   whole : Damage

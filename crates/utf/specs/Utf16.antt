@@ -1,4 +1,4 @@
--- UTF-16 at the front of a list of bytes, each unit the low byte first: The Unicode Standard, chapter 3, Table 3-5, definitions D91 and D73.
+-- UTF-16 at the front of a list of bytes, each unit the low byte first: The Unicode Standard, chapter 3, Table 3-5, definitions D72, D74, D75 and D91.
 --
 --   unit       the unit that stands at a place of the bytes; past the end a byte reads as 0, so that a unit there is no surrogate
 --   pairOf     a unit and the one after it: a high surrogate and a low one are one scalar value of 4 bytes; a surrogate that is not in such a

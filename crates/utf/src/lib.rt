@@ -10,11 +10,11 @@ use utf8::scalar_len;
 pub use utf8::utf8_step;
 pub use utf16::utf16_step;
 ghost use mathlib.Core.Path.{_≡_};
-ghost use Prim.Native.Nat.{_+_, _≤_, _<_};
+ghost use Prim.Native.Nat.{_+_, _≤_, _<_, min};
 ghost use mathlib.Core.Bool.{_&&_};
 ghost use mathlib.Core.List.{_++_};
 ghost use lib.ListN.{length, drop};
-ghost use Rattle.utf.specs.Text.{stepOf, valueOf, widthOf, soundOf, stepsOf, bytesOf, isSound, refused, textOf, eqBytes};
+ghost use Rattle.utf.specs.Text.{stepOf, valueOf, widthOf, soundOf, stepsOf, bytesOf, isSound, refused, textOf, putText, eqBytes};
 ghost use Rattle.utf.specs.Told.{Took, Paired};
 
 pub enum Step {
@@ -112,22 +112,24 @@ pub fn is_refused(wide: bool, s: &[u8]) -> bool
 
 // ---- the length and the bytes
 
-// How long the steps are as UTF-8.
+// How long the steps are as UTF-8, as `text_len` tells it.
 fn bytes_len(wide: bool, s: &[u8]) -> usize
-    requires { ⌜ length (now s) ≤ 0x1000000 ⌝ }
-    ensures { λ r. ⌜ r ≡ length (bytesOf (stepsOf wide (now (s .entry)))) ⌝ }
+    ensures { λ r. ⌜ r ≡ min (length (bytesOf (stepsOf wide (now (s .entry))))) 0xffffffffffffffff ⌝ }
 {
     let mut at = 0;
     let mut n = 0;
     while at < s.len() {
         let t = next_of(wide, s, at);
-        n += scalar_len(t.value);
+        let k = scalar_len(t.value);
+        if 0xffffffffffffffff - n < k {
+            return 0xffffffffffffffff;
+        }
+        n += k;
         at += t.width;
     }
     n
 }
 
-// Writes the steps as UTF-8.
 fn bytes_into(wide: bool, s: &[u8], out: &mut [u8]) -> usize
     requires { ⌜ length (bytesOf (stepsOf wide (now s))) ≤ length (now out) ⌝ }
     ensures { λ r. ⌜ (r ≡ length (bytesOf (stepsOf wide (now (s .entry)))))
@@ -143,11 +145,10 @@ fn bytes_into(wide: bool, s: &[u8], out: &mut [u8]) -> usize
     o
 }
 
-// How long the text is as UTF-8. The bound, 2 ^ 24 bytes, is that of a file.
+// How long the text is as UTF-8, for any bytes: the text of 2 ^ 63 - 1 times FF is longer than a usize tells, and 2 ^ 64 - 1 stands for it.
 // Ruled out: 1 for FF, whose text is U+FFFD, three bytes; any length but 0 for UTF-16 with an unpaired surrogate.
 pub fn text_len(wide: bool, s: &[u8]) -> usize
-    requires { ⌜ length (now s) ≤ 0x1000000 ⌝ }
-    ensures { λ r. ⌜ r ≡ length (textOf wide (now (s .entry))) ⌝ }
+    ensures { λ r. ⌜ r ≡ min (length (textOf wide (now (s .entry)))) 0xffffffffffffffff ⌝ }
 {
     if is_refused(wide, s) {
         return 0;
@@ -155,15 +156,22 @@ pub fn text_len(wide: bool, s: &[u8]) -> usize
     bytes_len(wide, s)
 }
 
-// Writes the text as UTF-8, and returns its length; what stands behind it in `out` stays as it was.
-// Ruled out: a `?` in place of U+FFFD; a byte of `out` changed behind the text.
+// Writes the text as UTF-8 if `out` holds it whole, and returns its length as `text_len` does; the rest of `out` stays as it was, and all of one
+// that is too short. A byte makes at most 4: with that much room nothing is measured first.
+// Ruled out: a `?` in place of U+FFFD; a byte of `out` changed behind the text, or where the text does not fit.
 pub fn text_into(wide: bool, s: &[u8], out: &mut [u8]) -> usize
-    requires { ⌜ length (textOf wide (now s)) ≤ length (now out) ⌝ }
-    ensures { λ r. ⌜ (r ≡ length (textOf wide (now (s .entry))))
-        × (now (out .exit) ≡ textOf wide (now (s .entry)) ++ drop (length (textOf wide (now (s .entry)))) (now (out .entry))) ⌝ }
+    ensures { λ r. ⌜ (r ≡ min (length (textOf wide (now (s .entry)))) 0xffffffffffffffff)
+        × (now (out .exit) ≡ putText (textOf wide (now (s .entry))) (now (out .entry))) ⌝ }
 {
     if is_refused(wide, s) {
         return 0;
+    }
+    if s.len() <= out.len() / 4 {
+        return bytes_into(wide, s, out);
+    }
+    let n = bytes_len(wide, s);
+    if out.len() < n {
+        return n;
     }
     bytes_into(wide, s, out)
 }

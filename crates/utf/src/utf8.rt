@@ -61,7 +61,7 @@ fn lead_of(b: u8) -> Lead
 }
 
 // The byte at i, and 0 past the end.
-pub fn byte_at(s: &[u8], i: usize) -> u8
+pub(crate) fn byte_at(s: &[u8], i: usize) -> u8
     ensures { λ r. ⌜ r ≡ getD (now (s .entry)) i 0 ⌝ }
 {
     if i < s.len() { s[i] } else { 0 }
@@ -128,7 +128,7 @@ pub fn utf8_step(s: &[u8], at: usize) -> Step
 }
 
 // How many bytes a scalar value takes.
-pub fn scalar_len(v: u32) -> usize
+pub(crate) fn scalar_len(v: u32) -> usize
     ensures { λ r. ⌜ r ≡ length (encode v) ⌝ }
 {
     if v < 0x80 {
@@ -141,7 +141,7 @@ pub fn scalar_len(v: u32) -> usize
 }
 
 // Writes a scalar value at `at`, and returns the place after it.
-pub fn put_scalar(out: &mut [u8], at: usize, v: u32) -> usize
+pub(crate) fn put_scalar(out: &mut [u8], at: usize, v: u32) -> usize
     requires { ⌜ (v < 0x110000) × (at + length (encode v) ≤ length (now out)) ⌝ }
     ensures { λ r. ⌜ (r ≡ at + length (encode v)) × (now (out .exit) ≡ sets (now (out .entry)) at (encode v)) ⌝ }
 {

@@ -4,6 +4,9 @@ use Rattle.resource_map.specs.Map.{idOf}
 use Rattle.resource_map.proofs.id_at.Statement.{statement}
 use Rattle.resource_map.proofs.id_at.Tie as tie
 
+cast-u32-at : tie.Need-cast-u32-at
+cast-u32-at c = search needs
+
 mul-u32-at : tie.Need-mul-u32-at
 mul-u32-at c = search needs
 
@@ -15,4 +18,4 @@ unfolding idOf
 returns c = search needs
 
 pub id-at-spec : {M : Type 1} → statement M
-id-at-spec = tie.close (tie.spec mul-u32-at u32-at-requires returns)
+id-at-spec = tie.close (tie.spec cast-u32-at mul-u32-at u32-at-requires returns)

@@ -8,23 +8,27 @@ use Rattle.system_types.proofs.is_good.Statement.{statement}
 use Rattle.system_types.proofs.is_good.Tie as tie
 
 returns : tie.Need-returns
-returns c = let a = c .before .before .args in sym (isGood-falls (now (a .area)) (a .last) (a .id) (a .start) (a .n) (omega arith))
+returns c =
+    let a = c .before .before .before .before .args in
+    sym (isGood-falls (now (a .area)) (a .last .0) (a .id .0) (a .start) (a .n) (omega arith))
 
 returns-2 : tie.Need-returns-2
-returns-2 c = let a = c .before .before .before .args in sym (isGood-top (now (a .area)) (a .last) (a .id) (a .start) (a .n) (omega arith) (c .if2 .taken))
+returns-2 c =
+    let a = c .before .before .before .before .before .before .args in
+    sym (isGood-top (now (a .area)) (a .last .0) (a .id .0) (a .start) (a .n) (omega arith) (c .if2 .taken))
 
 returns-3 : tie.Need-returns-3
 returns-3 c =
-    let a = c .before .before .before .before .args in
-    sym (isGood-empty (now (a .area)) (a .last) (a .id) (a .start) (a .n) (omega arith) (c .before .if2 .left) (omega arith))
+    let a = c .before .before .before .before .before .before .before .args in
+    sym (isGood-empty (now (a .area)) (a .last .0) (a .id .0) (a .start) (a .n) (omega arith) (c .before .if2 .left) (omega arith))
 
 add-to : tie.Need-add-to
 add-to c = search needs
 
 returns-4 : tie.Need-returns-4
 returns-4 c =
-    let a = c .before .before .before .before .before .args in
-    sym (isGood-past (now (a .area)) (a .last) (a .id) (a .start) (a .n) (omega arith) (c .before .before .if2 .left) (omega arith) (omega arith))
+    let a = c .before .before .before .before .before .before .before .before .args in
+    sym (isGood-past (now (a .area)) (a .last .0) (a .id .0) (a .start) (a .n) (omega arith) (c .before .before .if2 .left) (omega arith) (omega arith))
 
 sub-all-ascii : tie.Need-sub-all-ascii
 sub-all-ascii c = search needs
@@ -40,9 +44,9 @@ all-ascii-requires c κs = search needs
 
 returns-5 : tie.Need-returns-5
 returns-5 c =
-    let a = c .before .before .before .before .before .before .before .args in
+    let a = c .before .before .before .before .before .before .before .before .before .before .args in
     let top = c .before .before .before .before .if2 .left in
-    let by = isGood-by (now (a .area)) (a .last) (a .id) (a .start) (a .n) (omega arith) top (omega arith) (omega arith) in
+    let by = isGood-by (now (a .area)) (a .last .0) (a .id .0) (a .start) (a .n) (omega arith) top (omega arith) (omega arith) in
     c .all-ascii .ensures ∙ sym by
 
 pub is-good-spec : {M : Type 1} → statement M

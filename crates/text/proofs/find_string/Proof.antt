@@ -7,9 +7,12 @@ use Rattle.text.proofs.find_string.Tie as tie
 
 returns : tie.Need-returns
 returns c =
-    let s = c .before .before .before in
+    let s = c .before .before .before .before in
     let a = s .args in
-    λ area. string-past (a .h) (now (a .t)) (a .i) area (c .if1 .taken)
+    λ area. string-past (a .h) (now (a .t)) (a .index .0) area (c .if1 .taken)
+
+cast-u32-at : tie.Need-cast-u32-at
+cast-u32-at c = search needs
 
 mul-u32-at : tie.Need-mul-u32-at
 mul-u32-at c = search needs
@@ -28,16 +31,17 @@ string-at-requires c κs = search needs
 
 returns-2 : tie.Need-returns-2
 returns-2 c =
-    let s = c .before .before .before .before .before .before in
+    let s = c .before .before .before .before .before .before .before .before in
     let a = s .args in
-    λ area. string-in (a .h) (now (a .t)) (a .i) area (c .string-at .result) (c .before .u32-at .result)
-    (c .before .before .before .if1 .left) (c .before .u32-at .ensures) (c .string-at .ensures area)
+    λ area. string-in (a .h) (now (a .t)) (a .index .0) area (c .string-at .result) (c .before .u32-at .result)
+    (c .before .before .before .before .if1 .left) (c .before .u32-at .ensures) (c .string-at .ensures area)
 
 pub find-string-spec : {M : Type 1} → statement M
 find-string-spec =
     tie.close
     (tie.spec
     returns
+    cast-u32-at
     mul-u32-at
     add-u32-at
     u32-at-requires

@@ -9,9 +9,9 @@ use Rattle.text.proofs.find_system.Tie as tie
 
 returns : tie.Need-returns
 returns c =
-    let s = c .before .before .before .before .before in
+    let s = c .before .before .before .before .before .before in
     let a = s .args in
-    system-past (a .h) (now (a .t)) (now (a .names)) (now (a .area)) (a .i) (c .if1 .taken)
+    system-past (a .h) (now (a .t)) (now (a .names)) (now (a .area)) (a .index .0) (c .if1 .taken)
 
 sub-id-at : tie.Need-sub-id-at
 sub-id-at c = search needs
@@ -27,7 +27,7 @@ id-at-requires c κs = search needs
 
 get-type-name-requires : tie.Need-get-type-name-requires
 get-type-name-requires c κs =
-    let s = c .before .before .before .before .before .before .before in
+    let s = c .before .before .before .before .before .before .before .before in
     let a = s .args in
     rising-of-good (now (a .area)) (now (a .names)) (s .pre .good)
 
@@ -45,7 +45,7 @@ cast-stripped-2 c = search needs
 
 stripped-requires : tie.Need-stripped-requires
 stripped-requires c κs =
-    let s = c .before .before .before .before .before .before .before .before .before .before .before in
+    let s = c .before .before .before .before .before .before .before .before .before .before .before .before in
     let a = s .args in
     let q = systemName-of-good (now (a .area)) (now (a .names)) (c .before .before .before .before .id-at .result .0) _ _ (s .pre .good)
     (sym (c .before .before .before .get-type-name .ensures) ∙ c .before .name .given .1) in
@@ -53,21 +53,21 @@ stripped-requires c κs =
 
 returns-2 : tie.Need-returns-2
 returns-2 c =
-    let s = c .before .before .before .before .before .before .before .before .before .before in
+    let s = c .before .before .before .before .before .before .before .before .before .before .before in
     let p5 = c .before .before .before .before .before in
     let a = s .args in
-    let id = map-slice (a .h) (now (a .t)) (a .i) (s .pre .fits) (c .before .before .before .id-at .ensures) in
-    system-missing (a .h) (now (a .t)) (now (a .names)) (now (a .area)) (a .i) (p5 .if1 .left) id
+    let id = map-slice (a .h) (now (a .t)) (a .index .0) (s .pre .fits) (c .before .before .before .id-at .ensures) in
+    system-missing (a .h) (now (a .t)) (now (a .names)) (now (a .area)) (a .index .0) (p5 .if1 .left) id
     (sym (c .before .before .get-type-name .ensures) ∙ c .enum-told .given .1)
 
 returns-3 : tie.Need-returns-3
 returns-3 c =
-    let s = c .before .before .before .before .before .before .before .before .before .before .before .before in
+    let s = c .before .before .before .before .before .before .before .before .before .before .before .before .before in
     let p7 = c .before .before .before .before .before .before .before in
     let p5 = c .before .before .before .before .before in
     let a = s .args in
-    let id = map-slice (a .h) (now (a .t)) (a .i) (s .pre .fits) (p5 .id-at .ensures) in
-    system-name (a .h) (now (a .t)) (now (a .names)) (now (a .area)) (a .i) (p7 .if1 .left) id
+    let id = map-slice (a .h) (now (a .t)) (a .index .0) (s .pre .fits) (p5 .id-at .ensures) in
+    system-name (a .h) (now (a .t)) (now (a .names)) (now (a .area)) (a .index .0) (p7 .if1 .left) id
     (sym (c .before .before .before .before .get-type-name .ensures) ∙ c .before .before .name .given .1)
     (c .stripped .ensures (a .h .wide) (now (a .t)))
 

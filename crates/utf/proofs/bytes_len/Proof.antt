@@ -3,8 +3,7 @@ use Prim.Native.Nat.{_-_}
 use native.Mathlib.Omega.{arith}
 use lib.ListN.{length}
 use borrow.Author.Needs.{needs}
-use Rattle.utf.proofs.Scalars.{encode-length-le}
-use Rattle.utf.proofs.Filled.{Counted, none-counted, counted, all-counted}
+use Rattle.utf.proofs.Filled.{Counted, none-counted, counted, counted-past, all-counted}
 use Rattle.utf.proofs.bytes_len.Statement.{statement}
 use Rattle.utf.proofs.bytes_len.Tie as tie
 
@@ -23,24 +22,32 @@ next-of-requires c κs = search needs
 scalar-len-requires : tie.Need-scalar-len-requires Inv-loop μ-loop
 scalar-len-requires c κs = search needs
 
+sub-if1 : tie.Need-sub-if1 Inv-loop μ-loop
+sub-if1 c = omega (arith, c .before .before .before .loop .inv .held)
+
+returns : tie.Need-returns Inv-loop μ-loop
+returns c =
+    let in-loop = c .before .before .before in
+    let told = c .before .before .next-of .ensures in
+    counted-past _ _ _ _ _ _ _ _ (in-loop .before .loop .inv) (in-loop .loop-test .taken) told (c .before .scalar-len .ensures) (c .if1 .taken)
+
 add-n : tie.Need-add-n Inv-loop μ-loop
-add-n c =
-    let at-loop = c .before .before .before in
-    omega (arith, encode-length-le (c .before .next-of .result .value), c .scalar-len .ensures, at-loop .loop .inv .few, at-loop .before .before .pre)
+add-n c = omega (arith, c .before .before .before .before .loop .inv .held, c .if1 .left)
 
 add-at : tie.Need-add-at Inv-loop μ-loop
-add-at c = omega (arith, c .before .before .next-of .ensures)
+add-at c = omega (arith, c .before .before .before .next-of .ensures)
 
 loop-less : tie.Need-loop-less Inv-loop μ-loop
-loop-less c = omega (arith, c .before .before .next-of .ensures)
+loop-less c = omega (arith, c .before .before .before .next-of .ensures)
 
 loop-again : tie.Need-loop-again Inv-loop μ-loop
 loop-again c =
-    let in-loop = c .before .before .before in
-    counted _ _ _ _ _ _ _ _ (in-loop .before .loop .inv) (in-loop .loop-test .taken) (c .before .before .next-of .ensures) (c .before .scalar-len .ensures)
+    let in-loop = c .before .before .before .before in
+    let told = c .before .before .before .next-of .ensures in
+    counted _ _ _ _ _ _ _ _ (in-loop .before .loop .inv) (in-loop .loop-test .taken) told (c .before .before .scalar-len .ensures) (c .before .if1 .left)
 
-returns : tie.Need-returns Inv-loop μ-loop
-returns c = all-counted _ _ _ _ (c .before .loop .inv) (c .loop-test .left)
+returns-2 : tie.Need-returns-2 Inv-loop μ-loop
+returns-2 c = all-counted _ _ _ _ (c .before .loop .inv) (c .loop-test .left)
 
 pub bytes-len-spec : {M : Type 1} → statement M
 bytes-len-spec =
@@ -51,8 +58,10 @@ bytes-len-spec =
     loop-holds
     next-of-requires
     scalar-len-requires
+    sub-if1
+    returns
     add-n
     add-at
     loop-less
     loop-again
-    returns)
+    returns-2)

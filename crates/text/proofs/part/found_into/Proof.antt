@@ -1,12 +1,13 @@
 -- `text::part::found_into` meets its contract: by the case of what was found (`wrote-by`).
-use native.Mathlib.Nat.{le-trans, le-of-eq}
 use native.Mathlib.Omega.{arith}
 use mathlib.Core.Path.{sym, ap}
 use borrow.Author.Needs.{needs}
-use lib.ListN.{length}
+use lib.ListN.{length-take, length-drop}
 use denote.Ref.{now}
-use Rattle.text.specs.Content.{Content, textIn}
-use Rattle.text.proofs.Read.{inside-system, inside-pool, partOf-system, partOf-pool, wrote-by}
+use Rattle.text.specs.declared.Found.{Found}
+use Rattle.text.specs.Content.{textIn}
+use Rattle.text.specs.Found.{partOf}
+use Rattle.text.proofs.Read.{inside-system, inside-pool, partOf-system, partOf-pool, textIn-system, wrote-by, wrote-none, textOf-held}
 use Rattle.text.proofs.part.found_into.Statement.{statement}
 use Rattle.text.proofs.part.found_into.Tie as tie
 
@@ -39,11 +40,7 @@ part-text-into-end c =
     inside-system (now (a .t)) (now (a .area)) (s .pre .0) (c .before .f .given .1)
 
 text-into-requires : tie.Need-text-into-requires
-text-into-requires c κs =
-    let s = c .before .before .before .before .before .before .before .before in
-    let a = s .args in
-    le-trans (le-of-eq (sym (ap (λ (p : Content). length (textIn p))
-    (partOf-system (a .wide) (now (a .t)) (now (a .area)) (c .before .before .before .f .given .1))))) (s .pre .1)
+text-into-requires c κs = search needs
 
 enum-known-f-2 : tie.Need-enum-known-f-2
 enum-known-f-2 c = search needs
@@ -68,17 +65,19 @@ part-text-into-end-2 c =
     inside-pool (now (a .t)) (now (a .area)) (s .pre .0) (c .before .f2 .given .1)
 
 text-into-requires-2 : tie.Need-text-into-requires-2
-text-into-requires-2 c κs =
-    let s = c .before .before .before .before .before .before .before .before in
-    let a = s .args in
-    le-trans (le-of-eq (sym (ap (λ (p : Content). length (textIn p))
-    (partOf-pool (a .wide) (now (a .t)) (now (a .area)) (c .before .before .before .f2 .given .1))))) (s .pre .1)
+text-into-requires-2 c κs = search needs
 
 returns : tie.Need-returns
-returns c = search needs
+returns c =
+    let s = c .before .before .before .before .before in
+    let a = s .args in
+    wrote-none (now (a .out)) (sym (ap (λ (g : Found). textIn (partOf (a .wide) (now (a .t)) (now (a .area)) g)) (c .enum-told .given .1)))
 
 returns-2 : tie.Need-returns-2
-returns-2 c = search needs
+returns-2 c =
+    let s = c .before .before .before .before .before in
+    let a = s .args in
+    wrote-none (now (a .out)) (sym (ap (λ (g : Found). textIn (partOf (a .wide) (now (a .t)) (now (a .area)) g)) (c .enum-told2 .given .1)))
 
 same-length : tie.Need-same-length
 same-length c = search needs
@@ -88,8 +87,10 @@ returns-3 c =
     let s = c .before .before .before .before .before .before .before .before .before .before .before in
     let p6 = c .before .before .before .before .before .before in
     let a = s .args in
-    wrote-by _ (sym (ap textIn (partOf-system (a .wide) (now (a .t)) (now (a .area)) (p6 .f .given .1))))
-    (c .before .before .text-into .ensures .0) (c .before .before .text-into .ensures .1)
+    let q = inside-system (now (a .t)) (now (a .area)) (s .pre .0) (p6 .f .given .1) in
+    let n = textIn-system (a .wide) (now (a .t)) (now (a .area)) (s .pre .0) (p6 .f .given .1) in
+    let same = sym (ap textIn (partOf-system (a .wide) (now (a .t)) (now (a .area)) (p6 .f .given .1))) in
+    wrote-by _ same (omega (arith, n)) (c .before .before .text-into .ensures)
 
 same-length-2 : tie.Need-same-length-2
 same-length-2 c = search needs
@@ -99,8 +100,9 @@ returns-4 c =
     let s = c .before .before .before .before .before .before .before .before .before .before .before in
     let p6 = c .before .before .before .before .before .before in
     let a = s .args in
-    wrote-by _ (sym (ap textIn (partOf-pool (a .wide) (now (a .t)) (now (a .area)) (p6 .f2 .given .1))))
-    (c .before .before .text-into2 .ensures .0) (c .before .before .text-into2 .ensures .1)
+    let same = sym (ap textIn (partOf-pool (a .wide) (now (a .t)) (now (a .area)) (p6 .f2 .given .1))) in
+    let short = s .pre .1 in
+    wrote-by _ same (textOf-held (a .wide) _ same (simp (length-take, length-drop) (omega arith))) (c .before .before .text-into2 .ensures)
 
 pub found-into-spec : {M : Type 1} → statement M
 found-into-spec =
