@@ -1,0 +1,8 @@
+/* Part of C99's string.h, for the kit's clang, which comes without headers. The functions are glibc's. */
+#ifndef KIT_STRING_H
+#define KIT_STRING_H
+#include <stddef.h>
+void *memcpy(void *to, const void *from, size_t count);
+void *memset(void *block, int byte, size_t count);
+int memcmp(const void *a, const void *b, size_t count);
+#endif

@@ -1,0 +1,171 @@
+/* The C interface on file S and its relatives (docs/FORMAT.md, L5): every number of the answer and every word of the three tables, which have
+ * garbage in them before each call, and the questions. Says how many checks failed, and ends with 1 if any did. */
+#include <stdio.h>
+#include <string.h>
+
+#include "axml.h"
+#include "sample.h"
+
+enum { TABLE = 12, NOTES = 11, FILE_BYTES = 256 }; /* two places and two words over; three places and two words over */
+
+static uint32_t checks, failures;
+
+static void expect(int right, const char *what, const char *part) {
+  checks++;
+  if (right) return;
+  failures++;
+  printf("  wrong: %s: %s\n", what, part);
+}
+
+/* ---- readings */
+
+struct expected {
+  const char *what;
+  struct axml_answer answer;
+  uint32_t nodes[TABLE], attributes[TABLE], notes[NOTES];
+};
+
+#define ROOT 0, 0, AXML_NO_PARENT, 0, 1
+#define LEADING 0, AXML_PREFIX_XMLNS, 0, 3, 0
+
+static const uint32_t no_words[1];
+static const uint8_t no_bytes[1];
+
+static uint32_t nodes[TABLE], attributes[TABLE], notes[NOTES];
+
+/* The tables have node_words, attribute_words and note_words; what lies behind them stays garbage. */
+static void reads_in(const uint8_t *file, size_t bytes, const uint32_t *names, size_t name_words, size_t node_words, size_t attribute_words,
+                     size_t note_words, uint32_t cap, const struct expected *e) {
+  memset(nodes, 0xa5, sizeof nodes);
+  memset(attributes, 0xa5, sizeof attributes);
+  memset(notes, 0xa5, sizeof notes);
+  struct axml_answer r = axml_read(file, bytes, names, name_words, no_bytes, 0, nodes, node_words, attributes, attribute_words, notes,
+                                   note_words, cap);
+  const struct axml_answer *a = &e->answer;
+  expect(r.refusal == a->refusal, e->what, "refusal");
+  expect(r.value == a->value, e->what, "value");
+  expect(r.starts == a->starts, e->what, "starts");
+  expect(r.nodes == a->nodes, e->what, "nodes");
+  expect(r.attributes == a->attributes, e->what, "attributes");
+  expect(r.notes == a->notes, e->what, "notes");
+  expect(memcmp(nodes, e->nodes, 4 * node_words) == 0, e->what, "words of nodes");
+  expect(memcmp(attributes, e->attributes, 4 * attribute_words) == 0, e->what, "words of attributes");
+  expect(memcmp(notes, e->notes, 4 * note_words) == 0, e->what, "words of notes");
+  for (size_t i = node_words; i < TABLE; i++) expect(nodes[i] == 0xa5a5a5a5u, e->what, "behind the nodes");
+  for (size_t i = attribute_words; i < TABLE; i++) expect(attributes[i] == 0xa5a5a5a5u, e->what, "behind the attributes");
+  for (size_t i = note_words; i < NOTES; i++) expect(notes[i] == 0xa5a5a5a5u, e->what, "behind the notes");
+}
+
+static void reads(const uint8_t *file, size_t bytes, const struct expected *e) {
+  reads_in(file, bytes, no_words, 0, TABLE, TABLE, NOTES, 8, e);
+}
+
+static uint8_t file[FILE_BYTES];
+
+/* S with some bytes put in at a place; its length. */
+static size_t insert(size_t at, const uint8_t *more, size_t count) {
+  memcpy(file, S, at);
+  memcpy(file + at, more, count);
+  memcpy(file + at + count, S + at, S_BYTES - at);
+  return S_BYTES + count;
+}
+
+static void readings(void) {
+  const struct expected as_s = {"S", {0, 0, 1, 1, 1, 0}, {ROOT}, {LEADING}, {0}};
+  reads(S, S_BYTES, &as_s);
+  const struct expected seven = {"first 7", {AXML_TOO_SMALL, 7, 0, 0, 0, 0}, {0}, {0}, {0}};
+  reads(S, 7, &seven);
+  const struct expected eight = {"first 8", {AXML_STRING_POOL, 0, 0, 0, 0, 0}, {0}, {0}, {0}};
+  reads(S, 8, &eight);
+  const struct expected unclosed = {"no end", {0, 0, 1, 1, 1, 1}, {ROOT}, {LEADING}, {AXML_UNCLOSED_ELEMENTS, 1, 0}};
+  reads(S, 88, &unclosed);
+  reads(S, 95, &unclosed);
+  const struct expected cut = {"end cut", {0, 0, 1, 1, 1, 2}, {ROOT}, {LEADING}, {AXML_TRUNCATED_XML, 0, 0, AXML_UNCLOSED_ELEMENTS, 1, 0}};
+  reads(S, 103, &cut);
+  reads(S, 104, &as_s);
+  reads(file, insert(S_BYTES, S + S_END, 24), &as_s);
+  const struct expected again = {"S and its start", {0, 0, 2, 1, 1, 1}, {ROOT}, {LEADING}, {AXML_UNCLOSED_ELEMENTS, 1, 0}};
+  reads(file, insert(S_BYTES, S + S_START, 36), &again);
+  const struct expected deep = {"first 88 and the start", {0, 0, 2, 1, 1, 1}, {ROOT}, {LEADING}, {AXML_UNCLOSED_ELEMENTS, 2, 0}};
+  reads(file, insert(S_END, S + S_START, 36) - 24, &deep);
+  const struct expected two = {"S, its start, its end", {0, 0, 2, 2, 1, 0}, {ROOT, 0, 0, 0, 1, 0}, {LEADING}, {0}};
+  reads(file, insert(S_BYTES, S + S_START, 60), &two);
+
+  const uint8_t foreign[8] = {0x05, 0x01, 0x08, 0x00, 0x08};
+  const struct expected noted = {"0x105", {0, 0, 1, 1, 1, 1}, {ROOT}, {LEADING}, {AXML_NON_XML_CHUNK, 261, 0}};
+  reads(file, insert(S_END, foreign, 8), &noted);
+  const uint8_t last[24] = {0x7f, 0x01, 0x10, 0x00, 0x18};
+  const struct expected unknown = {"0x17f", {0, 0, 1, 1, 1, 2}, {ROOT}, {LEADING}, {AXML_UNKNOWN_CHUNK, 383, 0, AXML_NON_XML_CHUNK, 0, 0}};
+  reads(file, insert(S_END, last, 24), &unknown);
+  memcpy(file, S, S_BYTES);
+  file[S_NAME] = 1;
+  const struct expected nameless = {
+      "element name 1", {0, 0, 1, 1, 1, 1}, {1, 1, AXML_NO_PARENT, 0, 1}, {LEADING}, {AXML_INVALID_ELEMENT_NAME, 1, 0}};
+  reads(file, S_BYTES, &nameless);
+
+  /* tables without a place, whose words are zeros all the same, and lent names that break their rule */
+  const struct expected no_node = {"no place for a node", {AXML_NODES_FULL, 0, 0, 0, 0, 0}, {0}, {0}, {0}};
+  reads_in(S, S_BYTES, no_words, 0, 4, TABLE, NOTES, 8, &no_node);
+  const struct expected no_attribute = {"no place for an attribute", {AXML_ATTRIBUTES_FULL, 0, 0, 0, 0, 0}, {0}, {0}, {0}};
+  reads_in(S, S_BYTES, no_words, 0, TABLE, 4, NOTES, 8, &no_attribute);
+  const struct expected no_note = {"one place for two notes", {AXML_NOTES_FULL, 1, 0, 0, 0, 0}, {0}, {0}, {0}};
+  reads_in(S, 103, no_words, 0, TABLE, TABLE, 5, 8, &no_note);
+  const struct expected silent = {"cap 0", {0, 0, 1, 1, 1, 0}, {ROOT}, {LEADING}, {0}};
+  reads_in(S, 103, no_words, 0, TABLE, TABLE, 2, 0, &silent);
+  const uint32_t low[3] = {0x02000000u, 0, 1};
+  const struct expected names = {"names", {AXML_SYSTEM_NAMES, 0, 0, 0, 0, 0}, {0}, {0}, {0}};
+  reads_in(S, S_BYTES, low, 3, TABLE, TABLE, NOTES, 8, &names);
+}
+
+/* ---- questions */
+
+static void texts(const char *what, size_t bytes, uint32_t index, size_t room, uint32_t refusal, uint64_t value, const char *text) {
+  uint8_t out[8], wanted[8] = {0};
+  size_t length = refusal == 0 ? 1 : 0;
+  memset(out, 0xa5, sizeof out);
+  memcpy(wanted, text, length);
+  struct axml_text_answer r = axml_text(S, bytes, no_words, 0, no_bytes, 0, out, room, index);
+  expect(r.refusal == refusal, what, "refusal");
+  expect(r.value == value, what, "value");
+  expect(r.length == length, what, "length");
+  expect(memcmp(out, wanted, room) == 0, what, "bytes");
+  expect(room == 8 || out[room] == 0xa5, what, "behind the buffer");
+}
+
+static void first(const char *what, const char *tag, const char *name, uint32_t node_count, uint32_t refusal, uint64_t value, uint32_t type) {
+  const uint32_t tree[5] = {ROOT}, owned[5] = {0, AXML_PREFIX_XMLNS, 0, type, 9};
+  size_t tag_bytes = 0, name_bytes = 0;
+  while (tag[tag_bytes]) tag_bytes++;
+  while (name[name_bytes]) name_bytes++;
+  struct axml_first_answer r = axml_first_value(S, S_BYTES, no_words, 0, no_bytes, 0, tree, 5, owned, 5, (const uint8_t *)tag, tag_bytes,
+                                                (const uint8_t *)name, name_bytes, node_count, 1);
+  expect(r.refusal == refusal, what, "refusal");
+  expect(r.value == value, what, "value");
+  expect(r.type == (refusal ? 0 : type), what, "type");
+  expect(r.data == (refusal ? 0 : 9), what, "data");
+  expect(r.reference == (refusal == 0 && type == 1), what, "reference");
+}
+
+static void questions(void) {
+  texts("text 0", S_BYTES, 0, 8, AXML_DONE, 0, "a");
+  texts("text 0, one byte", S_BYTES, 0, 1, AXML_DONE, 0, "a");
+  texts("text 0, no bytes", S_BYTES, 0, 0, AXML_TEXT_SHORT, 1, "");
+  texts("text 1", S_BYTES, 1, 8, AXML_NOTHING_FOUND, 0, "");
+  texts("text of 8 bytes", 8, 0, 8, AXML_STRING_POOL, 0, "");
+  first("value", "a", "android", 1, AXML_DONE, 0, 3);
+  first("reference", "a", "android", 1, AXML_DONE, 0, 1);
+  first("tag and name swapped", "android", "a", 1, AXML_NOTHING_FOUND, 0, 3);
+  first("two nodes in five words", "a", "android", 2, AXML_TABLES, 2, 3);
+  expect(axml_is_valid_name((const uint8_t *)"a-b", 3), "a-b", "valid");
+  expect(!axml_is_valid_name((const uint8_t *)"a:b", 3), "a:b", "not valid");
+  expect(!axml_is_valid_name(no_bytes, 0), "no text", "not valid");
+  expect(axml_complex_to_float(0x0000010fu) == 1.0, "0x10f", "1");
+  expect(axml_complex_to_float(0xffffff00u) == 16777215.0, "0xffffff00", "16777215");
+}
+
+int main(void) {
+  readings();
+  questions();
+  printf("test: %u checks, %u wrong\n", checks, failures);
+  return failures != 0;
+}

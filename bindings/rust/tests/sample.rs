@@ -1,0 +1,80 @@
+//! The sample of docs/FORMAT.md, L4, and its relatives, L5.
+
+use itelbash::{is_valid_name, Manifest, Note, Prefix, Refusal, SystemNames, Value};
+
+const HEAD: &[u8] = &[
+    0x03, 0x00, 0x08, 0x00, 0x70, 0x00, 0x00, 0x00, 0x01, 0x00, 0x1c, 0x00, 0x24, 0x00, 0x00, 0x00, 0x01, 0x00, 0x00, 0x00, 0x00, 0x00, 0x00, 0x00, 0x00, 0x01,
+    0x00, 0x00, 0x20, 0x00, 0x00, 0x00, 0x00, 0x00, 0x00, 0x00, 0x00, 0x00, 0x00, 0x00, 0x01, 0x01, 0x61, 0x00, 0x80, 0x01, 0x08, 0x00, 0x08, 0x00, 0x00, 0x00,
+];
+const START: &[u8] = &[
+    0x02, 0x01, 0x10, 0x00, 0x24, 0x00, 0x00, 0x00, 0x01, 0x00, 0x00, 0x00, 0xff, 0xff, 0xff, 0xff, 0xff, 0xff, 0xff, 0xff, 0x00, 0x00, 0x00, 0x00, 0x14, 0x00,
+    0x14, 0x00, 0x00, 0x00, 0x00, 0x00, 0x00, 0x00, 0x00, 0x00,
+];
+const END: &[u8] =
+    &[0x03, 0x01, 0x10, 0x00, 0x18, 0x00, 0x00, 0x00, 0x01, 0x00, 0x00, 0x00, 0xff, 0xff, 0xff, 0xff, 0xff, 0xff, 0xff, 0xff, 0x00, 0x00, 0x00, 0x00];
+const FOREIGN: &[u8] = &[0x05, 0x01, 0x08, 0x00, 0x08, 0x00, 0x00, 0x00];
+
+fn file(parts: &[&[u8]]) -> Vec<u8> {
+    [&[HEAD], parts].concat().concat()
+}
+
+fn notes(m: &Manifest) -> Vec<(u32, u32, u32)> {
+    m.notes().map(|n| (n.kind, n.a, n.b)).collect()
+}
+
+#[test]
+fn sample() {
+    let m = Manifest::read(&file(&[START, END])).unwrap();
+    assert_eq!((m.starts(), m.nodes().len(), m.attributes().len(), m.notes().len()), (1, 1, 1, 0));
+    assert_eq!(m.root().name(), "a");
+    assert!(m.root().parent().is_none());
+    let a = m.root().attributes().next().unwrap();
+    assert_eq!((a.owner().index(), a.prefix(), a.name().as_str()), (0, Prefix::Xmlns, "android"));
+    assert_eq!(a.value(), Value { kind: 3, data: 0 });
+    assert_eq!(a.text().unwrap(), "http://schemas.android.com/apk/res/android");
+    assert_eq!(m.text(0).as_deref(), Some("a"));
+    assert_eq!(m.text(1), None);
+    assert_eq!(m.first_value("a", "android"), Some(Value { kind: 3, data: 0 }));
+    assert_eq!(m.first_value("a", "b"), None);
+}
+
+#[test]
+fn a_foreign_chunk_is_noted_and_changes_nothing() {
+    for parts in [&[FOREIGN, START, END][..], &[START, FOREIGN, END], &[START, END, FOREIGN], &[START, FOREIGN, FOREIGN, END]] {
+        let m = Manifest::read(&file(parts)).unwrap();
+        assert_eq!((m.starts(), m.nodes().len(), m.attributes().len()), (1, 1, 1));
+        assert_eq!(notes(&m), [(3, 0x105, 0)]);
+    }
+    let m = Manifest::read(&file(&[FOREIGN, START, FOREIGN, END])).unwrap();
+    assert_eq!(notes(&m), [(3, 0x105, 0), (3, 0x105, 0)]);
+    let m = Manifest::read_with(&file(&[FOREIGN, START, FOREIGN, END]), &SystemNames::new(), 1).unwrap();
+    assert_eq!(notes(&m), [(3, 0x105, 0)]);
+}
+
+#[test]
+fn parents_and_unclosed_elements() {
+    let m = Manifest::read(&file(&[START, START, END, END])).unwrap();
+    assert_eq!(m.nodes().map(|n| n.parent().map(|p| p.index())).collect::<Vec<_>>(), [None, Some(0)]);
+    let m = Manifest::read(&file(&[START, START, START, END])).unwrap();
+    assert_eq!((m.starts(), m.nodes().len()), (3, 1));
+    assert_eq!(notes(&m).last().map(|n| n.0), Some(12));
+}
+
+#[test]
+fn refusals_say_what_to_do() {
+    assert_eq!(Manifest::read(&[]).unwrap_err(), Refusal::TooSmall(0));
+    assert_eq!(Manifest::read(&HEAD[..40]).unwrap_err(), Refusal::StringPool);
+    assert_eq!(Refusal::StringPool.to_string(), "the string pool is cut short");
+    assert_eq!(Manifest::read(HEAD).unwrap_err(), Refusal::NoElement);
+    assert_eq!(Manifest::read(&vec![0; (1 << 24) + 1]).unwrap_err(), Refusal::TooLarge);
+    assert!(Manifest::read(b"PK\x03\x04\0\0\0\0\0").unwrap_err().to_string().contains("zip"));
+    let falling: SystemNames = [(0x0101_0003, "name"), (0x0101_0001, "label")].into_iter().collect();
+    assert_eq!(Manifest::read_with(&file(&[START, END]), &falling, 16).unwrap_err(), Refusal::SystemNames(1));
+}
+
+#[test]
+fn names_and_numbers() {
+    assert!(is_valid_name("manifest") && !is_valid_name("a:b") && !is_valid_name("") && !is_valid_name("1a"));
+    assert_eq!(Value { kind: 5, data: 0x0000_0a01 }.complex(), 10.0);
+    assert_eq!(Note { kind: 12, a: 2, b: 0 }.to_string(), "2 elements are not closed");
+}

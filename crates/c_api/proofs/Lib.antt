@@ -1,0 +1,4 @@
+-- The root of the crate's laws.
+pub mod Noting
+pub mod Points
+pub mod Same

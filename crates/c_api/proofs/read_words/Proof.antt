@@ -1,0 +1,109 @@
+-- `c_api::read_words` meets its contract: the loop of `axml::read` over words.
+-- Invariant: the outcome from here, with the words' notes, is the promise. Measure: what `advance` lowers. The mathematics: proofs/Points.antt.
+use borrow.Author.Needs.{needs}
+use mathlib.Core.Path.{_∙_}
+use Rattle.walk.specs.Outcome.{left}
+use Rattle.c_api.proofs.Points.{Point, point-first, point-fits, point-less, point-next, point-last}
+use Rattle.c_api.proofs.read_words.Statement.{statement}
+use Rattle.c_api.proofs.read_words.Tie as tie
+
+abbrev Inv-loop : tie.InvT-loop
+Inv-loop file names area nodes₀ attributes₀ notes₀ cap st₀ nodes attributes notes st =
+    Point file names area nodes₀ attributes₀ notes₀ cap nodes attributes notes st
+
+abbrev μ-loop : tie.MeasureT-loop
+μ-loop file names area nodes₀ attributes₀ notes₀ cap st₀ nodes attributes notes st = left file names area st
+
+begin-requires : tie.Need-begin-requires Inv-loop μ-loop
+begin-requires c κs = search needs
+
+loop-holds : tie.Need-loop-holds Inv-loop μ-loop
+loop-holds c =
+    let at-start = c .before .before .before .before .before .before .before in
+    let a = at-start .args in
+    point-first (a .file .now) (a .names .now) (a .area .now) (a .nodes .now) (a .attributes .now) (a .notes .now) (a .cap) _ (c .begin .ensures)
+
+advance-requires : tie.Need-advance-requires Inv-loop μ-loop
+advance-requires c κs =
+    let at-loop = c .before .before in
+    at-loop .loop .inv .good
+
+same-length : tie.Need-same-length Inv-loop μ-loop
+same-length c =
+    let at-advance = c .before .before .before .before .before in
+    let at-loop = at-advance .before .before .before in
+    at-advance .advance .kept .1 .1 .1 .0 ∙ at-loop .loop .inv .long-nodes
+
+same-length-2 : tie.Need-same-length-2 Inv-loop μ-loop
+same-length-2 c =
+    let at-advance = c .before .before .before .before .before in
+    let at-loop = at-advance .before .before .before in
+    at-advance .advance .kept .1 .1 .1 .1 .0 ∙ at-loop .loop .inv .long-attributes
+
+same-length-3 : tie.Need-same-length-3 Inv-loop μ-loop
+same-length-3 c =
+    let at-loop = c .before .before .before .before .before .before .before .before in
+    at-loop .loop .inv .long-words
+
+returns : tie.Need-returns Inv-loop μ-loop
+returns c =
+    let at-advance = c .before .before .before .before .before in
+    let at-loop = at-advance .before .before .before in
+    let at-start = at-loop .before .before .before .before .before .before .before .before in
+    let a = at-start .args in
+    let l = at-loop .loop in
+    let q = at-advance .advance in
+    point-last (a .file .now) (a .names .now) (a .area .now) (a .nodes .now) (a .attributes .now) (a .notes .now) (a .cap)
+    (l .nodes) (l .attributes) (l .notes) (l .st) (l .inv) (q .result) (q .last .1 .1 .1 .0) (q .last .1 .1 .1 .1 .0) (q .ensures) (c .if1 .taken)
+
+put-note-requires : tie.Need-put-note-requires Inv-loop μ-loop
+put-note-requires c κs =
+    let at-advance = c .before .before .before .before .before .before .before in
+    let at-loop = at-advance .before .before .before in
+    let at-start = at-loop .before .before .before .before .before .before .before .before in
+    let a = at-start .args in
+    let l = at-loop .loop in
+    let q = at-advance .advance in
+    point-fits (a .file .now) (a .names .now) (a .area .now) (a .nodes .now) (a .attributes .now) (a .notes .now) (a .cap)
+    (l .nodes) (l .attributes) (l .notes) (l .st) (l .inv) (q .result) (q .last .1 .1 .1 .0) (q .last .1 .1 .1 .1 .0) (q .ensures) (c .before .before .if1 .left)
+
+loop-less : tie.Need-loop-less Inv-loop μ-loop
+loop-less c =
+    let at-advance = c .before .before .before .before .before .before .before .before .before .before in
+    let at-loop = at-advance .before .before .before in
+    let at-start = at-loop .before .before .before .before .before .before .before .before in
+    let a = at-start .args in
+    let l = at-loop .loop in
+    let q = at-advance .advance in
+    point-less (a .file .now) (a .names .now) (a .area .now) (a .nodes .now) (a .attributes .now) (a .notes .now) (a .cap)
+    (l .nodes) (l .attributes) (l .notes) (l .st) (l .inv) (q .result) (q .last .1 .1 .1 .0) (q .last .1 .1 .1 .1 .0) (q .ensures) (c .before .before .before .before .before .if1 .left)
+
+loop-again : tie.Need-loop-again Inv-loop μ-loop
+loop-again c =
+    let at-advance = c .before .before .before .before .before .before .before .before .before .before in
+    let at-loop = at-advance .before .before .before in
+    let at-start = at-loop .before .before .before .before .before .before .before .before in
+    let a = at-start .args in
+    let l = at-loop .loop in
+    let q = at-advance .advance in
+    let w = c .before .before .put-note in
+    point-next (a .file .now) (a .names .now) (a .area .now) (a .nodes .now) (a .attributes .now) (a .notes .now) (a .cap)
+    (l .nodes) (l .attributes) (l .notes) (l .st) (l .inv) (q .result) (q .last .1 .1 .1 .0) (q .last .1 .1 .1 .1 .0) (q .ensures) (c .before .before .before .before .before .if1 .left)
+    (q .kept .1 .1 .1 .0) (q .kept .1 .1 .1 .1 .0) (w .last .0) (w .ensures) (w .kept .0)
+
+pub read-words-spec : {M : Type 1} → statement M
+read-words-spec =
+    tie.close
+    (tie.spec
+    Inv-loop
+    μ-loop
+    begin-requires
+    loop-holds
+    advance-requires
+    same-length
+    same-length-2
+    same-length-3
+    returns
+    put-note-requires
+    loop-less
+    loop-again)

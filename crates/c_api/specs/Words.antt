@@ -1,0 +1,56 @@
+-- A reading whose notes are lent as words, and its answer as a struct of numbers: docs/FORMAT.md, B1, B6, B7, B8, B12.
+--
+--   wordsOf      the words of notes, three to a note: kind, a, b
+--   wordRoom     the room of tables with these contents before the call: a place for each whole three words of the note table
+--   answerOf     the numbers of an answer as the struct that C has
+--   ReadsWords   THE PROMISE of `axml_read`: the numbers and the tables of `reading` at that room, and zeros behind the last place
+--   putNote, WordsLeft   what the code does on its way, not to be believed
+use Prim.Native.Nat.{ℕ, _+_, _*_, _/_, _%_}
+use mathlib.Core.Path.{_≡_}
+use mathlib.Core.List.{List, [], _∷_, _++_}
+use lib.ListN.{length, set, replicate}
+use Rattle.anomaly.specs.declared.Note.{Note}
+use Rattle.errors.specs.declared.Numbers.{Numbers}
+use Rattle.errors.specs.declared.ReadAnswer.{ReadAnswer}
+use Rattle.errors.specs.Refusal.{numbersOf}
+use Rattle.walk.specs.Settle.{Room}
+use Rattle.walk.specs.Reading.{reading}
+use Rattle.c_api.specs.declared.AxmlAnswer.{AxmlAnswer}
+
+unfoldable pub wordsOf : List Note → List ℕ
+wordsOf [] = []
+wordsOf (n ∷ os) = n .kind ∷ n .a ∷ n .b ∷ wordsOf os
+
+abbrev pub wordRoom : List ℕ → List ℕ → List ℕ → ℕ → Room
+wordRoom ns ats ws cap = record { nodes = length ns; attributes = length ats; notes = length ws / 3; cap = cap }
+
+abbrev pub answerOf : Numbers → AxmlAnswer
+answerOf n = record {
+  refusal = n .refusal;
+  value = n .value;
+  starts = n .starts;
+  nodes = n .nodes;
+  attributes = n .attributes;
+  notes = n .notes;
+}
+
+pub record ReadsWords (f names area ns ats ws : List ℕ) (cap : ℕ) (r : AxmlAnswer) (ns′ ats′ ws′ : List ℕ) : Type 0 where
+  pub answer : r ≡ answerOf (numbersOf (reading (wordRoom ns ats ws cap) f names area .answer))
+  pub nodes : ns′ ≡ reading (wordRoom ns ats ws cap) f names area .nodes
+  pub attributes : ats′ ≡ reading (wordRoom ns ats ws cap) f names area .attributes
+  pub notes : ws′ ≡ wordsOf (reading (wordRoom ns ats ws cap) f names area .notes) ++ replicate (length ws % 3) 0
+
+-- ---- on the way
+
+-- the words of a note at its place
+abbrev pub putNote : List ℕ → ℕ → Note → List ℕ
+putNote ws k n = set (set (set ws (3 * k) (n .kind)) (3 * k + 1) (n .a)) (3 * k + 2) (n .b)
+
+-- the whole reading, its notes as the front of the words
+pub record WordsLeft (f names area ns ats ws : List ℕ) (cap : ℕ) (r : ReadAnswer) (ns′ ats′ ws′ : List ℕ) : Type 0 where
+  pub notes : List Note
+  pub tail : List ℕ
+  pub whole : record { answer = r; nodes = ns′; attributes = ats′; notes = notes } ≡ reading (wordRoom ns ats ws cap) f names area
+  pub words : ws′ ≡ wordsOf notes ++ tail
+  pub places : length notes ≡ length ws / 3
+  pub long : length ws′ ≡ length ws

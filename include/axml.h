@@ -1,0 +1,163 @@
+/* The C interface of the AXML reader, for x86-64. Link target/staticlib/libc_api.a (`rt staticlib c_api`), which calls only C's memset.
+ *
+ * docs/FORMAT.md says what every number means; its rules are cited by number (B9). Each function takes whatever bytes and tables it is lent,
+ * and returns; it allocates nothing and keeps nothing. The caller, whom nothing checks, sees to this alone:
+ *   - a pointer and the length behind it lend that many elements, and no pointer is NULL, also where the length is 0;
+ *   - pointers to words are aligned to 4 bytes;
+ *   - what a function writes (nodes, attributes, notes, out) overlaps nothing else that the same call is lent.
+ * Lengths are counted in elements: bytes of a `uint8_t *`, words of a `uint32_t *`. A table of structs is lent as `(uint32_t *)table`. */
+#ifndef AXML_H
+#define AXML_H
+
+#include <stdbool.h>
+#include <stddef.h>
+#include <stdint.h>
+
+#ifdef __cplusplus
+extern "C" {
+#endif
+
+/* The longest file that is read, in bytes: one byte more is refused with AXML_TOO_LARGE. */
+#define AXML_LONGEST_FILE 16777216u
+
+/* Words of one record. A table has words / 5 places for nodes and attributes, words / 3 for notes, rounded down (B6). */
+#define AXML_NODE_WORDS 5u
+#define AXML_ATTRIBUTE_WORDS 5u
+#define AXML_NOTE_WORDS 3u
+#define AXML_NAME_WORDS 3u
+
+/* The parent of the first node. */
+#define AXML_NO_PARENT 4294967295u
+
+/* Why a question is refused, and what the value beside it is then (B1). */
+enum axml_refusal {
+  AXML_DONE = 0,             /* not refused; the value is 0 */
+  AXML_TOO_SMALL = 1,        /* fewer than 8 bytes: their number */
+  AXML_TOO_LARGE = 2,        /* more than AXML_LONGEST_FILE bytes: 0 */
+  AXML_HEADER_SIZE = 3,      /* the first header's size is not 8: that size */
+  AXML_STRING_POOL = 4,      /* the string pool is cut: 0 */
+  AXML_RESOURCE_MAP = 5,     /* the resource map is cut: 0 */
+  AXML_MISSING_ROOT = 6,     /* no element: 0 */
+  AXML_SYSTEM_NAMES = 7,     /* the lent names break their rule: the first such entry, or how many whole ones there are (N5) */
+  AXML_NODES_FULL = 8,       /* a node has no place: the places that there are */
+  AXML_ATTRIBUTES_FULL = 9,  /* an attribute has no place: the places that there are */
+  AXML_NOTES_FULL = 10,      /* a note has no place: the places that there are */
+  AXML_TEXT_SHORT = 11,      /* the buffer is too short: the bytes that the text needs */
+  AXML_NOTHING_FOUND = 12,   /* no such text, or no such value: 0 */
+  AXML_TABLES = 13           /* the lent tables do not fit the question: the node count, or the first bad node (Q6) */
+};
+
+/* What is amiss in a file that is read all the same, and what a and b tell of it (B12). b is 0 where nothing is said. */
+enum axml_note_kind {
+  AXML_STRING_POOL_GARBAGE_CHUNK = 0,     /* a: its type, b: bytes skipped */
+  AXML_STRING_COUNT_MISMATCH = 1,         /* a: declared, b: computed */
+  AXML_STRING_OFFSETS_OUT_OF_BOUNDS = 2,  /* a: how many */
+  AXML_NON_XML_CHUNK = 3,                 /* a: its type */
+  AXML_XML_NODE_HEADER_SIZE = 4,          /* a: its header size */
+  AXML_UNKNOWN_CHUNK = 5,                 /* a: its type, always 383 */
+  AXML_ATTRIBUTE_START_SHIFTED = 6,       /* a: attribute_start */
+  AXML_ATTRIBUTE_SIZE_MISMATCH = 7,       /* a: attribute_size */
+  AXML_ELEMENT_TRAILING_BYTES = 8,        /* a: the excess */
+  AXML_INVALID_ELEMENT_NAME = 9,          /* a: name index, b: 1 if it has a text */
+  AXML_INVALID_ATTRIBUTE_NAME = 10,       /* a: name index */
+  AXML_TRUNCATED_XML = 11,                /* a: 0 */
+  AXML_UNCLOSED_ELEMENTS = 12             /* a: depth */
+};
+
+/* The prefix of an attribute (W22, W24). */
+enum axml_prefix {
+  AXML_PREFIX_NONE = 0,
+  AXML_PREFIX_ANDROID = 1,
+  AXML_PREFIX_XMLNS = 2  /* the leading attribute of the first node: `android`, the Android namespace */
+};
+
+/* Five words of the node table (B9). */
+struct axml_node {
+  uint32_t name;    /* string index of its name */
+  uint32_t fixed;   /* 1: it is called `invalid-element`; else 0 */
+  uint32_t parent;  /* number of an earlier node; AXML_NO_PARENT for the first */
+  uint32_t first;   /* its first attribute */
+  uint32_t count;   /* how many attributes it has */
+};
+
+/* Five words of the attribute table (B11). */
+struct axml_attribute {
+  uint32_t owner;   /* number of its node */
+  uint32_t prefix;  /* enum axml_prefix */
+  uint32_t name;    /* string index of its name */
+  uint32_t type;    /* type of its value (C5) */
+  uint32_t data;    /* data of its value */
+};
+
+/* Three words of the note table (B12). */
+struct axml_note {
+  uint32_t kind;  /* enum axml_note_kind */
+  uint32_t a;
+  uint32_t b;
+};
+
+/* Three words of the lent system names (N4): ids have top byte 1 and rise, start + length lies in the area, length is not 0, bytes are below 128. */
+struct axml_name {
+  uint32_t id;
+  uint32_t start;
+  uint32_t length;
+};
+
+/* The answer of a reading. Where it is refused, the four counts are 0 and every lent table is zeros (B7). */
+struct axml_answer {
+  uint32_t refusal;     /* enum axml_refusal */
+  uint64_t value;       /* of the refusal */
+  uint32_t starts;      /* elements read whole, dropped ones too */
+  uint32_t nodes;       /* nodes in the table */
+  uint32_t attributes;  /* attributes in the table */
+  uint32_t notes;       /* notes in the table */
+};
+
+/* The answer of a text question. */
+struct axml_text_answer {
+  uint32_t refusal;
+  uint64_t value;
+  uint64_t length;  /* bytes of the text in the buffer; 0 where it is refused */
+};
+
+/* The answer of a first-value question. */
+struct axml_first_answer {
+  uint32_t refusal;
+  uint64_t value;
+  uint32_t type;       /* 0 where it is refused, as data and reference */
+  uint32_t data;
+  uint32_t reference;  /* 1 if the type is a reference (C7) */
+};
+
+/* Reads a file into three lent tables, whose words behind the last record are zeros afterwards (B8).
+ * file, file_bytes: the file. names, name_words: the lent system names, `struct axml_name` each, over area, area_bytes; 0 words are no names.
+ * nodes, attributes, notes: the tables, as words of `struct axml_node`, `struct axml_attribute`, `struct axml_note`.
+ * cap: how many notes of each kind are kept (B13). */
+struct axml_answer axml_read(const uint8_t *file, size_t file_bytes, const uint32_t *names, size_t name_words, const uint8_t *area,
+                             size_t area_bytes, uint32_t *nodes, size_t node_words, uint32_t *attributes, size_t attribute_words,
+                             uint32_t *notes, size_t note_words, uint32_t cap);
+
+/* The text of a string index in UTF-8, at the front of out and zeros behind it; zeros alone where it is refused (Q1, Q2). No 0 ends it.
+ * file, names, area: as for axml_read. out, out_bytes: the buffer. index: the string index, as a table has it. */
+struct axml_text_answer axml_text(const uint8_t *file, size_t file_bytes, const uint32_t *names, size_t name_words, const uint8_t *area,
+                                  size_t area_bytes, uint8_t *out, size_t out_bytes, uint32_t index);
+
+/* Type and data of the first attribute called name on the first node called tag (Q4 to Q8). The tables may have been written by anyone.
+ * file, names, area: as for axml_read. nodes, attributes: the tables, as words. tag, name: UTF-8 bytes. node_count, attribute_count: how
+ * many records of each table are asked. */
+struct axml_first_answer axml_first_value(const uint8_t *file, size_t file_bytes, const uint32_t *names, size_t name_words,
+                                          const uint8_t *area, size_t area_bytes, const uint32_t *nodes, size_t node_words,
+                                          const uint32_t *attributes, size_t attribute_words, const uint8_t *tag, size_t tag_bytes,
+                                          const uint8_t *name, size_t name_bytes, uint32_t node_count, uint32_t attribute_count);
+
+/* Whether the UTF-8 text is a name without a colon (N10). */
+bool axml_is_valid_name(const uint8_t *text, size_t text_bytes);
+
+/* The number that the data of a dimension or a fraction holds (X2). */
+double axml_complex_to_float(uint32_t data);
+
+#ifdef __cplusplus
+}
+#endif
+
+#endif

@@ -1,0 +1,264 @@
+/* Runs the proved reader, compiled for this machine, over a stream of questions and writes an answer to each, in the layout of the Rust's
+ * program (../README.md), so that the two answers can be compared byte by byte.
+ *
+ *   axml-port [--names FILE].. [--valid | --complex]
+ *
+ * Two things differ in a question: the flags' upper 24 bits are how many texts to ask for (the Rust counts them itself; 0 means that the
+ * head is refused, and then the text question must refuse alike), and flag 16 adds three words before the file: the words of the node
+ * table, the words of the attribute table and the places of the note table. Without it every record has a place. Each lent table is
+ * filled with a pattern before the call, and what stands behind the records must be zero afterwards.
+ */
+#include <stdio.h>
+#include <stdlib.h>
+#include <string.h>
+#include "axml.h"
+
+enum { TEXTS = 1, NAMES = 2, ROOMS = 16, NONE = 0xffffffff };
+
+static void fail(const char *why)
+{
+    fprintf(stderr, "axml-port: %s\n", why);
+    exit(1);
+}
+
+static void *room(size_t n)
+{
+    void *p = malloc(n ? n : 1);
+    if (!p) fail("no memory");
+    return p;
+}
+
+/* ---- the stream */
+
+static int more(void)
+{
+    int c = getchar_unlocked();
+    if (c == EOF) return 0;
+    ungetc(c, stdin);
+    return 1;
+}
+
+static void take(void *to, size_t n)
+{
+    if (fread(to, 1, n, stdin) != n) fail("the stream of questions ends early");
+}
+
+static uint32_t word(void)
+{
+    uint32_t w;
+    take(&w, 4);
+    return w;
+}
+
+typedef struct { uint8_t *at; size_t n; } bytes;
+
+static bytes text(void)
+{
+    size_t n = word();
+    bytes b = {room(n + 3 & ~(size_t)3), n};
+    take(b.at, n + 3 & ~(size_t)3);
+    return b;
+}
+
+static uint8_t *out;
+static size_t used, size;
+
+static void put(const void *from, size_t n)
+{
+    if (used + n > size) {
+        size = 2 * (used + n);
+        out = realloc(out, size);
+        if (!out) fail("no memory");
+    }
+    memcpy(out + used, from, n);
+    used += n;
+}
+
+static void put_word(uint32_t w) { put(&w, 4); }
+
+static void put_text(const void *from, size_t n)
+{
+    put_word(n);
+    put(from, n);
+    put("\0\0\0", -n & 3);
+}
+
+/* ---- names: a line for each, the id in hexadecimal, a blank, the name */
+
+typedef struct { uint32_t *words; size_t n; uint8_t *area; size_t length; } names;
+
+static names names_of(const char *path)
+{
+    names s = {0, 0, 0, 0};
+    char line[4096];
+    FILE *f = fopen(path, "r");
+    if (!f) fail("a file of names cannot be read");
+    while (fgets(line, sizeof line, f)) {
+        char *name;
+        uint32_t id = strtoul(line, &name, 16);
+        size_t n = strcspn(++name, "\n");
+        s.words = realloc(s.words, 4 * (s.n + 3));
+        s.area = realloc(s.area, s.length + n + 1);
+        if (!s.words || !s.area) fail("no memory");
+        s.words[s.n++] = id;
+        s.words[s.n++] = s.length;
+        s.words[s.n++] = n;
+        memcpy(s.area + s.length, name, n);
+        s.length += n;
+    }
+    fclose(f);
+    return s;
+}
+
+/* ---- one question */
+
+static uint8_t *buffer;
+static size_t buffer_size = 1 << 16;
+
+/* the text of an index; where the buffer is short, the answer says how long it has to be */
+static struct axml_text_answer text_of(bytes file, names s, uint32_t index)
+{
+    struct axml_text_answer a = axml_text(file.at, file.n, s.words, s.n, s.area, s.length, buffer, buffer_size, index);
+    if (a.refusal != AXML_TEXT_SHORT) return a;
+    buffer_size = a.value + (a.value >> 1);
+    free(buffer);
+    buffer = room(buffer_size);
+    return axml_text(file.at, file.n, s.words, s.n, s.area, s.length, buffer, buffer_size, index);
+}
+
+static void put_name(bytes file, names s, uint32_t index)
+{
+    struct axml_text_answer a = text_of(file, s, index);
+    if (a.refusal) put_word(NONE);
+    else put_text(buffer, a.length);
+}
+
+static uint32_t *patterned(size_t n)
+{
+    uint32_t *t = room(4 * n);
+    memset(t, 0xa5, 4 * n);
+    return t;
+}
+
+static void zeros_behind(const uint32_t *t, size_t from, size_t n)
+{
+    for (; from < n; from++)
+        if (t[from]) fail("a word behind the records is not zero");
+}
+
+static void answer(uint32_t flags, uint32_t cap, names s, uint32_t asked)
+{
+    size_t rooms[3], k;
+    if (flags & ROOMS)
+        for (k = 0; k < 3; k++) rooms[k] = word();
+    bytes file = text();
+    if (!(flags & ROOMS)) {
+        rooms[0] = 5 * (file.n / 36 + 1);
+        rooms[1] = 5 * (file.n / 20 + 2);
+        rooms[2] = 13 * (size_t)cap;
+        if (rooms[2] > file.n) rooms[2] = file.n; /* a note comes of at least a byte */
+    }
+    uint32_t *nodes = patterned(rooms[0]), *attributes = patterned(rooms[1]), *notes = patterned(3 * rooms[2]);
+    struct axml_answer a = axml_read(file.at, file.n, s.words, s.n, s.area, s.length, nodes, rooms[0], attributes, rooms[1], notes, 3 * rooms[2], cap);
+    zeros_behind(nodes, 5 * (size_t)a.nodes, rooms[0]);
+    zeros_behind(attributes, 5 * (size_t)a.attributes, rooms[1]);
+    zeros_behind(notes, 3 * (size_t)a.notes, 3 * rooms[2]);
+    used = 0;
+    put_word(a.refusal);
+    put_word(a.value);
+    put_word(a.starts);
+    put_word(a.nodes);
+    put_word(a.attributes);
+    put_word(a.notes);
+    put(nodes, 20 * (size_t)a.nodes);
+    put(attributes, 20 * (size_t)a.attributes);
+    put(notes, 12 * (size_t)a.notes);
+    if (flags & TEXTS) {
+        uint32_t count = flags >> 8;
+        if (count) {
+            put_word(count);
+            for (uint32_t i = 0; i < count; i++) put_name(file, s, i);
+        } else {
+            put_word(text_of(file, s, 0).refusal == a.refusal ? 0 : NONE);
+        }
+    }
+    if (flags & NAMES) {
+        for (k = 0; k < a.nodes; k++)
+            if (nodes[5 * k + 1] == 1) put_text("invalid-element", 15);
+            else put_name(file, s, nodes[5 * k]);
+        for (k = 0; k < a.attributes; k++)
+            if (attributes[5 * k + 1] == 2) put_text("android", 7);
+            else put_name(file, s, attributes[5 * k + 2]);
+    }
+    while (asked--) {
+        bytes tag = text(), name = text();
+        if (a.refusal) {
+            for (k = 0; k < 4; k++) put_word(NONE);
+        } else {
+            struct axml_first_answer v = axml_first_value(file.at, file.n, s.words, s.n, s.area, s.length, nodes, rooms[0], attributes, rooms[1],
+                                                          tag.at, tag.n, name.at, name.n, a.nodes, a.attributes);
+            put_word(v.refusal);
+            put_word(v.type);
+            put_word(v.data);
+            put_word(v.reference);
+        }
+        free(tag.at);
+        free(name.at);
+    }
+    uint32_t length = used;
+    fwrite(&length, 1, 4, stdout);
+    fwrite(out, 1, used, stdout);
+    free(file.at);
+    free(nodes);
+    free(attributes);
+    free(notes);
+}
+
+/* ---- names and complex values, a line each */
+
+static void valid(void)
+{
+    static char line[1 << 16];
+    static uint8_t name[1 << 15];
+    while (fgets(line, sizeof line, stdin)) {
+        size_t n = strcspn(line, "\n") / 2;
+        for (size_t i = 0; i < n; i++) {
+            unsigned b;
+            sscanf(line + 2 * i, "%2x", &b);
+            name[i] = b;
+        }
+        printf("%d\n", axml_is_valid_name(name, n));
+    }
+}
+
+static void complex_values(void)
+{
+    char line[64];
+    while (fgets(line, sizeof line, stdin)) {
+        double v = axml_complex_to_float(strtoul(line, 0, 10));
+        uint64_t bits;
+        memcpy(&bits, &v, 8);
+        printf("%016llx\n", (unsigned long long)bits);
+    }
+}
+
+int main(int argc, char **argv)
+{
+    names sets[8] = {{0, 0, 0, 0}};
+    uint32_t none = 0;
+    int k = 1, n = 1;
+    sets[0].words = &none; /* a lent table has an address, also with no words in it */
+    sets[0].area = (uint8_t *)&none;
+    for (; k + 1 < argc && !strcmp(argv[k], "--names") && n < 8; k += 2) sets[n++] = names_of(argv[k + 1]);
+    buffer = room(buffer_size);
+    if (k < argc && !strcmp(argv[k], "--valid")) valid();
+    else if (k < argc && !strcmp(argv[k], "--complex")) complex_values();
+    else if (k < argc) fail("usage: axml-port [--names FILE].. [--valid | --complex]");
+    else
+        while (more()) {
+            uint32_t flags = word(), cap = word(), set = word(), asked = word();
+            if (set >= (uint32_t)n) fail("a set of names that was not given");
+            answer(flags, cap, sets[set], asked);
+        }
+    return 0;
+}
