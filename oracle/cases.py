@@ -6,6 +6,8 @@
   python3 cases.py check OUT               replays a file of cases with model.py and says what is in it
   python3 cases.py pack PROGRAM TEXTS QUESTIONS OUT
                                            the text questions of two files of cases, and those of every system name, for crates/text_cases
+  python3 cases.py pack-replay READS QUESTIONS OUT
+                                           the other cases of two files, and broken names, for crates/replay
 
 PROGRAM is build's OUT_DIR/axml-oracle. The same program and this folder give the same bytes.
 
@@ -34,6 +36,17 @@ Layout of pack's OUT, where a place is two words, where a part of OUT begins and
   list of sets:     places of words, area and questions of a set, 24 bytes each
   list of files:    places, numbered from 0 in the order in which the questions come to them
   question:         words number of the file, index, room, refusal, value; places of text and content (a part of the file or area); 36 bytes
+
+Layout of pack-replay's OUT, with places as above:
+
+  place of the list of sets; then all parts, the lists among them
+  list of sets:     places of words, area and cases of a set, 24 bytes each
+  case:             80 bytes, zeros at their end; a word, its kind, and then
+    2, read:        words cap, node words, attribute words, note places, 1 if `read_listed` answers the same, else 0; words refusal, value,
+                    starts, nodes, attributes, notes; places of the file and of the records of nodes, attributes, notes
+    4, first:       words node count, attribute count, refusal, value, type, data, reference; places of file, node words, attribute words, tag, name
+    5, name:        word 1 if it is a valid name, else 0; place of the text
+    6, complex:     words data, low half and high half of the f64's bits
 """
 import os
 import random
@@ -522,6 +535,19 @@ def question(names, f, i, content, t):
     return (names, f, i, 9, 12, 0, b"", content) if t == NONE else (names, f, i, len(t) + 1 + i % 5, 0, 0, t, content)
 
 
+class Parts:
+    """The parts of a file behind its first `at` bytes, each once; a place is where a part begins and how many bytes it has."""
+
+    def __init__(self, at):
+        self.at, self.body, self.places = at, bytearray(), {}
+
+    def place(self, b):
+        if b and b not in self.places:
+            self.places[b] = self.at + len(self.body)
+            self.body.extend(b)
+        return (self.places[b] if b else 0), len(b)
+
+
 def pack(program, texts, questions, path):
     sets = {}
     for names, *q in text_questions(program, texts, questions):
@@ -529,14 +555,8 @@ def pack(program, texts, questions, path):
     many, rows = sum(map(len, sets.values())), []
     files = list(dict.fromkeys(q[0] for qs in sets.values() for q in qs))
     number = {f: i for i, f in enumerate(files)}
-    parts, at = {}, 16 + 24 * len(sets) + 8 * len(files) + 36 * many
-    body = bytearray()
-
-    def place(b):
-        if b and b not in parts:
-            parts[b] = at + len(body)
-            body.extend(b)
-        return (parts[b] if b else 0), len(b)
+    parts = Parts(16 + 24 * len(sets) + 8 * len(files) + 36 * many)
+    place = parts.place
     out = words(16, 24 * len(sets), 16 + 24 * len(sets), 8 * len(files))
     begin = 16 + 24 * len(sets) + 8 * len(files)
     for (table, area), qs in sets.items():
@@ -547,10 +567,68 @@ def pack(program, texts, questions, path):
             assert n == 0 or where
             rows.append(words(number[f], i, room, refusal, value, *place(t), base + start if n else 0, n))
     out += b"".join(words(*place(f)) for f in files) + b"".join(rows)
-    assert len(out) == at
+    assert len(out) == parts.at
     with open(path, "wb") as f:
-        f.write(out + body)
-    print(f"{path}: {len(sets)} sets, {len(files)} files, {many} questions, {len(out) + len(body)} bytes")
+        f.write(out + parts.body)
+    print(f"{path}: {len(sets)} sets, {len(files)} files, {many} questions, {len(out) + len(parts.body)} bytes")
+
+
+# ---- readings, first values, names and complex values, for the same
+
+def replay_cases(reads, questions):
+    """(names, kind, words, parts) each."""
+    names, cases = open_cases(reads)
+    for c in cases:
+        assert c.word() == 2
+        k, *lent = c.words(5)
+        f, answer = c.text(), c.words(6)
+        yield read_row(names[k], lent, f, answer, [c.words(n * many) for n, many in zip((5, 5, 3), answer[3:])])
+    names, cases = open_cases(questions)
+    tried = {}
+    for c in cases:
+        kind = c.word()
+        if kind == 3:
+            own = model.Names(c.words(c.word()), c.text())
+            c.words(2)
+            tried[tuple(own.words), own.area, c.text()] = own
+        elif kind == 4:
+            k, f = c.word(), c.text()
+            tables = [words(*c.words(c.word())) for _ in range(2)]
+            asked = [c.text(), c.text()]
+            yield names[k], 4, c.words(7), [f, *tables, *asked]
+        elif kind == 5:
+            t = c.text()
+            yield names[0], 5, c.words(1), [t]
+        else:
+            yield names[0], 6, c.words(3), []
+    # names that may break their rule, which comes before all rules of the file: the model's answers
+    node, attribute = [0, 0, NONE, 0, 1], [0, 0, 1, 3, 7]
+    for (_, _, f), own in tried.items():
+        refusal, value, starts, *tables = model.read(f, own, 8, (11, 5, 2))
+        yield read_row(own, [8, 11, 5, 2], f, [refusal, value, starts, *map(len, tables)], [[x for row in t for x in row] for t in tables])
+        asked = [b"name", "é".encode()]
+        answer = model.first_value(f, own, node, attribute, *asked, 1, 1)
+        yield own, 4, [1, 1, *answer], [f, words(*node), words(*attribute), *asked]
+
+
+def read_row(names, lent, f, answer, tables):
+    """With no names, a cap of 8 and 104 places the answer is the same where no more than 8 notes of a kind were kept, and 10 is not the answer."""
+    kinds = tables[2][::3]
+    listed = not names.words and lent[0] >= 8 and answer[0] != 10 and all(kinds.count(x) <= 8 for x in kinds)
+    return names, 2, [*lent, int(listed), *answer], [f, *(words(*t) for t in tables)]
+
+
+def pack_replay(reads, questions, path):
+    sets, parts, many = {}, Parts(8), {}
+    for names, kind, w, held in replay_cases(reads, questions):
+        row = words(kind, *w, *(x for b in held for x in parts.place(b)))
+        sets.setdefault((tuple(names.words), names.area), []).append(row + bytes(80 - len(row)))
+        many[kind] = many.get(kind, 0) + 1
+    rows = b"".join(words(*parts.place(words(*table)), *parts.place(area), *parts.place(b"".join(rows))) for (table, area), rows in sets.items())
+    out = words(*parts.place(rows)) + parts.body
+    with open(path, "wb") as f:
+        f.write(out)
+    print(f"{path}: {len(sets)} sets, cases of each kind {many}, {len(out)} bytes")
 
 
 # ---- walking a file of cases
@@ -685,4 +763,4 @@ if __name__ == "__main__":
     if what == "check":
         check(sys.argv[2])
     else:
-        {"texts": make_texts, "reads": make_reads, "questions": make_questions, "pack": pack}[what](*sys.argv[2:])
+        {"texts": make_texts, "reads": make_reads, "questions": make_questions, "pack": pack, "pack-replay": pack_replay}[what](*sys.argv[2:])

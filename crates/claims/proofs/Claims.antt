@@ -4,45 +4,61 @@
 --   read-unique      of a reading, `read` and `read_listed` alike: the answer, and all three tables, whole
 --   text-unique      of the text question: the answer, and the whole buffer
 --   content-unique   of the content question: the bytes; of their address the promise says nothing
---   first-unique     of the first value
+--   first-unique     of the first value; listing-unique of a listing's text: the answer, and the whole buffer; name-unique of a valid name
 --   complex-unique   of the complex value
 --   numbers-unique   equal numbers are equal answers: of a reading; text-numbers-unique, first-numbers-unique of the two questions
 -- Insertion (P3): a file without a note, and the file with complete foreign chunks at some of its places.
 --   insertion        of the promise; insertion-read of two calls. What the hypotheses and the notes mean: insertion-head to insertion-cap
+-- Room (L1): suffices, read-listed-suffices. Zeros (P1, B7, B8): refused-zeros, done-zeros, text-refused-zeros, text-done-zeros. Structure: structured.
+-- Readers that break the promise (P5): refuses-all-broken to invents-notes-broken, each of every reader of its sort (specs/Readers.antt).
 -- The marked cases (L5): `cases-right` of proofs/Cases.antt, one table and one theorem; `cases-read` of proofs/Given.antt: `read` gives them.
 -- Texts and names (P2): what ties them to Unicode's tables and to XML's ranges is named in ARCHITECTURE.md.
-use Prim.Native.Nat.{ℕ, _+_, _*_, _≤_}
+use Prim.Native.Nat.{ℕ, _+_, _*_, _≤_, _<_}
 use mathlib.Core.Path.{_≡_, sym, _∙_}
 use mathlib.Core.List.{List, [], _∷_, _++_}
 use lib.Ieee.{Float}
-use lib.ListN.{length, take}
+use mathlib.Core.Bool.{Bool, false}
+use lib.ListN.{length, take, replicate}
 use Rattle.common.specs.Complex.{Complex}
 use Rattle.common.specs.Header.{headerOf}
 use Rattle.common.specs.declared.ResChunkHeader.{ResChunkHeader}
 use Rattle.common.specs.declared.HeaderRead.the-variants.{Whole}
 use Rattle.common.proofs.Product.{Complex-unique}
 use Rattle.chunk.specs.Sort.{sortOf}
-use Rattle.errors.specs.Refusal.{numbersOf, textNumbersOf, firstNumbersOf}
+use Rattle.errors.specs.Refusal.{numberOf, numbersOf, textNumbersOf, firstNumbersOf}
 use Rattle.errors.specs.declared.ReadAnswer.{ReadAnswer}
-use Rattle.errors.specs.declared.ReadAnswer.the-variants.{Done}
+use Rattle.errors.specs.declared.ReadAnswer.the-variants.{Done, Refused}
+use Rattle.errors.specs.declared.Refusal.{Refusal}
 use Rattle.errors.specs.declared.ReadCounts.{ReadCounts}
 use Rattle.errors.specs.declared.TextAnswer.{TextAnswer}
+use Rattle.errors.specs.declared.TextAnswer.the-variants as textIs
 use Rattle.errors.specs.declared.FirstAnswer.{FirstAnswer}
 use Rattle.errors.proofs.Laws.{numbersOf-unique, textNumbersOf-unique, firstNumbersOf-unique}
 use Rattle.anomaly.specs.declared.Note.{Note}
 use Rattle.anomaly.specs.Kept.{ofKind, keptNotes}
 use Rattle.anomaly.proofs.Laws.{keptNotes-of-kind}
+use Rattle.listing_text.specs.Printed.{Printed}
+use Rattle.xml.specs.NCName.{validName}
 use Rattle.head.specs.Ask.{TextReads, contentAnswer}
 use Rattle.head.specs.Head.{openedOf, headLen}
 use Rattle.first_value.specs.Question.{firstAnswer}
 use Rattle.tables.specs.Keep.{nodeWidth, attributeWidth}
 use Rattle.walk.specs.Settle.{Room}
-use Rattle.walk.specs.Reading.{reading, roomIn, Reads}
+use Rattle.walk.specs.Reading.{reading, roomIn, zeroNote, Reads}
 use Rattle.claims.specs.Insertion.{ForeignChunk, noteFor, stretchNotes, placesIn, insertedFile, placeNotes, AllOf, BeginsOther, HasRoom, withNotes, left}
+use Rattle.claims.specs.Counts.{opensIn, notesIn}
+use Rattle.claims.specs.ListingRoom.{listingLimit, listingRoom, placesFor}
+use Rattle.claims.specs.Cleared.{RefusedZero, DoneZero, TextRefusedZero, TextDoneZero}
+use Rattle.claims.specs.Shape.{Structured}
+use Rattle.claims.specs.Readers.{Reader, Meets, eventsOf, RefusesAll, Constant, LeavesNodes, LeavesAttributes, LeavesNotes, StopsAtStart}
 use Rattle.claims.proofs.Longer.{insertedFile-none}
 use Rattle.claims.proofs.Foreign.{foreign-of, foreign-bytes, stretch-one, placeNotes-room}
 use Rattle.claims.proofs.Insertion as proved
 use Rattle.claims.proofs.Calls as calls
+use Rattle.claims.proofs.Suffices as room
+use Rattle.claims.proofs.Zeros as zeros
+use Rattle.claims.proofs.Structure as tree
+use Rattle.claims.proofs.Broken as broken
 
 module _ (f names area ns ats : List ℕ) (os : List Note) (cap : ℕ) where
   pub read-unique : (r r′ : ReadAnswer) (ns₁ ns₂ ats₁ ats₂ : List ℕ) (os₁ os₂ : List Note) → Reads f names area ns ats os cap r ns₁ ats₁ os₁
@@ -62,6 +78,13 @@ module _ (f names area ns ats tag name : List ℕ) (nodes attributes : ℕ) wher
   pub first-unique : (r r′ : FirstAnswer) → r ≡ firstAnswer f names area ns ats tag name nodes attributes
       → r′ ≡ firstAnswer f names area ns ats tag name nodes attributes → r ≡ r′
   first-unique r r′ p q = p ∙ sym q
+
+pub listing-unique : (text before : List ℕ) (r r′ : TextAnswer) (after after′ : List ℕ) → Printed text before r after → Printed text before r′ after′
+    → (r ≡ r′) × (after ≡ after′)
+listing-unique text before r r′ after after′ p q = (textNumbersOf-unique r r′ (p .answer ∙ sym (q .answer)), p .out ∙ sym (q .out))
+
+pub name-unique : (s : List ℕ) (r r′ : Bool) → r ≡ validName false s → r′ ≡ validName false s → r ≡ r′
+name-unique s r r′ p q = p ∙ sym q
 
 pub complex-unique : (d : ℕ) (r r′ : Float) → Complex d r → Complex d r′ → r ≡ r′
 complex-unique d r r′ p q = Complex-unique d r r′ p q
@@ -142,3 +165,56 @@ insertion-stretch x xs ys h o = stretch-one x xs ys h o
 pub insertion-cap : (cap k : ℕ) (places : List (List ForeignChunk))
     → (ofKind k (keptNotes cap (placeNotes places)) ≡ take cap (ofKind k (placeNotes places))) × (length (keptNotes cap (placeNotes places)) ≤ 2 * cap)
 insertion-cap cap k places = (keptNotes-of-kind cap k (placeNotes places), placeNotes-room cap places)
+
+-- ---- room that always suffices (L1)
+
+pub suffices : (r : Room) (f names area : List ℕ) → length f ≤ listingLimit → 10240 ≤ r .nodes → 16380 ≤ r .attributes → placesFor (r .cap) ≤ r .notes
+    → (x : Refusal) → reading r f names area .answer ≡ Refused x → numberOf x < 8
+suffices r f names area short n a o x e = room.suffices r f names area short n a o x e
+
+pub read-listed-suffices : (f ns ats : List ℕ) (x : Refusal) (ns′ ats′ : List ℕ) (os′ : List Note) → length f ≤ listingLimit
+    → length ns ≡ listingRoom .nodes → length ats ≡ listingRoom .attributes
+    → Reads f [] [] ns ats (replicate (listingRoom .notes) zeroNote) (listingRoom .cap) (Refused x) ns′ ats′ os′ → numberOf x < 8
+read-listed-suffices f ns ats x ns′ ats′ os′ short n a h = room.read-listed-suffices f ns ats x ns′ ats′ os′ short n a h
+
+-- ---- zeros (B7, B8), and the structure of a success (W25 to W29, B9 to B15)
+
+module _ (f names area ns ats : List ℕ) (os : List Note) (cap : ℕ) (ns′ ats′ : List ℕ) (os′ : List Note) where
+  pub refused-zeros : (x : Refusal) → Reads f names area ns ats os cap (Refused x) ns′ ats′ os′ → RefusedZero (numbersOf (Refused x)) ns ats os ns′ ats′ os′
+  refused-zeros x h = zeros.refused-zeros f names area ns ats os cap x ns′ ats′ os′ h
+
+  pub done-zeros : (c : ReadCounts) → Reads f names area ns ats os cap (Done c) ns′ ats′ os′ → DoneZero (numbersOf (Done c)) ns ats os ns′ ats′ os′
+  done-zeros c h = zeros.done-zeros f names area ns ats os cap c ns′ ats′ os′ h
+
+  pub structured : (c : ReadCounts) → Reads f names area ns ats os cap (Done c) ns′ ats′ os′ → Structured (eventsOf f names area) cap c ns′ ats′ os′
+  structured c h = tree.structured f names area ns ats os cap c ns′ ats′ os′ h
+
+module _ (f names area before : List ℕ) (i : ℕ) (after : List ℕ) where
+  pub text-refused-zeros : (x : Refusal) → TextReads f names area before i (textIs.Refused x) after
+      → TextRefusedZero (textNumbersOf (textIs.Refused x)) before after
+  text-refused-zeros x h = zeros.text-refused-zeros f names area before i x after h
+
+  pub text-done-zeros : (k : ℕ) → TextReads f names area before i (textIs.Text k) after → TextDoneZero (textNumbersOf (textIs.Text k)) before after
+  text-done-zeros k h = zeros.text-done-zeros f names area before i k after h
+
+-- ---- readers that break the promise (P5)
+
+module _ (R : Reader) (meets : Meets R) where
+  pub refuses-all-broken : RefusesAll R → ⊥
+  refuses-all-broken h = broken.refuses-all-broken R meets h
+
+  pub constant-broken : (names area ns ats : List ℕ) (os : List Note) (cap : ℕ) → Constant R names area ns ats os cap → ⊥
+  constant-broken names area ns ats os cap h = broken.constant-broken R meets names area ns ats os cap h
+
+  pub stores-nothing-broken : LeavesNodes R → LeavesAttributes R → LeavesNotes R → ⊥
+  stores-nothing-broken n a o = broken.stores-nothing-broken R meets n a o
+
+  pub first-start-broken : StopsAtStart R → ⊥
+  first-start-broken h = broken.first-start-broken R meets h
+
+  module _ (f names area ns ats : List ℕ) (os : List Note) (cap : ℕ) where
+    pub invents-starts-broken : opensIn (eventsOf f names area) < numbersOf (R f names area ns ats os cap .answer) .starts → ⊥
+    invents-starts-broken h = broken.invents-starts-broken R meets f names area ns ats os cap h
+
+    pub invents-notes-broken : notesIn (eventsOf f names area) < numbersOf (R f names area ns ats os cap .answer) .notes → ⊥
+    invents-notes-broken h = broken.invents-notes-broken R meets f names area ns ats os cap h

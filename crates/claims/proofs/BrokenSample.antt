@@ -1,0 +1,81 @@
+-- File S and the file without its end, as the witnesses of proofs/Broken.antt.
+--
+--   read-S, read-88            the readings of S and of its first 88 bytes, from the table
+--   ends-S                     head and start of S end with its first start
+--   read-with-end, read-without   the two files that go on differently behind it
+use Prim.Native.Nat.{ℕ}
+use mathlib.Core.Path.{_≡_, refl, sym, _∙_, ap}
+use mathlib.Core.List.{List, [], _∷_, _++_}
+use lib.ListN.{take, getD}
+use Rattle.anomaly.specs.Note.{noteOf, kindIndex}
+use Rattle.field.specs.Le.{u16le, u32le}
+use Rattle.common.specs.Header.{headerOf}
+use Rattle.chunk.specs.Sort.{isXml, sortOf, contentOf as contentLen, foreignLen}
+use Rattle.chunk.specs.Walk.{walk, walkFrom, trace, traceFrom}
+use Rattle.utf.specs.Utf8.{matched, isWhole, longest, anyWhole, spelt, encode, step8}
+use Rattle.utf.specs.Text.{stepsAfter, bytesOf, allSound, textOf, eqBytes}
+use Rattle.xml.specs.NCName.{inRanges, isStart, isChar, sortOf as nameSort, allChar, nameOf as isNameOf, validName}
+use Rattle.res_string_pool.specs.Pool.{countOf, numbered, endOf, poolFrom, behindGarbage, poolOf, offsetOf, outsideOf}
+use Rattle.res_string_pool.specs.Content.{split8, split16}
+use Rattle.resource_map.specs.Map.{idsIn, idsBy, mapOf, idOf}
+use Rattle.system_types.specs.Names.{allAscii, isGood, namesFrom, nameOf}
+use Rattle.text.specs.Content.{systemOf, stringAt, stringOf, contentOf}
+use Rattle.head.specs.Head.{tablesOf, openedOf, outsideIn}
+use Rattle.head.specs.Ask.{lengthCheck}
+use Rattle.xml_elements.specs.Chunk.{startOf, attributeAt, startTurn, xmlTurn, numberOf, turnOf}
+use Rattle.events.specs.Events.{attributeEvent, attributesOf, fromLead, fromOpen, fromName, fromTrailing, fromSize, fromGap, eventsOn, bodyEvents, fileEvents}
+use Rattle.tables.specs.Keep.{hasKey}
+use Rattle.walk.specs.Settle.{settle}
+use Rattle.walk.specs.Reading.{Reading, reading, zeroNote}
+use Rattle.claims.specs.Readers.{FirstStart, eventsOf}
+use Rattle.claims.specs.Counts.{opensIn}
+use Rattle.claims.proofs.Cases.{fileS, headS, startS, endS, room, none, note, oneNode, cases, cases-right}
+
+pub read-S : reading room fileS [] [] ≡ oneNode 1 0 none
+unfolding cases
+read-S = ap (λ (l : List Reading). getD l 0 (oneNode 1 0 none)) cases-right
+
+pub read-88 : reading room (take 88 fileS) [] [] ≡ oneNode 1 1 (note 12 1 ∷ zeroNote ∷ zeroNote ∷ zeroNote ∷ [])
+unfolding cases
+read-88 = ap (λ (l : List Reading). getD l 3 (oneNode 1 0 none)) cases-right
+
+no-start : _≡_ {A = ℕ} (opensIn (eventsOf headS [] [])) 0
+unfolding fileS headS startS endS settle u16le u32le headerOf isXml sortOf contentLen foreignLen walk walkFrom trace traceFrom
+    countOf numbered endOf poolFrom behindGarbage poolOf offsetOf outsideOf split8 split16 idsIn idsBy mapOf idOf allAscii isGood namesFrom
+    nameOf systemOf stringAt stringOf contentOf tablesOf openedOf outsideIn lengthCheck startOf attributeAt startTurn xmlTurn numberOf
+    turnOf attributeEvent attributesOf fromLead fromOpen fromName fromTrailing fromSize fromGap eventsOn bodyEvents fileEvents hasKey
+    kindIndex noteOf matched isWhole longest anyWhole spelt encode step8 stepsAfter bytesOf allSound textOf eqBytes inRanges isStart isChar
+    nameSort allChar isNameOf validName
+no-start = refl
+
+one-start : _≡_ {A = ℕ} (opensIn (eventsOf (headS ++ startS) [] [])) 1
+unfolding fileS headS startS endS settle u16le u32le headerOf isXml sortOf contentLen foreignLen walk walkFrom trace traceFrom
+    countOf numbered endOf poolFrom behindGarbage poolOf offsetOf outsideOf split8 split16 idsIn idsBy mapOf idOf allAscii isGood namesFrom
+    nameOf systemOf stringAt stringOf contentOf tablesOf openedOf outsideIn lengthCheck startOf attributeAt startTurn xmlTurn numberOf
+    turnOf attributeEvent attributesOf fromLead fromOpen fromName fromTrailing fromSize fromGap eventsOn bodyEvents fileEvents hasKey
+    kindIndex noteOf matched isWhole longest anyWhole spelt encode step8 stepsAfter bytesOf allSound textOf eqBytes inRanges isStart isChar
+    nameSort allChar isNameOf validName
+one-start = refl
+
+pub ends-S : FirstStart [] [] (headS ++ startS)
+unfolding fileS headS startS endS settle u16le u32le headerOf isXml sortOf contentLen foreignLen walk walkFrom trace traceFrom
+    countOf numbered endOf poolFrom behindGarbage poolOf offsetOf outsideOf split8 split16 idsIn idsBy mapOf idOf allAscii isGood namesFrom
+    nameOf systemOf stringAt stringOf contentOf tablesOf openedOf outsideIn lengthCheck startOf attributeAt startTurn xmlTurn numberOf
+    turnOf attributeEvent attributesOf fromLead fromOpen fromName fromTrailing fromSize fromGap eventsOn bodyEvents fileEvents hasKey
+    kindIndex noteOf matched isWhole longest anyWhole spelt encode step8 stepsAfter bytesOf allSound textOf eqBytes inRanges isStart isChar
+    nameSort allChar isNameOf validName
+ends-S = record { before = headS; chunk = startS; start = startOf startS; split = refl; none = no-start; one = one-start; reads = refl; long = refl }
+
+with-end : fileS ≡ (headS ++ startS) ++ endS
+unfolding fileS headS startS endS
+with-end = refl
+
+without : take 88 fileS ≡ (headS ++ startS) ++ []
+unfolding fileS headS startS endS
+without = refl
+
+pub read-with-end : reading room ((headS ++ startS) ++ endS) [] [] ≡ oneNode 1 0 none
+read-with-end = ap (λ (f : List ℕ). reading room f [] []) (sym with-end) ∙ read-S
+
+pub read-without : reading room ((headS ++ startS) ++ []) [] [] ≡ oneNode 1 1 (note 12 1 ∷ zeroNote ∷ zeroNote ∷ zeroNote ∷ [])
+read-without = ap (λ (f : List ℕ). reading room f [] []) (sym without) ∙ read-88

@@ -1,0 +1,75 @@
+-- The shape of what a reading leaves: docs/FORMAT.md, W25 to W29, B9 to B15.
+--
+--   word         the word k of the record i of a table of five words each
+--   Descends     of n nodes, the first has 4294967295 for its parent, and each other an earlier node
+--   begin, end   a node's run: its first attribute, and where the next run begins
+--   Runs         the runs of n nodes cover m attributes in turn: the first begins at 0, each next where the one before ends, and the last ends at m
+--   Owns         an attribute within a node's run has that node for its owner
+--   ofKind       how many notes of a list are of the kind k
+--   DepthSaid    a note 12 of a list says the depth
+--   Structured   what holds of every successful reading: its nodes are the first of the elements, in order; parents, runs and owners; no kind has
+--                more notes than the cap; note 12 says the depth, and is there exactly where that is not 0; with depth 0 no element is dropped, from
+--                depth 2 on some are
+use Prim.Native.Nat.{ℕ, _+_, _*_, _≤_, _<_}
+use mathlib.Core.Path.{_≡_}
+use mathlib.Core.List.{List, [], _∷_}
+use mathlib.Core.Bool.{cond}
+use lib.ListN.{getD, take}
+use lib.Dec.{eqb}
+use Rattle.anomaly.specs.declared.Note.{Note}
+use Rattle.errors.specs.declared.ReadCounts.{ReadCounts}
+use Rattle.events.specs.declared.Event.{Event}
+use Rattle.claims.specs.Counts.{opensIn, notesIn, openNames, openFixed, depthFrom}
+
+abbrev pub word : List ℕ → ℕ → ℕ → ℕ
+word w i k = getD w (5 * i + k) 0
+
+pub record Parent (w : List ℕ) (i : ℕ) : Type 0 where
+  pub first : i ≡ 0 → word w i 2 ≡ 4294967295
+  pub later : 0 < i → word w i 2 < i
+
+abbrev pub Descends : List ℕ → ℕ → Type 0
+Descends w n = (i : ℕ) → i < n → Parent w i
+
+abbrev pub begin : List ℕ → ℕ → ℕ
+begin w i = word w i 3
+
+abbrev pub end : List ℕ → ℕ → ℕ
+end w i = word w i 3 + word w i 4
+
+pub record Runs (w : List ℕ) (n m : ℕ) : Type 0 where
+  pub none : n ≡ 0 → m ≡ 0
+  pub begins : 0 < n → _≡_ {A = ℕ} (begin w 0) 0
+  pub follows : (i : ℕ) → i + 1 < n → begin w (i + 1) ≡ end w i
+  pub ends : (i : ℕ) → i + 1 ≡ n → end w i ≡ m
+
+abbrev pub Owns : List ℕ → List ℕ → ℕ → Type 0
+Owns w v n = (i j : ℕ) → i < n → begin w i ≤ j → j < end w i → word v j 0 ≡ i
+
+abbrev pub ofKind : ℕ → List Note → ℕ
+ofKind k [] = 0
+ofKind k (x ∷ xs) = cond (eqb (x .kind) k) 1 0 + ofKind k xs
+
+-- a note 12 says the depth d
+abbrev pub DepthSaid : ℕ → List Note → Type 0
+DepthSaid d [] = Unit {0}
+DepthSaid d (x ∷ xs) = (x .kind ≡ 12 → x .a ≡ d) × DepthSaid d xs
+
+-- of a file that makes the events es
+pub record Structured (es : List Event) (cap : ℕ) (c : ReadCounts) (ns ats : List ℕ) (os : List Note) : Type 0 where
+  pub starts : c .starts ≡ opensIn es
+  pub some : 0 < c .nodes
+  pub within : c .nodes ≤ c .starts
+  pub names : (i : ℕ) → i < c .nodes → word ns i 0 ≡ getD (openNames es) i 0
+  pub fixed : (i : ℕ) → i < c .nodes → word ns i 1 ≡ getD (openFixed es) i 0
+  pub parents : Descends ns (c .nodes)
+  pub runs : Runs ns (c .nodes) (c .attributes)
+  pub owns : Owns ns ats (c .nodes)
+  pub owners : (j : ℕ) → j < c .attributes → word ats j 0 < c .nodes
+  pub notes : c .notes ≤ notesIn es
+  pub kinds : (k : ℕ) → ofKind k (take (c .notes) os) ≤ cap
+  pub depth : DepthSaid (depthFrom 0 es) (take (c .notes) os)
+  pub twelve : 0 < cap → (depthFrom 0 es ≡ 0 → ⊥) → ofKind 12 (take (c .notes) os) ≡ 1
+  pub untold : depthFrom 0 es ≡ 0 → _≡_ {A = ℕ} (ofKind 12 (take (c .notes) os)) 0
+  pub closed : depthFrom 0 es ≡ 0 → c .nodes ≡ c .starts
+  pub dropped : 2 ≤ depthFrom 0 es → c .nodes < c .starts

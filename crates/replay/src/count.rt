@@ -1,0 +1,111 @@
+// What was asked for and what was right, in one table of numbers: two for each group, and the sets of names.
+use libc::STDOUT_FILENO;
+
+// Groups 0 to 13 are the readings with that refusal, 16 to 29 the first values; 0 and 16 are those that are not refused.
+pub const FIRST: usize = 16;
+
+pub const READINGS: usize = 32;
+
+pub const LISTED: usize = 33;
+
+pub const FIRSTS: usize = 34;
+
+pub const NAMES: usize = 35;
+
+pub const COMPLEX: usize = 36;
+
+// The place of a number that stands alone.
+pub const SETS: usize = 74;
+
+fn wide(n: u32) -> u64 {
+    n as u64
+}
+
+// The number at a place; 0 outside the table.
+fn count_at(counts: &[u32], place: usize) -> u64 {
+    if place < counts.len() {
+        return wide(counts[place]);
+    }
+    0
+}
+
+// One more at a place. A place outside the table is nowhere, and 4294967295 goes to 0.
+pub fn bump(counts: &mut [u32], place: usize) {
+    if place < counts.len() {
+        counts[place] = std::num::wrapping_add_u32(counts[place], 1);
+    }
+}
+
+// One more answer of a group, and one more right one where it is.
+pub fn tally(counts: &mut [u32], group: usize, right: bool) {
+    if group < 37 {
+        bump(counts, 2 * group + 1);
+        if right {
+            bump(counts, 2 * group);
+        }
+    }
+}
+
+// The same of the group of a refusal, among those from `groups` on. A number that no refusal has belongs to none.
+pub fn tally_refusal(counts: &mut [u32], groups: usize, refusal: u32, right: bool) {
+    if groups <= FIRST {
+        if refusal < 14 {
+            tally(counts, groups + refusal as usize, right);
+        }
+    }
+}
+
+// ---- the report
+
+fn say(s: &[u8]) {
+    io::write_all(STDOUT_FILENO, s);
+}
+
+fn print_one(label: &[u8], counts: &[u32], place: usize) {
+    say(label);
+    io::print_decimal(STDOUT_FILENO, count_at(counts, place));
+}
+
+fn print_group(label: &[u8], counts: &[u32], group: usize) {
+    if group < 37 {
+        print_one(label, counts, 2 * group);
+        print_one(b" of ", counts, 2 * group + 1);
+        say(b"\n");
+    }
+}
+
+fn print_readings(counts: &[u32]) {
+    print_group(b"readings ", counts, READINGS);
+    print_group(b"  done ", counts, 0);
+    print_group(b"  refusal 1, too small: ", counts, 1);
+    print_group(b"  refusal 3, header size: ", counts, 3);
+    print_group(b"  refusal 4, string pool: ", counts, 4);
+    print_group(b"  refusal 5, resource map: ", counts, 5);
+    print_group(b"  refusal 6, no root: ", counts, 6);
+    print_group(b"  refusal 7, system names: ", counts, 7);
+    print_group(b"  refusal 8, nodes full: ", counts, 8);
+    print_group(b"  refusal 9, attributes full: ", counts, 9);
+    print_group(b"  refusal 10, notes full: ", counts, 10);
+    print_group(b"readings listed ", counts, LISTED);
+}
+
+fn print_firsts(counts: &[u32]) {
+    print_group(b"first values ", counts, FIRSTS);
+    print_group(b"  found ", counts, FIRST);
+    print_group(b"  refusal 1, too small: ", counts, FIRST + 1);
+    print_group(b"  refusal 3, header size: ", counts, FIRST + 3);
+    print_group(b"  refusal 4, string pool: ", counts, FIRST + 4);
+    print_group(b"  refusal 5, resource map: ", counts, FIRST + 5);
+    print_group(b"  refusal 7, system names: ", counts, FIRST + 7);
+    print_group(b"  refusal 12, nothing found: ", counts, FIRST + 12);
+    print_group(b"  refusal 13, tables: ", counts, FIRST + 13);
+}
+
+pub fn print_counts(counts: &[u32]) {
+    print_one(b"sets of names ", counts, SETS);
+    say(b"\n");
+    print_readings(counts);
+    print_firsts(counts);
+    print_group(b"names ", counts, NAMES);
+    print_group(b"complex values ", counts, COMPLEX);
+}
