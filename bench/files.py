@@ -1,0 +1,154 @@
+"""The files that are timed, made the same each time.
+
+  ordinary(size)   elements as an application's manifest has them, with several attributes each, closed, up to so many bytes
+  HOSTILE          name, function: files that make a reader work
+  real()           (name, bytes): manifests that aapt makes of oracle/real.py's texts, the framework's own, and the longest of its other files.
+                   Manifests have UTF-16 pools, whatever aapt is told; the other files have UTF-8 ones.
+"""
+import os
+import struct
+import subprocess
+import sys
+import tempfile
+import zipfile
+
+TOP = os.path.dirname(os.path.dirname(os.path.abspath(__file__)))
+sys.path.insert(0, f"{TOP}/oracle")
+sys.dont_write_bytecode = True
+from real import FRAMEWORK, manifest
+NONE = 0xFFFFFFFF
+LIMIT = 16_777_216
+
+
+def chunk(kind, header, body):
+    return struct.pack("<HHI", kind, header, 8 + len(body)) + body
+
+
+def node(kind, body):
+    return chunk(kind, 16, struct.pack("<II", 1, NONE) + body)
+
+
+def start(name, attributes=()):
+    """attributes: (namespace, name, type, data)"""
+    rows = b"".join(struct.pack("<IIIHBBI", ns, n, NONE, 8, 0, kind, data) for ns, n, kind, data in attributes)
+    return node(0x102, struct.pack("<IIHHHHHH", NONE, name, 20, 20, len(attributes), 0, 0, 0) + rows)
+
+
+def end(name):
+    return node(0x103, struct.pack("<II", NONE, name))
+
+
+def pool(data, offsets, utf8):
+    body = struct.pack(f"<{len(offsets)}I", *offsets) + data
+    return chunk(1, 28, struct.pack("<5I", len(offsets), 0, 0x100 if utf8 else 0, 28 + 4 * len(offsets), 0) + body)
+
+
+def pool8(texts):
+    """A UTF-8 pool of texts shorter than 128 bytes."""
+    data, offsets = b"", []
+    for t in texts:
+        offsets.append(len(data))
+        data += bytes((len(t), len(t))) + t + b"\0"
+    return pool(data + bytes(-len(data) % 4), offsets, True)
+
+
+def whole(parts, ids=()):
+    """A file: its pool, the map, the nodes."""
+    first, *rest = parts
+    return chunk(3, 8, first + chunk(0x180, 8, struct.pack(f"<{len(ids)}I", *ids)) + b"".join(rest))
+
+
+def ordinary(size):
+    words = (b"name exported label launchMode theme android manifest application activity intent-filter action category "
+             b"http://schemas.android.com/apk/res/android android.intent.action.MAIN android.intent.category.LAUNCHER "
+             b"org.example.Main Visits priority").split()
+    at = {w.decode(): i for i, w in enumerate(words)}
+    ids = (0x01010003, 0x01010010, 0x01010001, 0x0101001D, 0x01010000)
+    ns = at["http://schemas.android.com/apk/res/android"]
+    group = b"".join((
+        start(at["activity"], ((ns, 0, 3, at["org.example.Main"]), (ns, 1, 18, NONE), (ns, 2, 3, at["Visits"]), (ns, 3, 16, 1), (ns, 4, 1, 0x01030005))),
+        start(at["intent-filter"], ((ns, at["priority"], 16, 7),)),
+        start(at["action"], ((ns, 0, 3, at["android.intent.action.MAIN"]),)), end(at["action"]),
+        start(at["category"], ((ns, 0, 3, at["android.intent.category.LAUNCHER"]),)), end(at["category"]),
+        end(at["intent-filter"]), end(at["activity"])))
+    head = pool8(words)
+    opening = start(at["manifest"]) + start(at["application"], ((ns, 2, 3, at["Visits"]), (ns, 4, 1, 0x01030005)))
+    closing = end(at["application"]) + end(at["manifest"])
+    room = size - len(whole((head, opening, closing), ids))
+    return whole((head, opening, group * (room // len(group)), closing), ids)
+
+
+def foreign():
+    one = pool8([b"a"])
+    return whole((one, start(0), struct.pack("<HHI", 0x200, 8, 8) * 2_000_000, end(0)))
+
+
+def both_sorts():
+    """Foreign chunks and nodes whose header is not 16 by turns: each is a run of its own."""
+    one = pool8([b"a"])
+    return whole((one, start(0), struct.pack("<HHIHHI", 0x200, 8, 8, 0x102, 8, 8) * 1_000_000, end(0)))
+
+
+def nested():
+    return whole((pool8([b"a"]), start(0) * 279_000, end(0) * 279_000))
+
+
+def pool16(texts):
+    """A UTF-16 pool."""
+    data, offsets = [], [0]
+    for t in texts:
+        n = len(t)
+        data.append((struct.pack("<HH", 0x8000 | n >> 16, n & 0xFFFF) if n > 0x7FFF else struct.pack("<H", n)) + t.encode("utf-16-le") + b"\0\0")
+        offsets.append(offsets[-1] + len(data[-1]))
+    return pool(b"".join(data) + bytes(-offsets[-1] % 4), offsets[:-1], False)
+
+
+def many_attributes(count, common="", wide=False):
+    """One element with so many attributes, whose names have the same letters first."""
+    names = [f"{common}n{i:04x}" for i in range(count)]
+    texts = pool16(names) if wide else pool8([n.encode() for n in names])
+    return whole((texts, start(0, [(NONE, i, 16, i) for i in range(count)]), end(0)))
+
+
+def long_names(letter):
+    """Six names of a million units that differ in their last unit alone, on twenty elements."""
+    texts = [letter * 999_999 + last for last in "abcdef"]
+    one = start(0, [(NONE, i, 16, i) for i in range(1, 6)]) + end(0)
+    return whole((pool16(texts), start(0), one * 20, end(0)))
+
+
+def offsets():
+    data = b"\1\1a\0"
+    return whole((pool(data, [0] * 4_000_000, True), start(3_999_999), end(0)))
+
+
+# name, file, rounds: 0 where a reading takes so long that one will do, and --quick leaves it out
+HOSTILE = (("2,000,000 foreign chunks in a run", foreign, 11),
+           ("2,000,000 foreign chunks of two sorts by turns", both_sorts, 11),
+           ("279,000 levels", nested, 7),
+           ("4,000,000 offsets", offsets, 11),
+           ("names of a million UTF-16 units, ASCII", lambda: long_names("a"), 3),
+           ("names of a million UTF-16 units, Cyrillic", lambda: long_names("\u0436"), 3),
+           ("8,192 attributes of different names", lambda: many_attributes(8192), 5),
+           ("8,192 attributes, UTF-16", lambda: many_attributes(8192, wide=True), 3),
+           ("8,192 attributes, the first 100 letters the same", lambda: many_attributes(8192, "a" * 100), 3),
+           ("65,535 attributes of different names", lambda: many_attributes(65_535), 0))
+
+# Texts of oracle/real.py whose manifests have from 2 to 400 KB.
+MANIFESTS = (46, 1, 5, 19, 2, 25)
+
+
+def real():
+    made = []
+    with tempfile.TemporaryDirectory() as d:
+        for number in MANIFESTS:
+            with open(f"{d}/AndroidManifest.xml", "w", encoding="utf-8") as f:
+                f.write('<?xml version="1.0" encoding="utf-8"?>\n' + manifest(number))
+            subprocess.run(["aapt", "package", "-f", "-M", f"{d}/AndroidManifest.xml", "-I", FRAMEWORK, "-F", f"{d}/a.apk"], check=True,
+                           stdout=subprocess.DEVNULL)
+            with zipfile.ZipFile(f"{d}/a.apk") as z:
+                made.append((f"manifest {number}", z.read("AndroidManifest.xml")))
+    with zipfile.ZipFile(FRAMEWORK) as z:
+        made.append(("manifest of the framework", z.read("AndroidManifest.xml")))
+        others = [z.read(n) for n in z.namelist() if n.endswith(".xml") and n != "AndroidManifest.xml"]
+    return sorted(made, key=lambda m: len(m[1])), max((b for b in others if b[:4] == b"\3\0\x08\0"), key=len)

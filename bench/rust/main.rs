@@ -1,0 +1,162 @@
+//! Times the Rust and the proved reader in turns, in one process, where their answers are equal. See ../README.md.
+//!
+//!   time NAMES ROUNDS FILE     a line: nanoseconds of the Rust with and without freeing its result, of ours with and without making its
+//!                              tables, each the median of the rounds; the ratio of the first to the third and of the second to the fourth,
+//!                              each as median and quartiles. Where the answers differ it says so and ends with 1.
+//!   grow ROUNDS FILE..         the files in turns, ours with no names; for each a line: nanoseconds per byte, and those of the last file over
+//!                              them, each as median and quartiles
+//!   count SIDE NAMES FILE      calls SIDE (freed, rust, ours) once, in `measured`, for a tool that counts instructions
+//!
+//! NAMES is `none` or oracle/system-names.txt. One round is one call; of more, each has as many calls as take 2 ms.
+
+use std::hint::black_box;
+use std::time::Instant;
+
+mod equal;
+mod ours;
+
+use ours::{Names, Tables};
+
+/// The seeds of std's hash tables, the same in each run, so that a count of instructions repeats.
+#[unsafe(no_mangle)]
+pub unsafe extern "C" fn getrandom(p: *mut u8, n: usize, _: u32) -> isize {
+    unsafe { std::ptr::write_bytes(p, 7, n) };
+    n as isize
+}
+
+unsafe extern "C" {
+    fn clock_gettime(clock: i32, t: *mut [i64; 2]) -> i32;
+}
+
+/// Nanoseconds that this thread has run: other work on the machine does not count.
+fn ran() -> f64 {
+    let mut t = [0; 2];
+    unsafe { clock_gettime(3, &mut t) };
+    t[0] as f64 * 1e9 + t[1] as f64
+}
+
+#[derive(Clone, Copy, PartialEq)]
+enum Side {
+    /// the Rust, and its result freed
+    Freed,
+    /// the Rust, its result freed behind the clock's back
+    Rust,
+    /// ours, its tables made and given back
+    Made,
+    /// ours, over tables that were there
+    Ours,
+}
+
+/// One call. What the Rust keeps is freed by `equal::forget`.
+#[unsafe(no_mangle)]
+#[inline(never)]
+fn measured(side: Side, file: &[u8], names: &Names, tables: &mut Tables) {
+    match side {
+        Side::Freed => equal::freed(file, names.lent()),
+        Side::Rust => equal::kept(file, names.lent()),
+        Side::Made => {
+            let mut t = Tables::of(file.len());
+            black_box(t.read(file, names));
+        }
+        Side::Ours => {
+            black_box(tables.read(file, names));
+        }
+    }
+}
+
+/// The median of so many calls, in nanoseconds.
+fn nanos(side: Side, file: &[u8], names: &Names, tables: &mut Tables, times: usize, long: bool) -> f64 {
+    let began = Instant::now();
+    let now = || if long { ran() } else { began.elapsed().as_nanos() as f64 };
+    let mut all = Vec::with_capacity(times);
+    for _ in 0..times {
+        let t = now();
+        measured(side, black_box(file), names, tables);
+        all.push(now() - t);
+        equal::forget();
+    }
+    quartiles(&mut all)[1]
+}
+
+fn quartiles(v: &mut [f64]) -> [f64; 3] {
+    v.sort_by(f64::total_cmp);
+    [v[v.len() / 4], v[v.len() / 2], v[v.len() * 3 / 4]]
+}
+
+const SIDES: [Side; 4] = [Side::Freed, Side::Rust, Side::Made, Side::Ours];
+
+fn time(names: &Names, rounds: usize, path: &str) {
+    let file = std::fs::read(path).unwrap();
+    let mut tables = Tables::of(file.len());
+    let answer = tables.read(&file, names);
+    if let Err(why) = equal::equal(&file, names.lent(), &tables, &answer) {
+        println!("{path}: the answers differ: {why}");
+        std::process::exit(1);
+    }
+    let once = SIDES.map(|s| nanos(s, &file, names, &mut tables, 1, true));
+    let times = once.map(|n| (2e6 / n).clamp(1.0, 2000.0) as usize);
+    let mut took = if rounds == 1 { once.map(|n| vec![n]) } else { Default::default() };
+    for round in 0..if rounds == 1 { 0 } else { rounds } {
+        for k in 0..4 {
+            let i = (round + k) % 4;
+            took[i].push(nanos(SIDES[i], &file, names, &mut tables, times[i], once[i] > 5e5));
+        }
+    }
+    let ratio = |a: usize, b: usize| {
+        let mut r: Vec<f64> = took[a].iter().zip(&took[b]).map(|(x, y)| x / y).collect();
+        quartiles(&mut r)
+    };
+    let [whole, bare] = [ratio(0, 2), ratio(1, 3)].map(|[low, middle, high]| [middle, low, high]);
+    let medians = took.each_mut().map(|v| quartiles(v)[1]);
+    let words: Vec<String> = medians.into_iter().chain(whole).chain(bare).map(|x| format!("{x:.4}")).collect();
+    println!("{}", words.join(" "));
+}
+
+fn grow(rounds: usize, paths: &[String]) {
+    let names = Names::of("none");
+    let files: Vec<Vec<u8>> = paths.iter().map(|p| std::fs::read(p).unwrap()).collect();
+    let mut tables: Vec<Tables> = files.iter().map(|f| Tables::of(f.len())).collect();
+    let mut per = vec![vec![]; files.len()];
+    for _ in 0..rounds {
+        for (i, file) in files.iter().enumerate() {
+            // as many calls as read 16 MiB, by the same clock for all
+            let times = (1 << 24) / file.len();
+            let t = ran();
+            (0..times).for_each(|_| measured(Side::Ours, black_box(file), &names, &mut tables[i]));
+            per[i].push((ran() - t) / (times * file.len()) as f64);
+        }
+    }
+    let last = per[files.len() - 1].clone();
+    for v in &mut per {
+        let mut over: Vec<f64> = last.iter().zip(&*v).map(|(x, y)| x / y).collect();
+        let [low, middle, high] = quartiles(v);
+        let [least, over, most] = quartiles(&mut over);
+        println!("{middle:.4} {low:.4} {high:.4} {over:.4} {least:.4} {most:.4}");
+    }
+}
+
+fn count(side: &str, names: &Names, path: &str) {
+    let side = match side {
+        "freed" => Side::Freed,
+        "rust" => Side::Rust,
+        _ => Side::Ours,
+    };
+    let file = std::fs::read(path).unwrap();
+    let mut tables = Tables::of(file.len());
+    measured(side, black_box(&file), names, &mut tables);
+    equal::forget();
+}
+
+fn main() {
+    let args: Vec<String> = std::env::args().skip(1).collect();
+    match args.as_slice() {
+        [what, side, names, path] if what == "count" => count(side, &Names::of(names), path),
+        [what, rounds, paths @ ..] if what == "grow" => grow(rounds.parse().unwrap(), paths),
+        [what, names, rounds, path] if what == "time" => {
+            let (names, rounds, path) = (Names::of(names), rounds.parse().unwrap(), path.clone());
+            // the Rust drops its tree by recursion, once for each level
+            std::thread::Builder::new().stack_size(4 << 30).spawn(move || time(&names, rounds, &path)).unwrap().join().unwrap();
+        }
+        _ => panic!("see the head of main.rs"),
+    }
+}
