@@ -1,20 +1,26 @@
--- Laws of specs/Words.antt: a list of words as notes, and what holds at the head of `read_words`'s loop. No contract cites this file.
--- In order: length and stores (`length-words`, `words-put`), words taken for notes (`notesIn`, `words-back`, `notesIn-places`).
-use Prim.Native.Nat.{ℕ, zero, suc, _+_, _-_, _*_, _/_, _<_}
+-- Laws of specs/Words.antt: a list of words as notes. No contract cites this file.
+-- In order: length (`length-of`), words taken for notes (`notesIn`, `words-back`, `notesIn-places`), a store (`words-put`), and zeros from a
+-- place on (`words-cleared`).
+use Prim.Native.Nat.{ℕ, zero, suc, _+_, _-_, _*_, _/_, _≤_, _<_}
 use native.Mathlib.Omega.{arith}
 use native.Mathlib.Nat.{div-eq-of-lt-le}
 use mathlib.Core.Path.{_≡_, refl, sym, _∙_, ap}
-use mathlib.Core.List.{List, [], _∷_, _++_}
-use lib.ListN.{length, set, length-append}
+use mathlib.Core.List.{List, [], _∷_, _++_, append-assoc}
+use lib.ListN.{length, take, set, replicate, length-append, replicate-append-replicate}
 use Rattle.anomaly.specs.declared.Note.{Note}
+use Rattle.walk.specs.Reading.{zeroNote}
+use Rattle.walk.specs.Outcome.{cleared}
 use Rattle.c_api.specs.Words.{wordsOf, putNote}
 
--- ---- length and stores
+-- ---- length
 
-pub length-words : (os : List Note) → length (wordsOf os) ≡ 3 * length os
+length-words : (os : List Note) → length (wordsOf os) ≡ 3 * length os
 unfolding wordsOf
 length-words [] = refl
 length-words (n ∷ os) = omega (arith, length-words os)
+
+pub length-of : (os : List Note) (t ws : List ℕ) → ws ≡ wordsOf os ++ t → length ws ≡ 3 * length os + length t
+length-of os t ws e = ap length e ∙ length-append (wordsOf os) t ∙ ap (λ (n : ℕ). n + length t) (length-words os)
 
 -- ---- words taken for notes
 
@@ -46,8 +52,7 @@ restIn-lt (a ∷ b ∷ c ∷ ws) = restIn-lt ws
 
 pub notesIn-places : (ws : List ℕ) → length (notesIn ws) ≡ length ws / 3
 notesIn-places ws =
-    let e : length ws ≡ 3 * length (notesIn ws) + length (restIn ws) =
-    ap length (words-back ws) ∙ length-append (wordsOf (notesIn ws)) (restIn ws) ∙ ap (λ (n : ℕ). n + length (restIn ws)) (length-words (notesIn ws)) in
+    let e : length ws ≡ 3 * length (notesIn ws) + length (restIn ws) = length-of (notesIn ws) (restIn ws) ws (words-back ws) in
     sym (div-eq-of-lt-le 3 (omega (arith, e)) (omega (arith, e, restIn-lt ws)))
 
 -- ---- a note put into the words of a list is that note set in the list
@@ -67,3 +72,39 @@ words-put (o ∷ os) t (suc k) n h =
     let e₁ : 3 * suc k + 1 ≡ suc (suc (suc (3 * k + 1))) = omega arith in
     let e₂ : 3 * suc k + 2 ≡ suc (suc (suc (3 * k + 2))) = omega arith in
     puts-at (wordsOf (o ∷ os) ++ t) n e e₁ e₂ ∙ ap (λ (l : List ℕ). o .kind ∷ o .a ∷ o .b ∷ l) (words-put os t k n (omega arith))
+
+-- ---- zeros from a place on
+
+words-append : (os ps : List Note) → wordsOf (os ++ ps) ≡ wordsOf os ++ wordsOf ps
+unfolding wordsOf
+words-append [] ps = refl
+words-append (o ∷ os) ps = ap (λ (l : List ℕ). o .kind ∷ o .a ∷ o .b ∷ l) (words-append os ps)
+
+words-zeros : (n : ℕ) → wordsOf (replicate n zeroNote) ≡ replicate (3 * n) 0
+unfolding wordsOf
+words-zeros zero = refl
+words-zeros (suc n) =
+    let e : 3 * suc n ≡ suc (suc (suc (3 * n))) = omega arith in
+    ap (λ (l : List ℕ). 0 ∷ 0 ∷ 0 ∷ l) (words-zeros n) ∙ ap (λ (m : ℕ). replicate m 0) (sym e)
+
+words-take : (os : List Note) (t : List ℕ) (k : ℕ) → k ≤ length os → take (3 * k) (wordsOf os ++ t) ≡ wordsOf (take k os)
+unfolding wordsOf
+words-take os t zero h = refl
+words-take [] t (suc k) h = absurd (let z : ⊥ = omega arith in z)
+words-take (o ∷ os) t (suc k) h =
+    let e : 3 * suc k ≡ suc (suc (suc (3 * k))) = omega arith in
+    ap (λ (m : ℕ). take m (wordsOf (o ∷ os) ++ t)) e ∙ ap (λ (l : List ℕ). o .kind ∷ o .a ∷ o .b ∷ l) (words-take os t k (omega arith))
+
+words-behind : (os : List Note) (m n : ℕ) → wordsOf os ++ replicate (3 * m + n) 0 ≡ wordsOf (os ++ replicate m zeroNote) ++ replicate n 0
+words-behind os m n =
+    ap (λ (l : List ℕ). wordsOf os ++ l) (sym (replicate-append-replicate (3 * m) n 0))
+    ∙ sym (append-assoc (wordsOf os) (replicate (3 * m) 0) (replicate n 0))
+    ∙ ap (λ (l : List ℕ). wordsOf os ++ l ++ replicate n 0) (sym (words-zeros m))
+    ∙ ap (λ (l : List ℕ). l ++ replicate n 0) (sym (words-append os (replicate m zeroNote)))
+
+pub words-cleared : (os : List Note) (t ws : List ℕ) (k i : ℕ) → k ≤ length os → i ≡ 3 * k → ws ≡ wordsOf os ++ t
+    → take i ws ++ replicate (length ws - i) 0 ≡ wordsOf (cleared os k (length os)) ++ replicate (length t) 0
+words-cleared os t ws k i h ei ew =
+    let front : take i ws ≡ wordsOf (take k os) = rw (ei, ew) (words-take os t k h) in
+    let many : length ws - i ≡ 3 * (length os - k) + length t = omega (arith, length-of os t ws ew, ei, h) in
+    rw (front, many) (words-behind (take k os) (length os - k) (length t))

@@ -4,26 +4,36 @@
 --   point-first   the point before the first turn; the words as they were lent are taken for notes
 --   point-fits    the three words that a turn writes lie in the table
 --   point-next    the point after a turn that wrote a note; `point-less`: fewer steps are left there
---   point-last    the last turn leaves what `WordsLeft` says; `reads-of-left`: with the tail zeroed that is `ReadsWords`
+--   point-slot    its place is one of the table's
+--   point-cleared, point-last   the two ways out: the answer is known and zeros are written from the next place on; all places are written
+--   reads-by      the answer of `read_words` in numbers is that of `axml_read`
 use Prim.Native.Nat.{ℕ, _+_, _-_, _*_, _/_, _%_, _≤_, _<_}
 use native.Mathlib.Omega.{arith}
 use native.Mathlib.Nat.{div-add-mod}
 use mathlib.Core.Path.{_≡_, refl, sym, _∙_, ap}
 use mathlib.Core.Bool.{true, false}
-use mathlib.Core.List.{List, _++_}
-use lib.ListN.{length, take, set, replicate, length-set, length-append}
-use lib.Seq.{take-at}
+use mathlib.Core.List.{List, _++_, append-nil}
+use lib.ListN.{length, take, set, replicate, length-set}
+use lib.Seq.{take-length}
 use Rattle.anomaly.specs.declared.Note.{Note}
 use Rattle.errors.specs.declared.Numbers.{Numbers}
 use Rattle.errors.specs.declared.ReadAnswer.{ReadAnswer}
 use Rattle.errors.specs.Refusal.{numbersOf}
+use Rattle.walk.specs.declared.Mode.{Mode}
+use Rattle.walk.specs.declared.Mode.the-variants.{Fresh, Reading as InBody, Clearing}
 use Rattle.walk.specs.declared.State.{State}
 use Rattle.walk.specs.Reading.{Reading, reading}
-use Rattle.walk.specs.Outcome.{Adv, Advanced, Good, first, left, outcome}
+use Rattle.walk.specs.Outcome.{Adv, Advanced, Good, first, left, cleared, outcome}
+use Rattle.walk.proofs.Clearing.{false-true}
 use Rattle.walk.proofs.Opening.{first-good}
 use Rattle.c_api.specs.declared.AxmlAnswer.{AxmlAnswer}
-use Rattle.c_api.specs.Words.{wordsOf, wordRoom, putNote, answerOf, WordsLeft, ReadsWords}
-use Rattle.c_api.proofs.Noting.{length-words, notesIn, restIn, words-back, notesIn-places, words-put}
+use Rattle.c_api.specs.Words.{wordsOf, wordRoom, putNote, isClearing, answerOf, ReadsWords}
+use Rattle.c_api.proofs.Noting.{length-of, notesIn, restIn, words-back, notesIn-places, words-put, words-cleared}
+
+clearing-of : (m : Mode) → isClearing m ≡ true → m ≡ Clearing
+clearing-of Fresh e = absurd (false-true e)
+clearing-of InBody e = absurd (false-true e)
+clearing-of Clearing e = refl
 
 module _ (f names area ns₀ ats₀ ws₀ : List ℕ) (cap : ℕ) where
   pub record Point (ns ats ws : List ℕ) (st : State) : Type 0 where
@@ -54,6 +64,41 @@ module _ (f names area ns₀ ats₀ ws₀ : List ℕ) (cap : ℕ) where
         same = refl;
       })
 
+  -- ---- where a turn leaves the loop
+
+  abbrev gives : ReadAnswer → List ℕ → List ℕ → List Note → Reading
+  gives a ns ats os = record { answer = a; nodes = ns; attributes = ats; notes = os }
+
+  reads-of : (x : Reading) → x ≡ reading (wordRoom ns₀ ats₀ ws₀ cap) f names area → (ws′ : List ℕ)
+      → ws′ ≡ wordsOf (x .notes) ++ replicate (length ws₀ % 3) 0
+      → ReadsWords f names area ns₀ ats₀ ws₀ cap (answerOf (numbersOf (x .answer))) (x .nodes) (x .attributes) ws′
+  reads-of x e ws′ w = record {
+    answer = ap (λ (y : Reading). answerOf (numbersOf (y .answer))) e;
+    nodes = ap (λ (y : Reading). y .nodes) e;
+    attributes = ap (λ (y : Reading). y .attributes) e;
+    notes = w ∙ ap (λ (y : Reading). wordsOf (y .notes) ++ replicate (length ws₀ % 3) 0) e;
+  }
+
+  odd : (ns ats ws : List ℕ) (st : State) (p : Point ns ats ws st) → length (p .tail) ≡ length ws₀ % 3
+  odd ns ats ws st p = omega (arith, length-of (p .notes) (p .tail) ws (p .words), p .places, p .long-words, div-add-mod (length ws₀) 3)
+
+  -- the answer is known, the note is written, and zeros are from the next place on
+  pub point-cleared : (ns ats ws : List ℕ) (st : State) → Point ns ats ws st → isClearing (st .mode) ≡ true → st .slot < st .room
+      → (ws′ : List ℕ) → ws′ ≡ take (3 * st .slot + 3) ws ++ replicate (length ws - (3 * st .slot + 3)) 0
+      → ReadsWords f names area ns₀ ats₀ ws₀ cap (answerOf (numbersOf (st .answer))) ns ats ws′
+  point-cleared ns ats ws st p m h ws′ z =
+      let mode : st .mode ≡ Clearing = clearing-of (st .mode) m in
+      let all : length (p .notes) ≡ st .room = p .places ∙ sym (p .room) in
+      let here : outcome f names area ns ats (p .notes) st (p .good .stack) ≡ gives (st .answer) ns ats (cleared (p .notes) (st .slot + 1) (st .room)) =
+      rw mode in
+      let next : 3 * st .slot + 3 ≡ 3 * (st .slot + 1) = omega arith in
+      reads-of (gives (st .answer) ns ats (cleared (p .notes) (st .slot + 1) (st .room))) (sym here ∙ p .same) ws′
+      (z ∙ words-cleared (p .notes) (p .tail) ws (st .slot + 1) _ (omega (arith, h, all)) next (p .words)
+      ∙ ap (λ (n : ℕ). wordsOf (cleared (p .notes) (st .slot + 1) n) ++ replicate (length (p .tail)) 0) all
+      ∙ ap (λ (n : ℕ). wordsOf (cleared (p .notes) (st .slot + 1) (st .room)) ++ replicate n 0) (odd ns ats ws st p))
+
+  -- ---- a turn
+
   module _ (ns ats ws : List ℕ) (st : State) (p : Point ns ats ws st) (r : State) (ns′ ats′ : List ℕ) (e : Adv f names area ns ats st r ns′ ats′) where
     advanced : Advanced f names area ns ats st (p .good) r ns′ ats′
     advanced = e (p .good)
@@ -65,10 +110,10 @@ module _ (f names area ns₀ ats₀ ws₀ : List ℕ) (cap : ℕ) where
     slot-lt d = omega (arith, advanced .due d .0, advanced .room, all-places)
 
     pub point-fits : r .done ≡ false → 3 * r .slot + 3 ≤ length ws
-    point-fits d =
-        let l : length ws ≡ 3 * length (p .notes) + length (p .tail) =
-        ap length (p .words) ∙ length-append (wordsOf (p .notes)) (p .tail) ∙ ap (λ (n : ℕ). n + length (p .tail)) (length-words (p .notes)) in
-        omega (arith, slot-lt d, l)
+    point-fits d = omega (arith, slot-lt d, length-of (p .notes) (p .tail) ws (p .words))
+
+    pub point-slot : r .done ≡ false → r .slot < r .room
+    point-slot d = advanced .due d .0
 
     pub point-less : r .done ≡ false → left f names area r < left f names area st
     point-less d = advanced .due d .1
@@ -88,32 +133,21 @@ module _ (f names area ns₀ ats₀ ws₀ : List ℕ) (cap : ℕ) where
       same = sym (advanced .goes d (p .notes) all-places) ∙ p .same;
     }
 
-    pub point-last : r .done ≡ true → WordsLeft f names area ns₀ ats₀ ws₀ cap (r .answer) ns′ ats′ ws
-    point-last d = record {
-      notes = p .notes;
-      tail = p .tail;
-      whole = sym (advanced .ends d (p .notes) all-places) ∙ p .same;
-      words = p .words;
-      places = p .places;
-      long = p .long-words;
-    }
+    -- all places are written, and zeros are behind the last
+    pub point-last : r .done ≡ true → (ws′ : List ℕ) → ws′ ≡ take (3 * (length ws / 3)) ws ++ replicate (length ws - 3 * (length ws / 3)) 0
+        → ReadsWords f names area ns₀ ats₀ ws₀ cap (answerOf (numbersOf (r .answer))) ns′ ats′ ws′
+    point-last d ws′ z =
+        let all : 3 * (length ws / 3) ≡ 3 * length (p .notes) = rw (p .long-words, p .places) in
+        let none : length (p .notes) - length (p .notes) ≡ 0 = omega arith in
+        let kept : cleared (p .notes) (length (p .notes)) (length (p .notes)) ≡ p .notes =
+        rw (none, take-length (p .notes)) (append-nil (p .notes)) in
+        reads-of (gives (r .answer) ns′ ats′ (p .notes)) (sym (advanced .ends d (p .notes) all-places) ∙ p .same) ws′
+        (z ∙ words-cleared (p .notes) (p .tail) ws (length (p .notes)) _ (omega arith) all (p .words)
+        ∙ ap (λ (o : List Note). wordsOf o ++ replicate (length (p .tail)) 0) kept
+        ∙ ap (λ (n : ℕ). wordsOf (p .notes) ++ replicate n 0) (odd ns ats ws st p))
 
-  -- ---- the tail zeroed
+  -- ---- the answer in numbers
 
-  pub reads-of-left : (a : ReadAnswer) (ns ats ws : List ℕ) → WordsLeft f names area ns₀ ats₀ ws₀ cap a ns ats ws → (ws′ : List ℕ)
-      → ws′ ≡ take (3 * (length ws / 3)) ws ++ replicate (length ws - 3 * (length ws / 3)) 0 → (m : Numbers) → m ≡ numbersOf a
-      → (r : AxmlAnswer) → r ≡ answerOf m → ReadsWords f names area ns₀ ats₀ ws₀ cap r ns ats ws′
-  reads-of-left a ns ats ws h ws′ z m em r er =
-      let front : length (wordsOf (h .notes)) ≡ 3 * (length ws / 3) =
-      length-words (h .notes) ∙ ap (λ (n : ℕ). 3 * n) (h .places ∙ ap (λ (n : ℕ). n / 3) (sym (h .long))) in
-      let kept : take (3 * (length ws / 3)) ws ≡ wordsOf (h .notes) =
-      ap (take (3 * (length ws / 3))) (h .words) ∙ take-at (wordsOf (h .notes)) (h .tail) (3 * (length ws / 3)) front in
-      let rest : length ws - 3 * (length ws / 3) ≡ length ws₀ % 3 = rw (h .long) (omega (arith, div-add-mod (length ws₀) 3)) in
-      let q : wordsOf (h .notes) ≡ wordsOf (reading (wordRoom ns₀ ats₀ ws₀ cap) f names area .notes) =
-      ap (λ (x : Reading). wordsOf (x .notes)) (h .whole) in
-      record {
-        answer = er ∙ ap answerOf em ∙ ap (λ (x : Reading). answerOf (numbersOf (x .answer))) (h .whole);
-        nodes = ap (λ (x : Reading). x .nodes) (h .whole);
-        attributes = ap (λ (x : Reading). x .attributes) (h .whole);
-        notes = z ∙ rw (kept, rest, q);
-      }
+  pub reads-by : (a : ReadAnswer) (ns ats ws : List ℕ) → ReadsWords f names area ns₀ ats₀ ws₀ cap (answerOf (numbersOf a)) ns ats ws
+      → (m : Numbers) → m ≡ numbersOf a → (r : AxmlAnswer) → r ≡ answerOf m → ReadsWords f names area ns₀ ats₀ ws₀ cap r ns ats ws
+  reads-by a ns ats ws h m em r er = record { answer = er ∙ ap answerOf em ∙ h .answer; nodes = h .nodes; attributes = h .attributes; notes = h .notes }

@@ -4,15 +4,17 @@
 --   wordRoom     the room of tables with these contents before the call: a place for each whole three words of the note table
 --   answerOf     the numbers of an answer as the struct that C has
 --   ReadsWords   THE PROMISE of `axml_read`: the numbers and the tables of `reading` at that room, and zeros behind the last place
---   putNote, WordsLeft   what the code does on its way, not to be believed
+--   putNote, isClearing   what the code does on its way, not to be believed
 use Prim.Native.Nat.{ℕ, _+_, _*_, _/_, _%_}
 use mathlib.Core.Path.{_≡_}
+use mathlib.Core.Bool.{Bool, true, false}
 use mathlib.Core.List.{List, [], _∷_, _++_}
 use lib.ListN.{length, set, replicate}
 use Rattle.anomaly.specs.declared.Note.{Note}
 use Rattle.errors.specs.declared.Numbers.{Numbers}
-use Rattle.errors.specs.declared.ReadAnswer.{ReadAnswer}
 use Rattle.errors.specs.Refusal.{numbersOf}
+use Rattle.walk.specs.declared.Mode.{Mode}
+use Rattle.walk.specs.declared.Mode.the-variants.{Fresh, Reading as InBody, Clearing}
 use Rattle.walk.specs.Settle.{Room}
 use Rattle.walk.specs.Reading.{reading}
 use Rattle.c_api.specs.declared.AxmlAnswer.{AxmlAnswer}
@@ -46,11 +48,8 @@ pub record ReadsWords (f names area ns ats ws : List ℕ) (cap : ℕ) (r : AxmlA
 abbrev pub putNote : List ℕ → ℕ → Note → List ℕ
 putNote ws k n = set (set (set ws (3 * k) (n .kind)) (3 * k + 1) (n .a)) (3 * k + 2) (n .b)
 
--- the whole reading, its notes as the front of the words
-pub record WordsLeft (f names area ns ats ws : List ℕ) (cap : ℕ) (r : ReadAnswer) (ns′ ats′ ws′ : List ℕ) : Type 0 where
-  pub notes : List Note
-  pub tail : List ℕ
-  pub whole : record { answer = r; nodes = ns′; attributes = ats′; notes = notes } ≡ reading (wordRoom ns ats ws cap) f names area
-  pub words : ws′ ≡ wordsOf notes ++ tail
-  pub places : length notes ≡ length ws / 3
-  pub long : length ws′ ≡ length ws
+-- the answer is known, and the note table is cleared
+abbrev pub isClearing : Mode → Bool
+isClearing Fresh = false
+isClearing InBody = false
+isClearing Clearing = true

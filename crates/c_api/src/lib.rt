@@ -8,10 +8,10 @@ ghost use mathlib.Core.Bool.{false};
 ghost use Prim.Native.Nat.{_+_, _*_, _≤_};
 ghost use lib.ListN.{length};
 ghost use Rattle.common.specs.Complex.{Complex};
-ghost use Rattle.errors.specs.Refusal.{firstNumbersOf};
+ghost use Rattle.errors.specs.Refusal.{numbersOf, firstNumbersOf};
 ghost use Rattle.first_value.specs.Question.{firstAnswer};
 ghost use Rattle.xml.specs.NCName.{validName};
-ghost use Rattle.c_api.specs.Words.{putNote, answerOf, WordsLeft, ReadsWords};
+ghost use Rattle.c_api.specs.Words.{putNote, isClearing, answerOf, ReadsWords};
 ghost use Rattle.c_api.specs.Answers.{textAnswerOf, firstAnswerOf, AsksText};
 use anomaly::Note;
 use common::StringIndex;
@@ -23,6 +23,7 @@ use errors::first_numbers;
 use errors::read_numbers;
 use errors::text_numbers;
 use tables::zero_from;
+use walk::Mode;
 
 // ---- the reading
 
@@ -48,7 +49,18 @@ fn put_note(words: &mut [u32], place: usize, note: Note)
     words[i + 2] = note.b;
 }
 
-// The loop of `axml::read` over words. What stands behind the last whole three is left as it was.
+// Whether the answer is known, and zeros alone are left to write.
+fn is_clearing(mode: Mode) -> bool
+    ensures { λ r. ⌜ r ≡ isClearing mode ⌝ }
+{
+    match mode {
+        Mode::Fresh => false,
+        Mode::Reading => false,
+        Mode::Clearing => true,
+    }
+}
+
+// The loop of `axml::read` over words. It clears the places behind the notes, and the words behind the last place, all at once.
 fn read_words(
     file: &[u8],
     names: &[u32],
@@ -58,19 +70,25 @@ fn read_words(
     notes: &mut [u32],
     cap: u32,
 ) -> ReadAnswer
-    ensures { λ r. ⌜ WordsLeft (now (file .entry)) (now (names .entry)) (now (area .entry)) (now (nodes .entry)) (now (attributes .entry))
-        (now (notes .entry)) cap r (now (nodes .exit)) (now (attributes .exit)) (now (notes .exit)) ⌝ }
+    ensures { λ r. ⌜ ReadsWords (now (file .entry)) (now (names .entry)) (now (area .entry)) (now (nodes .entry)) (now (attributes .entry))
+        (now (notes .entry)) cap (answerOf (numbersOf r)) (now (nodes .exit)) (now (attributes .exit)) (now (notes .exit)) ⌝ }
 {
     let mut st = walk::begin(notes.len() / 3, cap);
     loop {
         st = walk::advance(file, names, area, nodes, attributes, st);
+        let answer = st.answer;
         if st.done {
-            let answer = st.answer;
+            zero_from(notes, 3 * (notes.len() / 3));
             return answer;
         }
         let at = st.slot;
         let note = st.note;
+        let mode = st.mode;
         put_note(notes, at, note);
+        if is_clearing(mode) {
+            zero_from(notes, 3 * at + 3);
+            return answer;
+        }
     }
 }
 
@@ -103,7 +121,6 @@ pub extern "C" fn axml_read(
         (now (notes .entry)) cap r (now (nodes .exit)) (now (attributes .exit)) (now (notes .exit)) ⌝ }
 {
     let answer = read_words(file, names, area, nodes, attributes, notes, cap);
-    zero_from(notes, 3 * (notes.len() / 3));
     answer_of(read_numbers(answer))
 }
 

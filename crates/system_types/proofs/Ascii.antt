@@ -1,7 +1,7 @@
 -- Laws of `allAscii` of specs/Names.antt. No contract cites this file.
 -- In order: the greatest byte decides (`seenAscii-..`, with `most` the greatest byte so far); each byte is below 128
--- (`allAscii-lt`), also in the rest and in what is left of a name (`allAscii-drop`, `allAscii-without`).
-use mathlib.Core.Path.{_≡_, refl, sym}
+-- (`allAscii-lt`), also in the rest, in the front and in what is left of a name (`allAscii-drop`, `allAscii-take`, `allAscii-without`).
+use mathlib.Core.Path.{_≡_, refl, sym, _∙_}
 use mathlib.Core.Bool.{Bool, true, false, _&&_, and-true, and-false, cond}
 use mathlib.Core.List.{List, [], _∷_}
 use Prim.Native.Nat.{ℕ, zero, suc, _+_, _≤_, _<_}
@@ -9,7 +9,7 @@ use native.Mathlib.Numerals.{add-one}
 use native.Mathlib.Omega.{arith}
 use borrow.Author.Tests.{ltb-true, lt-ltb}
 use lib.Dec.{ltb}
-use lib.ListN.{length, drop, getD}
+use lib.ListN.{length, take, drop, getD}
 use lib.Seq.{drop-cons, drop-length}
 use Rattle.system_types.specs.Names.{allAscii, startsWith, without}
 
@@ -21,6 +21,11 @@ seenAscii most l = ltb most 128 && allAscii l
 pub both : (a b : Bool) → (a && b) ≡ true → (a ≡ true) × (b ≡ true)
 both true b e = (refl, e)
 both false b e = let z : _≡_ {A = ℕ} 0 1 = cc in absurd (let y : ⊥ = omega arith in y)
+
+-- a test that another had let through
+pub behind-test : (t b r : Bool) → r ≡ cond t false b → r ≡ true → b ≡ true
+behind-test true b r e h = let z : _≡_ {A = ℕ} 0 1 = cc in absurd (let y : ⊥ = omega arith in y)
+behind-test false b r e h = sym e ∙ h
 
 -- ---- the greatest byte
 
@@ -67,6 +72,14 @@ unfolding allAscii
 allAscii-drop zero l e = e
 allAscii-drop (suc n) [] e = e
 allAscii-drop (suc n) (b ∷ l) e = allAscii-drop n l (both (ltb b 128) (allAscii l) e .1)
+
+pub allAscii-take : (n : ℕ) (l : List ℕ) → allAscii l ≡ true → allAscii (take n l) ≡ true
+unfolding allAscii
+allAscii-take zero l e = refl
+allAscii-take (suc n) [] e = e
+allAscii-take (suc n) (b ∷ l) e =
+    let p = both (ltb b 128) (allAscii l) e in
+    rw (p .0, allAscii-take n l (p .1))
 
 pub allAscii-without : (p l : List ℕ) → allAscii l ≡ true → allAscii (without p l) ≡ true
 allAscii-without p l e = go (startsWith l p)

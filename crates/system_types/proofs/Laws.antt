@@ -15,7 +15,7 @@ use Rattle.system_types.specs.Names.{allAscii, topByte, isGood, namesFro
 use Rattle.system_types.specs.declared.NamesRead.{NamesRead}
 use Rattle.system_types.specs.declared.NamesRead.the-variants.{Good, Bad}
 use Rattle.system_types.specs.declared.Lookup.the-variants.{Name, Missing}
-use Rattle.system_types.proofs.Ascii.{both}
+use Rattle.system_types.proofs.Ascii.{both, allAscii-drop, allAscii-take}
 
 -- ---- a good entry
 
@@ -76,6 +76,16 @@ module _ (area : List ℕ) (last id start n : ℕ) where
       → start + n ≤ length area
       → isGood area last id start n ≡ allAscii (take (start + n - start) (drop start area))
   isGood-by p q r t = let e : start + n - start ≡ n = omega arith in rw e (isGood-ascii p q r t)
+
+  -- an area that is ASCII as a whole
+  pub isGood-plain
+      : allAscii area ≡ true
+      → last < id
+      → topByte id ≡ 1
+      → 1 ≤ n
+      → start + n ≤ length area
+      → isGood area last id start n ≡ true
+  isGood-plain e p q r t = isGood-ascii p q r t ∙ allAscii-take n (drop start area) (allAscii-drop start area e)
 
 -- ---- the table, entry by entry
 

@@ -4,6 +4,10 @@
 // Differs from the Rust: there the table is compiled in, here it is three words a name over an area of bytes; and a name is
 // answered whole, so that leaving out `android:attr/` is a question of its own.
 ghost use mathlib.Core.Path.{_≡_};
+ghost use mathlib.Core.Bool.{true, false, cond};
+ghost use Prim.Native.Nat.{_/_};
+ghost use lib.ListN.{length};
+ghost use lib.Dec.{ltb};
 ghost use Rattle.system_types.specs.Names.{allAscii, isGood, namesOf, systemName, startsWith, without, androidAttr};
 ghost use Rattle.system_types.specs.Names.{Rising};
 use common::ResourceId;
@@ -38,8 +42,21 @@ fn all_ascii(s: &[u8]) -> bool
     most < 128
 }
 
-// Whether an entry keeps the rule, behind one with the id `last`. The sum is made as usize, where it does not wrap.
-fn is_good(area: &[u8], last: ResourceId, id: ResourceId, start: u32, n: u32) -> bool
+// Whether the area is ASCII as a whole, so that no part of it need be looked at. Not asked of an area of over 64 bytes an entry: a few
+// names in a large area do not cost a pass over it.
+fn is_plain(area: &[u8], entries: usize) -> bool
+    ensures { λ r. ⌜ r ≡ cond (ltb entries (length (now (area .entry)) / 64)) false (allAscii (now (area .entry))) ⌝ }
+{
+    if entries < area.len() / 64 {
+        return false;
+    }
+    all_ascii(area)
+}
+
+// Whether an entry keeps the rule, behind one with the id `last`; `plain` where the area is known to be ASCII as a whole. The sum is
+// made as usize, where it does not wrap.
+fn is_good(area: &[u8], plain: bool, last: ResourceId, id: ResourceId, start: u32, n: u32) -> bool
+    requires { ⌜ (plain ≡ true → allAscii (now area) ≡ true) ⌝ }
     ensures { λ r. ⌜ r ≡ isGood (now (area .entry)) (last .0) (id .0) start n ⌝ }
 {
     if id.0 <= last.0 {
@@ -56,6 +73,9 @@ fn is_good(area: &[u8], last: ResourceId, id: ResourceId, start: u32, n: u32) ->
     if area.len() < to {
         return false;
     }
+    if plain {
+        return true;
+    }
     all_ascii(&area[from..to])
 }
 
@@ -65,12 +85,14 @@ pub fn check_names(names: &[u32], area: &[u8]) -> NamesRead
     ensures { λ r. ⌜ r ≡ namesOf (now (area .entry)) (now (names .entry)) ⌝ }
 {
     let whole = names.len() / 3;
+    let plain = is_plain(area, whole);
     let mut last = 0;
     let mut k = 0;
     while k < whole {
         let id = names[3 * k];
         if !is_good(
             area,
+            plain,
             ResourceId(last),
             ResourceId(id),
             names[3 * k + 1],

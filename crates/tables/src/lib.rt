@@ -11,7 +11,8 @@ ghost use Rattle.tables.specs.Keep.{hasKey, sameIn};
 use common::StringIndex;
 use text::Head;
 use text::find;
-use text::same_found;
+use text::is_plain_found;
+use text::same_found_known;
 
 // A number of the file as a place. Ruled out: another number, and one that wraps.
 pub fn wide(x: u32) -> usize
@@ -59,7 +60,8 @@ pub fn zero_from(words: &mut [u32], from: usize)
     zero_all(&mut words[from..]);
 }
 
-// Whether one of these attributes has this prefix and a name of the same text (W23). The name's own text is found once.
+// Whether one of these attributes has this prefix and a name of the same text (W23). The name's own text is found once, and
+// looked at once: where it is plain, bytes are compared.
 // Ruled out: yes for the same index under another prefix, and no for another index whose text is the same.
 pub fn has(
     t: &[u8],
@@ -73,12 +75,16 @@ pub fn has(
     requires { ⌜ Asks (now t) (now names) (now area) h ⌝ }
     ensures { λ r. ⌜ r ≡ hasKey (sameIn h (now (t .entry)) (now (names .entry)) (now (area .entry))) prefix (name .0) (now (words .entry)) ⌝ }
 {
+    if words.len() < 5 {
+        return false;
+    }
     let wanted = find(t, names, area, h, name);
+    let plain = is_plain_found(t, area, h.wide, wanted);
     let mut i = 0;
     while 5 <= words.len() - i {
         if words[i + 1] == prefix {
             let other = find(t, names, area, h, StringIndex(words[i + 2]));
-            if same_found(t, area, h.wide, other, wanted) {
+            if same_found_known(t, area, h.wide, plain, other, wanted) {
                 return true;
             }
         }

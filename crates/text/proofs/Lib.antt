@@ -2,4 +2,5 @@
 pub mod Parts
 pub mod Index
 pub mod Read
+pub mod Plains
 pub mod Laws

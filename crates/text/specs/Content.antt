@@ -6,6 +6,7 @@
 --   rawOf       its bytes before decoding; textIn its text as UTF-8: both empty for no text and for a string cut or outside
 --   hasText     whether there is a text: an empty text is one
 --   stateIn     no text, a text that is no valid name (the empty one too), a valid name
+--   plainIn     whether no other bytes in the same encoding have its text
 --   sameText    whether two have texts and these are equal; isText the same against lent bytes
 --
 -- t is the bytes behind the file's header; places in it are those of `Head`. Laws: proofs/Laws.antt.
@@ -15,6 +16,7 @@ use mathlib.Core.Bool.{Bool, true, false, cond, _&&_}
 use lib.ListN.{length, take, drop}
 use lib.Dec.{ltb}
 use Rattle.utf.specs.Text.{textOf, eqBytes, Damage, damageOf, cut as cutText, whole}
+use Rattle.utf.specs.Plain.{isPlain}
 use Rattle.xml.specs.NCName.{validName}
 use Rattle.res_string_pool.specs.Pool.{offsetOf}
 use Rattle.res_string_pool.specs.Content.{splitOf}
@@ -99,6 +101,12 @@ isName (some w s) = validName w s
 
 abbrev pub validBy : Bool → NameState
 validBy valid = cond valid Valid Invalid
+
+-- whether no other bytes in the same encoding have its text
+abbrev pub plainIn : Content → Bool
+plainIn none = false
+plainIn cut = false
+plainIn (some w s) = isPlain w s
 
 -- no text, a text that is no valid name, a valid name
 abbrev pub stateIn : Content → NameState

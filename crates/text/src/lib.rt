@@ -2,8 +2,13 @@
 //
 // Mirrors structs/res_string_pool.rs (apk-info 13770539b8): `get`, `get_with_resources`, `contains_with_resources`.
 // A text is never copied: the code answers where it lies (`Found`). Definitions: specs/Content.antt, specs/Found.antt.
+pub mod equal;
 pub mod part;
 
+pub use equal::is_plain_found;
+pub use equal::same_found;
+pub use equal::same_found_known;
+use equal::same_part;
 pub use part::content_of;
 pub use part::found_into;
 use part::found_state;
@@ -14,9 +19,8 @@ ghost use Prim.Native.Nat.{_+_, _≤_};
 ghost use lib.ListN.{length, take, drop};
 ghost use Rattle.system_types.specs.Names.{allAscii};
 ghost use Rattle.system_types.specs.declared.Lookup.the-variants.{Name};
-ghost use Rattle.utf.specs.Text.{textOf};
 ghost use Rattle.text.specs.Content.{namedBy, systemOf, stringAt, stringOf, contentOf, hasText, stateIn, sameText, isText};
-ghost use Rattle.text.specs.Found.{Fits, Asks, partOf, Inside, Stands, Finds, isFound};
+ghost use Rattle.text.specs.Found.{Fits, Asks, Stands, Finds, isFound};
 use common::StringIndex;
 use field::u32_at;
 use res_string_pool::Split;
@@ -26,7 +30,6 @@ use system_types::Lookup;
 use system_types::get_type_name;
 use system_types::without_attr;
 use utf::is_sound;
-use utf::same_text;
 
 // What texts are read by: the pool's numbers and the map's, as places in the bytes behind the file's header.
 pub struct Head {
@@ -172,33 +175,6 @@ pub fn name_state(t: &[u8], names: &[u32], area: &[u8], h: Head, index: StringIn
 
 // ---- two texts
 
-// Whether what was found has a text and it is that of the bytes s, in UTF-16 or UTF-8.
-fn same_part(t: &[u8], area: &[u8], wide: bool, wide_s: bool, s: &[u8], f: Found) -> bool
-    requires { ⌜ Inside (now t) (now area) f ⌝ }
-    ensures { λ r. ⌜ r ≡ isText (partOf wide (now (t .entry)) (now (area .entry)) f) (textOf «wide_s» (now (s .entry))) ⌝ }
-{
-    match f {
-        Found::Nothing => false,
-        Found::Cut => same_text(wide, &t[0..0], wide_s, s),
-        Found::System(at, n) => same_text(false, &area[at..at + n], wide_s, s),
-        Found::Pool(at, n) => same_text(wide, &t[at..at + n], wide_s, s),
-    }
-}
-
-// Whether two that were found have texts and these are equal.
-// Ruled out: no for a system name and the pool's string of the same text, and yes for two indices without one.
-pub fn same_found(t: &[u8], area: &[u8], wide: bool, f: Found, g: Found) -> bool
-    requires { ⌜ Inside (now t) (now area) f × Inside (now t) (now area) g ⌝ }
-    ensures { λ r. ⌜ r ≡ sameText (partOf wide (now (t .entry)) (now (area .entry)) f) (partOf wide (now (t .entry)) (now (area .entry)) g) ⌝ }
-{
-    match g {
-        Found::Nothing => false,
-        Found::Cut => same_part(t, area, wide, wide, &t[0..0], f),
-        Found::System(at, n) => same_part(t, area, wide, false, &area[at..at + n], f),
-        Found::Pool(at, n) => same_part(t, area, wide, wide, &t[at..at + n], f),
-    }
-}
-
 // Whether two indices have texts and these are equal.
 // Ruled out: no for two strings of the same text at two offsets, and yes for a text and one that begins with it.
 pub fn same_index(
@@ -235,5 +211,5 @@ pub fn is_index_text(
     if !is_sound(false, bytes) {
         return false;
     }
-    same_part(t, area, h.wide, false, bytes, f)
+    same_part(t, area, h.wide, false, false, bytes, f)
 }

@@ -2,11 +2,12 @@
 use mathlib.Core.Path.{_≡_, refl, sym, ap, _∙_}
 use mathlib.Core.Bool.{Bool, true, false, _&&_, true≢false}
 use mathlib.Core.List.{List, [], _∷_, _++_}
-use Prim.Native.Nat.{ℕ, _<_}
+use Prim.Native.Nat.{ℕ, suc, _-_, _≤_, _<_}
 use native.Mathlib.Omega.{arith}
 use borrow.Author.Tests.{eqb-true, eqb-false, eq-eqb}
 use lib.Dec.{eqb}
-use lib.ListN.{length}
+use lib.ListN.{length, getD, drop, drop-of-length-le}
+use lib.Seq.{drop-cons}
 use Rattle.utf.specs.Utf8.{encode}
 use Rattle.utf.specs.Text.{eqBytes}
 use Rattle.utf.proofs.Tables.{both-true}
@@ -55,3 +56,25 @@ eqBytes-encode u v x y = go (eqb u v) refl
     go : (t : Bool) → eqb u v ≡ t → eqBytes (encode u ++ x) (encode v ++ y) ≡ (t && eqBytes x y)
     go true e = rw (eqb-true u v e) (eqBytes-append (encode v) x y)
     go false e = eqBytes-not (encode u ++ x) (encode v ++ y) (λ f. eqb-false u v e (encode-unique u v x y f))
+
+-- ---- byte by byte, from the end
+
+-- the same from a place on
+pub same-last : (a b : List ℕ) → length a ≡ length b → drop (length a) a ≡ drop (length a) b
+same-last a b e =
+    let h : length a ≤ length a = omega arith in
+    let k : length b ≤ length a = omega (arith, e) in
+    rw (drop-of-length-le a h, drop-of-length-le b k)
+
+pub same-more : (a b : List ℕ) (i : ℕ) → 0 < i → i ≤ length a → length a ≡ length b → getD a (i - 1) 0 ≡ getD b (i - 1) 0
+    → drop i a ≡ drop i b → drop (i - 1) a ≡ drop (i - 1) b
+same-more a b i h l n e f =
+    let s : suc (i - 1) ≡ i = omega arith in
+    let g : drop (suc (i - 1)) a ≡ drop (suc (i - 1)) b = rw s f in
+    rw (drop-cons a (i - 1) 0 (omega arith), drop-cons b (i - 1) 0 (omega (arith, n)), e, g)
+
+pub eqBytes-here : (a b : List ℕ) (k : ℕ) → (getD a k 0 ≡ getD b k 0 → ⊥) → eqBytes a b ≡ false
+eqBytes-here a b k n = eqBytes-not a b (λ e. n (ap (λ (l : List ℕ). getD l k 0) e))
+
+pub eqBytes-length : (a b : List ℕ) → (length a ≡ length b → ⊥) → eqBytes a b ≡ false
+eqBytes-length a b n = eqBytes-not a b (λ e. n (ap length e))

@@ -2,7 +2,7 @@
 -- In order: the empty text and ASCII; a sound UTF-8 text is its own text (`textOf-whole`); what comes out is sound UTF-8 (`textOf-sound`), so
 -- reading it again changes nothing (`textOf-back`); equal texts are equal byte for byte, in either encoding (`textOf-scalars`); its length; its damage.
 -- Elsewhere: the steps by Table 3-7, `step8-sound` and `step8-width` (Sound8); encoding and decoding, `step8-encode` (Decode), `pairOf-back`
--- (Scalars); `eqBytes-true`, `eqBytes-false`, `eqBytes-refl` (Equal).
+-- (Scalars); UTF-16 by its units, `differ-wide` (Units); plain texts, `plain-same` (PlainLaws); `eqBytes-true`, `eqBytes-false`, `eqBytes-refl` (Equal).
 use mathlib.Core.Path.{_≡_, refl, sym, ap, _∙_}
 use mathlib.Core.Bool.{Bool, true, false, _&&_, cond, true≢false}
 use mathlib.Core.List.{List, [], _∷_, _++_}
@@ -105,7 +105,7 @@ textOf-back wide s b = textOf-whole (textOf wide s) (textOf-sound wide s b)
 
 -- ---- equal texts: the same values are the same bytes, and the other way round
 
-pub valuesOf : List Step → List ℕ
+unfoldable pub valuesOf : List Step → List ℕ
 valuesOf [] = []
 valuesOf (t ∷ ts) = valueOf t ∷ valuesOf ts
 

@@ -12,3 +12,5 @@ pub mod Turns
 pub mod Filled
 pub mod Places
 pub mod Laws
+pub mod Units
+pub mod PlainLaws

@@ -1,13 +1,15 @@
--- What the code is told of one step, and of a step in each of two texts. Only the contracts of functions that take one step cite this file.
+-- What the code is told of one step, of a run of them, and of a step in each of two texts. Only the contracts of inner functions and of
+-- `next_of` cite this file.
 --
 --   Took       the step at a place inside: its value, how far it goes, whether it is sound
+--   Ran        each step between two places is sound
 --   Paired     the steps at two places: whether they stand for the same, and the places after them; the texts from there on decide the rest
 use mathlib.Core.Path.{_≡_}
 use Prim.Native.Nat.{ℕ, _≤_, _<_}
 use mathlib.Core.Bool.{Bool, _&&_}
 use mathlib.Core.List.{List}
 use lib.ListN.{drop}
-use Rattle.utf.specs.Text.{stepOf, valueOf, widthOf, soundOf, stepsOf, bytesOf, eqBytes}
+use Rattle.utf.specs.Text.{stepOf, valueOf, widthOf, soundOf, stepsOf, bytesOf, allSound, eqBytes}
 
 pub record Took (wide : Bool) (s : List ℕ) (at value width : ℕ) (sound : Bool) : Type 0 where
   pub value-is : value ≡ valueOf (stepOf wide (drop at s))
@@ -16,6 +18,10 @@ pub record Took (wide : Bool) (s : List ℕ) (at value width : ℕ) (sound : Boo
   pub small : value < 0x110000
   pub least : 1 ≤ width
   pub most : width ≤ 4
+
+pub record Ran (wide : Bool) (s : List ℕ) (at to : ℕ) : Type 0 where
+  pub later : at ≤ to
+  pub rest : allSound (stepsOf wide (drop to s)) ≡ allSound (stepsOf wide (drop at s))
 
 pub record Paired (wa : Bool) (a : List ℕ) (i : ℕ) (wb : Bool) (b : List ℕ) (j : ℕ) (same : Bool) (i′ j′ : ℕ) : Type 0 where
   pub bytes : eqBytes (bytesOf (stepsOf wa (drop i a))) (bytesOf (stepsOf wb (drop j b)))

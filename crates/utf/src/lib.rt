@@ -2,20 +2,24 @@
 //
 // Mirrors what the Rust takes from std: String::from_utf8_lossy, char::decode_utf16 (any error is the empty text), and `==` of two texts.
 // Definitions: specs/Text.antt over specs/Utf8.antt and specs/Utf16.antt. `wide` is UTF-16, and otherwise the bytes are UTF-8.
+pub mod same;
 pub mod utf16;
 pub mod utf8;
 
+pub use same::is_plain;
+pub use same::same_known;
+pub use same::same_text;
 use utf8::put_scalar;
 use utf8::scalar_len;
 pub use utf8::utf8_step;
 pub use utf16::utf16_step;
 ghost use mathlib.Core.Path.{_≡_};
-ghost use Prim.Native.Nat.{_+_, _≤_, _<_, min};
-ghost use mathlib.Core.Bool.{_&&_};
+ghost use Prim.Native.Nat.{_+_, _-_, _≤_, _<_, min};
+ghost use mathlib.Core.Bool.{true, false};
 ghost use mathlib.Core.List.{_++_};
 ghost use lib.ListN.{length, drop};
-ghost use Rattle.utf.specs.Text.{stepOf, valueOf, widthOf, soundOf, stepsOf, bytesOf, isSound, refused, textOf, putText, eqBytes};
-ghost use Rattle.utf.specs.Told.{Took, Paired};
+ghost use Rattle.utf.specs.Text.{stepOf, valueOf, widthOf, soundOf, stepsOf, bytesOf, isSound, refused, textOf, putText};
+ghost use Rattle.utf.specs.Told.{Took, Ran};
 
 pub enum Step {
     // a scalar value, and how many bytes it took
@@ -83,18 +87,60 @@ pub fn next_of(wide: bool, s: &[u8], at: usize) -> Taken
     taken_of(step_at(wide, s, at))
 }
 
-// Whether no step is bad.
+// ---- whether it is sound
+
+// The first place from `at` on that holds no byte of ASCII: before it each step is one byte, and sound.
+fn narrow_run(s: &[u8], at: usize) -> usize
+    ensures { λ r. ⌜ Ran false (now (s .entry)) at r ⌝ }
+{
+    let mut i = at;
+    while i < s.len() {
+        if 128 <= s[i] {
+            return i;
+        }
+        i += 1;
+    }
+    i
+}
+
+// The first place from `at` on that holds a surrogate, or less than a unit: a unit's high byte tells, D8 to DF are 27 times 8 and up.
+fn wide_run(s: &[u8], at: usize) -> usize
+    requires { ⌜ at < 0x10000000000000000 - 1 ⌝ }
+    ensures { λ r. ⌜ Ran true (now (s .entry)) at r ⌝ }
+{
+    let mut i = at;
+    while i + 1 < s.len() {
+        if s[i + 1] / 8 == 27 {
+            return i;
+        }
+        i += 2;
+    }
+    i
+}
+
+// A place from `at` on, before which each step is sound.
+fn sound_run(wide: bool, s: &[u8], at: usize) -> usize
+    requires { ⌜ at < 0x10000000000000000 - 1 ⌝ }
+    ensures { λ r. ⌜ Ran wide (now (s .entry)) at r ⌝ }
+{
+    if wide {
+        return wide_run(s, at);
+    }
+    narrow_run(s, at)
+}
+
+// Whether no step is bad: what a run leaves is read by one step, and then comes the next run.
 // Ruled out: true of C0 80, the overlong form of U+0000; false of ED 9F BF, which is U+D7FF.
 pub fn is_sound(wide: bool, s: &[u8]) -> bool
     ensures { λ r. ⌜ r ≡ isSound wide (now (s .entry)) ⌝ }
 {
-    let mut at = 0;
+    let mut at = sound_run(wide, s, 0);
     while at < s.len() {
         let t = next_of(wide, s, at);
         if !t.sound {
             return false;
         }
-        at += t.width;
+        at = sound_run(wide, s, at + t.width);
     }
     true
 }
@@ -174,76 +220,4 @@ pub fn text_into(wide: bool, s: &[u8], out: &mut [u8]) -> usize
         return n;
     }
     bytes_into(wide, s, out)
-}
-
-// ---- the same text
-
-// Whether the steps at two places stand for the same, and the places after them.
-pub struct Both {
-    pub same: bool,
-    pub i: usize,
-    pub j: usize,
-}
-
-// Two bytes of ASCII are compared as they stand.
-fn both_at(wide_a: bool, a: &[u8], i: usize, wide_b: bool, b: &[u8], j: usize) -> Both
-    requires { ⌜ (i < length (now a)) × (j < length (now b)) ⌝ }
-    ensures { λ r. ⌜ Paired «wide_a» (now (a .entry)) i «wide_b» (now (b .entry)) j (r .same) (r .i) (r .j) ⌝ }
-{
-    if !wide_a {
-        if !wide_b {
-            let x = a[i];
-            let y = b[j];
-            if x < 128 {
-                if y < 128 {
-                    return Both {
-                        same: x == y,
-                        i: i + 1,
-                        j: j + 1,
-                    };
-                }
-            }
-        }
-    }
-    let t = next_of(wide_a, a, i);
-    let u = next_of(wide_b, b, j);
-    Both {
-        same: t.value == u.value,
-        i: i + t.width,
-        j: j + u.width,
-    }
-}
-
-fn same_steps(wide_a: bool, a: &[u8], wide_b: bool, b: &[u8]) -> bool
-    ensures { λ r. ⌜ r ≡ eqBytes (bytesOf (stepsOf «wide_a» (now (a .entry)))) (bytesOf (stepsOf «wide_b» (now (b .entry)))) ⌝ }
-{
-    let mut i = 0;
-    let mut j = 0;
-    while i < a.len() {
-        if b.len() <= j {
-            return false;
-        }
-        let t = both_at(wide_a, a, i, wide_b, b, j);
-        if !t.same {
-            return false;
-        }
-        i = t.i;
-        j = t.j;
-    }
-    b.len() <= j
-}
-
-// Whether two texts, each in its own encoding, are the same.
-// Ruled out: false of FF in UTF-8 and FD FF in UTF-16, since both are U+FFFD; true of a text and a longer one that begins with it.
-pub fn same_text(wide_a: bool, a: &[u8], wide_b: bool, b: &[u8]) -> bool
-    ensures { λ r. ⌜ r ≡ eqBytes (textOf «wide_a» (now (a .entry))) (textOf «wide_b» (now (b .entry))) ⌝ }
-{
-    let no_b = is_refused(wide_b, b);
-    if is_refused(wide_a, a) {
-        return no_b || b.len() == 0;
-    }
-    if no_b {
-        return a.len() == 0;
-    }
-    same_steps(wide_a, a, wide_b, b)
 }

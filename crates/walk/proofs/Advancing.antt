@@ -21,7 +21,7 @@ use Rattle.head.specs.Head.{tablesIn, bodyIn}
 use Rattle.events.specs.declared.Cursor.{Cursor}
 use Rattle.events.specs.declared.Event.the-variants.{Note}
 use Rattle.events.specs.Events.{Names, namesIn}
-use Rattle.events.specs.Pending.{pending, steps}
+use Rattle.events.specs.Pending.{Within, pending, steps}
 use Rattle.walk.specs.declared.tree.Tree.{Tree}
 use Rattle.walk.specs.declared.Mode.the-variants.{Reading as InBody}
 use Rattle.walk.specs.declared.State.{State}
@@ -127,6 +127,9 @@ module _ (f names area ns₀ ats₀ : List ℕ) (st : State) (g : Good f names a
 
     pub due-less : steps B (h .cur) < steps B c
     due-less = due .less
+
+    pub due-within : Within (st .opened) B (h .cur)
+    due-within = due .now .within
 
     abbrev U : List NoteOf → Tables
     U os = tablesOf ns′ ats′ (h .tree) (due .now .stack) (os-of os) (st .notes .counts)

@@ -7,5 +7,6 @@ pub mod Asking
 pub mod Running
 pub mod Clearing
 pub mod Advancing
+pub mod Quiet
 pub mod Finishing
 pub mod Opening

@@ -1,9 +1,11 @@
 // The covered core of the reading: what a file leaves in lent tables, up to the note table, which is the caller's to write.
 //
-// Mirrors axml.rs (apk-info 13770539b8): `AXML::new` and `get_xml_tree`. tree.rt keeps the tree, placing.rt puts events away, ending.rt
-// ends a reading. Definitions: specs/Reading.antt and specs/Settle.antt say what comes back, the others what the code does on its way.
+// Mirrors axml.rs (apk-info 13770539b8): `AXML::new` and `get_xml_tree`. tree.rt keeps the tree, placing.rt puts events away, passing.rt
+// passes chunks that change nothing, ending.rt ends a reading. Definitions: specs/Reading.antt and specs/Settle.antt say what comes back,
+// the others what the code does on its way.
 // Differs from the Rust: tables are lent and have limited room, and the reading stops at each note for the caller to write it.
 pub mod ending;
+pub mod passing;
 pub mod placing;
 pub mod tree;
 
@@ -24,6 +26,7 @@ use events::first_cursor;
 use head::HeadEnd;
 use head::Opened;
 use head::open_head;
+use passing::pass_in;
 use placing::Stop;
 use placing::run_in;
 use res_string_pool::Garbage;
@@ -175,6 +178,7 @@ fn read_on(
                 if notes.is_due(st.cap, kind_index(x)) {
                     return note_due(nodes, attributes, st, cur, tree, x);
                 }
+                cur = pass_in(file, opened, notes, st.cap, cur);
             }
         }
     }

@@ -1,74 +1,107 @@
 -- One turn of the loop over a name, and where it starts and ends.
 use mathlib.Core.Path.{_≡_, refl, sym, ap, _∙_}
-use mathlib.Core.Bool.{Bool, true, false, not, _&&_}
+use mathlib.Core.Bool.{Bool, true, false, not, _&&_, cond}
 use mathlib.Core.List.{List}
-use Prim.Native.Nat.{ℕ, _+_, _≤_, _<_}
+use Prim.Native.Nat.{ℕ, _+_, _*_, _/_, _≤_, _<_}
 use native.Mathlib.Omega.{arith}
 use borrow.Author.Tests.{ne-eqb}
 use lib.Dec.{eqb}
 use lib.ListN.{length, getD, drop}
-use Rattle.utf.specs.Text.{stepOf, valueOf, stepsOf, refused}
+use Rattle.utf.specs.Text.{stepOf, valueOf, soundOf, stepsOf, allSound}
 use Rattle.utf.specs.Told.{Took}
 use Rattle.utf.proofs.Steps.{stepsOf-next, stepsOf-end}
 use Rattle.utf.proofs.Turns.{took-ascii, goes}
-use Rattle.xml.specs.NCName.{sortOf, classOf, allChar, nameOf, validName}
-use Rattle.xml.specs.Told.{Told, Passed}
+use Rattle.utf.proofs.Units.{took-unit}
+use Rattle.xml.specs.NCName.{isStart, isChar, sortOf, classOf, allChar, nameOf, validName}
+use Rattle.xml.specs.Told.{sortBy, charsIn, Told, Passed}
 use Rattle.xml.proofs.Ranges.{sortOf-start, sortOf-char, classOf-ascii, ascii-of-class}
 
 -- ---- what is told of a step
 
-pub told : (wide : Bool) (s : List ℕ) (at value width sort : ℕ) (sound : Bool) → Took wide s at value width sound → sort ≡ sortOf value
+pub told : (wide : Bool) (s : List ℕ) (at value width sort : ℕ) (sound : Bool) → Took wide s at value width sound → sort ≡ sortBy wide sound value
     → Told wide s at sort width
-told wide s at value width sort sound t e = record { sort-is = e ∙ ap sortOf (t .value-is); width-is = t .width-is; least = t .least; most = t .most }
+told wide s at value width sort sound t e = record {
+  sort-is = e ∙ ap (λ (v : ℕ). sortBy wide sound v) (t .value-is) ∙ ap (λ (b : Bool). sortBy wide b (valueOf (stepOf wide (drop at s)))) (t .sound-is);
+  width-is = t .width-is;
+  least = t .least;
+  most = t .most;
+}
 
-pub told-ascii : (wide : Bool) (s : List ℕ) (at sort : ℕ) → wide ≡ false → at < length s → sort ≡ classOf (getD s at 0) → (sort ≡ 3 → ⊥)
-    → Told wide s at sort 1
-told-ascii wide s at sort w h e n =
+pub told-ascii : (s : List ℕ) (at sort : ℕ) → at < length s → sort ≡ classOf (getD s at 0) → (sort ≡ 3 → ⊥) → Told false s at sort 1
+told-ascii s at sort h e n =
     let a : getD s at 0 < 128 = ascii-of-class (getD s at 0) (λ f. n (e ∙ f)) in
-    told wide s at (getD s at 0) 1 sort true (took-ascii wide s at w h a) (e ∙ classOf-ascii (getD s at 0) a)
+    told false s at (getD s at 0) 1 sort true (took-ascii false s at refl h a) (e ∙ classOf-ascii (getD s at 0) a)
+
+pub told-unit : (s : List ℕ) (at sort : ℕ) → at + 1 < length s → ((i : ℕ) → getD s i 0 < 256) → getD s at 0 + getD s (at + 1) 0 * 256 < 128
+    → sort ≡ classOf (getD s at 0 + getD s (at + 1) 0 * 256) → Told true s at sort 2
+told-unit s at sort h b a e =
+    let u = getD s at 0 + getD s (at + 1) 0 * 256 in
+    let n : getD s (at + 1) 0 / 8 ≡ 27 → ⊥ = λ f. omega arith in
+    told true s at u 2 sort true (took-unit s at h b n) (e ∙ classOf-ascii u a)
 
 -- ---- a turn
 
-module _ (wide : Bool) (s : List ℕ) (at sort width : ℕ) (h : at < length s) (t : Told wide s at sort width) where
-  pub turn-char : allChar (stepsOf wide (drop at s)) ≡ (not (eqb sort 0) && allChar (stepsOf wide (drop (at + width) s)))
-  unfolding allChar
-  turn-char =
-      ap allChar (stepsOf-next wide s at width h (t .width-is) (t .least))
-      ∙ ap (λ (b : Bool). b && allChar (stepsOf wide (drop (at + width) s)))
-      (sym (sortOf-char (valueOf (stepOf wide (drop at s)))) ∙ ap (λ (k : ℕ). not (eqb k 0)) (sym (t .sort-is)))
+turn-by : (w x y c d : Bool) (k : ℕ) (f : ℕ → Bool) → f 0 ≡ false → f k ≡ c
+    → cond (w && not (x && y)) false (c && d) ≡ (f (cond (w && not x) 0 k) && cond (w && not y) false d)
+turn-by false x y c d k f z e = ap (λ (b : Bool). b && d) (sym e)
+turn-by true true true c d k f z e = ap (λ (b : Bool). b && d) (sym e)
+turn-by true true false true d k f z e = ap (λ (b : Bool). b && false) (sym e)
+turn-by true true false false d k f z e = ap (λ (b : Bool). b && false) (sym e)
+turn-by true false y c d k f z e = ap (λ (b : Bool). b && cond (not y) false d) (sym z)
 
-  pub turn-name : nameOf (stepsOf wide (drop at s)) ≡ (eqb sort 1 && allChar (stepsOf wide (drop (at + width) s)))
-  unfolding nameOf
+module _ (wide : Bool) (s : List ℕ) (at sort width : ℕ) (h : at < length s) (t : Told wide s at sort width) where
+  pub turn-char : charsIn wide (drop at s) ≡ (not (eqb sort 0) && charsIn wide (drop (at + width) s))
+  unfolding allChar allSound
+  turn-char =
+      let here = stepOf wide (drop at s) in
+      let rest = stepsOf wide (drop (at + width) s) in
+      rw (stepsOf-next wide s at width h (t .width-is) (t .least), t .sort-is)
+      (turn-by wide (soundOf here) (allSound rest) (isChar (valueOf here)) (allChar rest) (sortOf (valueOf here)) (λ k. not (eqb k 0)) refl
+      (sortOf-char (valueOf here)))
+
+  pub turn-name : validName wide (drop at s) ≡ (eqb sort 1 && charsIn wide (drop (at + width) s))
+  unfolding validName nameOf allSound
   turn-name =
-      ap nameOf (stepsOf-next wide s at width h (t .width-is) (t .least))
-      ∙ ap (λ (b : Bool). b && allChar (stepsOf wide (drop (at + width) s)))
-      (sym (sortOf-start (valueOf (stepOf wide (drop at s)))) ∙ ap (λ (k : ℕ). eqb k 1) (sym (t .sort-is)))
+      let here = stepOf wide (drop at s) in
+      let rest = stepsOf wide (drop (at + width) s) in
+      rw (stepsOf-next wide s at width h (t .width-is) (t .least), t .sort-is)
+      (turn-by wide (soundOf here) (allSound rest) (isStart (valueOf here)) (allChar rest) (sortOf (valueOf here)) (λ k. eqb k 1) refl
+      (sortOf-start (valueOf here)))
 
 -- ---- a run of ASCII
 
 pub passed-none : (wide : Bool) (s : List ℕ) (at : ℕ) → Passed wide s at at
 passed-none wide s at = record { later = omega arith; rest = refl }
 
-pub passed-more : (wide : Bool) (s : List ℕ) (at i sort : ℕ) → Passed wide s at i → wide ≡ false → i < length s → sort ≡ classOf (getD s i 0)
-    → (sort ≡ 0 → ⊥) → (sort ≡ 3 → ⊥) → Passed wide s at (i + 1)
-passed-more wide s at i sort p w h e n m =
-    let turn = turn-char wide s i sort 1 h (told-ascii wide s i sort w h e m) in
-    record { later = omega arith; rest = sym (goes _ _ (not (eqb sort 0)) turn (ap not (ne-eqb sort 0 n))) ∙ p .rest }
+passed-more : (wide : Bool) (s : List ℕ) (at i sort width : ℕ) → Passed wide s at i → i < length s → Told wide s i sort width → (sort ≡ 0 → ⊥)
+    → Passed wide s at (i + width)
+passed-more wide s at i sort width p h t n = record {
+  later = omega (arith, p .later);
+  rest = sym (goes _ _ (not (eqb sort 0)) (turn-char wide s i sort width h t) (ap not (ne-eqb sort 0 n))) ∙ p .rest;
+}
+
+pub passed-ascii : (s : List ℕ) (at i sort : ℕ) → Passed false s at i → i < length s → sort ≡ classOf (getD s i 0) → (sort ≡ 0 → ⊥) → (sort ≡ 3 → ⊥)
+    → Passed false s at (i + 1)
+passed-ascii s at i sort p h e n m = passed-more false s at i sort 1 p h (told-ascii s i sort h e m) n
+
+pub passed-unit : (s : List ℕ) (at i sort : ℕ) → Passed true s at i → i + 1 < length s → ((k : ℕ) → getD s k 0 < 256)
+    → getD s i 0 + getD s (i + 1) 0 * 256 < 128 → sort ≡ classOf (getD s i 0 + getD s (i + 1) 0 * 256) → (sort ≡ 0 → ⊥) → Passed true s at (i + 2)
+passed-unit s at i sort p h b a e n = passed-more true s at i sort 2 p (omega arith) (told-unit s i sort h b a e) n
 
 -- ---- the ends
 
-pub end-char : (wide : Bool) (s : List ℕ) (at : ℕ) → length s ≤ at → allChar (stepsOf wide (drop at s)) ≡ true
-unfolding allChar
-end-char wide s at h = ap allChar (stepsOf-end wide s at h)
+end-by : (w : Bool) → cond (w && not true) false true ≡ true
+end-by true = refl
+end-by false = refl
 
-pub nameOf-none : (wide : Bool) (s : List ℕ) → length s ≡ 0 → nameOf (stepsOf wide s) ≡ false
-unfolding nameOf
-nameOf-none wide s e = ap nameOf (stepsOf-end wide s 0 (omega arith))
+none-by : (w : Bool) → cond (w && not true) false false ≡ false
+none-by true = refl
+none-by false = refl
 
-pub validName-refused : (wide : Bool) (s : List ℕ) → refused wide s ≡ true → validName wide s ≡ false
-unfolding validName
-validName-refused wide s e = rw e
+pub end-char : (wide : Bool) (s : List ℕ) (at : ℕ) → length s ≤ at → charsIn wide (drop at s) ≡ true
+unfolding allChar allSound
+end-char wide s at h = rw (stepsOf-end wide s at h) (end-by wide)
 
-pub validName-kept : (wide : Bool) (s : List ℕ) → refused wide s ≡ false → validName wide s ≡ nameOf (stepsOf wide s)
-unfolding validName
-validName-kept wide s e = rw e
+pub validName-none : (wide : Bool) (s : List ℕ) → length s ≡ 0 → validName wide s ≡ false
+unfolding validName nameOf allSound
+validName-none wide s e = rw (stepsOf-end wide s 0 (omega arith)) (none-by wide)

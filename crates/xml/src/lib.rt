@@ -1,18 +1,17 @@
 // Names: whether a text is an NCName, and what a byte or a value is in one.
 //
 // Mirrors xml/src/lib.rs (apk-info 13770539b8): `is_valid_name`, `is_name_start_char`, `is_name_char`.
-// Definitions: specs/NCName.antt, from XML 1.0 (Fifth Edition) and Namespaces in XML 1.0. A byte of ASCII is looked up once; what lies
+// Definitions: specs/NCName.antt, from XML 1.0 (Fifth Edition) and Namespaces in XML 1.0. Text of ASCII is looked up; what lies
 // beyond is decoded. Differs from the Rust: a text in UTF-16 is read as it stands, and ill-formed UTF-8 is read as U+FFFD.
-use utf::is_refused;
-use utf::next_of;
+pub mod chars;
+
+use chars::ascii_run;
+use chars::char_at;
 ghost use mathlib.Core.Path.{_≡_};
 ghost use mathlib.Core.Bool.{false};
-ghost use Prim.Native.Nat.{_<_};
-ghost use lib.ListN.{length};
 ghost use Rattle.utf.specs.Utf8.{inside};
-ghost use Rattle.utf.specs.Text.{stepsOf};
-ghost use Rattle.xml.specs.NCName.{inRanges, isStart, isChar, sortOf, classOf, nameOf, validName};
-ghost use Rattle.xml.specs.Told.{IsTable, Told, Passed};
+ghost use Rattle.xml.specs.NCName.{inRanges, isStart, isChar, sortOf, classOf, validName};
+ghost use Rattle.xml.specs.Told.{IsTable};
 
 // The class of each byte: 0 in no name, 1 first or later, 2 later only, 3 beyond ASCII.
 const CLASSES: [u8; 256] = *b"\
@@ -122,57 +121,10 @@ pub fn is_char(v: u32) -> bool
     sort_in(&CLASSES, v) != 0
 }
 
-// What stands at a place of a text: its sort, and how many bytes it takes.
-pub struct Char {
-    pub sort: u8,
-    pub width: usize,
-}
-
-// A byte of ASCII in UTF-8 is looked up once; anything else is decoded first.
-fn char_at(classes: &[u8], wide: bool, s: &[u8], at: usize) -> Char
-    requires { ⌜ IsTable (now classes) × (at < length (now s)) ⌝ }
-    ensures { λ r. ⌜ Told wide (now (s .entry)) at (r .sort) (r .width) ⌝ }
-{
-    if !wide {
-        let b = s[at];
-        let k = classes[b as usize];
-        if k != 3 {
-            return Char { sort: k, width: 1 };
-        }
-    }
-    let t = next_of(wide, s, at);
-    Char {
-        sort: sort_in(classes, t.value),
-        width: t.width,
-    }
-}
-
-// The first place from `at` on that holds no char of ASCII; `at` itself in UTF-16.
-fn ascii_run(classes: &[u8], wide: bool, s: &[u8], at: usize) -> usize
-    requires { ⌜ IsTable (now classes) ⌝ }
-    ensures { λ r. ⌜ Passed wide (now (s .entry)) at r ⌝ }
-{
-    if wide {
-        return at;
-    }
-    let mut i = at;
-    while i < s.len() {
-        let b = s[i];
-        let k = classes[b as usize];
-        if k == 0 {
-            return i;
-        }
-        if k == 3 {
-            return i;
-        }
-        i += 1;
-    }
-    i
-}
-
-// Whether the steps' values are those of a name: what a run of ASCII leaves is decoded, one step and then the next run.
-fn name_of(wide: bool, s: &[u8]) -> bool
-    ensures { λ r. ⌜ r ≡ nameOf (stepsOf wide (now (s .entry))) ⌝ }
+// Whether the text, in UTF-16 where it is wide, is an NCName: what a run of ASCII leaves is decoded, one step and then the next run.
+// Ruled out: true of the empty text; false of FF in UTF-8, since U+FFFD is a start.
+pub fn valid_name(wide: bool, s: &[u8]) -> bool
+    ensures { λ r. ⌜ r ≡ validName wide (now (s .entry)) ⌝ }
 {
     if s.len() == 0 {
         return false;
@@ -191,17 +143,6 @@ fn name_of(wide: bool, s: &[u8]) -> bool
         at = ascii_run(&classes, wide, s, at + u.width);
     }
     true
-}
-
-// Whether the text, in UTF-16 where it is wide, is an NCName.
-// Ruled out: true of the empty text; false of FF in UTF-8, since U+FFFD is a start.
-pub fn valid_name(wide: bool, s: &[u8]) -> bool
-    ensures { λ r. ⌜ r ≡ validName wide (now (s .entry)) ⌝ }
-{
-    if is_refused(wide, s) {
-        return false;
-    }
-    name_of(wide, s)
 }
 
 // Whether the UTF-8 text is an NCName.

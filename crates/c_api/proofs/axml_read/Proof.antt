@@ -1,17 +1,11 @@
--- `c_api::axml_read` meets its contract: the reading over words, its tail zeroed, and its answer in numbers (proofs/Points.antt).
+-- `c_api::axml_read` meets its contract: the reading over words, and its answer in numbers (proofs/Points.antt).
 use borrow.Author.Needs.{needs}
-use Rattle.c_api.proofs.Points.{reads-of-left}
+use Rattle.c_api.proofs.Points.{reads-by}
 use Rattle.c_api.proofs.axml_read.Statement.{statement}
 use Rattle.c_api.proofs.axml_read.Tie as tie
 
 read-words-requires : tie.Need-read-words-requires
 read-words-requires c κs = search needs
-
-mul-zero-from : tie.Need-mul-zero-from
-mul-zero-from c = search needs
-
-zero-from-requires : tie.Need-zero-from-requires
-zero-from-requires c κs = search needs
 
 read-numbers-requires : tie.Need-read-numbers-requires
 read-numbers-requires c κs = search needs
@@ -31,26 +25,15 @@ same-length-3 c = search needs
 returns : tie.Need-returns
 returns c =
     let at-numbers = c .before in
-    let at-zero = at-numbers .before .before .before in
-    let at-words = at-zero .before .before .before .before .before .before .before .before in
+    let at-words = at-numbers .before .before .before .before .before .before .before in
     let at-start = at-words .before .before .before .before .before .before .before .before .before .before in
     let a = at-start .args in
     let q = at-words .read-words in
-    let z = at-zero .zero-from in
-    reads-of-left (a .file .now) (a .names .now) (a .area .now) (a .nodes .now) (a .attributes .now) (a .notes .now) (a .cap) (q .result)
-    (q .last .1 .1 .1 .0) (q .last .1 .1 .1 .1 .0) (q .last .1 .1 .1 .1 .1 .0) (q .ensures) (z .last .0) (z .ensures)
-    (at-numbers .read-numbers .result) (at-numbers .read-numbers .ensures) (c .answer-of .result) (c .answer-of .ensures)
+    let n = at-numbers .read-numbers in
+    reads-by (a .file .now) (a .names .now) (a .area .now) (a .nodes .now) (a .attributes .now) (a .notes .now) (a .cap) (q .result)
+    (q .last .1 .1 .1 .0) (q .last .1 .1 .1 .1 .0) (q .last .1 .1 .1 .1 .1 .0) (q .ensures)
+    (n .result) (n .ensures) (c .answer-of .result) (c .answer-of .ensures)
 
 pub axml-read-spec : {M : Type 1} → statement M
 axml-read-spec =
-    tie.close
-    (tie.spec
-    read-words-requires
-    mul-zero-from
-    zero-from-requires
-    read-numbers-requires
-    answer-of-requires
-    same-length
-    same-length-2
-    same-length-3
-    returns)
+    tie.close (tie.spec read-words-requires read-numbers-requires answer-of-requires same-length same-length-2 same-length-3 returns)

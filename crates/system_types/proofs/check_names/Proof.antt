@@ -1,21 +1,26 @@
 -- `system_types::check_names` meets its contract. Invariant: what the entries left say is what all of them say. Measure: the
 -- entries left.
-use Prim.Native.Nat.{_≤_, _-_, _<_, _+_, _*_}
+use Prim.Native.Nat.{_≤_, _-_, _<_, _+_, _*_, _/_}
 use mathlib.Core.Path.{_≡_, refl, sym, _∙_}
 use native.Mathlib.Omega.{arith}
 use borrow.Author.Needs.{needs}
 use lib.ListN.{length, drop, length-drop}
+use lib.Dec.{ltb}
 use denote.Ref.{now}
-use Rattle.system_types.specs.Names.{namesFrom}
+use Rattle.system_types.specs.Names.{allAscii, namesFrom}
+use Rattle.system_types.proofs.Ascii.{behind-test}
 use Rattle.system_types.proofs.Laws.{namesFrom-refused, namesFrom-passed, namesFrom-stop, namesFrom-left}
 use Rattle.system_types.proofs.check_names.Statement.{statement}
 use Rattle.system_types.proofs.check_names.Tie as tie
 
 abbrev Inv-loop : tie.InvT-loop
-Inv-loop names area whole last₀ k₀ last k = (k ≤ whole) × (namesFrom area last k (drop (3 * k) names) ≡ namesFrom area 0 0 names)
+Inv-loop names area whole plain last₀ k₀ last k = (k ≤ whole) × (namesFrom area last k (drop (3 * k) names) ≡ namesFrom area 0 0 names)
 
 abbrev μ-loop : tie.MeasureT-loop
-μ-loop names area whole last₀ k₀ last k = whole - k
+μ-loop names area whole plain last₀ k₀ last k = whole - k
+
+is-plain-requires : tie.Need-is-plain-requires Inv-loop μ-loop
+is-plain-requires c κs = search needs
 
 loop-holds : tie.Need-loop-holds Inv-loop μ-loop
 loop-holds c = (omega arith, refl)
@@ -54,11 +59,14 @@ shared-slice-read-is-good-2 : tie.Need-shared-slice-read-is-good-2 Inv-loop μ-l
 shared-slice-read-is-good-2 c = omega arith
 
 is-good-requires : tie.Need-is-good-requires Inv-loop μ-loop
-is-good-requires c κs = search needs
+is-good-requires c κs =
+    let p = c .before .before .before .before .before .is-plain in
+    let a = c .before .before .before .before .before .before .before .before .args in
+    behind-test (ltb (length (now (a .names)) / 3) (length (now (a .area)) / 64)) (allAscii (now (a .area))) (p .result) (p .ensures)
 
 returns : tie.Need-returns Inv-loop μ-loop
 returns c =
-    let a = c .before .before .before .before .before .before .before .before .before .args in
+    let a = c .before .before .before .before .before .before .before .before .before .before .args in
     let l = c .before .before .before .before .before .before .loop in
     let g = c .before .is-good in
     namesFrom-refused (now (a .area)) (l .last) (now (a .names)) (l .k) (omega arith) (g .result) _ (g .ensures) (c .if1 .taken) (l .inv .1)
@@ -71,14 +79,14 @@ loop-less c = omega arith
 
 loop-again : tie.Need-loop-again Inv-loop μ-loop
 loop-again c =
-    let a = c .before .before .before .before .before .before .before .before .before .args in
+    let a = c .before .before .before .before .before .before .before .before .before .before .args in
     let l = c .before .before .before .before .before .before .loop in
     let g = c .before .is-good in
     (omega arith, namesFrom-passed (now (a .area)) (l .last) (now (a .names)) (l .k) (omega arith) (g .result) _ (g .ensures) (c .if1 .left) (l .inv .1))
 
 returns-2 : tie.Need-returns-2 Inv-loop μ-loop
 returns-2 c =
-    let a = c .before .before .before .before .before .args in
+    let a = c .before .before .before .before .before .before .args in
     let l = c .before .before .loop in
     let w = drop (3 * l .k) (now (a .names)) in
     let some : 1 ≤ length w = rw length-drop (omega arith) in
@@ -87,7 +95,7 @@ returns-2 c =
 
 returns-3 : tie.Need-returns-3 Inv-loop μ-loop
 returns-3 c =
-    let a = c .before .before .before .before .before .args in
+    let a = c .before .before .before .before .before .before .args in
     let l = c .before .before .loop in
     let w = drop (3 * l .k) (now (a .names)) in
     let none : length w ≡ 0 = rw length-drop (omega arith) in
@@ -99,6 +107,7 @@ check-names-spec =
     (tie.spec
     Inv-loop
     μ-loop
+    is-plain-requires
     loop-holds
     mul-id
     mul-id-2

@@ -2,7 +2,7 @@
 use mathlib.Core.Path.{sym, _∙_}
 use native.Mathlib.Omega.{arith}
 use denote.Ref.{now}
-use Rattle.system_types.proofs.Laws.{isGood-falls, isGood-top, isGood-empty, isGood-past, isGood-by}
+use Rattle.system_types.proofs.Laws.{isGood-falls, isGood-top, isGood-empty, isGood-past, isGood-by, isGood-plain}
 use borrow.Author.Needs.{needs}
 use Rattle.system_types.proofs.is_good.Statement.{statement}
 use Rattle.system_types.proofs.is_good.Tie as tie
@@ -30,6 +30,13 @@ returns-4 c =
     let a = c .before .before .before .before .before .before .before .before .args in
     sym (isGood-past (now (a .area)) (a .last .0) (a .id .0) (a .start) (a .n) (omega arith) (c .before .before .if2 .left) (omega arith) (omega arith))
 
+returns-5 : tie.Need-returns-5
+returns-5 c =
+    let a = c .before .before .before .before .before .before .before .before .before .args in
+    let top = c .before .before .before .if2 .left in
+    let e = c .before .before .before .before .before .before .before .before .before .pre (c .if5 .taken) in
+    sym (isGood-plain (now (a .area)) (a .last .0) (a .id .0) (a .start) (a .n) e (omega arith) top (omega arith) (omega arith))
+
 sub-all-ascii : tie.Need-sub-all-ascii
 sub-all-ascii c = search needs
 
@@ -42,10 +49,10 @@ part-all-ascii-end c = search needs
 all-ascii-requires : tie.Need-all-ascii-requires
 all-ascii-requires c κs = search needs
 
-returns-5 : tie.Need-returns-5
-returns-5 c =
-    let a = c .before .before .before .before .before .before .before .before .before .before .args in
-    let top = c .before .before .before .before .if2 .left in
+returns-6 : tie.Need-returns-6
+returns-6 c =
+    let a = c .before .before .before .before .before .before .before .before .before .before .before .args in
+    let top = c .before .before .before .before .before .if2 .left in
     let by = isGood-by (now (a .area)) (a .last .0) (a .id .0) (a .start) (a .n) (omega arith) top (omega arith) (omega arith) in
     c .all-ascii .ensures ∙ sym by
 
@@ -58,8 +65,9 @@ is-good-spec =
     returns-3
     add-to
     returns-4
+    returns-5
     sub-all-ascii
     part-all-ascii-start
     part-all-ascii-end
     all-ascii-requires
-    returns-5)
+    returns-6)

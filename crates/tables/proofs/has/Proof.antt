@@ -1,76 +1,89 @@
 -- `tables::has` meets its contract: it stops at the first record of this prefix whose name has the same text.
--- Invariant: no record before i is one, whichever index the wanted text was found for. Measure: the words left.
+-- Invariant: no record before i is one, whichever index the wanted text was found for; what is known of it. Measure: the words left.
 use Prim.Native.Nat.{ℕ, _-_, _≤_}
 use mathlib.Core.Path.{_≡_, refl, sym, _∙_}
 use mathlib.Core.Logic.{⊎-elim}
+use native.Mathlib.Nat.{sub-zero}
 use borrow.Author.Needs.{needs}
 use lib.ListN.{length, drop}
-use Rattle.text.specs.Found.{Finds}
+use Rattle.utf.specs.Plain.{Known}
+use Rattle.text.specs.Content.{plainIn}
+use Rattle.text.specs.Found.{partOf, Finds}
+use Rattle.text.proofs.Plains.{known-fact}
 use Rattle.tables.specs.Keep.{hasKey, sameIn}
 use Rattle.tables.proofs.Keys.{hasKey-end, hasKey-found, hasKey-prefix, hasKey-name, sameIn-found}
 use Rattle.tables.proofs.has.Statement.{statement}
 use Rattle.tables.proofs.has.Tie as tie
 
 abbrev Inv-loop : tie.InvT-loop
-Inv-loop t names area h words prefix wanted i₀ i =
-    (i ≤ length words) × ((n : ℕ) → Finds t names area h n wanted
+Inv-loop t names area h words prefix wanted plain i₀ i =
+    (i ≤ length words) × Known plain (plainIn (partOf (h .wide) t area wanted)) × ((n : ℕ) → Finds t names area h n wanted
     → hasKey (sameIn h t names area) prefix n words ≡ hasKey (sameIn h t names area) prefix n (drop i words))
 
 abbrev μ-loop : tie.MeasureT-loop
-μ-loop t names area h words prefix wanted i₀ i = length words - i
+μ-loop t names area h words prefix wanted plain i₀ i = length words - i
+
+returns : tie.Need-returns Inv-loop μ-loop
+returns c =
+    let a = c .before .before .before .before .before .args in
+    let same = sameIn (a .h) (a .t .now) (a .names .now) (a .area .now) in
+    sym (hasKey-end same (a .prefix) (a .name .0) (a .words .now) 0 (rw sub-zero (c .if1 .taken)))
 
 find-requires : tie.Need-find-requires Inv-loop μ-loop
 find-requires c κs = search needs
 
+is-plain-found-requires : tie.Need-is-plain-found-requires Inv-loop μ-loop
+is-plain-found-requires c κs = search needs
+
 loop-holds : tie.Need-loop-holds Inv-loop μ-loop
-loop-holds c = (search needs, λ _ _. refl)
+loop-holds c = (search needs, rw (c .is-plain-found .ensures) (known-fact _), λ _ _. refl)
 
 sub-loop : tie.Need-sub-loop Inv-loop μ-loop
 sub-loop c = search needs
 
-add-if1 : tie.Need-add-if1 Inv-loop μ-loop
-add-if1 c = search needs
+add-if2 : tie.Need-add-if2 Inv-loop μ-loop
+add-if2 c = search needs
 
-mul-if1 : tie.Need-mul-if1 Inv-loop μ-loop
-mul-if1 c = search needs
+mul-if2 : tie.Need-mul-if2 Inv-loop μ-loop
+mul-if2 c = search needs
 
-shared-slice-read-if1 : tie.Need-shared-slice-read-if1 Inv-loop μ-loop
-shared-slice-read-if1 c = search needs
+shared-slice-read-if2 : tie.Need-shared-slice-read-if2 Inv-loop μ-loop
+shared-slice-read-if2 c = search needs
 
-add-t16 : tie.Need-add-t16 Inv-loop μ-loop
-add-t16 c = search needs
+add-t19 : tie.Need-add-t19 Inv-loop μ-loop
+add-t19 c = search needs
 
-mul-t17 : tie.Need-mul-t17 Inv-loop μ-loop
-mul-t17 c = search needs
+mul-t20 : tie.Need-mul-t20 Inv-loop μ-loop
+mul-t20 c = search needs
 
-shared-slice-read-t19 : tie.Need-shared-slice-read-t19 Inv-loop μ-loop
-shared-slice-read-t19 c = search needs
+shared-slice-read-t22 : tie.Need-shared-slice-read-t22 Inv-loop μ-loop
+shared-slice-read-t22 c = search needs
 
 find-requires-2 : tie.Need-find-requires-2 Inv-loop μ-loop
 find-requires-2 c κs = search needs
 
-same-found-requires : tie.Need-same-found-requires Inv-loop μ-loop
-same-found-requires c κs = search needs
+same-found-known-requires : tie.Need-same-found-known-requires Inv-loop μ-loop
+same-found-known-requires c κs =
+    let at-loop = c .before .before .before .before .before in
+    (c .find2 .ensures .inside, at-loop .before .before .find .ensures .inside, at-loop .loop .inv .1)
 
-returns : tie.Need-returns Inv-loop μ-loop
-returns c =
-    let at-if1 = c .before .before .before .before in
-    let at-loop-test = at-if1 .before .before in
-    let at-place = at-loop-test .before in
-    let at-find = at-place .before in
-    let at-start = at-find .before .before .before .before .before in
-    let a = at-start .args in
-    let at-loop = at-place in
+returns-2 : tie.Need-returns-2 Inv-loop μ-loop
+returns-2 c =
+    let at-if2 = c .before .before .before .before in
+    let at-loop-test = at-if2 .before .before in
+    let at-loop = at-loop-test .before in
+    let at-find = at-loop .before .before in
+    let a = at-find .before .before .before .before .before .before .args in
     let same = sameIn (a .h) (a .t .now) (a .names .now) (a .area .now) in
     let n = a .name .0 in
     let wanted = at-find .find in
     let other = c .before .before .find2 in
     let equal =
     sameIn-found (a .h) (a .t .now) (a .names .now) (a .area .now) _ n (other .result) (wanted .result) (other .ensures) (wanted .ensures) _ _
-    (c .before .same-found .ensures) (c .if2 .taken) in
+    (c .before .same-found-known .ensures) (c .if3 .taken) in
     sym
-    (at-loop .loop .inv .1 n (wanted .ensures)
-    ∙ hasKey-found same (a .prefix) n (a .words .now) (at-loop .loop .i) (at-loop-test .loop-test .taken) (at-if1 .if1 .taken) equal)
+    (at-loop .loop .inv .2 n (wanted .ensures)
+    ∙ hasKey-found same (a .prefix) n (a .words .now) (at-loop .loop .i) (at-loop-test .loop-test .taken) (at-if2 .if2 .taken) equal)
 
 add-i : tie.Need-add-i Inv-loop μ-loop
 add-i c = search needs
@@ -81,28 +94,29 @@ loop-less c = search needs
 loop-again : tie.Need-loop-again Inv-loop μ-loop
 loop-again c =
     let at-loop = c .before .before .before in
-    let at-start = at-loop .before .before .before .before .before .before in
+    let at-start = at-loop .before .before .before .before .before .before .before .before in
     let a = at-start .args in
     let i = at-loop .loop .i in
     let same = sameIn (a .h) (a .t .now) (a .names .now) (a .area .now) in
     let long = c .before .before .loop-test .taken in (
       search needs,
+      at-loop .loop .inv .1,
       λ n wanted.
-          (at-loop .loop .inv .1 n wanted
+          (at-loop .loop .inv .2 n wanted
           ∙ ⊎-elim
           (λ w. hasKey-name same (a .prefix) n (a .words .now) i long (w .0 .taken)
           (sameIn-found (a .h) (a .t .now) (a .names .now) (a .area .now) _ n (w .2 .result) _ (w .2 .ensures) wanted _ _ (w .3 .ensures) (w .4 .left)))
           (λ w. hasKey-prefix same (a .prefix) n (a .words .now) i long (w .left))
-          (c .if1 .came)),
+          (c .if2 .came)),
     )
 
-returns-2 : tie.Need-returns-2 Inv-loop μ-loop
-returns-2 c =
-    let at-start = c .before .before .before .before .before .before .before in
-    let a = at-start .args in
+returns-3 : tie.Need-returns-3 Inv-loop μ-loop
+returns-3 c =
+    let at-loop = c .before in
+    let a = at-loop .before .before .before .before .before .before .before .before .args in
     let same = sameIn (a .h) (a .t .now) (a .names .now) (a .area .now) in
     let n = a .name .0 in
-    sym (c .before .loop .inv .1 n (c .before .before .find .ensures) ∙ hasKey-end same (a .prefix) n (a .words .now) (c .before .loop .i)
+    sym (at-loop .loop .inv .2 n (at-loop .before .before .find .ensures) ∙ hasKey-end same (a .prefix) n (a .words .now) (at-loop .loop .i)
     (c .loop-test .left))
 
 pub has-spec : {M : Type 1} → statement M
@@ -111,19 +125,21 @@ has-spec =
     (tie.spec
     Inv-loop
     μ-loop
+    returns
     find-requires
+    is-plain-found-requires
     loop-holds
     sub-loop
-    add-if1
-    mul-if1
-    shared-slice-read-if1
-    add-t16
-    mul-t17
-    shared-slice-read-t19
+    add-if2
+    mul-if2
+    shared-slice-read-if2
+    add-t19
+    mul-t20
+    shared-slice-read-t22
     find-requires-2
-    same-found-requires
-    returns
+    same-found-known-requires
+    returns-2
     add-i
     loop-less
     loop-again
-    returns-2)
+    returns-3)

@@ -6,6 +6,7 @@ use denote.Ref.{now}
 use Rattle.text.specs.Found.{partOf}
 use Rattle.text.specs.Content.{Content, isText}
 use Rattle.text.proofs.Read.{isText-sound, isText-unsound}
+use Rattle.text.proofs.Plains.{known-none}
 use Rattle.text.proofs.is_index_text.Statement.{statement}
 use Rattle.text.proofs.is_index_text.Tie as tie
 
@@ -26,7 +27,7 @@ returns c =
     (λ (p : Content). isText p (now (a .bytes))) (c .before .before .find .ensures .same)
 
 same-part-requires : tie.Need-same-part-requires
-same-part-requires c κs = search needs
+same-part-requires c κs = (c .before .before .find .ensures .inside, known-none _)
 
 returns-2 : tie.Need-returns-2
 returns-2 c =

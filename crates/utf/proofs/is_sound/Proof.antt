@@ -1,5 +1,5 @@
 -- `utf::is_sound` meets its contract. Invariant: what is left is sound or not as the whole is. Measure: the bytes left.
-use mathlib.Core.Path.{_≡_, refl, sym, _∙_}
+use mathlib.Core.Path.{_≡_, sym, _∙_}
 use Prim.Native.Nat.{_-_}
 use native.Mathlib.Omega.{arith}
 use lib.ListN.{length, drop}
@@ -16,8 +16,11 @@ Inv-loop wide s at₀ at = allSound (stepsOf wide (drop at s)) ≡ allSound (ste
 abbrev μ-loop : tie.MeasureT-loop
 μ-loop wide s at₀ at = length s - at
 
+sound-run-requires : tie.Need-sound-run-requires Inv-loop μ-loop
+sound-run-requires c κs = search needs
+
 loop-holds : tie.Need-loop-holds Inv-loop μ-loop
-loop-holds c = refl
+loop-holds c = c .sound-run .ensures .rest
 
 next-of-requires : tie.Need-next-of-requires Inv-loop μ-loop
 next-of-requires c κs = search needs
@@ -28,17 +31,20 @@ returns c =
     let turn = turn-sound _ _ _ _ _ _ (q .before .loop-test .taken) (q .next-of .ensures) in
     sym (stops _ _ (q .next-of .result .sound) turn (not-true _ (c .if1 .taken))) ∙ q .before .before .loop .inv
 
-add-at : tie.Need-add-at Inv-loop μ-loop
-add-at c = omega (arith, c .before .before .before .next-of .ensures)
+add-sound-run : tie.Need-add-sound-run Inv-loop μ-loop
+add-sound-run c = omega (arith, c .before .before .before .next-of .ensures)
+
+sound-run-requires-2 : tie.Need-sound-run-requires-2 Inv-loop μ-loop
+sound-run-requires-2 c κs = omega (arith, c .before .before .before .next-of .ensures)
 
 loop-less : tie.Need-loop-less Inv-loop μ-loop
-loop-less c = omega (arith, c .before .before .before .next-of .ensures)
+loop-less c = omega (arith, c .before .before .before .before .next-of .ensures, c .sound-run2 .ensures .later)
 
 loop-again : tie.Need-loop-again Inv-loop μ-loop
 loop-again c =
-    let q = c .before .before .before in
+    let q = c .before .before .before .before in
     let turn = turn-sound _ _ _ _ _ _ (q .before .loop-test .taken) (q .next-of .ensures) in
-    sym (goes _ _ (q .next-of .result .sound) turn (not-false _ (c .before .if1 .left))) ∙ q .before .before .loop .inv
+    c .sound-run2 .ensures .rest ∙ sym (goes _ _ (q .next-of .result .sound) turn (not-false _ (c .before .before .if1 .left))) ∙ q .before .before .loop .inv
 
 returns-2 : tie.Need-returns-2 Inv-loop μ-loop
 returns-2 c = sym (end-sound _ _ _ (c .loop-test .left)) ∙ c .before .loop .inv
@@ -49,10 +55,12 @@ is-sound-spec =
     (tie.spec
     Inv-loop
     μ-loop
+    sound-run-requires
     loop-holds
     next-of-requires
     returns
-    add-at
+    add-sound-run
+    sound-run-requires-2
     loop-less
     loop-again
     returns-2)

@@ -1,5 +1,6 @@
 -- `walk::read_on` meets its contract: each way out of its loop keeps the outcome of the whole reading.
--- Invariant: the outcome is that of the reading from here. Measure: the cursor's steps. The mathematics of a turn: proofs/Advancing.antt, Finishing.antt.
+-- Invariant: the outcome is that of the reading from here. Measure: the cursor's steps. The mathematics of a turn: proofs/Advancing.antt, Quiet.antt,
+-- Finishing.antt.
 use native.Mathlib.Omega.{arith}
 use mathlib.Core.Path.{_≡_, refl, sym, _∙_}
 use borrow.Author.Needs.{needs}
@@ -9,7 +10,8 @@ use Rattle.anomaly.proofs.Laws.{kindIndex-lt}
 use Rattle.head.specs.Head.{bodyIn}
 use Rattle.events.specs.Pending.{steps}
 use Rattle.walk.specs.Outcome.{Good}
-use Rattle.walk.proofs.Advancing.{ReadHead, read-first, read-full, due-less, read-past, read-due}
+use Rattle.walk.proofs.Advancing.{ReadHead, read-first, read-full, due-less, due-within, read-past, read-due}
+use Rattle.walk.proofs.Quiet.{read-passed}
 use Rattle.walk.proofs.Finishing.{read-keepable, read-done}
 use Rattle.walk.proofs.read_on.Statement.{statement}
 use Rattle.walk.proofs.read_on.Tie as tie
@@ -42,15 +44,13 @@ same-length : tie.Need-same-length Inv-loop μ-loop
 same-length c =
     let at-refuse = c .before .before .before .before in
     let at-run-in = at-refuse .before .before .before .before .before .before .before .before .before .before .before .before in
-    let at-loop = at-run-in .before .before .before in
-    at-refuse .refuse .kept .0 ∙ at-run-in .run-in .kept .1 .1 .1 .1 .0 ∙ at-loop .loop .inv .0
+    at-refuse .refuse .kept .0 ∙ at-run-in .run-in .kept .1 .1 .1 .1 .0 ∙ at-run-in .before .before .before .loop .inv .0
 
 same-length-2 : tie.Need-same-length-2 Inv-loop μ-loop
 same-length-2 c =
     let at-refuse = c .before .before .before .before in
     let at-run-in = at-refuse .before .before .before .before .before .before .before .before .before .before .before .before in
-    let at-loop = at-run-in .before .before .before in
-    at-refuse .refuse .kept .1 .0 ∙ at-run-in .run-in .kept .1 .1 .1 .1 .1 .0 ∙ at-loop .loop .inv .1
+    at-refuse .refuse .kept .1 .0 ∙ at-run-in .run-in .kept .1 .1 .1 .1 .1 .0 ∙ at-run-in .before .before .before .loop .inv .1
 
 returns : tie.Need-returns Inv-loop μ-loop
 returns c =
@@ -91,15 +91,13 @@ same-length-3 : tie.Need-same-length-3 Inv-loop μ-loop
 same-length-3 c =
     let at-finish = c .before .before .before .before in
     let at-run-in = at-finish .before .before .before .before .before .before .before .before .before .before .before in
-    let at-loop = at-run-in .before .before .before in
-    at-finish .finish .kept .0 ∙ at-run-in .run-in .kept .1 .1 .1 .1 .0 ∙ at-loop .loop .inv .0
+    at-finish .finish .kept .0 ∙ at-run-in .run-in .kept .1 .1 .1 .1 .0 ∙ at-run-in .before .before .before .loop .inv .0
 
 same-length-4 : tie.Need-same-length-4 Inv-loop μ-loop
 same-length-4 c =
     let at-finish = c .before .before .before .before in
     let at-run-in = at-finish .before .before .before .before .before .before .before .before .before .before .before in
-    let at-loop = at-run-in .before .before .before in
-    at-finish .finish .kept .1 .0 ∙ at-run-in .run-in .kept .1 .1 .1 .1 .1 .0 ∙ at-loop .loop .inv .1
+    at-finish .finish .kept .1 .0 ∙ at-run-in .run-in .kept .1 .1 .1 .1 .1 .0 ∙ at-run-in .before .before .before .loop .inv .1
 
 returns-2 : tie.Need-returns-2 Inv-loop μ-loop
 returns-2 c =
@@ -137,15 +135,13 @@ same-length-5 : tie.Need-same-length-5 Inv-loop μ-loop
 same-length-5 c =
     let at-note-due = c .before .before .before .before in
     let at-run-in = at-note-due .before .before .before .before .before .before .before .before .before .before .before .before .before .before .before in
-    let at-loop = at-run-in .before .before .before in
-    at-note-due .note-due .kept .0 ∙ at-run-in .run-in .kept .1 .1 .1 .1 .0 ∙ at-loop .loop .inv .0
+    at-note-due .note-due .kept .0 ∙ at-run-in .run-in .kept .1 .1 .1 .1 .0 ∙ at-run-in .before .before .before .loop .inv .0
 
 same-length-6 : tie.Need-same-length-6 Inv-loop μ-loop
 same-length-6 c =
     let at-note-due = c .before .before .before .before in
     let at-run-in = at-note-due .before .before .before .before .before .before .before .before .before .before .before .before .before .before .before in
-    let at-loop = at-run-in .before .before .before in
-    at-note-due .note-due .kept .1 .0 ∙ at-run-in .run-in .kept .1 .1 .1 .1 .1 .0 ∙ at-loop .loop .inv .1
+    at-note-due .note-due .kept .1 .0 ∙ at-run-in .run-in .kept .1 .1 .1 .1 .1 .0 ∙ at-run-in .before .before .before .loop .inv .1
 
 returns-3 : tie.Need-returns-3 Inv-loop μ-loop
 returns-3 c =
@@ -169,8 +165,8 @@ returns-3 c =
     (q .result) (q .last .1 .1 .1 .1 .0) (q .last .1 .1 .1 .1 .1 .0) (q .kept .1 .1 .1 .1 .0) (q .kept .1 .1 .1 .1 .1 .0) (q .ensures)
     (s .0 .0) (s .1) under (r .result) (r .last .0) (r .last .1 .0) (r .ensures)
 
-loop-less : tie.Need-loop-less Inv-loop μ-loop
-loop-less c =
+pass-in-requires : tie.Need-pass-in-requires Inv-loop μ-loop
+pass-in-requires c κs =
     let at-stop2 = c .before .before .before .before in
     let at-run-in = at-stop2 .before .before .before .before .before .before .before .before in
     let at-loop = at-run-in .before .before .before in
@@ -178,16 +174,31 @@ loop-less c =
     let a = at-start .args in
     let l = at-loop .loop in
     let q = at-run-in .run-in in
-    let s = at-stop2 .stop2 .given in
     let g = at-start .pre .0 in
-    due-less (a .file .now) (a .names .now) (a .area .now) (a .nodes .now) (a .attributes .now) (a .st) g (l .nodes) (l .attributes) (l .cur) (l .tree)
+    due-within (a .file .now) (a .names .now) (a .area .now) (a .nodes .now) (a .attributes .now) (a .st) g (l .nodes) (l .attributes) (l .cur) (l .tree)
     (l .inv .2 g)
     (q .result) (q .last .1 .1 .1 .1 .0) (q .last .1 .1 .1 .1 .1 .0) (q .kept .1 .1 .1 .1 .0) (q .kept .1 .1 .1 .1 .1 .0) (q .ensures)
-    (s .0 .0) (s .1)
+    (at-stop2 .stop2 .given .0 .0) (at-stop2 .stop2 .given .1)
+
+loop-less : tie.Need-loop-less Inv-loop μ-loop
+loop-less c =
+    let at-stop2 = c .before .before .before .before .before in
+    let at-run-in = at-stop2 .before .before .before .before .before .before .before .before in
+    let at-loop = at-run-in .before .before .before in
+    let at-start = at-loop .before .before .before .before .before .before .before .before .before .before in
+    let a = at-start .args in
+    let l = at-loop .loop in
+    let q = at-run-in .run-in in
+    let g = at-start .pre .0 in
+    let less = due-less (a .file .now) (a .names .now) (a .area .now) (a .nodes .now) (a .attributes .now) (a .st) g (l .nodes) (l .attributes) (l .cur)
+    (l .tree) (l .inv .2 g)
+    (q .result) (q .last .1 .1 .1 .1 .0) (q .last .1 .1 .1 .1 .1 .0) (q .kept .1 .1 .1 .1 .0) (q .kept .1 .1 .1 .1 .1 .0) (q .ensures)
+    (at-stop2 .stop2 .given .0 .0) (at-stop2 .stop2 .given .1) in
+    omega (arith, less, c .pass-in .ensures .low)
 
 loop-again : tie.Need-loop-again Inv-loop μ-loop
 loop-again c =
-    let at-stop2 = c .before .before .before .before in
+    let at-stop2 = c .before .before .before .before .before in
     let at-run-in = at-stop2 .before .before .before .before .before .before .before .before in
     let at-loop = at-run-in .before .before .before in
     let at-start = at-loop .before .before .before .before .before .before .before .before .before .before in
@@ -195,14 +206,17 @@ loop-again c =
     let l = at-loop .loop in
     let q = at-run-in .run-in in
     let s = at-stop2 .stop2 .given in
-    let past = ltb-false _ _ (sym (rw (c .before .before .kind-index .ensures) at (c .before .is-due .ensures)) ∙ c .if1 .left) in (
+    let p = c .pass-in in
+    let past = ltb-false _ _ (sym (rw (c .before .before .before .kind-index .ensures) at (c .before .before .is-due .ensures)) ∙ c .before .if1 .left) in (
       q .kept .1 .1 .1 .1 .0 ∙ l .inv .0,
       q .kept .1 .1 .1 .1 .1 .0 ∙ l .inv .1,
       λ g.
-          read-past (a .file .now) (a .names .now) (a .area .now) (a .nodes .now) (a .attributes .now) (a .st) g (l .nodes) (l .attributes) (l .cur)
+          read-passed (a .file .now) (a .names .now) (a .area .now) (a .nodes .now) (a .attributes .now) (a .st) g (q .last .1 .1 .1 .1 .0)
+          (q .last .1 .1 .1 .1 .1 .0) (q .result .cur) (q .result .tree)
+          (read-past (a .file .now) (a .names .now) (a .area .now) (a .nodes .now) (a .attributes .now) (a .st) g (l .nodes) (l .attributes) (l .cur)
           (l .tree) (l .inv .2 g)
           (q .result) (q .last .1 .1 .1 .1 .0) (q .last .1 .1 .1 .1 .1 .0) (q .kept .1 .1 .1 .1 .0) (q .kept .1 .1 .1 .1 .1 .0) (q .ensures)
-          (s .0 .0) (s .1) past,
+          (s .0 .0) (s .1) past) (p .result) (p .ensures),
     )
 
 pub read-on-spec : {M : Type 1} → statement M
@@ -230,5 +244,6 @@ read-on-spec =
     same-length-5
     same-length-6
     returns-3
+    pass-in-requires
     loop-less
     loop-again)

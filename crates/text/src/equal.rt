@@ -1,0 +1,71 @@
+// Whether two that were found have the same text.
+//
+// Mirrors `==` of two texts in the Rust; here each stays where it lies. Definitions: specs/Content.antt, specs/Found.antt.
+// One that is compared with many is first asked whether it is plain: then the bytes decide wherever both have one encoding.
+use super::Found;
+ghost use mathlib.Core.Path.{_≡_};
+ghost use Rattle.utf.specs.Text.{textOf};
+ghost use Rattle.utf.specs.Plain.{isPlain, Known};
+ghost use Rattle.text.specs.Content.{sameText, isText, plainIn};
+ghost use Rattle.text.specs.Found.{partOf, Inside};
+use utf::is_plain;
+use utf::same_known;
+
+// Whether what was found has a text and it is that of the bytes s, in UTF-16 or UTF-8; where `plain` is true, s is known to be plain.
+// Ruled out: yes for no text and no bytes, and no for UTF-16 and the UTF-8 of the same text.
+pub fn same_part(
+    t: &[u8],
+    area: &[u8],
+    wide: bool,
+    plain: bool,
+    wide_s: bool,
+    s: &[u8],
+    f: Found,
+) -> bool
+    requires { ⌜ Inside (now t) (now area) f × Known plain (isPlain «wide_s» (now s)) ⌝ }
+    ensures { λ r. ⌜ r ≡ isText (partOf wide (now (t .entry)) (now (area .entry)) f) (textOf «wide_s» (now (s .entry))) ⌝ }
+{
+    match f {
+        Found::Nothing => false,
+        Found::Cut => same_known(plain, wide, &t[0..0], wide_s, s),
+        Found::System(at, n) => same_known(plain, false, &area[at..at + n], wide_s, s),
+        Found::Pool(at, n) => same_known(plain, wide, &t[at..at + n], wide_s, s),
+    }
+}
+
+// Whether no other bytes in the same encoding have the text that was found; no text is none, and the empty one of a string that is cut has many.
+// Ruled out: yes for UTF-16 that is refused, and no for a system name.
+pub fn is_plain_found(t: &[u8], area: &[u8], wide: bool, f: Found) -> bool
+    requires { ⌜ Inside (now t) (now area) f ⌝ }
+    ensures { λ r. ⌜ r ≡ plainIn (partOf wide (now (t .entry)) (now (area .entry)) f) ⌝ }
+{
+    match f {
+        Found::Nothing => false,
+        Found::Cut => false,
+        Found::System(at, n) => is_plain(false, &area[at..at + n]),
+        Found::Pool(at, n) => is_plain(wide, &t[at..at + n]),
+    }
+}
+
+// Whether two that were found have texts and these are equal; where `plain` is true, the second is known to be plain.
+// Ruled out: no for a system name and the pool's string of the same text, and yes for two indices without one.
+pub fn same_found_known(t: &[u8], area: &[u8], wide: bool, plain: bool, f: Found, g: Found) -> bool
+    requires { ⌜ Inside (now t) (now area) f × Inside (now t) (now area) g × Known plain (plainIn (partOf wide (now t) (now area) g)) ⌝ }
+    ensures { λ r. ⌜ r ≡ sameText (partOf wide (now (t .entry)) (now (area .entry)) f) (partOf wide (now (t .entry)) (now (area .entry)) g) ⌝ }
+{
+    match g {
+        Found::Nothing => false,
+        Found::Cut => same_part(t, area, wide, false, wide, &t[0..0], f),
+        Found::System(at, n) => same_part(t, area, wide, plain, false, &area[at..at + n], f),
+        Found::Pool(at, n) => same_part(t, area, wide, plain, wide, &t[at..at + n], f),
+    }
+}
+
+// The same, with nothing known of either.
+// Ruled out: no for a system name and the pool's string of the same text, and yes for two indices without one.
+pub fn same_found(t: &[u8], area: &[u8], wide: bool, f: Found, g: Found) -> bool
+    requires { ⌜ Inside (now t) (now area) f × Inside (now t) (now area) g ⌝ }
+    ensures { λ r. ⌜ r ≡ sameText (partOf wide (now (t .entry)) (now (area .entry)) f) (partOf wide (now (t .entry)) (now (area .entry)) g) ⌝ }
+{
+    same_found_known(t, area, wide, false, f, g)
+}

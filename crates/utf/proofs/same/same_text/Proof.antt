@@ -1,0 +1,66 @@
+-- `utf::same::same_text` meets its contract: a text that is refused is empty, and two that are not are compared step by step.
+use mathlib.Core.Path.{sym, _∙_}
+use denote.Ref.{now}
+use Rattle.utf.specs.Text.{eqBytes}
+use Rattle.utf.proofs.Turns.{textOf-refused, textOf-kept, textOf-empty}
+use borrow.Author.Needs.{needs}
+use Rattle.utf.proofs.same.same_text.Statement.{statement}
+use Rattle.utf.proofs.same.same_text.Tie as tie
+
+same-wide-requires : tie.Need-same-wide-requires
+same-wide-requires c κs = search needs
+
+returns : tie.Need-returns
+returns c = rw (c .before .before .if1 .taken, c .before .if2 .taken) (c .same-wide .ensures)
+
+is-refused-requires : tie.Need-is-refused-requires
+is-refused-requires c κs = search needs
+
+is-refused-requires-2 : tie.Need-is-refused-requires-2
+is-refused-requires-2 c κs = search needs
+
+returns-2 : tie.Need-returns-2
+unfolding eqBytes
+returns-2 c =
+    let a = c .before .before .before .before .before .before .before .args in
+    rw (
+      textOf-refused (a .wide-a) (now (a .a)) (sym (c .before .before .is-refused2 .ensures) ∙ c .before .if3 .taken),
+      textOf-refused (a .wide-b) (now (a .b)) (sym (c .before .before .before .is-refused .ensures) ∙ c .if4 .taken),
+    ) (c .if4 .taken)
+
+returns-3 : tie.Need-returns-3
+returns-3 c =
+    let a = c .before .before .before .before .before .before .before .args in
+    rw (textOf-refused (a .wide-a) (now (a .a)) (sym (c .before .before .is-refused2 .ensures) ∙ c .before .if3 .taken))
+    (textOf-empty (a .wide-b) (now (a .b)) (sym (c .before .before .before .is-refused .ensures) ∙ c .if4 .left) .1)
+
+returns-4 : tie.Need-returns-4
+returns-4 c =
+    let a = c .before .before .before .before .before .before .before .args in
+    rw (textOf-refused (a .wide-b) (now (a .b)) (sym (c .before .before .before .is-refused .ensures) ∙ c .if5 .taken))
+    (textOf-empty (a .wide-a) (now (a .a)) (sym (c .before .before .is-refused2 .ensures) ∙ c .before .if3 .left) .0)
+
+same-steps-requires : tie.Need-same-steps-requires
+same-steps-requires c κs = search needs
+
+returns-5 : tie.Need-returns-5
+returns-5 c =
+    let a = c .before .before .before .before .before .before .before .before .args in
+    rw (
+      textOf-kept (a .wide-a) (now (a .a)) (sym (c .before .before .before .is-refused2 .ensures) ∙ c .before .before .if3 .left),
+      textOf-kept (a .wide-b) (now (a .b)) (sym (c .before .before .before .before .is-refused .ensures) ∙ c .before .if5 .left),
+    ) (c .same-steps .ensures)
+
+pub same-text-spec : {M : Type 1} → statement M
+same-text-spec =
+    tie.close
+    (tie.spec
+    same-wide-requires
+    returns
+    is-refused-requires
+    is-refused-requires-2
+    returns-2
+    returns-3
+    returns-4
+    same-steps-requires
+    returns-5)

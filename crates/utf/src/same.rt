@@ -1,0 +1,177 @@
+// Whether two texts are the same.
+//
+// Mirrors `==` of two texts in the Rust; here each stays where it lies, in its own encoding. Definitions: specs/Text.antt.
+// Two in UTF-16 are told by their bytes, since a sound text has one spelling; only the empty text has many, all that are refused.
+use super::is_refused;
+use super::next_of;
+ghost use mathlib.Core.Path.{_≡_};
+ghost use mathlib.Core.Bool.{true};
+ghost use mathlib.Core.List.{[]};
+ghost use Prim.Native.Nat.{_<_};
+ghost use lib.ListN.{length};
+ghost use Rattle.utf.specs.Text.{stepsOf, bytesOf, textOf, eqBytes};
+ghost use Rattle.utf.specs.Told.{Paired};
+ghost use Rattle.utf.specs.Plain.{isAscii, isPlain, Known};
+
+// ---- step by step
+
+// Whether the steps at two places stand for the same, and the places after them.
+pub struct Both {
+    pub same: bool,
+    pub i: usize,
+    pub j: usize,
+}
+
+// Two bytes of ASCII are compared as they stand.
+fn both_at(wide_a: bool, a: &[u8], i: usize, wide_b: bool, b: &[u8], j: usize) -> Both
+    requires { ⌜ (i < length (now a)) × (j < length (now b)) ⌝ }
+    ensures { λ r. ⌜ Paired «wide_a» (now (a .entry)) i «wide_b» (now (b .entry)) j (r .same) (r .i) (r .j) ⌝ }
+{
+    if !wide_a {
+        if !wide_b {
+            let x = a[i];
+            let y = b[j];
+            if x < 128 {
+                if y < 128 {
+                    return Both {
+                        same: x == y,
+                        i: i + 1,
+                        j: j + 1,
+                    };
+                }
+            }
+        }
+    }
+    let t = next_of(wide_a, a, i);
+    let u = next_of(wide_b, b, j);
+    Both {
+        same: t.value == u.value,
+        i: i + t.width,
+        j: j + u.width,
+    }
+}
+
+fn same_steps(wide_a: bool, a: &[u8], wide_b: bool, b: &[u8]) -> bool
+    ensures { λ r. ⌜ r ≡ eqBytes (bytesOf (stepsOf «wide_a» (now (a .entry)))) (bytesOf (stepsOf «wide_b» (now (b .entry)))) ⌝ }
+{
+    let mut i = 0;
+    let mut j = 0;
+    while i < a.len() {
+        if b.len() <= j {
+            return false;
+        }
+        let t = both_at(wide_a, a, i, wide_b, b, j);
+        if !t.same {
+            return false;
+        }
+        i = t.i;
+        j = t.j;
+    }
+    b.len() <= j
+}
+
+// ---- by their bytes
+
+// Whether the bytes are the same. Names that differ mostly do so in their length or at their end.
+// Ruled out: true of bytes and of more that begin with them; true of two that differ in the last alone.
+pub fn same_bytes(a: &[u8], b: &[u8]) -> bool
+    ensures { λ r. ⌜ r ≡ eqBytes (now (a .entry)) (now (b .entry)) ⌝ }
+{
+    if a.len() != b.len() {
+        return false;
+    }
+    let mut i = a.len();
+    while 0 < i {
+        let k = i - 1;
+        if a[k] != b[k] {
+            return false;
+        }
+        i = k;
+    }
+    true
+}
+
+// Whether the text in UTF-16 is empty: it has no bytes, or it is refused.
+fn is_blank(s: &[u8]) -> bool
+    ensures { λ r. ⌜ r ≡ eqBytes [] (textOf true (now (s .entry))) ⌝ }
+{
+    if is_refused(true, s) {
+        return true;
+    }
+    s.len() == 0
+}
+
+// Whether two texts in UTF-16 are the same: bytes that differ are the same text only where both are empty.
+fn same_wide(a: &[u8], b: &[u8]) -> bool
+    ensures { λ r. ⌜ r ≡ eqBytes (textOf true (now (a .entry))) (textOf true (now (b .entry))) ⌝ }
+{
+    if same_bytes(a, b) {
+        return true;
+    }
+    if is_blank(a) {
+        return is_blank(b);
+    }
+    false
+}
+
+// ---- the texts
+
+// Whether two texts, each in its own encoding, are the same.
+// Ruled out: false of FF in UTF-8 and FD FF in UTF-16, since both are U+FFFD; true of a text and a longer one that begins with it.
+pub fn same_text(wide_a: bool, a: &[u8], wide_b: bool, b: &[u8]) -> bool
+    ensures { λ r. ⌜ r ≡ eqBytes (textOf «wide_a» (now (a .entry))) (textOf «wide_b» (now (b .entry))) ⌝ }
+{
+    if wide_a {
+        if wide_b {
+            return same_wide(a, b);
+        }
+    }
+    let no_b = is_refused(wide_b, b);
+    if is_refused(wide_a, a) {
+        return no_b || b.len() == 0;
+    }
+    if no_b {
+        return a.len() == 0;
+    }
+    same_steps(wide_a, a, wide_b, b)
+}
+
+// ---- a text that its bytes decide
+
+fn is_ascii(s: &[u8]) -> bool
+    ensures { λ r. ⌜ r ≡ isAscii (now (s .entry)) ⌝ }
+{
+    let mut i = 0;
+    while i < s.len() {
+        if 128 <= s[i] {
+            return false;
+        }
+        i += 1;
+    }
+    true
+}
+
+// Whether no other bytes in the same encoding are this text: in UTF-8 it is ASCII, and in UTF-16 it is not empty.
+// Ruled out: true of a text that is refused, since there are others; true of EF BF BD in UTF-8, since FF is the same text.
+pub fn is_plain(wide: bool, s: &[u8]) -> bool
+    ensures { λ r. ⌜ r ≡ isPlain wide (now (s .entry)) ⌝ }
+{
+    if wide {
+        return !is_blank(s);
+    }
+    is_ascii(s)
+}
+
+// Whether two texts are the same, as `same_text` tells it; the second is known to be plain where `plain` is true, and then its bytes decide.
+// Ruled out: true of two texts that are refused and differ; false of a plain text in UTF-8 and the same in UTF-16.
+pub fn same_known(plain: bool, wide_a: bool, a: &[u8], wide_b: bool, b: &[u8]) -> bool
+    requires { ⌜ Known plain (isPlain «wide_b» (now b)) ⌝ }
+    ensures { λ r. ⌜ r ≡ eqBytes (textOf «wide_a» (now (a .entry))) (textOf «wide_b» (now (b .entry))) ⌝ }
+{
+    if plain {
+        if wide_a == wide_b {
+            return same_bytes(a, b);
+        }
+    }
+    same_text(wide_a, a, wide_b, b)
+}

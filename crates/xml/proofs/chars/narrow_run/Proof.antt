@@ -1,0 +1,70 @@
+-- `xml::chars::narrow_run` meets its contract. Invariant: what was passed is chars (`Passed`). Measure: the bytes left.
+use Prim.Native.Nat.{_-_}
+use mathlib.Core.Bool.{false}
+use native.Mathlib.Omega.{arith}
+use lib.ListN.{length, getD}
+use denote.Ref.{now}
+use Rattle.xml.specs.Told.{Passed}
+use Rattle.xml.proofs.Names.{passed-none, passed-ascii}
+use Rattle.xml.proofs.chars.narrow_run.Statement.{statement}
+use Rattle.xml.proofs.chars.narrow_run.Tie as tie
+
+abbrev Inv-loop : tie.InvT-loop
+Inv-loop classes s at i₀ i = Passed false s at i
+
+abbrev μ-loop : tie.MeasureT-loop
+μ-loop classes s at i₀ i = length s - i
+
+loop-holds : tie.Need-loop-holds Inv-loop μ-loop
+loop-holds c = passed-none _ _ _
+
+shared-slice-read-b : tie.Need-shared-slice-read-b Inv-loop μ-loop
+shared-slice-read-b c = omega arith
+
+cast-k : tie.Need-cast-k Inv-loop μ-loop
+cast-k c = omega (arith, c .shared-slice-known .given (c .before .before .loop .i))
+
+shared-slice-read-k : tie.Need-shared-slice-read-k Inv-loop μ-loop
+shared-slice-read-k c =
+    let q = c .before .before .before in
+    omega (arith, c .before .shared-slice-known .given (q .loop .i), q .before .pre .size)
+
+returns : tie.Need-returns Inv-loop μ-loop
+returns c = c .before .before .before .before .loop .inv
+
+returns-2 : tie.Need-returns-2 Inv-loop μ-loop
+returns-2 c = c .before .before .before .before .before .loop .inv
+
+add-i : tie.Need-add-i Inv-loop μ-loop
+add-i c = omega arith
+
+loop-less : tie.Need-loop-less Inv-loop μ-loop
+loop-less c = omega arith
+
+loop-again : tie.Need-loop-again Inv-loop μ-loop
+loop-again c =
+    let q = c .before .before .before .before .before in
+    let start = q .before in
+    let b = getD (now (start .args .s)) (q .loop .i) 0 in
+    let class = start .pre .right b (omega (arith, c .before .before .before .shared-slice-known .given (q .loop .i))) in
+    passed-ascii _ _ _ _ (q .loop .inv) (c .before .before .before .before .loop-test .taken) class (c .before .if1 .left) (c .if2 .left)
+
+returns-3 : tie.Need-returns-3 Inv-loop μ-loop
+returns-3 c = c .before .loop .inv
+
+pub narrow-run-spec : {M : Type 1} → statement M
+narrow-run-spec =
+    tie.close
+    (tie.spec
+    Inv-loop
+    μ-loop
+    loop-holds
+    shared-slice-read-b
+    cast-k
+    shared-slice-read-k
+    returns
+    returns-2
+    add-i
+    loop-less
+    loop-again
+    returns-3)
