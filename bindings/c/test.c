@@ -91,6 +91,12 @@ static void readings(void) {
   const struct expected two = {"S, its start, its end", {0, 0, 2, 2, 1, 0}, {ROOT, 0, 0, 0, 1, 0}, {LEADING}, {0}};
   reads(file, insert(S_BYTES, S + S_START, 60), &two);
 
+  /* without its map, bytes 44 to 51, the start is taken for one */
+  memcpy(file, S, 44);
+  memcpy(file + 44, S + S_START, S_BYTES - S_START);
+  const struct expected mapless = {"S without its map", {AXML_MISSING_ROOT, 0, 0, 0, 0, 0}, {0}, {0}, {0}};
+  reads(file, S_BYTES - 8, &mapless);
+
   const uint8_t foreign[8] = {0x05, 0x01, 0x08, 0x00, 0x08};
   const struct expected noted = {"0x105", {0, 0, 1, 1, 1, 1}, {ROOT}, {LEADING}, {AXML_NON_XML_CHUNK, 261, 0}};
   reads(file, insert(S_END, foreign, 8), &noted);
