@@ -1,33 +1,18 @@
--- Laws of specs/Question.antt on bytes and on the tables, for this crate. No contract cites this file.
--- In order: fixed bytes (`eqBytes-starts`, `eqBytes-other`), a table from a record on (`five`, `rest-words`), node by node whether
--- its attributes pass the count (`runsFrom-..`), both tables (`fitOf-..`). The search: proofs/Search.antt.
+-- Laws of specs/Question.antt on the tables, for this crate. No contract cites this file.
+-- In order: a table from a record on (`five`, `rest-words`), node by node whether its attributes pass the count (`runsFrom-..`), both tables
+-- (`fitOf-..`). The search: proofs/Search.antt.
 use Prim.Native.Nat.{ℕ, suc, _+_, _-_, _*_, _≤_, _<_}
 use native.Mathlib.Omega.{arith}
-use mathlib.Core.Path.{_≡_, refl, sym, ap, _∙_}
-use mathlib.Core.List.{List, [], _∷_}
-use mathlib.Core.Bool.{Bool, true, false, cond, _&&_}
+use mathlib.Core.Path.{_≡_, refl, sym, _∙_}
+use mathlib.Core.List.{List}
+use mathlib.Core.Bool.{Bool, true, false, cond}
 use borrow.Author.Tests.{ltb-true, ltb-false, lt-ltb, le-ltb}
 use lib.ListN.{length, take, drop, getD, length-drop}
 use lib.Seq.{drop-drop, getD-drop}
-use lib.Dec.{ltb, eqb}
-use Rattle.utf.specs.Text.{eqBytes}
-use Rattle.utf.proofs.Equal.{eqBytes-not}
-use Rattle.system_types.specs.Names.{startsWith}
+use lib.Dec.{ltb}
 use Rattle.head.proofs.Cases.{rest-all}
 use Rattle.first_value.specs.Question.{runsFrom, fitOf}
 use Rattle.first_value.specs.declared.Fit.the-variants.{Fitting, Unfit}
-
--- ---- fixed bytes
-
-pub eqBytes-starts : (s w : List ℕ) → length s ≡ length w → startsWith s w ≡ eqBytes s w
-unfolding eqBytes
-eqBytes-starts [] [] e = refl
-eqBytes-starts [] (x ∷ w) e = absurd (let z : ⊥ = omega arith in z)
-eqBytes-starts (a ∷ s) [] e = absurd (let z : ⊥ = omega arith in z)
-eqBytes-starts (a ∷ s) (x ∷ w) e = ap (λ (b : Bool). eqb a x && b) (eqBytes-starts s w (omega arith))
-
-pub eqBytes-other : (s w : List ℕ) → (length s ≡ length w → ⊥) → eqBytes s w ≡ false
-eqBytes-other s w p = eqBytes-not s w (λ e. p (ap length e))
 
 -- ---- a record on
 

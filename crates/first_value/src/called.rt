@@ -2,22 +2,12 @@
 //
 // Mirrors axml.rs (apk-info 13770539b8), `get_attribute_value`, its two comparisons. Definitions: specs/Question.antt, docs/FORMAT.md, Q7 and Q8.
 ghost use mathlib.Core.Path.{_≡_};
-ghost use Rattle.utf.specs.Text.{eqBytes};
 ghost use Rattle.text.specs.Found.{Asks};
 ghost use Rattle.first_value.specs.Question.{tagIs, nameIs};
 use common::StringIndex;
-use system_types::starts_with;
 use text::Head;
 use text::is_index_text;
-
-fn same_bytes(s: &[u8], wanted: &[u8]) -> bool
-    ensures { λ r. ⌜ r ≡ eqBytes (now (s .entry)) (now (wanted .entry)) ⌝ }
-{
-    if s.len() != wanted.len() {
-        return false;
-    }
-    starts_with(s, wanted)
-}
+use utf::same::same_bytes;
 
 // Whether a node of this fixed word and name index has the tag.
 // Ruled out: `invalid-element` for a fixed word of 2, and yes for an index without text and no bytes.

@@ -12,7 +12,7 @@ ghost use Prim.Native.Nat.{_+_, _≤_, _<_};
 ghost use lib.ListN.{length};
 
 // 1 for a yes, 0 for a no.
-pub fn one(b: bool) -> u32
+pub(crate) fn one(b: bool) -> u32
     ensures { λ r. ⌜ r ≤ 1 ⌝ }
 {
     if b { 1 } else { 0 }
@@ -100,12 +100,12 @@ fn complex_tally(s: &[u8]) -> Tally
 
 // ---- printing
 
-pub fn print(name: &[u8], n: u32) {
+pub(crate) fn print(name: &[u8], n: u32) {
     io::write_all(STDOUT_FILENO, name);
     io::print_decimal(STDOUT_FILENO, n as u64);
 }
 
-pub fn print_end() {
+pub(crate) fn print_end() {
     io::write_all(STDOUT_FILENO, b"\n");
 }
 

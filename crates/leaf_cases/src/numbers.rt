@@ -16,7 +16,7 @@ fn print_note(x: ResAnomaly) {
     print_end();
 }
 
-pub fn print_notes() {
+pub(crate) fn print_notes() {
     print_note(ResAnomaly::StringPoolGarbageChunk(500, 600));
     print_note(ResAnomaly::StringCountMismatch(501, 601));
     print_note(ResAnomaly::StringOffsetsOutOfBounds(502));
@@ -40,7 +40,7 @@ fn print_refusal(r: Refusal) {
     print_end();
 }
 
-pub fn print_refusals() {
+pub(crate) fn print_refusals() {
     print_refusal(Refusal::TooSmallError(5));
     print_refusal(Refusal::TooLargeError);
     print_refusal(Refusal::HeaderSizeError(16));

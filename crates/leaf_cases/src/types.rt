@@ -113,7 +113,7 @@ fn value_types() -> Types {
     }
 }
 
-pub fn print_types() {
+pub(crate) fn print_types() {
     let h = header_types();
     print(b"header types ", h.back);
     print(b" named ", h.named);

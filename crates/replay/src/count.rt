@@ -30,14 +30,14 @@ fn count_at(counts: &[u32], place: usize) -> u64 {
 }
 
 // One more at a place. A place outside the table is nowhere, and 4294967295 goes to 0.
-pub fn bump(counts: &mut [u32], place: usize) {
+pub(crate) fn bump(counts: &mut [u32], place: usize) {
     if place < counts.len() {
         counts[place] = std::num::wrapping_add_u32(counts[place], 1);
     }
 }
 
 // One more answer of a group, and one more right one where it is.
-pub fn tally(counts: &mut [u32], group: usize, right: bool) {
+pub(crate) fn tally(counts: &mut [u32], group: usize, right: bool) {
     if group < 37 {
         bump(counts, 2 * group + 1);
         if right {
@@ -47,7 +47,7 @@ pub fn tally(counts: &mut [u32], group: usize, right: bool) {
 }
 
 // The same of the group of a refusal, among those from `groups` on. A number that no refusal has belongs to none.
-pub fn tally_refusal(counts: &mut [u32], groups: usize, refusal: u32, right: bool) {
+pub(crate) fn tally_refusal(counts: &mut [u32], groups: usize, refusal: u32, right: bool) {
     if groups <= FIRST {
         if refusal < 14 {
             tally(counts, groups + refusal as usize, right);
@@ -101,7 +101,7 @@ fn print_firsts(counts: &[u32]) {
     print_group(b"  refusal 13, tables: ", counts, FIRST + 13);
 }
 
-pub fn print_counts(counts: &[u32]) {
+pub(crate) fn print_counts(counts: &[u32]) {
     print_one(b"sets of names ", counts, SETS);
     say(b"\n");
     print_readings(counts);

@@ -56,7 +56,7 @@ fn answers(
 }
 
 // Its row: node count, attribute count; refusal, value, type, data, reference; the places of file, node words, attribute words, tag and name.
-pub fn judge_first(
+pub(crate) fn judge_first(
     data: &[u8],
     row: &[u8],
     names: &[u32],
@@ -75,7 +75,7 @@ pub fn judge_first(
 // ---- names
 
 // Its row: 1 if it is a valid name, else 0; the place of the text.
-pub fn judge_name(data: &[u8], row: &[u8], counts: &mut [u32]) {
+pub(crate) fn judge_name(data: &[u8], row: &[u8], counts: &mut [u32]) {
     let mut answer = 0;
     if is_valid_name(part(data, row, 2)) {
         answer = 1;
@@ -99,7 +99,7 @@ fn is_made(n: u64, low: u32, high: u32) -> bool {
 }
 
 // Its row: the data, the low and the high half of the bits.
-pub fn judge_complex(row: &[u8], counts: &mut [u32]) {
+pub(crate) fn judge_complex(row: &[u8], counts: &mut [u32]) {
     let bits = complex_bits(word(row, 1));
     let right = is_made(bits, word(row, 2), word(row, 3));
     count::tally(counts, count::COMPLEX, right);

@@ -187,7 +187,7 @@ fn is_listed_in(data: &[u8], row: &[u8], nodes: &mut [u32], attributes: &mut [u3
 
 // Its row: cap, node words, attribute words, note places, whether `read_listed` answers the same; refusal, value, starts, nodes, attributes,
 // notes; the places of the file and of the records of nodes, attributes and notes.
-pub fn judge_reading(
+pub(crate) fn judge_reading(
     data: &[u8],
     row: &[u8],
     names: &[u32],

@@ -5,7 +5,7 @@ ghost use Prim.Native.Nat.{_≤_};
 ghost use lib.ListN.{length};
 
 // Word i of a part; 0 behind its last.
-pub fn word(s: &[u8], i: usize) -> u32 {
+pub(crate) fn word(s: &[u8], i: usize) -> u32 {
     if s.len() / 4 <= i {
         return 0;
     }
@@ -13,7 +13,7 @@ pub fn word(s: &[u8], i: usize) -> u32 {
 }
 
 // A part of the data: where it begins, and how many bytes it has, are words i and i + 1 of `s`. Nothing where it does not lie inside.
-pub fn part<'a>(data: &'a [u8], s: &[u8], i: usize) -> &'a [u8] {
+pub(crate) fn part<'a>(data: &'a [u8], s: &[u8], i: usize) -> &'a [u8] {
     if s.len() / 4 <= i {
         return &data[0..0];
     }
@@ -29,7 +29,7 @@ pub fn part<'a>(data: &'a [u8], s: &[u8], i: usize) -> &'a [u8] {
 }
 
 // The words of a part, at the front of `table`; how many there are, or as many as have room.
-pub fn load(words: &[u8], table: &mut [u32]) -> usize
+pub(crate) fn load(words: &[u8], table: &mut [u32]) -> usize
     ensures { λ r. ⌜ r ≤ length (now (table .exit)) ⌝ }
 {
     let mut n = 0;
@@ -46,7 +46,7 @@ pub fn load(words: &[u8], table: &mut [u32]) -> usize
 }
 
 // What a table holds before a question: no word of it is 0, nor any that is stored.
-pub fn soil(table: &mut [u32]) {
+pub(crate) fn soil(table: &mut [u32]) {
     let mut i = 0;
     while i < table.len() {
         table[i] = 2863311530;
@@ -55,7 +55,7 @@ pub fn soil(table: &mut [u32]) {
 }
 
 // Whether a table begins with the words of `want`, all of them, and the rest of it is 0.
-pub fn holds(table: &[u32], want: &[u8]) -> bool {
+pub(crate) fn holds(table: &[u32], want: &[u8]) -> bool {
     let mut i = 0;
     while i < table.len() {
         if table[i] != word(want, i) {
@@ -83,7 +83,7 @@ fn is_note(note: Note, want: &[u8], i: usize) -> bool
 }
 
 // The same of notes by value.
-pub fn notes_hold(notes: [Note; 104], want: &[u8]) -> bool {
+pub(crate) fn notes_hold(notes: [Note; 104], want: &[u8]) -> bool {
     let mut i: usize = 0;
     while i < 104 {
         let note = notes[i];

@@ -26,14 +26,14 @@ fn count_at(counts: &[u32], place: usize) -> u64 {
 }
 
 // One more at a place. A place outside the table is nowhere, and 4294967295 goes to 0.
-pub fn bump(counts: &mut [u32], place: usize) {
+pub(crate) fn bump(counts: &mut [u32], place: usize) {
     if place < counts.len() {
         counts[place] = std::num::wrapping_add_u32(counts[place], 1);
     }
 }
 
 // One more answer of a group, and one more right one where it is.
-pub fn tally(counts: &mut [u32], group: usize, right: bool) {
+pub(crate) fn tally(counts: &mut [u32], group: usize, right: bool) {
     if group < 16 {
         bump(counts, 2 * group + 1);
         if right {
@@ -43,7 +43,7 @@ pub fn tally(counts: &mut [u32], group: usize, right: bool) {
 }
 
 // A file is new where its number is how many there were: they are numbered in the order in which they are asked about.
-pub fn new_file(counts: &mut [u32], number: u32) {
+pub(crate) fn new_file(counts: &mut [u32], number: u32) {
     if count_at(counts, FILES) == wide(number) {
         bump(counts, FILES);
     }
@@ -68,7 +68,7 @@ fn print_group(label: &[u8], counts: &[u32], group: usize) {
     }
 }
 
-pub fn print_counts(counts: &[u32]) {
+pub(crate) fn print_counts(counts: &[u32]) {
     print_one(b"files ", counts, FILES);
     print_one(b", sets of names ", counts, SETS);
     say(b"\n");

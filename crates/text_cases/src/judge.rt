@@ -11,7 +11,7 @@ ghost use mathlib.Core.Path.{_≡_};
 ghost use lib.ListN.{length};
 
 // A part of the data, by its place and its length; nothing where it does not lie inside.
-pub fn part<'a>(data: &'a [u8], place: &[u8]) -> &'a [u8]
+pub(crate) fn part<'a>(data: &'a [u8], place: &[u8]) -> &'a [u8]
     requires { ⌜ length (now place) ≡ 8 ⌝ }
 {
     let from = u32_at(place, 0) as usize;
@@ -158,7 +158,7 @@ fn holds<'a>(
 }
 
 // A question is 36 bytes: the file's number, index, room, refusal, value, then the places of text and content.
-pub fn judge<'a>(
+pub(crate) fn judge<'a>(
     data: &'a [u8],
     files: &[u8],
     row: &[u8],

@@ -34,7 +34,7 @@ fn name_case(t: Tally, s: &[u8], valid: bool) -> Tally {
 
 // The Unicode Standard, chapter 3, section 3.9: U+FFFD for each maximal subpart, by its tables and by the examples in its text; and Table
 // 3-4's four characters, 004D 0430 4E8C 10302, in UTF-8 (the example of D92) and in UTF-16 (that of D91).
-pub fn unicode() -> Tally {
+pub(crate) fn unicode() -> Tally {
     let mut t = none();
     // Table 3-8, U+FFFD for Non-Shortest Form Sequences
     t = text_case(
@@ -90,7 +90,7 @@ pub fn unicode() -> Tally {
 
 // Names from the examples of XML 1.0 (Fifth Edition) and of Namespaces in XML 1.0, whose qualified names have a colon and so are none here;
 // and those from the documentation of the Rust's `is_valid_name`.
-pub fn names() -> Tally {
+pub(crate) fn names() -> Tally {
     let mut t = none();
     t = name_case(t, b"greeting", true);
     t = name_case(t, b"termdef", true);
