@@ -2,3 +2,4 @@
 pub mod Sort
 pub mod Walk
 pub mod Run
+pub mod Bare

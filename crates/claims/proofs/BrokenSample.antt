@@ -18,7 +18,8 @@ use Rattle.xml.specs.NCName.{inRanges, isStart, isChar, sortOf as nameSort, all
 use Rattle.res_string_pool.specs.Pool.{countOf, numbered, endOf, poolFrom, behindGarbage, poolOf, offsetOf, outsideOf}
 use Rattle.res_string_pool.specs.Content.{split8, split16}
 use Rattle.resource_map.specs.Map.{idsIn, idsBy, mapOf, idOf}
-use Rattle.system_types.specs.Names.{allAscii, isGood, namesFrom, nameOf}
+use Rattle.utf.specs.Plain.{isAscii}
+use Rattle.system_types.specs.Names.{isGood, namesFrom, nameOf}
 use Rattle.text.specs.Content.{systemOf, stringAt, stringOf, contentOf}
 use Rattle.head.specs.Head.{tablesOf, openedOf, outsideIn}
 use Rattle.head.specs.Ask.{lengthCheck}
@@ -41,7 +42,7 @@ read-88 = ap (λ (l : List Reading). getD l 3 (oneNode 1 0 none)) cases-right
 
 no-start : _≡_ {A = ℕ} (opensIn (eventsOf headS [] [])) 0
 unfolding fileS headS startS endS settle u16le u32le headerOf isXml sortOf contentLen foreignLen walk walkFrom trace traceFrom
-    countOf numbered endOf poolFrom behindGarbage poolOf offsetOf outsideOf split8 split16 idsIn idsBy mapOf idOf allAscii isGood namesFrom
+    countOf numbered endOf poolFrom behindGarbage poolOf offsetOf outsideOf split8 split16 idsIn idsBy mapOf idOf isAscii isGood namesFrom
     nameOf systemOf stringAt stringOf contentOf tablesOf openedOf outsideIn lengthCheck startOf attributeAt startTurn xmlTurn numberOf
     turnOf attributeEvent attributesOf fromLead fromOpen fromName fromTrailing fromSize fromGap eventsOn bodyEvents fileEvents hasKey
     kindIndex noteOf matched isWhole longest anyWhole spelt encode step8 stepsAfter bytesOf allSound textOf eqBytes inRanges isStart isChar
@@ -50,7 +51,7 @@ no-start = refl
 
 one-start : _≡_ {A = ℕ} (opensIn (eventsOf (headS ++ startS) [] [])) 1
 unfolding fileS headS startS endS settle u16le u32le headerOf isXml sortOf contentLen foreignLen walk walkFrom trace traceFrom
-    countOf numbered endOf poolFrom behindGarbage poolOf offsetOf outsideOf split8 split16 idsIn idsBy mapOf idOf allAscii isGood namesFrom
+    countOf numbered endOf poolFrom behindGarbage poolOf offsetOf outsideOf split8 split16 idsIn idsBy mapOf idOf isAscii isGood namesFrom
     nameOf systemOf stringAt stringOf contentOf tablesOf openedOf outsideIn lengthCheck startOf attributeAt startTurn xmlTurn numberOf
     turnOf attributeEvent attributesOf fromLead fromOpen fromName fromTrailing fromSize fromGap eventsOn bodyEvents fileEvents hasKey
     kindIndex noteOf matched isWhole longest anyWhole spelt encode step8 stepsAfter bytesOf allSound textOf eqBytes inRanges isStart isChar
@@ -59,7 +60,7 @@ one-start = refl
 
 pub ends-S : FirstStart [] [] (headS ++ startS)
 unfolding fileS headS startS endS settle u16le u32le headerOf isXml sortOf contentLen foreignLen walk walkFrom trace traceFrom
-    countOf numbered endOf poolFrom behindGarbage poolOf offsetOf outsideOf split8 split16 idsIn idsBy mapOf idOf allAscii isGood namesFrom
+    countOf numbered endOf poolFrom behindGarbage poolOf offsetOf outsideOf split8 split16 idsIn idsBy mapOf idOf isAscii isGood namesFrom
     nameOf systemOf stringAt stringOf contentOf tablesOf openedOf outsideIn lengthCheck startOf attributeAt startTurn xmlTurn numberOf
     turnOf attributeEvent attributesOf fromLead fromOpen fromName fromTrailing fromSize fromGap eventsOn bodyEvents fileEvents hasKey
     kindIndex noteOf matched isWhole longest anyWhole spelt encode step8 stepsAfter bytesOf allSound textOf eqBytes inRanges isStart isChar

@@ -23,7 +23,8 @@ use Rattle.xml.specs.NCName.{inRanges, isStart, isChar, sortOf as nameSort, all
 use Rattle.res_string_pool.specs.Pool.{countOf, numbered, endOf, poolFrom, behindGarbage, poolOf, offsetOf, outsideOf}
 use Rattle.res_string_pool.specs.Content.{split8, split16}
 use Rattle.resource_map.specs.Map.{idsIn, idsBy, mapOf, idOf}
-use Rattle.system_types.specs.Names.{allAscii, isGood, namesFrom, nameOf}
+use Rattle.utf.specs.Plain.{isAscii}
+use Rattle.system_types.specs.Names.{isGood, namesFrom, nameOf}
 use Rattle.text.specs.Content.{systemOf, stringAt, stringOf, contentOf}
 use Rattle.head.specs.Head.{tablesOf, openedOf, outsideIn}
 use Rattle.head.specs.Ask.{lengthCheck}
@@ -133,7 +134,7 @@ results (c ∷ cs) = c .result ∷ results cs
 
 pub cases-right : readings cases ≡ results cases
 unfolding cases fileS headS startS endS reading settle u16le u32le headerOf isXml sortOf contentLen foreignLen walk walkFrom trace traceFrom
-    countOf numbered endOf poolFrom behindGarbage poolOf offsetOf outsideOf split8 split16 idsIn idsBy mapOf idOf allAscii isGood namesFrom
+    countOf numbered endOf poolFrom behindGarbage poolOf offsetOf outsideOf split8 split16 idsIn idsBy mapOf idOf isAscii isGood namesFrom
     nameOf systemOf stringAt stringOf contentOf tablesOf openedOf outsideIn lengthCheck startOf attributeAt startTurn xmlTurn numberOf
     turnOf attributeEvent attributesOf fromLead fromOpen fromName fromTrailing fromSize fromGap eventsOn bodyEvents fileEvents hasKey
     kindIndex noteOf matched isWhole longest anyWhole spelt encode step8 stepsAfter bytesOf allSound textOf eqBytes inRanges isStart isChar

@@ -21,7 +21,8 @@ use Rattle.xml.specs.NCName.{inRanges, isStart, isChar, sortOf as nameSort, all
 use Rattle.res_string_pool.specs.Pool.{countOf, numbered, endOf, poolFrom, behindGarbage, poolOf, offsetOf, outsideOf}
 use Rattle.res_string_pool.specs.Content.{split8, split16}
 use Rattle.resource_map.specs.Map.{idsIn, idsBy, mapOf, idOf}
-use Rattle.system_types.specs.Names.{allAscii, isGood, namesFrom, nameOf}
+use Rattle.utf.specs.Plain.{isAscii}
+use Rattle.system_types.specs.Names.{isGood, namesFrom, nameOf}
 use Rattle.text.specs.Content.{systemOf, stringAt, stringOf, contentOf}
 use Rattle.head.specs.Head.{tablesOf, openedOf, outsideIn}
 use Rattle.head.specs.Ask.{lengthCheck}
@@ -49,7 +50,7 @@ expected = oneNode 1 4 (note 3 261 ∷ note 4 8 ∷ note 3 261 ∷ note 4 8 ∷ 
 
 s-reads : reading room fileS [] [] ≡ oneNode 1 0 none
 unfolding fileS headS startS endS reading settle u16le u32le headerOf isXml sortOf contentLen foreignLen walk walkFrom trace traceFrom
-    countOf numbered endOf poolFrom behindGarbage poolOf offsetOf outsideOf split8 split16 idsIn idsBy mapOf idOf allAscii isGood namesFrom
+    countOf numbered endOf poolFrom behindGarbage poolOf offsetOf outsideOf split8 split16 idsIn idsBy mapOf idOf isAscii isGood namesFrom
     nameOf systemOf stringAt stringOf contentOf tablesOf openedOf outsideIn lengthCheck startOf attributeAt startTurn xmlTurn numberOf
     turnOf attributeEvent attributesOf fromLead fromOpen fromName fromTrailing fromSize fromGap eventsOn bodyEvents fileEvents hasKey
     kindIndex noteOf matched isWhole longest anyWhole spelt encode step8 stepsAfter bytesOf allSound textOf eqBytes inRanges isStart isChar
@@ -68,7 +69,7 @@ s-by-theorem =
 
 pub s-by-computing : reading room (insertedFile some fileS) [] [] ≡ expected
 unfolding fileS headS startS endS insertedFile inserted chunksOf restOf reading settle u16le u32le headerOf isXml sortOf contentLen foreignLen walk
-    walkFrom trace traceFrom countOf numbered endOf poolFrom behindGarbage poolOf offsetOf outsideOf split8 split16 idsIn idsBy mapOf idOf allAscii
+    walkFrom trace traceFrom countOf numbered endOf poolFrom behindGarbage poolOf offsetOf outsideOf split8 split16 idsIn idsBy mapOf idOf isAscii
     isGood namesFrom nameOf systemOf stringAt stringOf contentOf tablesOf openedOf outsideIn lengthCheck startOf attributeAt startTurn xmlTurn
     numberOf turnOf attributeEvent attributesOf fromLead fromOpen fromName fromTrailing fromSize fromGap eventsOn bodyEvents fileEvents hasKey
     kindIndex noteOf matched isWhole longest anyWhole spelt encode step8 stepsAfter bytesOf allSound textOf eqBytes inRanges isStart isChar
@@ -80,7 +81,7 @@ s-by-computing = refl
 -- twelve foreign bytes: five are taken for the end's, seven are left
 pub swallowed : reading room (take 107 fileS ++ (0x05 ∷ 0x01 ∷ 0x08 ∷ 0x00 ∷ 0x0c ∷ 0x00 ∷ 0x00 ∷ 0x00 ∷ 1 ∷ 2 ∷ 3 ∷ 4 ∷ [])) [] [] ≡ oneNode 1 0 none
 unfolding fileS headS startS endS reading settle u16le u32le headerOf isXml sortOf contentLen foreignLen walk walkFrom trace traceFrom
-    countOf numbered endOf poolFrom behindGarbage poolOf offsetOf outsideOf split8 split16 idsIn idsBy mapOf idOf allAscii isGood namesFrom
+    countOf numbered endOf poolFrom behindGarbage poolOf offsetOf outsideOf split8 split16 idsIn idsBy mapOf idOf isAscii isGood namesFrom
     nameOf systemOf stringAt stringOf contentOf tablesOf openedOf outsideIn lengthCheck startOf attributeAt startTurn xmlTurn numberOf
     turnOf attributeEvent attributesOf fromLead fromOpen fromName fromTrailing fromSize fromGap eventsOn bodyEvents fileEvents hasKey
     kindIndex noteOf matched isWhole longest anyWhole spelt encode step8 stepsAfter bytesOf allSound textOf eqBytes inRanges isStart isChar

@@ -15,7 +15,8 @@ use Rattle.utf.specs.Text.{stepsAfter, bytesOf, allSound, textOf, eqBytes}
 use Rattle.res_string_pool.specs.Pool.{countOf, numbered, endOf, poolFrom, behindGarbage, poolOf, offsetOf}
 use Rattle.res_string_pool.specs.Content.{split8, split16}
 use Rattle.resource_map.specs.Map.{idsIn, idsBy, mapOf, idOf}
-use Rattle.system_types.specs.Names.{allAscii, isGood, namesFrom, nameOf}
+use Rattle.utf.specs.Plain.{isAscii}
+use Rattle.system_types.specs.Names.{isGood, namesFrom, nameOf}
 use Rattle.errors.specs.declared.Refusal.the-variants.{NothingFound, TablesError}
 use Rattle.errors.specs.declared.FirstAnswer.{FirstAnswer}
 use Rattle.errors.specs.declared.FirstAnswer.the-variants.{Found, Refused}
@@ -76,6 +77,6 @@ results (asked ns ats tag name n a r ∷ cs) = r ∷ results cs
 pub cases-right : answers cases ≡ results cases
 unfolding cases head two three u16le u32le headerOf valueTypeOf valueTypeNumber isReference matched isWhole longest anyWhole spelt encode step8
     stepsAfter bytesOf allSound textOf eqBytes countOf numbered endOf poolFrom behindGarbage poolOf offsetOf split8 split16 idsIn idsBy mapOf
-    idOf allAscii isGood namesFrom nameOf systemOf stringAt stringOf contentOf tablesOf openedOf lengthCheck headCheck openOf runsFrom fitOf
+    idOf isAscii isGood namesFrom nameOf systemOf stringAt stringOf contentOf tablesOf openedOf lengthCheck headCheck openOf runsFrom fitOf
     findNode findValue firstAnswer
 cases-right = refl

@@ -11,11 +11,13 @@ use borrow.Author.Tests.{not-true, not-false, ltb-true, leb-true, eqb-true, lt-l
 use lib.ListN.{length, take, drop, getD}
 use lib.Seq.{drop-cons}
 use lib.Dec.{ltb, leb, eqb}
-use Rattle.system_types.specs.Names.{allAscii, topByte, isGood, namesFrom, namesOf, Rising, nameOf, systemName}
+use Rattle.system_types.specs.Names.{topByte, isGood, namesFrom, namesOf, Rising, nameOf, systemName}
 use Rattle.system_types.specs.declared.NamesRead.{NamesRead}
 use Rattle.system_types.specs.declared.NamesRead.the-variants.{Good, Bad}
 use Rattle.system_types.specs.declared.Lookup.the-variants.{Name, Missing}
-use Rattle.system_types.proofs.Ascii.{both, allAscii-drop, allAscii-take}
+use Rattle.utf.specs.Plain.{isAscii}
+use Rattle.utf.proofs.Tables.{both-true}
+use Rattle.utf.proofs.Ascii.{isAscii-drop, isAscii-take}
 
 -- ---- a good entry
 
@@ -24,17 +26,17 @@ pub record GoodEntry (area : List ℕ) (last id start n : ℕ) : Type 0 where
   pub top : topByte id ≡ 1
   pub some : 1 ≤ n
   pub fits : start + n ≤ length area
-  pub ascii : allAscii (take n (drop start area)) ≡ true
+  pub ascii : isAscii (take n (drop start area)) ≡ true
 
 module _ (area : List ℕ) (last id start n : ℕ) where
   pub isGood-parts : isGood area last id start n ≡ true → GoodEntry area last id start n
   unfolding isGood
   isGood-parts e =
-      let ascii = allAscii (take n (drop start area)) in
-      let a = both (ltb last id) (eqb (topByte id) 1 && (leb 1 n && (leb (start + n) (length area) && ascii))) e in
-      let b = both (eqb (topByte id) 1) (leb 1 n && (leb (start + n) (length area) && ascii)) (a .1) in
-      let d = both (leb 1 n) (leb (start + n) (length area) && ascii) (b .1) in
-      let f = both (leb (start + n) (length area)) ascii (d .1) in
+      let ascii = isAscii (take n (drop start area)) in
+      let a = both-true (ltb last id) (eqb (topByte id) 1 && (leb 1 n && (leb (start + n) (length area) && ascii))) e in
+      let b = both-true (eqb (topByte id) 1) (leb 1 n && (leb (start + n) (length area) && ascii)) (a .1) in
+      let d = both-true (leb 1 n) (leb (start + n) (length area) && ascii) (b .1) in
+      let f = both-true (leb (start + n) (length area)) ascii (d .1) in
       record {
         rises = ltb-true last id (a .0);
         top = eqb-true (topByte id) 1 (b .0);
@@ -64,7 +66,7 @@ module _ (area : List ℕ) (last id start n : ℕ) where
       → topByte id ≡ 1
       → 1 ≤ n
       → start + n ≤ length area
-      → isGood area last id start n ≡ allAscii (take n (drop start area))
+      → isGood area last id start n ≡ isAscii (take n (drop start area))
   unfolding isGood
   isGood-ascii p q r t = rw (lt-ltb last id p, eq-eqb (topByte id) 1 q, le-leb 1 n r, le-leb (start + n) (length area) t)
 
@@ -74,18 +76,23 @@ module _ (area : List ℕ) (last id start n : ℕ) where
       → topByte id ≡ 1
       → 1 ≤ n
       → start + n ≤ length area
-      → isGood area last id start n ≡ allAscii (take (start + n - start) (drop start area))
+      → isGood area last id start n ≡ isAscii (take (start + n - start) (drop start area))
   isGood-by p q r t = let e : start + n - start ≡ n = omega arith in rw e (isGood-ascii p q r t)
 
   -- an area that is ASCII as a whole
   pub isGood-plain
-      : allAscii area ≡ true
+      : isAscii area ≡ true
       → last < id
       → topByte id ≡ 1
       → 1 ≤ n
       → start + n ≤ length area
       → isGood area last id start n ≡ true
-  isGood-plain e p q r t = isGood-ascii p q r t ∙ allAscii-take n (drop start area) (allAscii-drop start area e)
+  isGood-plain e p q r t = isGood-ascii p q r t ∙ isAscii-take n (drop start area) (isAscii-drop start area e)
+
+-- a test that another had let through
+pub behind-test : (t b r : Bool) → r ≡ cond t false b → r ≡ true → b ≡ true
+behind-test true b r e h = let z : _≡_ {A = ℕ} 0 1 = cc in absurd (let y : ⊥ = omega arith in y)
+behind-test false b r e h = sym e ∙ h
 
 -- ---- the table, entry by entry
 
@@ -198,7 +205,7 @@ nameOf-of-good
     : (area : List ℕ) (last k : ℕ) (w : List ℕ) (id s n : ℕ)
     → namesFrom area last k w ≡ Good
     → nameOf id w ≡ Name s n
-    → (s + n ≤ length area) × (1 ≤ n) × (allAscii (take n (drop s area)) ≡ true)
+    → (s + n ≤ length area) × (1 ≤ n) × (isAscii (take n (drop s area)) ≡ true)
 unfolding namesFrom nameOf
 nameOf-of-good area last k [] id s n e f = let z : _≡_ {A = ℕ} 0 1 = cc in absurd (let y : ⊥ = omega arith in y)
 nameOf-of-good area last k (x ∷ []) id s n e f = let z : _≡_ {A = ℕ} 0 1 = cc in absurd (let y : ⊥ = omega arith in y)
@@ -214,8 +221,8 @@ nameOf-of-good area last k (x ∷ start ∷ m ∷ w) id s n e f =
         → cond d (Name start m) (nameOf id w) ≡ Name s n
         → (namesFrom area x (k + 1) w ≡ Good
         → nameOf id w ≡ Name s n
-        → (s + n ≤ length area) × (1 ≤ n) × (allAscii (take n (drop s area)) ≡ true))
-        → (s + n ≤ length area) × (1 ≤ n) × (allAscii (take n (drop s area)) ≡ true)
+        → (s + n ≤ length area) × (1 ≤ n) × (isAscii (take n (drop s area)) ≡ true))
+        → (s + n ≤ length area) × (1 ≤ n) × (isAscii (take n (drop s area)) ≡ true)
     go false t g d f more = let z : _≡_ {A = ℕ} 0 1 = cc in absurd (let y : ⊥ = omega arith in y)
     go true t g true f more =
         let p = isGood-parts area last x start m t in
@@ -228,9 +235,9 @@ pub systemName-of-good
     : (area w : List ℕ) (id s n : ℕ)
     → namesOf area w ≡ Good
     → systemName id w ≡ Name s n
-    → (s + n ≤ length area) × (1 ≤ n) × (allAscii (take n (drop s area)) ≡ true)
+    → (s + n ≤ length area) × (1 ≤ n) × (isAscii (take n (drop s area)) ≡ true)
 systemName-of-good area w id s n e f = go (eqb (topByte id) 1) f
   where
-    go : (b : Bool) → cond b (nameOf id w) Missing ≡ Name s n → (s + n ≤ length area) × (1 ≤ n) × (allAscii (take n (drop s area)) ≡ true)
+    go : (b : Bool) → cond b (nameOf id w) Missing ≡ Name s n → (s + n ≤ length area) × (1 ≤ n) × (isAscii (take n (drop s area)) ≡ true)
     go true g = nameOf-of-good area 0 0 w id s n e g
     go false g = let z : _≡_ {A = ℕ} 0 1 = cc in absurd (let y : ⊥ = omega arith in y)

@@ -1,5 +1,5 @@
 -- The node file of the crate's proofs.
-pub mod Ascii
 pub mod Laws
+pub mod Pass
 pub mod Prefix
 pub mod Search

@@ -1,7 +1,7 @@
 -- Laws of `startsWith` and `without` of specs/Names.antt. No contract cites this file.
 -- In order: a text that begins with p is as long (`startsWith-short`, `startsWith-le`); one byte of both (`startsWith-step`,
 -- `startsWith-differs`); all of p was compared (`startsWith-end`); what is left is no
--- longer (`without-le`).
+-- longer (`without-le`), and ASCII where the text is (`isAscii-without`).
 use mathlib.Core.Path.{_≡_, refl, sym}
 use mathlib.Core.Bool.{Bool, true, false, _&&_, and-false, cond}
 use mathlib.Core.List.{List, [], _∷_}
@@ -13,6 +13,8 @@ use borrow.Author.Tests.{eq-eqb, ne-eqb}
 use lib.Dec.{eqb}
 use lib.ListN.{length, drop, getD, length-drop}
 use lib.Seq.{drop-cons, drop-length}
+use Rattle.utf.specs.Plain.{isAscii}
+use Rattle.utf.proofs.Ascii.{isAscii-drop}
 use Rattle.system_types.specs.Names.{startsWith, without}
 
 pub startsWith-short : (s p : List ℕ) → length s < length p → startsWith s p ≡ false
@@ -50,3 +52,10 @@ without-le p s = go (startsWith s p)
     go : (b : Bool) → length (cond b (drop (length p) s) s) ≤ length s
     go true = rw length-drop (omega arith)
     go false = omega arith
+
+pub isAscii-without : (p s : List ℕ) → isAscii s ≡ true → isAscii (without p s) ≡ true
+isAscii-without p s e = go (startsWith s p)
+  where
+    go : (b : Bool) → isAscii (cond b (drop (length p) s) s) ≡ true
+    go true = isAscii-drop (length p) s e
+    go false = e

@@ -1,6 +1,7 @@
 -- Laws of looking a name up: specs/Names.antt, `nameOf`, `systemName`. No contract cites this file.
--- In order: the entry with the id, where none before it has it (`nameOf-at`); no entry has it (`nameOf-missing`); the two parts
--- that a search by halves knows of a table whose ids rise (`Between`), one law for each way that a turn goes.
+-- In order: the entry with the id, where none before it has it (`nameOf-at`); no entry has it (`nameOf-missing`); of a table whose
+-- ids rise, how far an entry's id is from the first (`rises-by`), an entry with the id (`rising-found`), and the two parts that a
+-- search by halves knows (`Between`), one law for each way that a turn goes.
 use Prim.Native.Nat.{ℕ, zero, suc, _+_, _*_, _/_, _≤_, _<_}
 use native.Mathlib.Omega.{arith}
 use mathlib.Core.Path.{_≡_, refl, sym, _∙_}
@@ -46,6 +47,25 @@ systemName-top id w e = rw (eq-eqb (topByte id) 1 e)
 pub systemName-other : (id : ℕ) (w : List ℕ) → (topByte id ≡ 1 → ⊥) → systemName id w ≡ Missing
 systemName-other id w e = rw (ne-eqb (topByte id) 1 e)
 
+-- ---- ids that rise
+
+-- ids that rise are at least as far from each other as their entries
+pub rises-by : (w : List ℕ) → Rising w → (i : ℕ) → 3 * i + 3 ≤ length w → getD w 0 0 + i ≤ getD w (3 * i) 0
+rises-by w r zero h = omega arith
+rises-by w r (suc i) h =
+    let p = rises-by w r i (omega arith) in
+    let q = r .rises i (suc i) (omega arith) h in
+    omega arith
+
+-- an entry with the id, wherever it was looked for
+pub rising-found
+    : (id : ℕ) (w : List ℕ) (i : ℕ)
+    → Rising w
+    → i < length w / 3
+    → getD w (3 * i) 0 ≡ id
+    → nameOf id w ≡ Name (getD w (3 * i + 1) 0) (getD w (3 * i + 2) 0)
+rising-found id w i r p e = nameOf-at id w i (omega arith) e (λ j k g. let s = r .rises j i k (omega arith) in omega arith)
+
 -- ---- by halves
 
 -- the ids before entry `low` are below `id`, and those from entry `high` on above it
@@ -87,16 +107,8 @@ module _ (w : List ℕ) (id low high middle : ℕ) (r : Rising w) (b : Between w
           at true e = let s = r .rises middle j (ltb-true middle j e) l in omega arith
           at false e = let f = ltb-false middle j e in let g : j ≡ middle = omega arith in rw g h
 
-  pub between-found
-      : topByte id ≡ 1
-      → getD w (3 * middle) 0 ≡ id
-      → systemName id w ≡ Name (getD w (3 * middle + 1) 0) (getD w (3 * middle + 2) 0)
-  between-found t e =
-      let f = b .fits in
-      systemName-top id w t ∙ nameOf-at id w middle (omega arith) e (λ j k g. let s = r .rises j middle k (omega arith) in omega arith)
-
-pub between-missing : (w : List ℕ) (id low high : ℕ) → Between w id low high → high ≤ low → topByte id ≡ 1 → systemName id w ≡ Missing
-between-missing w id low high b p t = systemName-top id w t ∙ nameOf-missing id w go
+pub between-missing : (w : List ℕ) (id low high : ℕ) → Between w id low high → high ≤ low → nameOf id w ≡ Missing
+between-missing w id low high b p = nameOf-missing id w go
   where
     go : (i : ℕ) → 3 * i + 3 ≤ length w → getD w (3 * i) 0 ≡ id → ⊥
     go i q e = at (ltb i low) refl

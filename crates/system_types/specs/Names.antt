@@ -5,24 +5,20 @@
 --   systemName   where the name with an id lies: the first entry that has it; Missing where none has, or the id's top byte is not 1
 --   without      what follows one leading text, and the whole where it does not lead
 --
--- The rule: ids strictly rise and have top byte 1, a length is at least 1, the part lies in the area, its bytes are below 128.
+-- The rule: ids strictly rise and have top byte 1, a length is at least 1, the part lies in the area, its bytes are below 128 (`isAscii` of utf).
 -- A list of words is those left. No words at all are Good. Laws: proofs/Laws.antt.
 use Prim.Native.Nat.{ℕ, _+_, _*_, _/_, _≤_, _<_}
 use mathlib.Core.List.{List, [], _∷_}
 use mathlib.Core.Bool.{Bool, true, false, cond, _&&_}
 use lib.ListN.{length, take, drop, getD}
 use lib.Dec.{ltb, leb, eqb}
+use Rattle.utf.specs.Plain.{isAscii}
 use Rattle.system_types.specs.declared.NamesRead.{NamesRead}
 use Rattle.system_types.specs.declared.NamesRead.the-variants.{Good, Bad}
 use Rattle.system_types.specs.declared.Lookup.{Lookup}
 use Rattle.system_types.specs.declared.Lookup.the-variants.{Name, Missing}
 
 -- ---- the rule
-
--- every byte below 128
-unfoldable pub allAscii : List ℕ → Bool
-allAscii [] = true
-allAscii (b ∷ l) = ltb b 128 && allAscii l
 
 abbrev pub topByte : ℕ → ℕ
 topByte id = id / 16777216
@@ -34,7 +30,7 @@ isGood area last id start n =
     && (eqb (topByte id) 1
     && (leb 1 n
     && (leb (start + n) (length area)
-    && allAscii (take n (drop start area)))))
+    && isAscii (take n (drop start area)))))
 
 -- the entries from number k on, behind one with the id `last`
 unfoldable pub namesFrom : List ℕ → ℕ → ℕ → List ℕ → NamesRead

@@ -10,7 +10,7 @@ use lib.Seq.{getD-drop, drop-drop}
 use lib.Dec.{eqb}
 use Rattle.chunk.specs.Walk.{walk}
 use Rattle.chunk.proofs.Walk.{walk-stop, walk-step}
-use Rattle.text.specs.Content.{sameText}
+use Rattle.text.specs.Content.{contentOf, sameText}
 use Rattle.text.specs.Found.{partOf, Finds}
 use Rattle.text.specs.declared.Head.{Head}
 use Rattle.text.specs.declared.Found.{Found}
@@ -42,6 +42,6 @@ module _ (same : ℕ → ℕ → Bool) (p n : ℕ) (l : List ℕ) (i : ℕ) wher
   hasKey-name h e f = hasKey-step h ∙ rw (eq-eqb _ _ e, f)
 
 -- what the code compares is what the indices stand for
-pub sameIn-found : (h : Head) (t names area : List ℕ) (i n : ℕ) (other wanted : Found) → Finds t names area h i other → Finds t names area h n wanted
-    → (r b : Bool) → r ≡ sameText (partOf (h .wide) t area other) (partOf (h .wide) t area wanted) → r ≡ b → sameIn h t names area i n ≡ b
-sameIn-found h t names area i n other wanted f g r b e q = sym (rw (f .same, g .same) at e) ∙ q
+pub sameIn-found : (h : Head) (t names area : List ℕ) (i n : ℕ) (wanted : Found) → Finds t names area h n wanted
+    → (r b : Bool) → r ≡ sameText (contentOf h t names area i) (partOf (h .wide) t area wanted) → r ≡ b → sameIn h t names area i n ≡ b
+sameIn-found h t names area i n wanted g r b e q = sym (rw (g .same) at e) ∙ q

@@ -12,7 +12,8 @@ use common::StringIndex;
 use text::Head;
 use text::find;
 use text::is_plain_found;
-use text::same_found_known;
+use text::marks_of;
+use text::same_as_known;
 
 // A number of the file as a place. Ruled out: another number, and one that wraps.
 pub fn wide(x: u32) -> usize
@@ -61,7 +62,7 @@ pub fn zero_from(words: &mut [u32], from: usize)
 }
 
 // Whether one of these attributes has this prefix and a name of the same text (W23). The name's own text is found once, and
-// looked at once: where it is plain, bytes are compared.
+// looked at once: where it is plain, bytes are compared, and its marks tell most names apart before they are looked up.
 // Ruled out: yes for the same index under another prefix, and no for another index whose text is the same.
 pub fn has(
     t: &[u8],
@@ -80,11 +81,12 @@ pub fn has(
     }
     let wanted = find(t, names, area, h, name);
     let plain = is_plain_found(t, area, h.wide, wanted);
+    let marks = marks_of(t, names, area, h, plain, wanted);
     let mut i = 0;
     while 5 <= words.len() - i {
         if words[i + 1] == prefix {
-            let other = find(t, names, area, h, StringIndex(words[i + 2]));
-            if same_found_known(t, area, h.wide, plain, other, wanted) {
+            let other = StringIndex(words[i + 2]);
+            if same_as_known(t, names, area, h, plain, marks, other, wanted) {
                 return true;
             }
         }

@@ -15,7 +15,7 @@ use Rattle.system_types.specs.declared.NamesRead.the-variants.{Good}
 use Rattle.system_types.specs.declared.Lookup.{Lookup}
 use Rattle.system_types.specs.declared.Lookup.the-variants.{Name, Missing}
 use Rattle.system_types.proofs.Laws.{systemName-of-good}
-use Rattle.system_types.proofs.Ascii.{allAscii-without}
+use Rattle.system_types.proofs.Prefix.{isAscii-without}
 use Rattle.resource_map.specs.Map.{idOf}
 use Rattle.resource_map.proofs.Laws.{idOf-append}
 use Rattle.res_string_pool.specs.Pool.{offsetOf}
@@ -84,7 +84,7 @@ module _ (h : Head) (t names area : List ℕ) (good : namesOf area names ≡ Goo
   named Missing id e = refl
   named (Name start n) id e =
       let q = systemName-of-good area names id start n good e in
-      textOf-system (without androidAttr (take n (drop start area))) (allAscii-without androidAttr (take n (drop start area)) (q .2))
+      textOf-system (without androidAttr (take n (drop start area))) (isAscii-without androidAttr (take n (drop start area)) (q .2))
 
   pub textIn-named : textIn (systemOf h t names area i) ≡ rawOf (systemOf h t names area i)
   textIn-named = go (ltb i (h .ids)) refl

@@ -3,4 +3,6 @@ pub mod Parts
 pub mod Index
 pub mod Read
 pub mod Plains
+pub mod Others
+pub mod Marking
 pub mod Laws

@@ -9,10 +9,10 @@ use mathlib.Core.Bool.{Bool, true, false, cond}
 use borrow.Author.Tests.{lt-ltb, le-ltb}
 use lib.ListN.{length, take, drop, length-drop}
 use lib.Seq.{take-add, take-take, drop-at, drop-drop, length-take-le}
-use Rattle.system_types.specs.Names.{allAscii, startsWith, without, androidAttr}
+use Rattle.utf.specs.Plain.{isAscii}
+use Rattle.system_types.specs.Names.{startsWith, without, androidAttr}
 use Rattle.system_types.specs.declared.Lookup.the-variants.{Name}
-use Rattle.system_types.proofs.Prefix.{startsWith-le}
-use Rattle.system_types.proofs.Ascii.{allAscii-without}
+use Rattle.system_types.proofs.Prefix.{startsWith-le, isAscii-without}
 use Rattle.res_string_pool.specs.Content.{splitOf}
 use Rattle.res_string_pool.specs.declared.Split.{Split}
 use Rattle.res_string_pool.specs.declared.Split.the-variants.{Content as Inner, Cut as SplitCut}
@@ -71,7 +71,7 @@ stripped-le area start n k h e =
 pub stripped-stands
     : (w : Bool) (t area : List ℕ) (start n k : ℕ)
     → start + n ≤ length area
-    → allAscii (take n (drop start area)) ≡ true
+    → isAscii (take n (drop start area)) ≡ true
     → k ≡ length (without androidAttr (take n (drop start area)))
     → Stands w t area (namedBy area (Name start n)) (System (start + n - k) k)
 stripped-stands w t area start n k h ascii e =
@@ -87,7 +87,7 @@ stripped-stands w t area start n k h ascii e =
     let f : start + (n - k) ≡ start + n - k = omega arith in
     let g : drop (n - k) (drop start area) ≡ drop (start + n - k) area = drop-drop (n - k) start area ∙ ap (λ (j : ℕ). drop j area) f in
     let q : take k (drop (start + n - k) area) ≡ without androidAttr s = rw (← g) (p ∙ d) in
-    record { same = ap (some false) q; inside = (omega arith, rw q (allAscii-without androidAttr s ascii)) }
+    record { same = ap (some false) q; inside = (omega arith, rw q (isAscii-without androidAttr s ascii)) }
 
 -- ---- a string of the pool
 

@@ -1,6 +1,6 @@
 -- What is known to be plain, by where it was found.
 use Prim.Native.Nat.{ℕ, _+_, _-_}
-use mathlib.Core.Path.{_≡_, sym}
+use mathlib.Core.Path.{_≡_, sym, _∙_}
 use mathlib.Core.List.{List}
 use mathlib.Core.Bool.{Bool, true, false, true≢false}
 use lib.ListN.{take, drop}
@@ -15,8 +15,8 @@ use Rattle.text.proofs.Read.{partOf-system, partOf-pool}
 pub known-none : (b : Bool) → Known false b
 known-none b = record { holds = λ e. absurd (true≢false (sym e)) }
 
-pub known-fact : (b : Bool) → Known b b
-known-fact b = record { holds = λ e. e }
+pub known-of : {p b : Bool} → p ≡ b → Known p b
+known-of e = record { holds = λ h. sym e ∙ h }
 
 module _ (w : Bool) (t area : List ℕ) {f : Found} {at n : ℕ} (p : Bool) (k : Known p (plainIn (partOf w t area f))) where
   pub known-system : f ≡ System at n → Known p (isPlain false (take (at + n - at) (drop at area)))

@@ -11,11 +11,11 @@ use lib.ListN.{length, take, drop, getD, length-take, length-drop, List·getD-eq
 use lib.Seq.{getD-take, getD-drop, length-take-le}
 use lib.Dec.{ltb}
 use Rattle.utf.specs.Text.{textOf, putText, eqBytes, isSound, allSound, stepsAfter}
+use Rattle.utf.specs.Plain.{isAscii}
 use Rattle.utf.proofs.Filled.{putText-nil}
 use Rattle.utf.proofs.Laws.{textOf-nil, textOf-whole, textOf-sound, textOf-ascii, textOf-length-le}
 use Rattle.utf.proofs.Equal.{eqBytes-true}
-use Rattle.system_types.specs.Names.{allAscii}
-use Rattle.system_types.proofs.Ascii.{allAscii-lt}
+use Rattle.utf.proofs.Ascii.{isAscii-at}
 use Rattle.res_string_pool.specs.Pool.{offsetOf}
 use Rattle.res_string_pool.specs.Content.{splitOf}
 use Rattle.res_string_pool.specs.declared.Split.{Split}
@@ -33,7 +33,7 @@ use Rattle.text.proofs.Parts.{slice-of}
 
 module _ (t area : List ℕ) {f : Found} {at n : ℕ} where
   pub inside-system : Inside t area f → f ≡ System at n → at + n ≤ length area
-  inside-system i e = let q : (at + n ≤ length area) × (allAscii (take n (drop at area)) ≡ true) = rw e at i in q .0
+  inside-system i e = let q : (at + n ≤ length area) × (isAscii (take n (drop at area)) ≡ true) = rw e at i in q .0
 
   pub inside-pool : Inside t area f → f ≡ Pool at n → at + n ≤ length t
   inside-pool i e = rw e at i
@@ -116,7 +116,7 @@ pub isText-sound : (a : Content) (s : List ℕ) → isSound false s ≡ true →
 isText-sound a s e = rw (textOf-whole s e)
 
 -- every byte of a part is a byte of the whole
-part-lt : (t : List ℕ) (at n : ℕ) → ((i : ℕ) → getD t i 0 < 256) → (i : ℕ) → getD (take n (drop at t)) i 0 < 256
+pub part-lt : (t : List ℕ) (at n : ℕ) → ((i : ℕ) → getD t i 0 < 256) → (i : ℕ) → getD (take n (drop at t)) i 0 < 256
 part-lt t at n b i = go (ltb i n) refl
   where
     go : (c : Bool) → ltb i n ≡ c → getD (take n (drop at t)) i 0 < 256
@@ -155,15 +155,8 @@ isText-unsound w t area f s p q e = go (eqBytes (textIn (partOf w t area f)) s) 
 
 -- ---- a system name is its own text
 
-ascii-at : (s : List ℕ) → allAscii s ≡ true → (i : ℕ) → getD s i 0 < 128
-ascii-at s e i = go (ltb i (length s)) refl
-  where
-    go : (b : Bool) → ltb i (length s) ≡ b → getD s i 0 < 128
-    go true t = allAscii-lt s i e (ltb-true i (length s) t)
-    go false t = rw (List·getD-eq-default s 0 (ltb-false i (length s) t)) (omega arith)
-
-pub textOf-system : (s : List ℕ) → allAscii s ≡ true → textOf false s ≡ s
-textOf-system s e = textOf-ascii s (ascii-at s e)
+pub textOf-system : (s : List ℕ) → isAscii s ≡ true → textOf false s ≡ s
+textOf-system s e = textOf-ascii s (isAscii-at s e)
 
 pub textIn-system
     : (w : Bool) (t area : List ℕ) {f : Found} {at n : ℕ}
@@ -171,7 +164,7 @@ pub textIn-system
     → f ≡ System at n
     → n ≡ length (textIn (partOf w t area f))
 textIn-system w t area {f} {at} {n} i e =
-    let q : (at + n ≤ length area) × (allAscii (take n (drop at area)) ≡ true) = rw e at i in
+    let q : (at + n ≤ length area) × (isAscii (take n (drop at area)) ≡ true) = rw e at i in
     let l : length (take n (drop at area)) ≡ n = length-take-le n (drop at area) (rw length-drop (omega arith)) in
     sym (ap (λ (g : Found). length (textIn (partOf w t area g))) e ∙ ap length (textOf-system (take n (drop at area)) (q .1)) ∙ l)
 

@@ -13,7 +13,8 @@ use mathlib.Core.List.{List}
 use mathlib.Core.Bool.{Bool, true, false}
 use lib.ListN.{length, take, drop}
 use Rattle.utf.specs.Text.{putText}
-use Rattle.system_types.specs.Names.{namesOf, allAscii}
+use Rattle.utf.specs.Plain.{isAscii}
+use Rattle.system_types.specs.Names.{namesOf}
 use Rattle.system_types.specs.declared.NamesRead.the-variants.{Good}
 use Rattle.text.specs.declared.Head.{Head}
 use Rattle.text.specs.declared.Found.{Found}
@@ -41,7 +42,7 @@ partOf w t area (Pool at n) = some w (take n (drop at t))
 abbrev pub Inside : List ℕ → List ℕ → Found → Type 0
 Inside t area Nothing = Unit {0}
 Inside t area Cut = Unit {0}
-Inside t area (System at n) = (at + n ≤ length area) × (allAscii (take n (drop at area)) ≡ true)
+Inside t area (System at n) = (at + n ≤ length area) × (isAscii (take n (drop at area)) ≡ true)
 Inside t area (Pool at n) = at + n ≤ length t
 
 -- r stands for c

@@ -2,9 +2,12 @@
 //
 // Mirrors structs/res_string_pool.rs (apk-info 13770539b8): `get`, `get_with_resources`, `contains_with_resources`.
 // A text is never copied: the code answers where it lies (`Found`). Definitions: specs/Content.antt, specs/Found.antt.
+pub mod apart;
 pub mod equal;
 pub mod part;
 
+pub use apart::marks_of;
+use apart::told_apart;
 pub use equal::is_plain_found;
 pub use equal::same_found;
 pub use equal::same_found_known;
@@ -17,10 +20,11 @@ ghost use mathlib.Core.List.{List};
 ghost use mathlib.Core.Bool.{Bool, true};
 ghost use Prim.Native.Nat.{_+_, _≤_};
 ghost use lib.ListN.{length, take, drop};
-ghost use Rattle.system_types.specs.Names.{allAscii};
+ghost use Rattle.utf.specs.Plain.{isAscii, Known};
 ghost use Rattle.system_types.specs.declared.Lookup.the-variants.{Name};
-ghost use Rattle.text.specs.Content.{namedBy, systemOf, stringAt, stringOf, contentOf, hasText, stateIn, sameText, isText};
-ghost use Rattle.text.specs.Found.{Fits, Asks, Stands, Finds, isFound};
+ghost use Rattle.text.specs.Content.{namedBy, systemOf, stringAt, stringOf, contentOf, hasText, stateIn, plainIn, sameText, isText};
+ghost use Rattle.text.specs.Found.{Fits, Asks, Inside, Stands, Finds, partOf, isFound};
+ghost use Rattle.text.specs.Told.{Marked};
 use common::StringIndex;
 use field::u32_at;
 use res_string_pool::Split;
@@ -54,6 +58,22 @@ pub enum Found {
     Pool(usize, usize),
 }
 
+// What tells most strings of the pool apart from one that was found there, before any of them is read whole.
+pub struct Marks {
+    // the first index that can be told apart; those up to the pool's count can
+    pub first: u32,
+    // the two bytes that begin a string of the same length, as a number
+    pub head: u32,
+    // the last place at which such a string begins and ends in the data
+    pub room: usize,
+    // from its place to the low byte of its last unit, and this byte of the one found
+    pub far: usize,
+    pub last: u8,
+    // first byte and length of the one found
+    pub at: usize,
+    pub n: usize,
+}
+
 // Whether an index has a text, and whether this is a valid name.
 pub enum NameState {
     NoText,
@@ -65,7 +85,7 @@ pub enum NameState {
 
 // The name at a part of the area, without one leading `android:attr/`.
 fn stripped(area: &[u8], start: usize, n: usize) -> Found
-    requires { ⌜ (start + n ≤ length (now area)) × (allAscii (take n (drop start (now area))) ≡ true) ⌝ }
+    requires { ⌜ (start + n ≤ length (now area)) × (isAscii (take n (drop start (now area))) ≡ true) ⌝ }
     ensures { λ r. ⌜ ((w : Bool) (t : List _) → Stands w t (now (area .entry)) (namedBy (now (area .entry)) (Name start n)) r) ⌝ }
 {
     let name = &area[start..start + n];
@@ -192,6 +212,31 @@ pub fn same_index(
     let f = find(t, names, area, h, i);
     let g = find(t, names, area, h, j);
     same_found(t, area, h.wide, f, g)
+}
+
+// Whether an index has a text and it is that of what was found, whose marks tell most others apart before they are looked up; where
+// `plain` is true, what was found is known to be plain.
+// Ruled out: yes for two strings that end alike, and no for a system name and the pool's string of the same text.
+pub fn same_as_known(
+    t: &[u8],
+    names: &[u32],
+    area: &[u8],
+    h: Head,
+    plain: bool,
+    k: Marks,
+    index: StringIndex,
+    g: Found,
+) -> bool
+    requires { ⌜ Asks (now t) (now names) (now area) h × Inside (now t) (now area) g
+        × Known plain (plainIn (partOf (h .wide) (now t) (now area) g)) × Marked (now t) (now names) (now area) h g k ⌝ }
+    ensures { λ r. ⌜ r ≡ sameText (contentOf h (now (t .entry)) (now (names .entry)) (now (area .entry)) (index .0))
+        (partOf (h .wide) (now (t .entry)) (now (area .entry)) g) ⌝ }
+{
+    if told_apart(t, names, area, h, k, index, g) {
+        return false;
+    }
+    let f = find(t, names, area, h, index);
+    same_found_known(t, area, h.wide, plain, f, g)
 }
 
 // Whether an index has a text and its UTF-8 is the lent bytes: bytes that are no UTF-8 are no text's.

@@ -14,3 +14,5 @@ pub mod Places
 pub mod Laws
 pub mod Units
 pub mod PlainLaws
+pub mod Ascii
+pub mod Blocks

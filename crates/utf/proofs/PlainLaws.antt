@@ -1,42 +1,18 @@
 -- A plain text is told by its bytes (`plain-same`): in UTF-8 since what is damaged holds U+FFFD, which is not ASCII (`ascii-sound`).
 use mathlib.Core.Path.{_≡_, refl, sym, ap, _∙_}
-use mathlib.Core.Bool.{Bool, true, false, _&&_, cond, Bool·beq, true≢false}
+use mathlib.Core.Bool.{Bool, true, false, cond, Bool·beq, true≢false}
 use mathlib.Core.List.{List, [], _∷_, _++_}
-use Prim.Native.Nat.{ℕ, zero, suc, _+_, _-_, max, _≤_, _<_}
-use native.Mathlib.Omega.{arith}
-use borrow.Author.Tests.{ltb-true, not-true}
-use lib.Dec.{ltb}
-use lib.ListN.{length, getD, drop, take, drop-of-length-le}
-use lib.Seq.{drop-cons}
+use Prim.Native.Nat.{ℕ, zero, suc, _+_, _-_, max, _<_}
+use borrow.Author.Tests.{not-true}
+use lib.ListN.{getD, take}
 use Rattle.utf.specs.declared.Step.the-variants.{Scalar, Bad}
 use Rattle.utf.specs.Utf8.{table37, longest, anyWhole, spelt, encode, step8}
 use Rattle.utf.specs.Text.{valueOf, widthOf, soundOf, stepsAfter, bytesOf, allSound, isSound, textOf, eqBytes}
 use Rattle.utf.specs.Plain.{isAscii, isPlain}
-use Rattle.utf.proofs.Tables.{both-true}
 use Rattle.utf.proofs.Equal.{eqBytes-true, eqBytes-not}
 use Rattle.utf.proofs.Laws.{isSound-ascii, textOf-ascii, textOf-whole}
 use Rattle.utf.proofs.Units.{sound-wide}
-
--- ---- ASCII, byte by byte
-
-ascii-at : (s : List ℕ) → isAscii s ≡ true → (i : ℕ) → getD s i 0 < 128
-unfolding isAscii
-ascii-at [] e i = omega arith
-ascii-at (b ∷ s) e zero = ltb-true b 0x80 (both-true (ltb b 0x80) (isAscii s) e .0)
-ascii-at (b ∷ s) e (suc i) = ascii-at s (both-true (ltb b 0x80) (isAscii s) e .1) i
-
-pub ascii-next : (s : List ℕ) (i : ℕ) → i < length s → isAscii (drop i s) ≡ (ltb (getD s i 0) 0x80 && isAscii (drop (i + 1) s))
-unfolding isAscii
-ascii-next s i h = let e : i + 1 ≡ suc i = omega arith in rw (e, drop-cons s i 0 h)
-
-pub ascii-end : (s : List ℕ) (i : ℕ) → length s ≤ i → isAscii (drop i s) ≡ true
-unfolding isAscii
-ascii-end s i h = rw (drop-of-length-le s h)
-
-ascii-rest : (p q : List ℕ) → isAscii (p ++ q) ≡ true → isAscii q ≡ true
-unfolding isAscii
-ascii-rest [] q e = e
-ascii-rest (b ∷ p) q e = ascii-rest p q (both-true (ltb b 0x80) (isAscii (p ++ q)) e .1)
+use Rattle.utf.proofs.Ascii.{isAscii-at, isAscii-rest}
 
 -- ---- a text of ASCII has no bad step
 
@@ -60,19 +36,20 @@ ascii-sound (suc k) (b ∷ s) e = ascii-sound k s e
 ascii-sound zero (b ∷ s) e =
     let t = step8 (b ∷ s) in
     let rest = bytesOf (stepsAfter false (widthOf t - 1) s) in
-    rw (sound-step b s rest e) (ascii-sound (widthOf t - 1) s (ascii-rest (encode (valueOf t)) rest e))
+    rw (sound-step b s rest e) (ascii-sound (widthOf t - 1) s (isAscii-rest (encode (valueOf t)) rest e))
 
 -- ---- the same text
 
 narrow-same : (a b : List ℕ) → isAscii b ≡ true → eqBytes a b ≡ eqBytes (textOf false a) (textOf false b)
 unfolding textOf
-narrow-same a b e = ap (eqBytes a) (sym (textOf-ascii b (ascii-at b e))) ∙ go (isSound false a) refl
+narrow-same a b e = ap (eqBytes a) (sym (textOf-ascii b (isAscii-at b e))) ∙ go (isSound false a) refl
   where
     go : (t : Bool) → isSound false a ≡ t → eqBytes a (textOf false b) ≡ eqBytes (textOf false a) (textOf false b)
     go true f = ap (λ (l : List ℕ). eqBytes l (textOf false b)) (sym (textOf-whole a f))
     go false f =
-        let is = textOf-ascii b (ascii-at b e) in
-        let bytes = eqBytes-not a (textOf false b) (λ g. true≢false (sym (isSound-ascii b (ascii-at b e)) ∙ sym (ap (isSound false) (g ∙ is)) ∙ f)) in
+        let is = textOf-ascii b (isAscii-at b e) in
+        let sound = isSound-ascii b (isAscii-at b e) in
+        let bytes = eqBytes-not a (textOf false b) (λ g. true≢false (sym sound ∙ sym (ap (isSound false) (g ∙ is)) ∙ f)) in
         let text = eqBytes-not (textOf false a) (textOf false b) (λ g. true≢false (sym (ascii-sound 0 a (ap isAscii (g ∙ is) ∙ e)) ∙ f)) in
         bytes ∙ sym text
 

@@ -13,13 +13,13 @@ use Rattle.utf.specs.declared.Step.the-variants.{Scalar, Bad}
 use Rattle.utf.specs.Utf8.{inside}
 use Rattle.utf.specs.Utf16.{unit, pairOf, step16}
 use Rattle.utf.specs.Text.{valueOf, widthOf, soundOf, stepsAfter, stepsOf, bytesOf, allSound, isSound, refused, textOf, eqBytes}
-use Rattle.utf.specs.Told.{Took, Ran}
+use Rattle.utf.specs.Told.{Took, Ran, Halted}
 use Rattle.utf.proofs.Tables.{both-true}
 use Rattle.utf.proofs.Scalars.{inside-ends}
 use Rattle.utf.proofs.Steps.{stepOf-is}
 use Rattle.utf.proofs.Equal.{eqBytes-true, eqBytes-refl, eqBytes-not, eqBytes-false}
 use Rattle.utf.proofs.Places.{step16-at}
-use Rattle.utf.proofs.Turns.{took-ascii, turn-sound, goes, textOf-refused, textOf-kept}
+use Rattle.utf.proofs.Turns.{took-ascii, turn-sound, stops, goes, textOf-refused, textOf-kept}
 use Rattle.utf.proofs.Laws.{valuesOf, bytesOf-values}
 
 -- ---- a unit that is no surrogate
@@ -58,18 +58,33 @@ took-unit s at h b n =
 pub ran-none : (wide : Bool) (s : List ℕ) (at : ℕ) → Ran wide s at at
 ran-none wide s at = record { later = omega arith; rest = refl }
 
-ran-more : (wide : Bool) (s : List ℕ) (at i value width : ℕ) → Ran wide s at i → i < length s → Took wide s i value width true → Ran wide s at (i + width)
-ran-more wide s at i value width r h t = record {
+pub ran-join : (wide : Bool) (s : List ℕ) (at i to : ℕ) → Ran wide s at i → Ran wide s i to → Ran wide s at to
+ran-join wide s at i to p q = record { later = omega (arith, p .later, q .later); rest = q .rest ∙ p .rest }
+
+pub ran-step : (wide : Bool) (s : List ℕ) (at i value width : ℕ) (sound : Bool) → Ran wide s at i → i < length s
+    → Took wide s i value width sound → sound ≡ true → Ran wide s at (i + width)
+ran-step wide s at i value width sound r h t e = record {
   later = omega (arith, r .later);
-  rest = sym (goes _ _ true (turn-sound wide s i value width true h t) refl) ∙ r .rest;
+  rest = sym (goes _ _ sound (turn-sound wide s i value width sound h t) e) ∙ r .rest;
 }
 
 pub ran-ascii : (s : List ℕ) (at i : ℕ) → Ran false s at i → i < length s → getD s i 0 < 128 → Ran false s at (i + 1)
-ran-ascii s at i r h a = ran-more false s at i (getD s i 0) 1 r h (took-ascii false s i refl h a)
+ran-ascii s at i r h a = ran-step false s at i (getD s i 0) 1 true r h (took-ascii false s i refl h a) refl
 
 pub ran-unit : (s : List ℕ) (at i : ℕ) → Ran true s at i → i + 1 < length s → ((k : ℕ) → getD s k 0 < 256) → (getD s (i + 1) 0 / 8 ≡ 27 → ⊥)
     → Ran true s at (i + 2)
-ran-unit s at i r h b n = ran-more true s at i (getD s i 0 + getD s (i + 1) 0 * 256) 2 r (omega arith) (took-unit s i h b n)
+ran-unit s at i r h b n = ran-step true s at i (getD s i 0 + getD s (i + 1) 0 * 256) 2 true r (omega arith) (took-unit s i h b n) refl
+
+-- where a run ends: at a step that is bad, or behind all that was looked at
+pub halted-bad : (wide : Bool) (s : List ℕ) (at end i value width : ℕ) (sound : Bool) → Ran wide s at i → i < length s
+    → Took wide s i value width sound → sound ≡ false → Halted wide s at end i
+halted-bad wide s at end i value width sound r h t e = record {
+  ran = r;
+  halts = λ _. stops _ _ sound (turn-sound wide s i value width sound h t) e;
+}
+
+pub halted-end : (wide : Bool) (s : List ℕ) (at end i : ℕ) → Ran wide s at i → end ≤ i → Halted wide s at end i
+halted-end wide s at end i r h = record { ran = r; halts = λ l. absurd (let z : ⊥ = omega arith in z) }
 
 -- ---- the spelling of a value: a unit, or a pair of them, the low byte first
 

@@ -1,15 +1,20 @@
--- What the code is told of one step, of a run of them, and of a step in each of two texts. Only the contracts of inner functions and of
--- `next_of` cite this file.
+-- What the code is told of one step, of a run of them, of a block of bytes, and of a step in each of two texts. Only the contracts of inner
+-- functions and of `next_of` cite this file.
 --
 --   Took       the step at a place inside: its value, how far it goes, whether it is sound
 --   Ran        each step between two places is sound
+--   Halted     each step between two places is sound, and the one at the second is bad if that lies before an end
+--   isBasic    no unit of UTF-16 is a surrogate, which its second byte tells: D8 to DF; a byte alone at the end is not looked at
+--   isSingle   each step is a single unit: in UTF-8 ASCII, and in UTF-16 no surrogate
 --   Paired     the steps at two places: whether they stand for the same, and the places after them; the texts from there on decide the rest
 use mathlib.Core.Path.{_≡_}
-use Prim.Native.Nat.{ℕ, _≤_, _<_}
-use mathlib.Core.Bool.{Bool, _&&_}
-use mathlib.Core.List.{List}
+use Prim.Native.Nat.{ℕ, _/_, _≤_, _<_}
+use mathlib.Core.Bool.{Bool, true, false, not, _&&_}
+use mathlib.Core.List.{List, [], _∷_}
+use lib.Dec.{eqb}
 use lib.ListN.{drop}
 use Rattle.utf.specs.Text.{stepOf, valueOf, widthOf, soundOf, stepsOf, bytesOf, allSound, eqBytes}
+use Rattle.utf.specs.Plain.{isAscii}
 
 pub record Took (wide : Bool) (s : List ℕ) (at value width : ℕ) (sound : Bool) : Type 0 where
   pub value-is : value ≡ valueOf (stepOf wide (drop at s))
@@ -22,6 +27,23 @@ pub record Took (wide : Bool) (s : List ℕ) (at value width : ℕ) (sound : Boo
 pub record Ran (wide : Bool) (s : List ℕ) (at to : ℕ) : Type 0 where
   pub later : at ≤ to
   pub rest : allSound (stepsOf wide (drop to s)) ≡ allSound (stepsOf wide (drop at s))
+
+pub record Halted (wide : Bool) (s : List ℕ) (at end to : ℕ) : Type 0 where
+  pub ran : Ran wide s at to
+  pub halts : to < end → allSound (stepsOf wide (drop to s)) ≡ false
+
+-- from the first byte of a unit on, or from its second
+unfoldable pub basicFrom : Bool → List ℕ → Bool
+basicFrom second [] = true
+basicFrom false (a ∷ s) = basicFrom true s
+basicFrom true (b ∷ s) = not (eqb (b / 8) 27) && basicFrom false s
+
+abbrev pub isBasic : List ℕ → Bool
+isBasic s = basicFrom false s
+
+abbrev pub isSingle : Bool → List ℕ → Bool
+isSingle true s = isBasic s
+isSingle false s = isAscii s
 
 pub record Paired (wa : Bool) (a : List ℕ) (i : ℕ) (wb : Bool) (b : List ℕ) (j : ℕ) (same : Bool) (i′ j′ : ℕ) : Type 0 where
   pub bytes : eqBytes (bytesOf (stepsOf wa (drop i a))) (bytesOf (stepsOf wb (drop j b)))

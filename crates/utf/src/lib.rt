@@ -3,12 +3,15 @@
 // Mirrors what the Rust takes from std: String::from_utf8_lossy, char::decode_utf16 (any error is the empty text), and `==` of two texts.
 // Definitions: specs/Text.antt over specs/Utf8.antt and specs/Utf16.antt. `wide` is UTF-16, and otherwise the bytes are UTF-8.
 pub mod same;
+pub mod span;
 pub mod utf16;
 pub mod utf8;
 
 pub use same::is_plain;
 pub use same::same_known;
 pub use same::same_text;
+pub use span::is_ascii;
+use span::is_single;
 use utf8::put_scalar;
 use utf8::scalar_len;
 pub use utf8::utf8_step;
@@ -19,7 +22,7 @@ ghost use mathlib.Core.Bool.{true, false};
 ghost use mathlib.Core.List.{_++_};
 ghost use lib.ListN.{length, drop};
 ghost use Rattle.utf.specs.Text.{stepOf, valueOf, widthOf, soundOf, stepsOf, bytesOf, isSound, refused, textOf, putText};
-ghost use Rattle.utf.specs.Told.{Took, Ran};
+ghost use Rattle.utf.specs.Told.{Took, Ran, Halted};
 
 pub enum Step {
     // a scalar value, and how many bytes it took
@@ -89,12 +92,13 @@ pub fn next_of(wide: bool, s: &[u8], at: usize) -> Taken
 
 // ---- whether it is sound
 
-// The first place from `at` on that holds no byte of ASCII: before it each step is one byte, and sound.
-fn narrow_run(s: &[u8], at: usize) -> usize
+// The first place from `at` on that holds no byte of ASCII, or one from `end` on: before it each step is one byte, and sound.
+fn narrow_run(s: &[u8], at: usize, end: usize) -> usize
+    requires { ⌜ end ≤ length (now s) ⌝ }
     ensures { λ r. ⌜ Ran false (now (s .entry)) at r ⌝ }
 {
     let mut i = at;
-    while i < s.len() {
+    while i < end {
         if 128 <= s[i] {
             return i;
         }
@@ -103,13 +107,13 @@ fn narrow_run(s: &[u8], at: usize) -> usize
     i
 }
 
-// The first place from `at` on that holds a surrogate, or less than a unit: a unit's high byte tells, D8 to DF are 27 times 8 and up.
-fn wide_run(s: &[u8], at: usize) -> usize
-    requires { ⌜ at < 0x10000000000000000 - 1 ⌝ }
+// The first place from `at` on that holds a surrogate, or less than a unit before `end`: a unit's high byte tells, D8 to DF are 27 times 8 and up.
+fn wide_run(s: &[u8], at: usize, end: usize) -> usize
+    requires { ⌜ (at < 0x10000000000000000 - 1) × (end ≤ length (now s)) ⌝ }
     ensures { λ r. ⌜ Ran true (now (s .entry)) at r ⌝ }
 {
     let mut i = at;
-    while i + 1 < s.len() {
+    while i + 1 < end {
         if s[i + 1] / 8 == 27 {
             return i;
         }
@@ -118,29 +122,74 @@ fn wide_run(s: &[u8], at: usize) -> usize
     i
 }
 
-// A place from `at` on, before which each step is sound.
-fn sound_run(wide: bool, s: &[u8], at: usize) -> usize
-    requires { ⌜ at < 0x10000000000000000 - 1 ⌝ }
+// Unit by unit: a place from `at` on, before which each step is sound; from `end` on nothing is looked at.
+fn sound_run(wide: bool, s: &[u8], at: usize, end: usize) -> usize
+    requires { ⌜ (at < 0x10000000000000000 - 1) × (end ≤ length (now s)) ⌝ }
     ensures { λ r. ⌜ Ran wide (now (s .entry)) at r ⌝ }
 {
     if wide {
-        return wide_run(s, at);
+        return wide_run(s, at, end);
     }
-    narrow_run(s, at)
+    narrow_run(s, at, end)
 }
 
-// Whether no step is bad: what a run leaves is read by one step, and then comes the next run.
+// Block by block, of 64 bytes each: the first from `at` on that is not single units throughout, or not whole.
+fn block_run(wide: bool, s: &[u8], at: usize) -> usize
+    requires { ⌜ at ≤ length (now s) ⌝ }
+    ensures { λ r. ⌜ Ran wide (now (s .entry)) at r × (r ≤ length (now (s .entry))) ⌝ }
+{
+    let mut i = at;
+    while 64 <= s.len() - i {
+        if !is_single(wide, &s[i..i + 64]) {
+            return i;
+        }
+        i += 64;
+    }
+    i
+}
+
+// Step by step: the place before `end` of the first step that is bad, and where there is none a place from `end` on. What a run leaves is
+// read by one step, and then comes the next run.
+fn step_run(wide: bool, s: &[u8], at: usize, end: usize) -> usize
+    requires { ⌜ (at ≤ end) × (end ≤ length (now s)) ⌝ }
+    ensures { λ r. ⌜ Halted wide (now (s .entry)) at end r ⌝ }
+{
+    let mut i = sound_run(wide, s, at, end);
+    while i < end {
+        let t = next_of(wide, s, i);
+        if !t.sound {
+            return i;
+        }
+        i = sound_run(wide, s, i + t.width, end);
+    }
+    i
+}
+
+// The end of a block that begins at `at`, or `n` where that is nearer.
+fn block_end(at: usize, n: usize) -> usize
+    requires { ⌜ at ≤ n ⌝ }
+    ensures { λ r. ⌜ r ≡ min (at + 64) n ⌝ }
+{
+    if n - at < 64 {
+        return n;
+    }
+    at + 64
+}
+
+// Whether no step is bad: block by block as far as that goes, then step by step through the block that does not pass, and so on. The look at
+// a block that does not pass is all that is lost, once in 64 bytes.
 // Ruled out: true of C0 80, the overlong form of U+0000; false of ED 9F BF, which is U+D7FF.
 pub fn is_sound(wide: bool, s: &[u8]) -> bool
     ensures { λ r. ⌜ r ≡ isSound wide (now (s .entry)) ⌝ }
 {
-    let mut at = sound_run(wide, s, 0);
+    let mut at = 0;
     while at < s.len() {
-        let t = next_of(wide, s, at);
-        if !t.sound {
+        let from = block_run(wide, s, at);
+        let end = block_end(from, s.len());
+        at = step_run(wide, s, from, end);
+        if at < end {
             return false;
         }
-        at = sound_run(wide, s, at + t.width);
     }
     true
 }

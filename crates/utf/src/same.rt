@@ -4,6 +4,7 @@
 // Two in UTF-16 are told by their bytes, since a sound text has one spelling; only the empty text has many, all that are refused.
 use super::is_refused;
 use super::next_of;
+use super::span::is_ascii;
 ghost use mathlib.Core.Path.{_≡_};
 ghost use mathlib.Core.Bool.{true};
 ghost use mathlib.Core.List.{[]};
@@ -11,7 +12,7 @@ ghost use Prim.Native.Nat.{_<_};
 ghost use lib.ListN.{length};
 ghost use Rattle.utf.specs.Text.{stepsOf, bytesOf, textOf, eqBytes};
 ghost use Rattle.utf.specs.Told.{Paired};
-ghost use Rattle.utf.specs.Plain.{isAscii, isPlain, Known};
+ghost use Rattle.utf.specs.Plain.{isPlain, Known};
 
 // ---- step by step
 
@@ -137,19 +138,6 @@ pub fn same_text(wide_a: bool, a: &[u8], wide_b: bool, b: &[u8]) -> bool
 }
 
 // ---- a text that its bytes decide
-
-fn is_ascii(s: &[u8]) -> bool
-    ensures { λ r. ⌜ r ≡ isAscii (now (s .entry)) ⌝ }
-{
-    let mut i = 0;
-    while i < s.len() {
-        if 128 <= s[i] {
-            return false;
-        }
-        i += 1;
-    }
-    true
-}
 
 // Whether no other bytes in the same encoding are this text: in UTF-8 it is ASCII, and in UTF-16 it is not empty.
 // Ruled out: true of a text that is refused, since there are others; true of EF BF BD in UTF-8, since FF is the same text.

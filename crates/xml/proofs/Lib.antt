@@ -3,3 +3,4 @@ pub mod Classes
 pub mod Ranges
 pub mod Names
 pub mod Ascii
+pub mod Passing

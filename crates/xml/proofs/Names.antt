@@ -4,16 +4,16 @@ use mathlib.Core.Bool.{Bool, true, false, not, _&&_, cond}
 use mathlib.Core.List.{List}
 use Prim.Native.Nat.{ℕ, _+_, _*_, _/_, _≤_, _<_}
 use native.Mathlib.Omega.{arith}
-use borrow.Author.Tests.{ne-eqb}
+use borrow.Author.Tests.{eq-eqb, ne-eqb, eqb-true}
 use lib.Dec.{eqb}
 use lib.ListN.{length, getD, drop}
-use Rattle.utf.specs.Text.{stepOf, valueOf, soundOf, stepsOf, allSound}
+use Rattle.utf.specs.Text.{stepOf, valueOf, widthOf, soundOf, stepsOf, allSound}
 use Rattle.utf.specs.Told.{Took}
-use Rattle.utf.proofs.Steps.{stepsOf-next, stepsOf-end}
-use Rattle.utf.proofs.Turns.{took-ascii, goes}
+use Rattle.utf.proofs.Steps.{stepOf-is, stepsOf-next, stepsOf-end}
+use Rattle.utf.proofs.Turns.{took-ascii, stops, goes}
 use Rattle.utf.proofs.Units.{took-unit}
 use Rattle.xml.specs.NCName.{isStart, isChar, sortOf, classOf, allChar, nameOf, validName}
-use Rattle.xml.specs.Told.{sortBy, charsIn, Told, Passed}
+use Rattle.xml.specs.Told.{sortBy, sortAt, begins, charsIn, Told, Passed, Reached}
 use Rattle.xml.proofs.Ranges.{sortOf-start, sortOf-char, classOf-ascii, ascii-of-class}
 
 -- ---- what is told of a step
@@ -68,12 +68,38 @@ module _ (wide : Bool) (s : List ℕ) (at sort width : ℕ) (h : at < length s) 
       (turn-by wide (soundOf here) (allSound rest) (isStart (valueOf here)) (allChar rest) (sortOf (valueOf here)) (λ k. eqb k 1) refl
       (sortOf-start (valueOf here)))
 
--- ---- a run of ASCII
+-- ---- the first char
+
+pub told-begins : (wide : Bool) (s : List ℕ) (sort width : ℕ) → Told wide s 0 sort width → eqb sort 1 ≡ begins wide s
+told-begins wide s sort width t = ap (λ (k : ℕ). eqb k 1) (t .sort-is)
+
+begins-by : (k : ℕ) (x : Bool) → (eqb k 1 && x) ≡ (eqb k 1 && (not (eqb k 0) && x))
+begins-by k x = go (eqb k 1) refl
+  where
+    go : (b : Bool) → eqb k 1 ≡ b → (b && x) ≡ (b && (not (eqb k 0) && x))
+    go false e = refl
+    go true e = let z = eqb-true k 1 e in rw (ne-eqb k 0 (λ f. omega arith))
+
+-- a text is a name where it begins with a start and holds chars alone
+pub validName-begins : (wide : Bool) (s : List ℕ) → 0 < length s → ((i : ℕ) → getD s i 0 < 256) → validName wide s ≡ (begins wide s && charsIn wide s)
+validName-begins wide s h b =
+    let is = stepOf-is wide s h b in
+    let n = widthOf (stepOf wide s) in
+    let k = sortAt wide (stepOf wide s) in
+    let t : Told wide s 0 k n = record { sort-is = refl; width-is = refl; least = is .least; most = is .most } in
+    turn-name wide s 0 k n h t
+    ∙ begins-by k (charsIn wide (drop (0 + n) s))
+    ∙ ap (λ (x : Bool). eqb k 1 && x) (sym (turn-char wide s 0 k n h t))
+
+-- ---- a run of chars
 
 pub passed-none : (wide : Bool) (s : List ℕ) (at : ℕ) → Passed wide s at at
 passed-none wide s at = record { later = omega arith; rest = refl }
 
-passed-more : (wide : Bool) (s : List ℕ) (at i sort width : ℕ) → Passed wide s at i → i < length s → Told wide s i sort width → (sort ≡ 0 → ⊥)
+pub passed-on : (wide : Bool) (s : List ℕ) (at i to : ℕ) → Passed wide s at i → Passed wide s i to → Passed wide s at to
+passed-on wide s at i to p q = record { later = omega (arith, p .later, q .later); rest = q .rest ∙ p .rest }
+
+pub passed-more : (wide : Bool) (s : List ℕ) (at i sort width : ℕ) → Passed wide s at i → i < length s → Told wide s i sort width → (sort ≡ 0 → ⊥)
     → Passed wide s at (i + width)
 passed-more wide s at i sort width p h t n = record {
   later = omega (arith, p .later);
@@ -84,9 +110,28 @@ pub passed-ascii : (s : List ℕ) (at i sort : ℕ) → Passed false s at i → 
     → Passed false s at (i + 1)
 passed-ascii s at i sort p h e n m = passed-more false s at i sort 1 p h (told-ascii s i sort h e m) n
 
+-- a unit that is no surrogate, and a char of a name
+pub passed-char : (s : List ℕ) (at i : ℕ) → Passed true s at i → i + 1 < length s → ((k : ℕ) → getD s k 0 < 256) → (getD s (i + 1) 0 / 8 ≡ 27 → ⊥)
+    → (sortOf (getD s i 0 + getD s (i + 1) 0 * 256) ≡ 0 → ⊥) → Passed true s at (i + 2)
+passed-char s at i p h b n c =
+    let u = getD s i 0 + getD s (i + 1) 0 * 256 in
+    passed-more true s at i (sortOf u) 2 p (omega arith) (told true s i u 2 (sortOf u) true (took-unit s i h b n) refl) c
+
 pub passed-unit : (s : List ℕ) (at i sort : ℕ) → Passed true s at i → i + 1 < length s → ((k : ℕ) → getD s k 0 < 256)
     → getD s i 0 + getD s (i + 1) 0 * 256 < 128 → sort ≡ classOf (getD s i 0 + getD s (i + 1) 0 * 256) → (sort ≡ 0 → ⊥) → Passed true s at (i + 2)
 passed-unit s at i sort p h b a e n = passed-more true s at i sort 2 p (omega arith) (told-unit s i sort h b a e) n
+
+-- ---- as far as a place: no char stands before it, or it is reached
+
+module _ (wide : Bool) (s : List ℕ) (at i to : ℕ) (p : Passed wide s at i) where
+  pub reached-to : to ≤ i → Reached wide s at to i
+  reached-to h = record { passed = p; stuck = λ k. absurd (let z : ⊥ = omega arith in z) }
+
+  pub reached-none : (sort width : ℕ) → i < length s → Told wide s i sort width → sort ≡ 0 → Reached wide s at to i
+  reached-none sort width h t e = record {
+    passed = p;
+    stuck = λ k. stops _ _ (not (eqb sort 0)) (turn-char wide s i sort width h t) (ap not (eq-eqb sort 0 e));
+  }
 
 -- ---- the ends
 

@@ -2,13 +2,17 @@
 --
 --   IsTable    a table that has the class of each byte
 --   sortAt     what a step is in a name: the sort of its value, and in none where it is bad in UTF-16, whose text is then refused
+--   begins     the first step is a start
 --   charsIn    what is left of a name, from a place on: each value is a char, and nothing is refused
 --   Told       the step at a place inside: what it is in a name, and how far it goes
 --   Passed     what lies between two places is chars of a name
+--   Reached    the same, and where the second place lies before `to`, what is left from there on is no part of a name
+--   Ahead      what lies before `from` is chars of a name; `to` is a place inside or the end, behind `at`
 use mathlib.Core.Path.{_≡_}
 use Prim.Native.Nat.{ℕ, _≤_, _<_}
 use mathlib.Core.Bool.{Bool, false, not, _&&_, cond}
 use mathlib.Core.List.{List}
+use lib.Dec.{eqb}
 use lib.ListN.{length, getD, drop}
 use Rattle.utf.specs.declared.Step.{Step}
 use Rattle.utf.specs.Text.{stepOf, valueOf, widthOf, soundOf, stepsOf, refused}
@@ -24,6 +28,9 @@ sortBy wide sound v = cond (wide && not sound) 0 (sortOf v)
 abbrev pub sortAt : Bool → Step → ℕ
 sortAt wide t = sortBy wide (soundOf t) (valueOf t)
 
+abbrev pub begins : Bool → List ℕ → Bool
+begins wide s = eqb (sortAt wide (stepOf wide s)) 1
+
 abbrev pub charsIn : Bool → List ℕ → Bool
 charsIn wide s = cond (refused wide s) false (allChar (stepsOf wide s))
 
@@ -36,3 +43,12 @@ pub record Told (wide : Bool) (s : List ℕ) (at sort width : ℕ) : Type 0 wher
 pub record Passed (wide : Bool) (s : List ℕ) (at to : ℕ) : Type 0 where
   pub later : at ≤ to
   pub rest : charsIn wide (drop to s) ≡ charsIn wide (drop at s)
+
+pub record Reached (wide : Bool) (s : List ℕ) (at to r : ℕ) : Type 0 where
+  pub passed : Passed wide s at r
+  pub stuck : r < to → charsIn wide (drop r s) ≡ false
+
+pub record Ahead (wide : Bool) (s : List ℕ) (at from to : ℕ) : Type 0 where
+  pub passed : Passed wide s at from
+  pub ends : to ≤ length s
+  pub farther : at < to

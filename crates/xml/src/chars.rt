@@ -1,13 +1,16 @@
-// What stands at a place of a text, as a part of a name, and how far its chars of ASCII go.
+// What stands at a place of a text, as a part of a name, and how far its chars go.
 //
 // Mirrors the loop of `is_valid_name` in xml/src/lib.rs (apk-info 13770539b8), over bytes or units in place of chars. Definitions: specs/Told.antt.
-// A byte of ASCII in UTF-8, and a unit of ASCII in UTF-16, is its own value and is looked up; anything else is decoded first.
+// A byte of ASCII in UTF-8, and a unit of ASCII in UTF-16, is its own value and is looked up; a unit whose high byte says that it is a start
+// is passed; anything else is decoded first.
+use super::blocks::far_high;
 use super::sort_in;
 use utf::next_of;
+ghost use mathlib.Core.Path.{_≡_};
 ghost use mathlib.Core.Bool.{true, false};
-ghost use Prim.Native.Nat.{_-_, _<_};
+ghost use Prim.Native.Nat.{_≤_, _<_};
 ghost use lib.ListN.{length};
-ghost use Rattle.xml.specs.Told.{IsTable, Told, Passed};
+ghost use Rattle.xml.specs.Told.{IsTable, begins, Told, Passed, Reached};
 
 // The sort of what stands there, and how many bytes it takes.
 pub struct Char {
@@ -15,15 +18,11 @@ pub struct Char {
     pub width: usize,
 }
 
-fn narrow_char(classes: &[u8], s: &[u8], at: usize) -> Char
+// What is damaged is U+FFFD, which is a start.
+fn narrow_decoded(classes: &[u8], s: &[u8], at: usize) -> Char
     requires { ⌜ IsTable (now classes) × (at < length (now s)) ⌝ }
     ensures { λ r. ⌜ Told false (now (s .entry)) at (r .sort) (r .width) ⌝ }
 {
-    let b = s[at];
-    let k = classes[b as usize];
-    if k != 3 {
-        return Char { sort: k, width: 1 };
-    }
     let t = next_of(false, s, at);
     Char {
         sort: sort_in(classes, t.value),
@@ -31,16 +30,17 @@ fn narrow_char(classes: &[u8], s: &[u8], at: usize) -> Char
     }
 }
 
-// An unpaired surrogate is in no name.
-fn wide_char(classes: &[u8], s: &[u8], at: usize) -> Char
+// A unit that is no surrogate is its own value. An unpaired surrogate is in no name.
+fn wide_decoded(classes: &[u8], s: &[u8], at: usize) -> Char
     requires { ⌜ IsTable (now classes) × (at < length (now s)) ⌝ }
     ensures { λ r. ⌜ Told true (now (s .entry)) at (r .sort) (r .width) ⌝ }
 {
     if 2 <= s.len() - at {
-        let u = s[at] as usize + s[at + 1] as usize * 256;
-        if u < 128 {
+        let high = s[at + 1];
+        if high / 8 != 27 {
+            let u = s[at] as u32 + high as u32 * 256;
             return Char {
-                sort: classes[u],
+                sort: sort_in(classes, u),
                 width: 2,
             };
         }
@@ -58,24 +58,69 @@ fn wide_char(classes: &[u8], s: &[u8], at: usize) -> Char
     }
 }
 
-// The char at a place inside. `classes` is the table, which the caller makes once.
-// Ruled out: the width 0, and a sort other than 0 for an unpaired surrogate of UTF-16.
-pub fn char_at(classes: &[u8], wide: bool, s: &[u8], at: usize) -> Char
+// The char at a place inside, decoded.
+fn decoded(classes: &[u8], wide: bool, s: &[u8], at: usize) -> Char
     requires { ⌜ IsTable (now classes) × (at < length (now s)) ⌝ }
     ensures { λ r. ⌜ Told wide (now (s .entry)) at (r .sort) (r .width) ⌝ }
 {
     if wide {
-        return wide_char(classes, s, at);
+        return wide_decoded(classes, s, at);
     }
-    narrow_char(classes, s, at)
+    narrow_decoded(classes, s, at)
 }
 
-fn narrow_run(classes: &[u8], s: &[u8], at: usize) -> usize
-    requires { ⌜ IsTable (now classes) ⌝ }
+// ---- the first char
+
+// UTF-8: a byte of class 3 is decoded.
+fn narrow_begins(classes: &[u8], s: &[u8]) -> bool
+    requires { ⌜ IsTable (now classes) × (0 < length (now s)) ⌝ }
+    ensures { λ r. ⌜ r ≡ begins false (now (s .entry)) ⌝ }
+{
+    let b = s[0];
+    let k = classes[b as usize];
+    if k != 3 {
+        return k == 1;
+    }
+    let t = narrow_decoded(classes, s, 0);
+    t.sort == 1
+}
+
+// UTF-16: a unit beyond ASCII, and a byte alone, is decoded.
+fn wide_begins(classes: &[u8], s: &[u8]) -> bool
+    requires { ⌜ IsTable (now classes) × (0 < length (now s)) ⌝ }
+    ensures { λ r. ⌜ r ≡ begins true (now (s .entry)) ⌝ }
+{
+    if 2 <= s.len() {
+        let u = s[0] as usize + s[1] as usize * 256;
+        if u < 128 {
+            return classes[u] == 1;
+        }
+    }
+    let t = wide_decoded(classes, s, 0);
+    t.sort == 1
+}
+
+// Whether a text that is not empty begins with a start. `classes` is the table, which the caller makes once.
+// Ruled out: true of a digit, and true of an unpaired surrogate of UTF-16.
+pub fn begins_well(classes: &[u8], wide: bool, s: &[u8]) -> bool
+    requires { ⌜ IsTable (now classes) × (0 < length (now s)) ⌝ }
+    ensures { λ r. ⌜ r ≡ begins wide (now (s .entry)) ⌝ }
+{
+    if wide {
+        return wide_begins(classes, s);
+    }
+    narrow_begins(classes, s)
+}
+
+// ---- a run of chars that need no decoding
+
+// Bytes of ASCII in UTF-8.
+fn narrow_run(classes: &[u8], s: &[u8], at: usize, to: usize) -> usize
+    requires { ⌜ IsTable (now classes) × (to ≤ length (now s)) ⌝ }
     ensures { λ r. ⌜ Passed false (now (s .entry)) at r ⌝ }
 {
     let mut i = at;
-    while i < s.len() {
+    while i < to {
         let b = s[i];
         let k = classes[b as usize];
         if k == 0 {
@@ -89,12 +134,14 @@ fn narrow_run(classes: &[u8], s: &[u8], at: usize) -> usize
     i
 }
 
-fn wide_run(classes: &[u8], s: &[u8], at: usize) -> usize
-    requires { ⌜ IsTable (now classes) × (at < 0x10000000000000000 - 1) ⌝ }
+// Units of ASCII in UTF-16.
+fn wide_run(classes: &[u8], s: &[u8], at: usize, to: usize) -> usize
+    requires { ⌜ IsTable (now classes) × (to ≤ length (now s)) × (0 < to) ⌝ }
     ensures { λ r. ⌜ Passed true (now (s .entry)) at r ⌝ }
 {
+    let last = to - 1;
     let mut i = at;
-    while i + 1 < s.len() {
+    while i < last {
         let u = s[i] as usize + s[i + 1] as usize * 256;
         if 128 <= u {
             return i;
@@ -108,14 +155,48 @@ fn wide_run(classes: &[u8], s: &[u8], at: usize) -> usize
     i
 }
 
-// The first place from `at` on that holds no char of ASCII.
-// Ruled out: a place before `at`, and one behind a value that is no char.
-pub fn ascii_run(classes: &[u8], wide: bool, s: &[u8], at: usize) -> usize
-    requires { ⌜ IsTable (now classes) × (at < 0x10000000000000000 - 1) ⌝ }
+// Units whose high byte alone says that they are starts.
+fn far_run(s: &[u8], at: usize, to: usize) -> usize
+    requires { ⌜ (to ≤ length (now s)) × (0 < to) ⌝ }
+    ensures { λ r. ⌜ Passed true (now (s .entry)) at r ⌝ }
+{
+    let last = to - 1;
+    let mut i = at;
+    while i < last {
+        if !far_high(s[i + 1]) {
+            return i;
+        }
+        i += 2;
+    }
+    i
+}
+
+// A place from `at` on, `to` or before it, up to which chars stand that need no decoding: those of ASCII, and in UTF-16 far units behind them.
+fn seen_run(classes: &[u8], wide: bool, s: &[u8], at: usize, to: usize) -> usize
+    requires { ⌜ IsTable (now classes) × (to ≤ length (now s)) × (0 < to) ⌝ }
     ensures { λ r. ⌜ Passed wide (now (s .entry)) at r ⌝ }
 {
     if wide {
-        return wide_run(classes, s, at);
+        let i = wide_run(classes, s, at, to);
+        return far_run(s, i, to);
     }
-    narrow_run(classes, s, at)
+    narrow_run(classes, s, at, to)
+}
+
+// The first place from `at` on where no char of a name stands, and `to` or one soon behind it where that comes first: what a run
+// leaves is decoded, one step and then the next run.
+// Ruled out: a place before `to` where a char stands, and one behind a value that is no char.
+pub fn chars_run(classes: &[u8], wide: bool, s: &[u8], at: usize, to: usize) -> usize
+    requires { ⌜ IsTable (now classes) × (to ≤ length (now s)) × (0 < to) ⌝ }
+    ensures { λ r. ⌜ Reached wide (now (s .entry)) at to r ⌝ }
+{
+    let mut i = seen_run(classes, wide, s, at, to);
+    while i < to {
+        let u = decoded(classes, wide, s, i);
+        if u.sort == 0 {
+            return i;
+        }
+        i = seen_run(classes, wide, s, i + u.width, to);
+    }
+    i
 }

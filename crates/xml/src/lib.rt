@@ -1,12 +1,15 @@
 // Names: whether a text is an NCName, and what a byte or a value is in one.
 //
 // Mirrors xml/src/lib.rs (apk-info 13770539b8): `is_valid_name`, `is_name_start_char`, `is_name_char`.
-// Definitions: specs/NCName.antt, from XML 1.0 (Fifth Edition) and Namespaces in XML 1.0. Text of ASCII is looked up; what lies
-// beyond is decoded. Differs from the Rust: a text in UTF-16 is read as it stands, and ill-formed UTF-8 is read as U+FFFD.
+// Definitions: specs/NCName.antt, from XML 1.0 (Fifth Edition) and Namespaces in XML 1.0. Text of ASCII is looked up, and what lies
+// beyond is decoded; in UTF-16 whole blocks are passed at once (blocks.rt), and far units by their high byte alone.
+// Differs from the Rust: a text in UTF-16 is read as it stands, and ill-formed UTF-8 is read as U+FFFD.
+pub mod blocks;
 pub mod chars;
 
-use chars::ascii_run;
-use chars::char_at;
+use blocks::stretch_at;
+use chars::begins_well;
+use chars::chars_run;
 ghost use mathlib.Core.Path.{_≡_};
 ghost use mathlib.Core.Bool.{false};
 ghost use Rattle.utf.specs.Utf8.{inside};
@@ -121,7 +124,7 @@ pub fn is_char(v: u32) -> bool
     sort_in(&CLASSES, v) != 0
 }
 
-// Whether the text, in UTF-16 where it is wide, is an NCName: what a run of ASCII leaves is decoded, one step and then the next run.
+// Whether the text, in UTF-16 where it is wide, is an NCName: blocks are passed whole, and what they leave is looked at char by char.
 // Ruled out: true of the empty text; false of FF in UTF-8, since U+FFFD is a start.
 pub fn valid_name(wide: bool, s: &[u8]) -> bool
     ensures { λ r. ⌜ r ≡ validName wide (now (s .entry)) ⌝ }
@@ -130,17 +133,16 @@ pub fn valid_name(wide: bool, s: &[u8]) -> bool
         return false;
     }
     let classes = CLASSES;
-    let t = char_at(&classes, wide, s, 0);
-    if t.sort != 1 {
+    if !begins_well(&classes, wide, s) {
         return false;
     }
-    let mut at = ascii_run(&classes, wide, s, t.width);
+    let mut at = 0;
     while at < s.len() {
-        let u = char_at(&classes, wide, s, at);
-        if u.sort == 0 {
+        let p = stretch_at(wide, s, at);
+        at = chars_run(&classes, wide, s, p.from, p.to);
+        if at < p.to {
             return false;
         }
-        at = ascii_run(&classes, wide, s, at + u.width);
     }
     true
 }

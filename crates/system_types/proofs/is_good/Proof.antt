@@ -37,24 +37,24 @@ returns-5 c =
     let e = c .before .before .before .before .before .before .before .before .before .pre (c .if5 .taken) in
     sym (isGood-plain (now (a .area)) (a .last .0) (a .id .0) (a .start) (a .n) e (omega arith) top (omega arith) (omega arith))
 
-sub-all-ascii : tie.Need-sub-all-ascii
-sub-all-ascii c = search needs
+sub-is-ascii : tie.Need-sub-is-ascii
+sub-is-ascii c = search needs
 
-part-all-ascii-start : tie.Need-part-all-ascii-start
-part-all-ascii-start c = search needs
+part-is-ascii-start : tie.Need-part-is-ascii-start
+part-is-ascii-start c = search needs
 
-part-all-ascii-end : tie.Need-part-all-ascii-end
-part-all-ascii-end c = search needs
+part-is-ascii-end : tie.Need-part-is-ascii-end
+part-is-ascii-end c = search needs
 
-all-ascii-requires : tie.Need-all-ascii-requires
-all-ascii-requires c κs = search needs
+is-ascii-requires : tie.Need-is-ascii-requires
+is-ascii-requires c κs = search needs
 
 returns-6 : tie.Need-returns-6
 returns-6 c =
     let a = c .before .before .before .before .before .before .before .before .before .before .before .args in
     let top = c .before .before .before .before .before .if2 .left in
     let by = isGood-by (now (a .area)) (a .last .0) (a .id .0) (a .start) (a .n) (omega arith) top (omega arith) (omega arith) in
-    c .all-ascii .ensures ∙ sym by
+    c .is-ascii .ensures ∙ sym by
 
 pub is-good-spec : {M : Type 1} → statement M
 is-good-spec =
@@ -66,8 +66,8 @@ is-good-spec =
     add-to
     returns-4
     returns-5
-    sub-all-ascii
-    part-all-ascii-start
-    part-all-ascii-end
-    all-ascii-requires
+    sub-is-ascii
+    part-is-ascii-start
+    part-is-ascii-end
+    is-ascii-requires
     returns-6)

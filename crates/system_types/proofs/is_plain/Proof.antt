@@ -1,4 +1,4 @@
--- `system_types::is_plain` meets its contract: the pass over the area is the one of `all_ascii`.
+-- `system_types::is_plain` meets its contract: the pass over the area is the one of `utf::is_ascii`.
 use borrow.Author.Needs.{needs}
 use borrow.Author.Tests.{lt-ltb, le-ltb}
 use Rattle.system_types.proofs.is_plain.Statement.{statement}
@@ -7,11 +7,11 @@ use Rattle.system_types.proofs.is_plain.Tie as tie
 returns : tie.Need-returns
 returns c = simp (lt-ltb _ _ (c .if1 .taken))
 
-all-ascii-requires : tie.Need-all-ascii-requires
-all-ascii-requires c κs = search needs
+is-ascii-requires : tie.Need-is-ascii-requires
+is-ascii-requires c κs = search needs
 
 returns-2 : tie.Need-returns-2
-returns-2 c = simp (le-ltb _ _ (c .before .if1 .left), c .all-ascii .ensures)
+returns-2 c = simp (le-ltb _ _ (c .before .if1 .left), c .is-ascii .ensures)
 
 pub is-plain-spec : {M : Type 1} → statement M
-is-plain-spec = tie.close (tie.spec returns all-ascii-requires returns-2)
+is-plain-spec = tie.close (tie.spec returns is-ascii-requires returns-2)

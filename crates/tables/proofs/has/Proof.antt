@@ -9,19 +9,19 @@ use lib.ListN.{length, drop}
 use Rattle.utf.specs.Plain.{Known}
 use Rattle.text.specs.Content.{plainIn}
 use Rattle.text.specs.Found.{partOf, Finds}
-use Rattle.text.proofs.Plains.{known-fact}
+use Rattle.text.proofs.Plains.{known-of}
 use Rattle.tables.specs.Keep.{hasKey, sameIn}
 use Rattle.tables.proofs.Keys.{hasKey-end, hasKey-found, hasKey-prefix, hasKey-name, sameIn-found}
 use Rattle.tables.proofs.has.Statement.{statement}
 use Rattle.tables.proofs.has.Tie as tie
 
 abbrev Inv-loop : tie.InvT-loop
-Inv-loop t names area h words prefix wanted plain i₀ i =
+Inv-loop t names area h words prefix wanted plain marks i₀ i =
     (i ≤ length words) × Known plain (plainIn (partOf (h .wide) t area wanted)) × ((n : ℕ) → Finds t names area h n wanted
     → hasKey (sameIn h t names area) prefix n words ≡ hasKey (sameIn h t names area) prefix n (drop i words))
 
 abbrev μ-loop : tie.MeasureT-loop
-μ-loop t names area h words prefix wanted plain i₀ i = length words - i
+μ-loop t names area h words prefix wanted plain marks i₀ i = length words - i
 
 returns : tie.Need-returns Inv-loop μ-loop
 returns c =
@@ -35,8 +35,12 @@ find-requires c κs = search needs
 is-plain-found-requires : tie.Need-is-plain-found-requires Inv-loop μ-loop
 is-plain-found-requires c κs = search needs
 
+marks-of-requires : tie.Need-marks-of-requires Inv-loop μ-loop
+marks-of-requires c κs =
+    (c .before .before .before .before .before .before .before .pre .fits, c .before .find .ensures .inside, known-of (c .is-plain-found .ensures))
+
 loop-holds : tie.Need-loop-holds Inv-loop μ-loop
-loop-holds c = (search needs, rw (c .is-plain-found .ensures) (known-fact _), λ _ _. refl)
+loop-holds c = (search needs, known-of (c .before .is-plain-found .ensures), λ _ _. refl)
 
 sub-loop : tie.Need-sub-loop Inv-loop μ-loop
 sub-loop c = search needs
@@ -50,37 +54,34 @@ mul-if2 c = search needs
 shared-slice-read-if2 : tie.Need-shared-slice-read-if2 Inv-loop μ-loop
 shared-slice-read-if2 c = search needs
 
-add-t19 : tie.Need-add-t19 Inv-loop μ-loop
-add-t19 c = search needs
+add-t20 : tie.Need-add-t20 Inv-loop μ-loop
+add-t20 c = search needs
 
-mul-t20 : tie.Need-mul-t20 Inv-loop μ-loop
-mul-t20 c = search needs
+mul-t21 : tie.Need-mul-t21 Inv-loop μ-loop
+mul-t21 c = search needs
 
-shared-slice-read-t22 : tie.Need-shared-slice-read-t22 Inv-loop μ-loop
-shared-slice-read-t22 c = search needs
+shared-slice-read-t23 : tie.Need-shared-slice-read-t23 Inv-loop μ-loop
+shared-slice-read-t23 c = search needs
 
-find-requires-2 : tie.Need-find-requires-2 Inv-loop μ-loop
-find-requires-2 c κs = search needs
-
-same-found-known-requires : tie.Need-same-found-known-requires Inv-loop μ-loop
-same-found-known-requires c κs =
-    let at-loop = c .before .before .before .before .before in
-    (c .find2 .ensures .inside, at-loop .before .before .find .ensures .inside, at-loop .loop .inv .1)
+same-as-known-requires : tie.Need-same-as-known-requires Inv-loop μ-loop
+same-as-known-requires c κs =
+    let at-loop = c .before .before .before .before in
+    let start = at-loop .before .before .before .before .before .before .before .before .before in
+    (start .pre, at-loop .before .before .before .find .ensures .inside, at-loop .loop .inv .1, at-loop .before .marks-of .ensures)
 
 returns-2 : tie.Need-returns-2 Inv-loop μ-loop
 returns-2 c =
-    let at-if2 = c .before .before .before .before in
+    let at-if2 = c .before .before .before in
     let at-loop-test = at-if2 .before .before in
     let at-loop = at-loop-test .before in
-    let at-find = at-loop .before .before in
+    let at-find = at-loop .before .before .before in
     let a = at-find .before .before .before .before .before .before .args in
     let same = sameIn (a .h) (a .t .now) (a .names .now) (a .area .now) in
     let n = a .name .0 in
     let wanted = at-find .find in
-    let other = c .before .before .find2 in
     let equal =
-    sameIn-found (a .h) (a .t .now) (a .names .now) (a .area .now) _ n (other .result) (wanted .result) (other .ensures) (wanted .ensures) _ _
-    (c .before .same-found-known .ensures) (c .if3 .taken) in
+    sameIn-found (a .h) (a .t .now) (a .names .now) (a .area .now) _ n (wanted .result) (wanted .ensures) _ _
+    (c .before .same-as-known .ensures) (c .if3 .taken) in
     sym
     (at-loop .loop .inv .2 n (wanted .ensures)
     ∙ hasKey-found same (a .prefix) n (a .words .now) (at-loop .loop .i) (at-loop-test .loop-test .taken) (at-if2 .if2 .taken) equal)
@@ -94,7 +95,7 @@ loop-less c = search needs
 loop-again : tie.Need-loop-again Inv-loop μ-loop
 loop-again c =
     let at-loop = c .before .before .before in
-    let at-start = at-loop .before .before .before .before .before .before .before .before in
+    let at-start = at-loop .before .before .before .before .before .before .before .before .before in
     let a = at-start .args in
     let i = at-loop .loop .i in
     let same = sameIn (a .h) (a .t .now) (a .names .now) (a .area .now) in
@@ -105,7 +106,7 @@ loop-again c =
           (at-loop .loop .inv .2 n wanted
           ∙ ⊎-elim
           (λ w. hasKey-name same (a .prefix) n (a .words .now) i long (w .0 .taken)
-          (sameIn-found (a .h) (a .t .now) (a .names .now) (a .area .now) _ n (w .2 .result) _ (w .2 .ensures) wanted _ _ (w .3 .ensures) (w .4 .left)))
+          (sameIn-found (a .h) (a .t .now) (a .names .now) (a .area .now) _ n _ wanted _ _ (w .2 .ensures) (w .3 .left)))
           (λ w. hasKey-prefix same (a .prefix) n (a .words .now) i long (w .left))
           (c .if2 .came)),
     )
@@ -113,10 +114,10 @@ loop-again c =
 returns-3 : tie.Need-returns-3 Inv-loop μ-loop
 returns-3 c =
     let at-loop = c .before in
-    let a = at-loop .before .before .before .before .before .before .before .before .args in
+    let a = at-loop .before .before .before .before .before .before .before .before .before .args in
     let same = sameIn (a .h) (a .t .now) (a .names .now) (a .area .now) in
     let n = a .name .0 in
-    sym (at-loop .loop .inv .2 n (at-loop .before .before .find .ensures) ∙ hasKey-end same (a .prefix) n (a .words .now) (at-loop .loop .i)
+    sym (at-loop .loop .inv .2 n (at-loop .before .before .before .find .ensures) ∙ hasKey-end same (a .prefix) n (a .words .now) (at-loop .loop .i)
     (c .loop-test .left))
 
 pub has-spec : {M : Type 1} → statement M
@@ -128,16 +129,16 @@ has-spec =
     returns
     find-requires
     is-plain-found-requires
+    marks-of-requires
     loop-holds
     sub-loop
     add-if2
     mul-if2
     shared-slice-read-if2
-    add-t19
-    mul-t20
-    shared-slice-read-t22
-    find-requires-2
-    same-found-known-requires
+    add-t20
+    mul-t21
+    shared-slice-read-t23
+    same-as-known-requires
     returns-2
     add-i
     loop-less

@@ -1,7 +1,6 @@
--- `utf::narrow_run` meets its contract. Invariant: what was passed is sound (`Ran`). Measure: the bytes left.
+-- `utf::narrow_run` meets its contract. Invariant: what was passed is sound (`Ran`). Measure: the bytes left before `end`.
 use Prim.Native.Nat.{_-_}
 use native.Mathlib.Omega.{arith}
-use lib.ListN.{length}
 use Rattle.utf.specs.Told.{Ran}
 use Rattle.utf.proofs.Units.{ran-none, ran-ascii}
 use mathlib.Core.Bool.{false}
@@ -9,10 +8,10 @@ use Rattle.utf.proofs.narrow_run.Statement.{statement}
 use Rattle.utf.proofs.narrow_run.Tie as tie
 
 abbrev Inv-loop : tie.InvT-loop
-Inv-loop s at i₀ i = Ran false s at i
+Inv-loop s at end i₀ i = Ran false s at i
 
 abbrev μ-loop : tie.MeasureT-loop
-μ-loop s at i₀ i = length s - i
+μ-loop s at end i₀ i = end - i
 
 loop-holds : tie.Need-loop-holds Inv-loop μ-loop
 loop-holds c = ran-none _ _ _
@@ -30,7 +29,7 @@ loop-less : tie.Need-loop-less Inv-loop μ-loop
 loop-less c = omega arith
 
 loop-again : tie.Need-loop-again Inv-loop μ-loop
-loop-again c = ran-ascii _ _ _ (c .before .before .before .loop .inv) (c .before .before .loop-test .taken) (c .if1 .left)
+loop-again c = ran-ascii _ _ _ (c .before .before .before .loop .inv) (omega arith) (c .if1 .left)
 
 returns-2 : tie.Need-returns-2 Inv-loop μ-loop
 returns-2 c = c .before .loop .inv

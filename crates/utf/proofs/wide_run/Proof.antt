@@ -1,7 +1,7 @@
--- `utf::wide_run` meets its contract. Invariant: what was passed is sound (`Ran`), and a byte more is counted. Measure: the bytes left.
+-- `utf::wide_run` meets its contract. Invariant: what was passed is sound (`Ran`), and a byte more is counted. Measure: the bytes left before `end`.
 use Prim.Native.Nat.{ℕ, _-_, _<_}
 use native.Mathlib.Omega.{arith}
-use lib.ListN.{length, getD}
+use lib.ListN.{getD}
 use denote.Ref.{now}
 use Rattle.utf.specs.Told.{Ran}
 use Rattle.utf.proofs.Units.{ran-none, ran-unit}
@@ -10,13 +10,13 @@ use Rattle.utf.proofs.wide_run.Statement.{statement}
 use Rattle.utf.proofs.wide_run.Tie as tie
 
 abbrev Inv-loop : tie.InvT-loop
-Inv-loop s at i₀ i = Ran true s at i × (i < 0x10000000000000000 - 1)
+Inv-loop s at end i₀ i = Ran true s at i × (i < 0x10000000000000000 - 1)
 
 abbrev μ-loop : tie.MeasureT-loop
-μ-loop s at i₀ i = length s - i
+μ-loop s at end i₀ i = end - i
 
 loop-holds : tie.Need-loop-holds Inv-loop μ-loop
-loop-holds c = (ran-none _ _ _, c .pre)
+loop-holds c = (ran-none _ _ _, c .pre .0)
 
 add-loop : tie.Need-add-loop Inv-loop μ-loop
 add-loop c = omega (arith, c .loop .inv .1)
@@ -40,7 +40,7 @@ loop-again : tie.Need-loop-again Inv-loop μ-loop
 loop-again c =
     let l = c .before .before .before .loop in
     let bytes : (i : ℕ) → getD (now (c .before .before .before .before .args .s)) i 0 < 256 = λ i. c .before .shared-slice-known .given i .fits in
-    (ran-unit _ _ _ (l .inv .0) (c .before .before .loop-test .taken) bytes (c .if1 .left), omega arith)
+    (ran-unit _ _ _ (l .inv .0) (omega arith) bytes (c .if1 .left), omega arith)
 
 returns-2 : tie.Need-returns-2 Inv-loop μ-loop
 returns-2 c = c .before .loop .inv .0

@@ -1,8 +1,8 @@
--- `xml::chars::narrow_run` meets its contract. Invariant: what was passed is chars (`Passed`). Measure: the bytes left.
+-- `xml::chars::narrow_run` meets its contract. Invariant: what was passed is chars (`Passed`). Measure: the bytes left before `to`.
 use Prim.Native.Nat.{_-_}
 use mathlib.Core.Bool.{false}
 use native.Mathlib.Omega.{arith}
-use lib.ListN.{length, getD}
+use lib.ListN.{getD}
 use denote.Ref.{now}
 use Rattle.xml.specs.Told.{Passed}
 use Rattle.xml.proofs.Names.{passed-none, passed-ascii}
@@ -10,10 +10,10 @@ use Rattle.xml.proofs.chars.narrow_run.Statement.{statement}
 use Rattle.xml.proofs.chars.narrow_run.Tie as tie
 
 abbrev Inv-loop : tie.InvT-loop
-Inv-loop classes s at i₀ i = Passed false s at i
+Inv-loop classes s at to i₀ i = Passed false s at i
 
 abbrev μ-loop : tie.MeasureT-loop
-μ-loop classes s at i₀ i = length s - i
+μ-loop classes s at to i₀ i = to - i
 
 loop-holds : tie.Need-loop-holds Inv-loop μ-loop
 loop-holds c = passed-none _ _ _
@@ -27,7 +27,7 @@ cast-k c = omega (arith, c .shared-slice-known .given (c .before .before .loop .
 shared-slice-read-k : tie.Need-shared-slice-read-k Inv-loop μ-loop
 shared-slice-read-k c =
     let q = c .before .before .before in
-    omega (arith, c .before .shared-slice-known .given (q .loop .i), q .before .pre .size)
+    omega (arith, c .before .shared-slice-known .given (q .loop .i), q .before .pre .0 .size)
 
 returns : tie.Need-returns Inv-loop μ-loop
 returns c = c .before .before .before .before .loop .inv
@@ -46,8 +46,9 @@ loop-again c =
     let q = c .before .before .before .before .before in
     let start = q .before in
     let b = getD (now (start .args .s)) (q .loop .i) 0 in
-    let class = start .pre .right b (omega (arith, c .before .before .before .shared-slice-known .given (q .loop .i))) in
-    passed-ascii _ _ _ _ (q .loop .inv) (c .before .before .before .before .loop-test .taken) class (c .before .if1 .left) (c .if2 .left)
+    let class = start .pre .0 .right b (omega (arith, c .before .before .before .shared-slice-known .given (q .loop .i))) in
+    let test = c .before .before .before .before .loop-test .taken in
+    passed-ascii _ _ _ _ (q .loop .inv) (omega (arith, test, start .pre .1)) class (c .before .if1 .left) (c .if2 .left)
 
 returns-3 : tie.Need-returns-3 Inv-loop μ-loop
 returns-3 c = c .before .loop .inv

@@ -1,8 +1,8 @@
--- `xml::chars::wide_run` meets its contract. Invariant: what was passed is chars (`Passed`). Measure: the bytes left.
+-- `xml::chars::wide_run` meets its contract. Invariant: what was passed is chars (`Passed`). Measure: the bytes left before the last.
 use Prim.Native.Nat.{ℕ, _+_, _-_, _*_, _<_}
 use mathlib.Core.Bool.{true}
 use native.Mathlib.Omega.{arith}
-use lib.ListN.{length, getD}
+use lib.ListN.{getD}
 use denote.Ref.{now}
 use Rattle.xml.specs.Told.{Passed}
 use Rattle.xml.proofs.Names.{passed-none, passed-unit}
@@ -10,16 +10,16 @@ use Rattle.xml.proofs.chars.wide_run.Statement.{statement}
 use Rattle.xml.proofs.chars.wide_run.Tie as tie
 
 abbrev Inv-loop : tie.InvT-loop
-Inv-loop classes s at i₀ i = Passed true s at i × (i < 0x10000000000000000 - 1)
+Inv-loop classes s at to last i₀ i = Passed true s at i
 
 abbrev μ-loop : tie.MeasureT-loop
-μ-loop classes s at i₀ i = length s - i
+μ-loop classes s at to last i₀ i = last - i
+
+sub-last : tie.Need-sub-last Inv-loop μ-loop
+sub-last c = omega (arith, c .pre .2)
 
 loop-holds : tie.Need-loop-holds Inv-loop μ-loop
-loop-holds c = (passed-none _ _ _, c .pre .1)
-
-add-loop : tie.Need-add-loop Inv-loop μ-loop
-add-loop c = omega (arith, c .loop .inv .1)
+loop-holds c = passed-none _ _ _
 
 shared-slice-read-u : tie.Need-shared-slice-read-u Inv-loop μ-loop
 shared-slice-read-u c = omega arith
@@ -45,13 +45,13 @@ add-u-2 c =
     omega (arith, c .shared-slice-known2 .given i, c .shared-slice-known2 .given (i + 1))
 
 returns : tie.Need-returns Inv-loop μ-loop
-returns c = c .before .before .before .before .loop .inv .0
+returns c = c .before .before .before .before .loop .inv
 
 shared-slice-read-k : tie.Need-shared-slice-read-k Inv-loop μ-loop
 shared-slice-read-k c = omega (arith, c .before .if1 .left, c .before .before .before .before .before .before .pre .0 .size)
 
 returns-2 : tie.Need-returns-2 Inv-loop μ-loop
-returns-2 c = c .before .before .before .before .before .before .loop .inv .0
+returns-2 c = c .before .before .before .before .before .before .loop .inv
 
 add-i : tie.Need-add-i Inv-loop μ-loop
 add-i c = omega arith
@@ -67,10 +67,11 @@ loop-again c =
     let bytes : (k : ℕ) → getD s k 0 < 256 = λ k. c .before .before .before .shared-slice-known2 .given k .fits in
     let ascii = c .before .before .if1 .left in
     let class = q .before .pre .0 .right (getD s i 0 + getD s (i + 1) 0 * 256) (omega (arith, ascii)) in
-    (passed-unit _ _ _ _ (q .loop .inv .0) (c .before .before .before .before .before .loop-test .taken) bytes ascii class (c .if2 .left), omega arith)
+    let test = c .before .before .before .before .before .loop-test .taken in
+    passed-unit _ _ _ _ (q .loop .inv) (omega (arith, test, q .before .pre)) bytes ascii class (c .if2 .left)
 
 returns-3 : tie.Need-returns-3 Inv-loop μ-loop
-returns-3 c = c .before .loop .inv .0
+returns-3 c = c .before .loop .inv
 
 pub wide-run-spec : {M : Type 1} → statement M
 wide-run-spec =
@@ -78,8 +79,8 @@ wide-run-spec =
     (tie.spec
     Inv-loop
     μ-loop
+    sub-last
     loop-holds
-    add-loop
     shared-slice-read-u
     cast-u
     add-u

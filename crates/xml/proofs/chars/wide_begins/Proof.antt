@@ -1,0 +1,61 @@
+-- `xml::chars::wide_begins` meets its contract: a unit of ASCII is its own value.
+use mathlib.Core.Bool.{true}
+use Prim.Native.Nat.{ℕ, _+_, _*_, _<_}
+use native.Mathlib.Omega.{arith}
+use lib.ListN.{getD}
+use denote.Ref.{now}
+use Rattle.xml.proofs.Names.{told-unit, told-begins}
+use borrow.Author.Needs.{needs}
+use Rattle.xml.proofs.chars.wide_begins.Statement.{statement}
+use Rattle.xml.proofs.chars.wide_begins.Tie as tie
+
+shared-slice-read-u : tie.Need-shared-slice-read-u
+shared-slice-read-u c = search needs
+
+cast-u : tie.Need-cast-u
+cast-u c = omega (arith, c .shared-slice-known3 .given 0)
+
+shared-slice-read-u-2 : tie.Need-shared-slice-read-u-2
+shared-slice-read-u-2 c = search needs
+
+cast-u-2 : tie.Need-cast-u-2
+cast-u-2 c = omega (arith, c .shared-slice-known4 .given 1)
+
+mul-u : tie.Need-mul-u
+mul-u c = omega (arith, c .shared-slice-known4 .given 1)
+
+add-u : tie.Need-add-u
+add-u c = omega (arith, c .shared-slice-known4 .given 0, c .shared-slice-known4 .given 1)
+
+shared-slice-read-result : tie.Need-shared-slice-read-result
+shared-slice-read-result c = search needs
+
+returns : tie.Need-returns
+returns c =
+    let q = c .before .before .before .before .before .before .before in
+    let s = now (q .args .s) in
+    let bytes : (k : ℕ) → getD s k 0 < 256 = λ k. c .before .before .shared-slice-known4 .given k .fits in
+    let ascii = c .before .if2 .taken in
+    let class = q .pre .0 .right (getD s 0 0 + getD s 1 0 * 256) (omega (arith, ascii)) in
+    told-begins true s _ 2 (told-unit s 0 _ (c .before .before .before .before .if1 .taken) bytes ascii class)
+
+wide-decoded-requires : tie.Need-wide-decoded-requires
+wide-decoded-requires c κs = search needs
+
+returns-2 : tie.Need-returns-2
+returns-2 c = told-begins true _ _ _ (c .before .wide-decoded .ensures)
+
+pub wide-begins-spec : {M : Type 1} → statement M
+wide-begins-spec =
+    tie.close
+    (tie.spec
+    shared-slice-read-u
+    cast-u
+    shared-slice-read-u-2
+    cast-u-2
+    mul-u
+    add-u
+    shared-slice-read-result
+    returns
+    wide-decoded-requires
+    returns-2)
