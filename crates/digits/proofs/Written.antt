@@ -1,4 +1,4 @@
--- Laws of specs/Printed.antt: texts written one behind the other, and what the buffer holds at the end.
+-- Laws of specs/Written.antt: texts written one behind the other. Not here: what the buffer holds at the end (proofs/Fitted.antt).
 use Prim.Native.Nat.{ℕ, suc, _+_, _≤_, _<_}
 use mathlib.Core.Path.{_≡_, refl}
 use mathlib.Core.List.{List, [], _∷_, _++_}
@@ -7,7 +7,7 @@ use native.Mathlib.Nat.{add-suc, suc-add}
 use native.Mathlib.Numerals.{add-one, unary-clauses}
 use lib.ListN.{length, set, drop, length-append, drop-of-length-le, getD}
 use lib.Seq.{drop-cons, length-sets}
-use Rattle.listing_text.specs.Printed.{written, Wrote}
+use Rattle.digits.specs.Written.{written, Wrote}
 
 -- ---- one text behind another
 
@@ -32,6 +32,10 @@ wrote-append {m} {n} {p} {q} {r} {s} {t} {l} {k} {j} a b =
 pub wrote-more : {m n p r : ℕ} {s t l j : List ℕ} → Wrote m p s l r j → s ≡ t → m ≤ n → Wrote n p t l r j
 wrote-more {m} {n} {p} {r} {s} {t} {l} {j} a e h =
     record { place = rw (← e) (a .place); near = omega (arith, a .near); out = rw (← e) (a .out) }
+
+pub wrote-none : (m p : ℕ) (l : List ℕ) → Wrote m p [] l p l
+unfolding written
+wrote-none m p l = record { place = omega arith; near = omega arith; out = refl }
 
 -- ---- a text that is written piece by piece
 

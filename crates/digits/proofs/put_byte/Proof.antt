@@ -1,10 +1,10 @@
--- `listing_text::buffer::put_byte` meets its contract: a place within the buffer is written, and past its end nothing is.
+-- `digits::put_byte` meets its contract: a place within the buffer is written, and past its end nothing is.
 use mathlib.Core.Path.{sym}
 use lib.Seq.{set-out}
-use Rattle.listing_text.specs.Printed.{written}
+use Rattle.digits.specs.Written.{written}
 use borrow.Author.Needs.{needs}
-use Rattle.listing_text.proofs.buffer.put_byte.Statement.{statement}
-use Rattle.listing_text.proofs.buffer.put_byte.Tie as tie
+use Rattle.digits.proofs.put_byte.Statement.{statement}
+use Rattle.digits.proofs.put_byte.Tie as tie
 
 slice-write-out : tie.Need-slice-write-out
 slice-write-out c = search needs

@@ -1,10 +1,10 @@
--- `listing_text::buffer::put_three` meets its contract: three fields, one after the other.
+-- `listing_text::fields::put_three` meets its contract: three fields, one after the other.
 use mathlib.Core.Path.{refl}
 use native.Mathlib.Omega.{arith}
-use Rattle.listing_text.proofs.Written.{wrote-more, wrote-append}
+use Rattle.digits.proofs.Written.{wrote-more, wrote-append}
 use borrow.Author.Needs.{needs}
-use Rattle.listing_text.proofs.buffer.put_three.Statement.{statement}
-use Rattle.listing_text.proofs.buffer.put_three.Tie as tie
+use Rattle.listing_text.proofs.fields.put_three.Statement.{statement}
+use Rattle.listing_text.proofs.fields.put_three.Tie as tie
 
 put-field-requires : tie.Need-put-field-requires
 put-field-requires c κs = search needs

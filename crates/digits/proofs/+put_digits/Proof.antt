@@ -1,19 +1,19 @@
--- `listing_text::buffer::put_digits` meets its contract, by recursion on k: the digits of a tenth, and then the last digit. Measure: k.
+-- `digits::put_digits` meets its contract, by recursion on k: the digits of a tenth, and then the last digit. Measure: k.
 use mathlib.Core.Path.{sym}
 use native.Mathlib.Omega.{arith}
 use native.Mathlib.Nat.{pos-of-ne-zero}
-use Rattle.listing_text.proofs.Laws.{digits-zero, digits-lt, digits-step}
-use Rattle.listing_text.proofs.Written.{wrote-more, wrote-append}
+use Rattle.digits.proofs.Laws.{digits-zero, digits-lt, digits-step}
+use Rattle.digits.proofs.Written.{wrote-more, wrote-append}
 use borrow.Author.Needs.{needs}
 use Prim.Native.Nat.{ℕ, _<_}
 use borrow.Fn.Kinds.{In}
 use borrow.Fn.PlainCycle.{Measures, is, falls, and}
-use Rattle.listing_text.proofs.buffer.put_digits.Reads as put-digits
-use Rattle.listing_text.proofs.buffer.put_digits.Kinds as put-digits-kinds
-use Rattle.listing_text.proofs.buffer.+put_digits.Lts-put_digits as put-digits-lts
-use Rattle.listing_text.proofs.buffer.put_byte.Reads as put-byte-reads
-use Rattle.listing_text.proofs.buffer.+put_digits.{statement}
-use Rattle.listing_text.proofs.buffer.+put_digits.Tie.{close}
+use Rattle.digits.proofs.put_digits.Reads as put-digits
+use Rattle.digits.proofs.put_digits.Kinds as put-digits-kinds
+use Rattle.digits.proofs.+put_digits.Lts-put_digits as put-digits-lts
+use Rattle.digits.proofs.put_byte.Reads as put-byte-reads
+use Rattle.digits.proofs.+put_digits.{statement}
+use Rattle.digits.proofs.+put_digits.Tie.{close}
 
 abbrev μ-put-digits : Measures 1 put-digits-kinds.ps ℕ
 μ-put-digits κs a = a .1 .1 .0

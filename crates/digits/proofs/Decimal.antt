@@ -1,5 +1,5 @@
--- Laws of the decimal digits of specs/Listing.antt, for whoever reads a listing. No contract cites this file.
--- In order: one digit, no leading zero, and that a number is read back from its digits, so that two numbers never share them.
+-- What decimal digits stand for. No contract cites this file.
+-- In order: one digit, no leading zero, how many digits are enough, and that a number is read back from its digits, so that two numbers never share them.
 -- A number of 64 bits is below 10 ^ 20, so `decimal` shows all of it.
 use Prim.Native.Nat.{ℕ, zero, suc, _+_, _-_, _*_, _^_, _/_, _%_, _≤_, _<_}
 use mathlib.Core.Path.{_≡_, refl, sym, _∙_, ap}
@@ -10,8 +10,9 @@ use native.Mathlib.Nat.{mod-eq-of-lt, pow-suc}
 use borrow.Author.Tests.{ltb-true, ltb-false}
 use lib.Dec.{ltb}
 use lib.ListN.{length, getD, length-append, List·getD-append}
-use Rattle.listing_text.specs.Listing.{digits, decimal}
-use Rattle.listing_text.proofs.Laws.{digits-lt, digits-suc}
+use Rattle.digits.specs.Back.{numberFrom}
+use Rattle.digits.specs.Digits.{digits, decimal}
+use Rattle.digits.proofs.Laws.{digits-lt, digits-suc, digits-step}
 
 -- a number below 10, or one with a digit before its last
 module _ (P : ℕ → ℕ → Type 0) (one : (k n : ℕ) → n < 10 → P k n) (more : (k n : ℕ) → 10 ≤ n → P k (n / 10) → P (suc k) n) where
@@ -49,12 +50,22 @@ getD-digits-lt k n h =
 pub getD-decimal-lt : (n : ℕ) → n < 10 ^ 20 → 0 < n → 48 < getD (decimal n) 0 0
 getD-decimal-lt n h z = getD-digits-lt 19 n h z
 
--- ---- read back
+-- a digit at least stands in front, and not `-`
+pub getD-digits-digit : (k n : ℕ) → n < 10 ^ suc k → 45 < getD (digits k n) 0 0
+getD-digits-digit =
+    digits-ind (λ k n. 45 < getD (digits k n) 0 0)
+    (λ k n s. rw (digits-lt k n s, mod-eq-of-lt s) (omega arith))
+    (λ k n s p. rw (digits-suc k n s, List·getD-append (digits k (n / 10)) _ 0 0 (digits-pos k (n / 10))) p)
 
--- the number of a list of digits behind the number v
-unfoldable pub numberFrom : ℕ → List ℕ → ℕ
-numberFrom v [] = v
-numberFrom v (d ∷ ds) = numberFrom (v * 10 + (d - 48)) ds
+-- ---- more digits than enough change nothing
+
+pub digits-enough : (j n : ℕ) → n < 10 ^ suc j → (k : ℕ) → j ≤ k → digits j n ≡ digits k n
+digits-enough =
+    digits-ind (λ j n. (k : ℕ) → j ≤ k → digits j n ≡ digits k n)
+    (λ j n s k h. digits-lt j n s ∙ sym (digits-lt k n s))
+    (λ j n s p k h. rw (digits-suc j n s, digits-step k n (omega arith) s, p (k - 1) (omega arith)))
+
+-- ---- read back
 
 numberFrom-append : (v d : ℕ) (ds : List ℕ) → numberFrom v (ds ++ (d ∷ [])) ≡ numberFrom v ds * 10 + (d - 48)
 unfolding numberFrom

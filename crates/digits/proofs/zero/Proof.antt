@@ -1,4 +1,4 @@
--- `listing_text::buffer::zero` meets its contract. Invariant: the first i bytes are 0 and the others as they were. Measure: the bytes left.
+-- `digits::zero` meets its contract. Invariant: the first i bytes are 0 and the others as they were. Measure: the bytes left.
 use mathlib.Core.Path.{_≡_, refl, _∙_}
 use mathlib.Core.List.{_++_, append-nil}
 use Prim.Native.Nat.{_≤_, _-_}
@@ -8,8 +8,8 @@ use lib.Seq.{drop-length}
 use borrow.Author.Needs.{needs}
 use borrow.Author.Fill.{fill-none, fill-more}
 use lib.ListN.{length, drop, replicate}
-use Rattle.listing_text.proofs.buffer.zero.Statement.{statement}
-use Rattle.listing_text.proofs.buffer.zero.Tie as tie
+use Rattle.digits.proofs.zero.Statement.{statement}
+use Rattle.digits.proofs.zero.Tie as tie
 
 abbrev Inv-loop : tie.InvT-loop
 Inv-loop out₀ i₀ out i = (i ≤ length out₀) × (length out ≡ length out₀) × (out ≡ replicate i 0 ++ drop i out₀)

@@ -1,12 +1,13 @@
--- `listing_text::buffer::put_bytes` meets its contract. Invariant: the first i bytes are written, and the others are left. Measure: those left.
+-- `digits::put_bytes` meets its contract. Invariant: the first i bytes are written, and the others are left. Measure: those left.
 use mathlib.Core.Path.{_≡_, refl}
 use Prim.Native.Nat.{_≤_, _+_, _-_}
 use native.Mathlib.Omega.{arith}
 use borrow.Author.Needs.{needs}
+use denote.Ref.{now}
 use lib.ListN.{length, drop}
-use Rattle.listing_text.proofs.Written.{Left, left-first, left-byte, left-end}
-use Rattle.listing_text.proofs.buffer.put_bytes.Statement.{statement}
-use Rattle.listing_text.proofs.buffer.put_bytes.Tie as tie
+use Rattle.digits.proofs.Written.{Left, left-first, left-byte, left-end}
+use Rattle.digits.proofs.put_bytes.Statement.{statement}
+use Rattle.digits.proofs.put_bytes.Tie as tie
 
 abbrev Inv-loop : tie.InvT-loop
 Inv-loop out₀ p text at₀ i₀ out at i = (i ≤ length text) × (at ≤ p + i) × (length out ≡ length out₀) × Left p text out₀ at (drop i text) out
@@ -40,7 +41,7 @@ same-length c = search needs
 returns : tie.Need-returns Inv-loop μ-loop
 returns c =
     let l = c .before .loop in
-    left-end 10 _ (l .i) (search needs) (l .inv .3) (omega arith)
+    left-end (length (now (c .before .before .before .before .args .text))) _ (l .i) (search needs) (l .inv .3) (omega arith)
 
 pub put-bytes-spec : {M : Type 1} → statement M
 put-bytes-spec =
