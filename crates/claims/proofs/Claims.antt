@@ -9,7 +9,8 @@
 --   numbers-unique   equal numbers are equal answers: of a reading; text-numbers-unique, first-numbers-unique of the two questions
 -- Insertion (P3): a file without a note, and the file with complete foreign chunks at some of its places.
 --   insertion        of the promise; insertion-read of two calls. What the hypotheses and the notes mean: insertion-head to insertion-cap
--- Room (L1): suffices, read-listed-suffices. Zeros (P1, B7, B8): refused-zeros, done-zeros, text-refused-zeros, text-done-zeros. Structure: structured.
+--   insertion-text, insertion-content, insertion-first   the three questions answer as before
+-- Room (L1): suffices of a file of any length, read-suffices of a call; listing-suffices, read-listed-suffices of a listing. Zeros (P1, B7, B8): refused-zeros, done-zeros, text-refused-zeros, text-done-zeros. Structure: structured.
 -- Readers that break the promise (P5): refuses-all-broken to invents-notes-broken, each of every reader of its sort (specs/Readers.antt).
 -- The marked cases (L5): `cases-right` of proofs/Cases.antt, one table and one theorem; `cases-read` of proofs/Given.antt: `read` gives them.
 -- Texts and names (P2): what ties them to Unicode's tables and to XML's ranges is named in ARCHITECTURE.md.
@@ -25,7 +26,7 @@ use Rattle.common.specs.declared.ResChunkHeader.{ResChunkHeader}
 use Rattle.common.specs.declared.HeaderRead.the-variants.{Whole}
 use Rattle.common.proofs.Product.{Complex-unique}
 use Rattle.chunk.specs.Sort.{sortOf}
-use Rattle.errors.specs.Refusal.{numberOf, numbersOf, textNumbersOf, firstNumbersOf}
+use Rattle.errors.specs.Refusal.{numbersOf, textNumbersOf, firstNumbersOf}
 use Rattle.errors.specs.declared.ReadAnswer.{ReadAnswer}
 use Rattle.errors.specs.declared.ReadAnswer.the-variants.{Done, Refused}
 use Rattle.errors.specs.declared.Refusal.{Refusal}
@@ -45,9 +46,9 @@ use Rattle.first_value.specs.Question.{firstAnswer}
 use Rattle.tables.specs.Keep.{nodeWidth, attributeWidth}
 use Rattle.walk.specs.Settle.{Room}
 use Rattle.walk.specs.Reading.{reading, roomIn, zeroNote, Reads}
-use Rattle.claims.specs.Insertion.{ForeignChunk, noteFor, stretchNotes, placesIn, insertedFile, placeNotes, AllOf, BeginsOther, HasRoom, withNotes, left}
+use Rattle.claims.specs.Insertion.{ForeignChunk, noteFor, stretchNotes, placesIn, insertedFile, placeNotes, AllOf, BeginsOther, withNotes, left}
 use Rattle.claims.specs.Counts.{opensIn, notesIn}
-use Rattle.claims.specs.ListingRoom.{listingLimit, listingRoom, placesFor}
+use Rattle.claims.specs.Room.{HasRoom, nodesFor, attributesFor, placesFor, listingLimit, listingRoom}
 use Rattle.claims.specs.Cleared.{RefusedZero, DoneZero, TextRefusedZero, TextDoneZero}
 use Rattle.claims.specs.Shape.{Structured}
 use Rattle.claims.specs.Readers.{Reader, Meets, eventsOf, RefusesAll, Constant, LeavesNodes, LeavesAttributes, LeavesNotes, StopsAtStart}
@@ -55,6 +56,7 @@ use Rattle.claims.proofs.Longer.{insertedFile-none}
 use Rattle.claims.proofs.Foreign.{foreign-of, foreign-bytes, stretch-one, placeNotes-room}
 use Rattle.claims.proofs.Insertion as proved
 use Rattle.claims.proofs.Calls as calls
+use Rattle.claims.proofs.Values as values
 use Rattle.claims.proofs.Suffices as room
 use Rattle.claims.proofs.Zeros as zeros
 use Rattle.claims.proofs.Structure as tree
@@ -147,6 +149,21 @@ module _ (f names area ns ats : List ℕ) (os : List Note) (cap : ℕ) (c : Read
   insertion-read-room n m k =
       calls.insertion-read-room f names area ns ats os cap c ns₁ ats₁ os₁ one first none places few limit ns′ ats′ os′ cap′ a ns₂ ats₂ os₂ second n m k
 
+-- Text, content and first value, asked of the longer file, are those of the file: of any two results that the promises allow.
+module _ (r : Room) (f names area : List ℕ) (c : ReadCounts) (one : 1 ≤ r .cap) (done : reading r f names area .answer ≡ Done c) (none : c .notes ≡ 0)
+    (places : List (List ForeignChunk)) (limit : length (insertedFile places f) ≤ 16777216) where
+  pub insertion-text : (before : List ℕ) (i : ℕ) (a a′ : TextAnswer) (after after′ : List ℕ) → TextReads f names area before i a after
+      → TextReads (insertedFile places f) names area before i a′ after′ → (a′ ≡ a) × (after′ ≡ after)
+  insertion-text = values.insertion-text r f names area c one done none places limit
+
+  pub insertion-content : (i : ℕ) (s s′ : List ℕ) → s ≡ contentAnswer f names area i → s′ ≡ contentAnswer (insertedFile places f) names area i → s′ ≡ s
+  insertion-content = values.insertion-content r f names area c one done none places limit
+
+  pub insertion-first : (ns ats tag name : List ℕ) (nodes attributes : ℕ) (a a′ : FirstAnswer)
+      → a ≡ firstAnswer f names area ns ats tag name nodes attributes
+      → a′ ≡ firstAnswer (insertedFile places f) names area ns ats tag name nodes attributes → a′ ≡ a
+  insertion-first = values.insertion-first r f names area c one done none places limit
+
 -- with nothing put in it is the same file
 pub insertion-none : (f : List ℕ) → insertedFile [] f ≡ f
 insertion-none f = insertedFile-none f
@@ -166,16 +183,28 @@ pub insertion-cap : (cap k : ℕ) (places : List (List ForeignChunk))
     → (ofKind k (keptNotes cap (placeNotes places)) ≡ take cap (ofKind k (placeNotes places))) × (length (keptNotes cap (placeNotes places)) ≤ 2 * cap)
 insertion-cap cap k places = (keptNotes-of-kind cap k (placeNotes places), placeNotes-room cap places)
 
--- ---- room that always suffices (L1)
+-- ---- room that always suffices (L1): none is refused with 8, 9 or 10
 
-pub suffices : (r : Room) (f names area : List ℕ) → length f ≤ listingLimit → 10240 ≤ r .nodes → 16380 ≤ r .attributes → placesFor (r .cap) ≤ r .notes
-    → (x : Refusal) → reading r f names area .answer ≡ Refused x → numberOf x < 8
-suffices r f names area short n a o x e = room.suffices r f names area short n a o x e
+-- a file of any length, with any names and any cap
+pub suffices : (r : Room) (f names area : List ℕ) → nodesFor (length f) ≤ r .nodes → attributesFor (length f) ≤ r .attributes → placesFor (r .cap) ≤ r .notes
+    → HasRoom (reading r f names area .answer)
+suffices = room.suffices
 
-pub read-listed-suffices : (f ns ats : List ℕ) (x : Refusal) (ns′ ats′ : List ℕ) (os′ : List Note) → length f ≤ listingLimit
+-- the same of a call
+pub read-suffices : (f names area ns ats : List ℕ) (os : List Note) (cap : ℕ) (a : ReadAnswer) (ns′ ats′ : List ℕ) (os′ : List Note)
+    → nodesFor (length f) ≤ length ns → attributesFor (length f) ≤ length ats → placesFor cap ≤ length os
+    → Reads f names area ns ats os cap a ns′ ats′ os′ → HasRoom a
+read-suffices = room.read-suffices
+
+-- the room of a listing is such for all the lengths that it reads
+pub listing-suffices : (n : ℕ) → n ≤ listingLimit
+    → (nodesFor n ≤ listingRoom .nodes) × (attributesFor n ≤ listingRoom .attributes) × (placesFor (listingRoom .cap) ≤ listingRoom .notes)
+listing-suffices = room.listing-suffices
+
+pub read-listed-suffices : (f ns ats : List ℕ) (a : ReadAnswer) (ns′ ats′ : List ℕ) (os′ : List Note) → length f ≤ listingLimit
     → length ns ≡ listingRoom .nodes → length ats ≡ listingRoom .attributes
-    → Reads f [] [] ns ats (replicate (listingRoom .notes) zeroNote) (listingRoom .cap) (Refused x) ns′ ats′ os′ → numberOf x < 8
-read-listed-suffices f ns ats x ns′ ats′ os′ short n a h = room.read-listed-suffices f ns ats x ns′ ats′ os′ short n a h
+    → Reads f [] [] ns ats (replicate (listingRoom .notes) zeroNote) (listingRoom .cap) a ns′ ats′ os′ → HasRoom a
+read-listed-suffices = room.read-listed-suffices
 
 -- ---- zeros (B7, B8), and the structure of a success (W25 to W29, B9 to B15)
 

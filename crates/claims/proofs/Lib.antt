@@ -14,8 +14,10 @@ pub mod Longer
 pub mod Success
 pub mod Foreign
 pub mod Insertion
+pub mod Values
 pub mod Calls
 pub mod Sample
+pub mod PushBy
 pub mod SufficesStart
 pub mod SufficesBytes
 pub mod SufficesNotes

@@ -15,7 +15,7 @@ use lib.Dec.{eqb}
 use Rattle.anomaly.specs.Note.{kindIndex, noteOf}
 use Rattle.anomaly.specs.declared.ResAnomaly.{ResAnomaly}
 use Rattle.anomaly.proofs.Laws.{kindIndex-lt}
-use Rattle.claims.specs.ListingRoom.{placesFor}
+use Rattle.claims.specs.Room.{placesFor}
 use Rattle.walk.specs.Settle.{Tables, noted}
 
 -- ---- notes: at most so many of each kind
