@@ -7,7 +7,7 @@
 --   stores-nothing-broken    one that leaves all three; clears-nodes-broken: one that leaves zeros
 --   first-start-broken       one that gives the same to two files that agree up to the end of the first start
 --   invents-starts-broken    one that gives some file more starts than elements open in it
---   invents-notes-broken     one that gives some file more notes than are due in it
+--   invents-notes-broken     one that gives some file more notes than its cap keeps
 -- The witnesses are file S and its relatives (proofs/Cases.antt).
 use Prim.Native.Nat.{ℕ, _≤_, _<_}
 use native.Mathlib.Omega.{arith}
@@ -15,6 +15,7 @@ use mathlib.Core.Path.{_≡_, refl, sym, _∙_, ap}
 use mathlib.Core.List.{List, [], _∷_, _++_}
 use borrow.Author.Tests.{lt-ltb}
 use lib.ListN.{length, take, getD, replicate, length-replicate}
+use Rattle.anomaly.specs.Kept.{keptNotes}
 use Rattle.anomaly.specs.declared.Note.{Note}
 use Rattle.errors.specs.Refusal.{numbersOf, numberOf}
 use Rattle.errors.specs.declared.Numbers.{Numbers}
@@ -32,7 +33,7 @@ use Rattle.claims.specs.Readers.{Reader, Meets, eventsOf, RefusesAll, Co
 use Rattle.claims.specs.Readers.{StopsAtStart}
 use Rattle.claims.specs.Counts.{opensIn, notesIn}
 use Rattle.claims.proofs.Cases.{fileS, headS, startS, endS, zeros, none, note, firstNode, lead}
-use Rattle.claims.proofs.Structure.{starts-right, notes-most}
+use Rattle.claims.proofs.Structure.{starts-right, notes-many}
 use Rattle.claims.proofs.BrokenSample.{read-S, read-88, ends-S, read-with-end, read-without}
 
 pub meets-some : Meets (λ f names area ns ats os cap. reading (roomIn ns ats os cap) f names area)
@@ -70,10 +71,10 @@ module _ (f names area ns ats : List ℕ) (os : List Note) (cap : ℕ) where
   starts-le (Done c) ns′ ats′ os′ m = omega (arith, starts-right f names area ns ats os cap c ns′ ats′ os′ m)
 
   notes-le : (a : ReadAnswer) (ns′ ats′ : List ℕ) (os′ : List Note) → Reads f names area ns ats os cap a ns′ ats′ os′
-      → numbersOf a .notes ≤ notesIn (eventsOf f names area)
+      → numbersOf a .notes ≤ length (keptNotes cap (notesIn (eventsOf f names area)))
   unfolding numbersOf
   notes-le (Refused x) ns′ ats′ os′ m = omega arith
-  notes-le (Done c) ns′ ats′ os′ m = notes-most f names area ns ats os cap c ns′ ats′ os′ m
+  notes-le (Done c) ns′ ats′ os′ m = omega (arith, notes-many f names area ns ats os cap c ns′ ats′ os′ m)
 
 -- ---- the readers
 
@@ -141,5 +142,5 @@ module _ (R : Reader) (meets : Meets R) where
     pub invents-starts-broken : opensIn (eventsOf f names area) < numbersOf (R f names area ns ats os cap .answer) .starts → ⊥
     invents-starts-broken h = omega (arith, starts-le f names area ns ats os cap _ _ _ _ (meets f names area ns ats os cap))
 
-    pub invents-notes-broken : notesIn (eventsOf f names area) < numbersOf (R f names area ns ats os cap .answer) .notes → ⊥
+    pub invents-notes-broken : length (keptNotes cap (notesIn (eventsOf f names area))) < numbersOf (R f names area ns ats os cap .answer) .notes → ⊥
     invents-notes-broken h = omega (arith, notes-le f names area ns ats os cap _ _ _ _ (meets f names area ns ats os cap))

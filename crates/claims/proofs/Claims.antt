@@ -10,13 +10,14 @@
 -- Insertion (P3): a file without a note, and the file with complete foreign chunks at some of its places.
 --   insertion        of the promise; insertion-read of two calls. What the hypotheses and the notes mean: insertion-head to insertion-cap
 --   insertion-text, insertion-content, insertion-first   the three questions answer as before
--- Room (L1): suffices of a file of any length, read-suffices of a call; listing-suffices, read-listed-suffices of a listing. Zeros (P1, B7, B8): refused-zeros, done-zeros, text-refused-zeros, text-done-zeros. Structure: structured.
+-- Room (L1): suffices of a file of any length, read-suffices of a call; listing-suffices, read-listed-suffices of a listing.
+-- Zeros (P1, B7, B8): refused-zeros, done-zeros, text-refused-zeros, text-done-zeros. Every success: structured, notes-kept.
 -- Readers that break the promise (P5): refuses-all-broken to invents-notes-broken, each of every reader of its sort (specs/Readers.antt).
 -- The marked cases (L5): `cases-right` of proofs/Cases.antt, one table and one theorem; `cases-read` of proofs/Given.antt: `read` gives them.
 -- Texts and names (P2): what ties them to Unicode's tables and to XML's ranges is named in ARCHITECTURE.md.
 use Prim.Native.Nat.{ℕ, _+_, _*_, _≤_, _<_}
 use mathlib.Core.Path.{_≡_, sym, _∙_}
-use mathlib.Core.List.{List, [], _∷_, _++_}
+use mathlib.Core.List.{List, [], _∷_, _++_, map}
 use lib.Ieee.{Float}
 use mathlib.Core.Bool.{Bool, false}
 use lib.ListN.{length, take, replicate}
@@ -35,6 +36,7 @@ use Rattle.errors.specs.declared.TextAnswer.{TextAnswer}
 use Rattle.errors.specs.declared.TextAnswer.the-variants as textIs
 use Rattle.errors.specs.declared.FirstAnswer.{FirstAnswer}
 use Rattle.errors.proofs.Laws.{numbersOf-unique, textNumbersOf-unique, firstNumbersOf-unique}
+use Rattle.anomaly.specs.Note.{noteOf}
 use Rattle.anomaly.specs.declared.Note.{Note}
 use Rattle.anomaly.specs.Kept.{ofKind, keptNotes}
 use Rattle.anomaly.proofs.Laws.{keptNotes-of-kind}
@@ -218,6 +220,11 @@ module _ (f names area ns ats : List ℕ) (os : List Note) (cap : ℕ) (ns′ at
   pub structured : (c : ReadCounts) → Reads f names area ns ats os cap (Done c) ns′ ats′ os′ → Structured (eventsOf f names area) cap c ns′ ats′ os′
   structured c h = tree.structured f names area ns ats os cap c ns′ ats′ os′ h
 
+  -- its notes are exactly the file's, of each kind the first `cap` (B13, B14)
+  pub notes-kept : (c : ReadCounts) → Reads f names area ns ats os cap (Done c) ns′ ats′ os′
+      → take (c .notes) os′ ≡ map noteOf (keptNotes cap (notesIn (eventsOf f names area)))
+  notes-kept c h = tree.notes-kept f names area ns ats os cap c ns′ ats′ os′ h
+
 module _ (f names area before : List ℕ) (i : ℕ) (after : List ℕ) where
   pub text-refused-zeros : (x : Refusal) → TextReads f names area before i (textIs.Refused x) after
       → TextRefusedZero (textNumbersOf (textIs.Refused x)) before after
@@ -245,5 +252,5 @@ module _ (R : Reader) (meets : Meets R) where
     pub invents-starts-broken : opensIn (eventsOf f names area) < numbersOf (R f names area ns ats os cap .answer) .starts → ⊥
     invents-starts-broken h = broken.invents-starts-broken R meets f names area ns ats os cap h
 
-    pub invents-notes-broken : notesIn (eventsOf f names area) < numbersOf (R f names area ns ats os cap .answer) .notes → ⊥
+    pub invents-notes-broken : length (keptNotes cap (notesIn (eventsOf f names area))) < numbersOf (R f names area ns ats os cap .answer) .notes → ⊥
     invents-notes-broken h = broken.invents-notes-broken R meets f names area ns ats os cap h

@@ -23,7 +23,8 @@ use Rattle.tables.specs.Keep.{nodeWidth, attributeWidth}
 use Rattle.walk.specs.Reading.{Reading, secondOf, nodesKept, attributesKept, succeeds, finalOf, settledIn, reading}
 use Rattle.claims.specs.Insertion.{ForeignChunk, placesIn, inserted, insertedFile, placeNotes, withNotes}
 use Rattle.claims.specs.Room.{HasRoom}
-use Rattle.claims.proofs.Erased.{othersIn, notesIn}
+use Rattle.claims.specs.Counts.{notesIn}
+use Rattle.claims.proofs.Erased.{othersIn}
 use Rattle.claims.proofs.Grown.{bare, grown, Sound}
 use Rattle.claims.proofs.Depth.{deep, grown-stack, second-none}
 use Rattle.claims.proofs.Pushed.{Going}

@@ -18,16 +18,15 @@ pub mod Values
 pub mod Calls
 pub mod Sample
 pub mod PushBy
+pub mod Noted
 pub mod SufficesStart
 pub mod SufficesBytes
-pub mod SufficesNotes
 pub mod Suffices
 pub mod StructurePush
 pub mod StructureShape
 pub mod StructureTables
 pub mod StructureDone
 pub mod StructureCounts
-pub mod StructureNotes
 pub mod StructureOrder
 pub mod StructureDepth
 pub mod StructureWalk

@@ -21,7 +21,8 @@ use Rattle.events.specs.declared.Event.the-variants.{Nothing, Open, Attribute, 
 use Rattle.tables.specs.Keep.{nodeWidth, attributeWidth, hasKey}
 use Rattle.walk.specs.Settle.{Room, Tables, Out, going, refused, opened, kept, push}
 use Rattle.claims.specs.Room.{isFull}
-use Rattle.claims.proofs.Erased.{noted, othersIn}
+use Rattle.claims.specs.Counts.{noted}
+use Rattle.claims.proofs.Erased.{othersIn}
 use Rattle.claims.proofs.Grown.{bare, grow}
 
 -- refusals 8, 9, 10

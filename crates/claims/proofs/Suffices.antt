@@ -5,15 +5,20 @@
 --   listing-suffices       the room of a listing is such of every file that it reads
 --   read-listed-suffices   so `read_listed`, as a listing calls it, is never without a place
 --
--- Why: `file-few` (proofs/SufficesBytes.antt) for nodes and attributes; of each of the thirteen kinds at most `cap` notes are kept.
+-- Why: `file-few` (proofs/SufficesBytes.antt) for nodes and attributes; `keptNotes-length-le` (anomaly) for notes.
 use Prim.Native.Nat.{ℕ, _+_, _-_, _*_, _/_, _≤_, _<_}
 use native.Mathlib.Omega.{arith}
 use mathlib.Core.Path.{_≡_, refl, sym, subst}
 use mathlib.Core.List.{List, [], _∷_}
 use mathlib.Core.Bool.{Bool, false}
-use lib.ListN.{length, length-drop, length-append, length-set, replicate, length-replicate}
+use borrow.Author.Tests.{lt-ltb}
+use lib.ListN.{length, getD, length-drop, length-append, length-set, replicate, length-replicate}
 use lib.Dec.{ltb}
+use Rattle.anomaly.specs.Note.{kindIndex}
+use Rattle.anomaly.specs.Kept.{counted, keptFrom}
 use Rattle.anomaly.specs.declared.Note.{Note as NoteOf}
+use Rattle.anomaly.specs.declared.ResAnomaly.{ResAnomaly}
+use Rattle.anomaly.proofs.Laws.{keptFrom-due, keptFrom-past, keptNotes-length-le}
 use Rattle.errors.proofs.Laws.{numbersOf-unique}
 use Rattle.errors.specs.Refusal.{numberOf}
 use Rattle.errors.specs.declared.Refusal.{Refusal}
@@ -27,13 +32,12 @@ use Rattle.head.specs.Ask.{Check, passes, fails, firstOf, lengthCheck, namesChe
 use Rattle.xml_elements.proofs.Laws.{cond-by}
 use Rattle.events.specs.declared.Event.{Event}
 use Rattle.events.specs.Events.{namesIn, fileEvents}
-use Rattle.walk.specs.Settle.{Room, Tables, Out, going, refused, nothingYet, nodeWords}
+use Rattle.walk.specs.Settle.{Room, Tables, Out, going, refused, nothingYet}
 use Rattle.tables.specs.Keep.{nodeWidth, attributeWidth}
 use Rattle.walk.specs.Reading.{reading, readingBy, settledIn, roomIn, zeroNote, Reads}
-use Rattle.claims.specs.Counts.{opensIn, attributesIn}
+use Rattle.claims.specs.Counts.{opensIn, attributesIn, notesIn}
 use Rattle.claims.specs.Room.{isFull, HasRoom, nodesFor, attributesFor, placesFor, listingLimit, listingRoom}
-use Rattle.claims.proofs.PushBy.{InOut, Steps, settle-by}
-use Rattle.claims.proofs.SufficesNotes.{Counted, counted-none, counted-next, counted-room}
+use Rattle.claims.proofs.PushBy.{InOut, idle-still, Goes, Stops, settle-by}
 use Rattle.claims.proofs.SufficesStart.{Fine}
 use Rattle.claims.proofs.SufficesBytes.{file-few}
 
@@ -44,43 +48,58 @@ record Enough (r : Room) (es : List Event) (t : Tables) : Type 0 where
   nodes : length (t .nodes) + nodeWidth * opensIn es ≤ r .nodes
   attributes : length (t .attributes) + attributeWidth * attributesIn es ≤ r .attributes
   fine : Fine es
-  notes : Counted (r .cap) t
+  notes : length (t .notes) + length (keptFrom (r .cap) (t .counts) (notesIn es)) ≤ r .notes
 
 -- not for want of a place
 abbrev Other : Refusal → Type 0
 Other x = isFull x ≡ false
 
-steps : (r : Room) → placesFor (r .cap) ≤ r .notes → Steps r (Enough r) Other
-steps r places = record {
-  idles = λ t e es i h. record { nodes = omega (arith, h .nodes); attributes = omega (arith, h .attributes); fine = h .fine .1; notes = h .notes };
-  closes = λ t es h. record {
+-- a note that is due is one of those to come
+due-length : (r : Room) (t : Tables) (x : ResAnomaly) (es : List Event) → getD (t .counts) (kindIndex x) 0 < r .cap
+    → length (keptFrom (r .cap) (t .counts) (x ∷ notesIn es)) ≡ 1 + length (keptFrom (r .cap) (counted (t .counts) (kindIndex x)) (notesIn es))
+due-length r t x es d = rw (keptFrom-due (r .cap) (t .counts) x (notesIn es) (lt-ltb (getD (t .counts) (kindIndex x) 0) (r .cap) d)) (omega arith)
+
+goes : (r : Room) → Goes r (Enough r)
+goes r = record {
+  idles = λ t e es i h. record {
     nodes = omega (arith, h .nodes);
     attributes = omega (arith, h .attributes);
     fine = h .fine .1;
-    notes = record { kinds = h .notes .kinds; below = h .notes .below; all = h .notes .all };
+    notes = rw (← idle-still e i .notes es) (h .notes);
   };
-  refuses = λ t es x h. h .fine .0;
+  closes = λ t es h. record { nodes = omega (arith, h .nodes); attributes = omega (arith, h .attributes); fine = h .fine .1; notes = h .notes };
   opens = λ t es n f l g h. record {
-    nodes = omega (arith, h .nodes, length-append (t .nodes) (nodeWords t (n .0) f));
+    nodes = rw length-append (omega (arith, h .nodes));
     attributes = omega (arith, h .attributes);
     fine = h .fine .1;
-    notes = record { kinds = h .notes .kinds; below = h .notes .below; all = h .notes .all };
+    notes = h .notes;
   };
-  nodesFull = λ t es n f l g h. absurd (let z : ⊥ = omega (arith, h .nodes) in z);
   keeps = λ t es p a some g h. record {
     nodes = rw length-set (omega (arith, h .nodes));
     attributes = rw length-append (omega (arith, h .attributes));
     fine = h .fine .1;
-    notes = record { kinds = h .notes .kinds; below = h .notes .below; all = h .notes .all };
+    notes = h .notes;
   };
-  attributesFull = λ t es p a g h. absurd (let z : ⊥ = omega (arith, h .attributes) in z);
   notes = λ t es x d g h. record {
     nodes = omega (arith, h .nodes);
     attributes = omega (arith, h .attributes);
     fine = h .fine .1;
-    notes = counted-next (r .cap) t x d (h .notes);
+    notes = rw length-append (omega (arith, due-length r t x es d, h .notes));
   };
-  notesFull = λ t es x d g h. absurd (let z : ⊥ = omega (arith, counted-room (r .cap) (r .notes) t x d (h .notes) places) in z);
+  past = λ t es x d h. record {
+    nodes = omega (arith, h .nodes);
+    attributes = omega (arith, h .attributes);
+    fine = h .fine .1;
+    notes = rw (← keptFrom-past (r .cap) (t .counts) x (notesIn es) d) (h .notes);
+  };
+}
+
+stops : (r : Room) → Stops r (Enough r) Other
+stops r = record {
+  refuses = λ t es x h. h .fine .0;
+  nodes = λ t es n f l g h. absurd (let z : ⊥ = omega (arith, h .nodes) in z);
+  attributes = λ t es p a g h. absurd (let z : ⊥ = omega (arith, h .attributes) in z);
+  notes = λ t es x d g h. absurd (let z : ⊥ = omega (arith, due-length r t x es d, h .notes) in z);
 }
 
 -- ---- a reading
@@ -117,11 +136,11 @@ module _ (r : Room) (f names area : List ℕ) (nodes : nodesFor (length f) ≤ r
       let b = bodyIn f (o .head) in
       let few = file-few N o t b in
       let l : length b ≡ length f - (8 + headLen (o .head)) = length-drop (8 + headLen (o .head)) f in
-      settle-by (N .same) r (Enough r) Other (steps r notes) nothingYet (fileEvents N o t b) (record {
+      settle-by (N .same) r (Enough r) Other (goes r) (stops r) nothingYet (fileEvents N o t b) (record {
         nodes = omega (arith, few .opens);
         attributes = omega (arith, few .attributes);
         fine = few .fine;
-        notes = counted-none (r .cap) _ refl refl;
+        notes = omega (arith, keptNotes-length-le (r .cap) (notesIn (fileEvents N o t b)));
       })
 
   pub suffices : HasRoom (reading r f names area .answer)
