@@ -12,7 +12,7 @@
 --   insertion-text, insertion-content, insertion-first   the three questions answer as before
 -- Room (L1): suffices of a file of any length, read-suffices of a call; listing-suffices, read-listed-suffices of a listing.
 -- Zeros (P1, B7, B8): refused-zeros, done-zeros, text-refused-zeros, text-done-zeros. Every success: structured, notes-kept.
--- Readers that break the promise (P5): refuses-all-broken to invents-notes-broken, each of every reader of its sort (specs/Readers.antt).
+-- Readers that break the promise (P5): refuses-all-broken to wrong-kinds-broken, each of every reader of its sort (specs/Readers.antt); meets-some.
 -- The marked cases (L5): `cases-right` of proofs/Cases.antt, one table and one theorem; `cases-read` of proofs/Given.antt: `read` gives them.
 -- Texts and names (P2): what ties them to Unicode's tables and to XML's ranges is named in ARCHITECTURE.md.
 use Prim.Native.Nat.{ℕ, _+_, _*_, _≤_, _<_}
@@ -53,7 +53,8 @@ use Rattle.claims.specs.Counts.{opensIn, notesIn}
 use Rattle.claims.specs.Room.{HasRoom, nodesFor, attributesFor, placesFor, listingLimit, listingRoom}
 use Rattle.claims.specs.Cleared.{RefusedZero, DoneZero, TextRefusedZero, TextDoneZero}
 use Rattle.claims.specs.Shape.{Structured}
-use Rattle.claims.specs.Readers.{Reader, Meets, eventsOf, RefusesAll, Constant, LeavesNodes, LeavesAttributes, LeavesNotes, StopsAtStart}
+use Rattle.claims.specs.Readers.{Call, Reader, Meets, eventsOf, kindsOf, RefusesAll, Constant, ConstantOnRead, StopsAtStart}
+use Rattle.claims.specs.Readers.{LeavesNodes, LeavesAttributes, LeavesNotes, ClearsNodes, ClearsAttributes, ClearsNotes}
 use Rattle.claims.proofs.Longer.{insertedFile-none}
 use Rattle.claims.proofs.Foreign.{foreign-of, foreign-bytes, stretch-one, placeNotes-room}
 use Rattle.claims.proofs.Insertion as proved
@@ -235,22 +236,51 @@ module _ (f names area before : List ℕ) (i : ℕ) (after : List ℕ) where
 
 -- ---- readers that break the promise (P5)
 
+-- The promise is asked of what a program can be called with, bytes and words (`Call`).
 module _ (R : Reader) (meets : Meets R) where
   pub refuses-all-broken : RefusesAll R → ⊥
-  refuses-all-broken h = broken.refuses-all-broken R meets h
+  refuses-all-broken = broken.refuses-all-broken R meets
 
-  pub constant-broken : (names area ns ats : List ℕ) (os : List Note) (cap : ℕ) → Constant R names area ns ats os cap → ⊥
-  constant-broken names area ns ats os cap h = broken.constant-broken R meets names area ns ats os cap h
+  pub constant-broken : (names area ns ats : List ℕ) (os : List Note) (cap : ℕ) → Call [] names area ns ats os cap → Constant R names area ns ats os cap → ⊥
+  constant-broken = broken.constant-broken R meets
 
-  pub stores-nothing-broken : LeavesNodes R → LeavesAttributes R → LeavesNotes R → ⊥
-  stores-nothing-broken n a o = broken.stores-nothing-broken R meets n a o
+  pub constant-on-read-broken : ConstantOnRead R → ⊥
+  constant-on-read-broken = broken.constant-on-read-broken R meets
+
+  -- one that leaves a table as it was, or zeros in it: each table by itself
+  pub leaves-nodes-broken : LeavesNodes R → ⊥
+  leaves-nodes-broken = broken.leaves-nodes-broken R meets
+
+  pub leaves-attributes-broken : LeavesAttributes R → ⊥
+  leaves-attributes-broken = broken.leaves-attributes-broken R meets
+
+  pub leaves-notes-broken : LeavesNotes R → ⊥
+  leaves-notes-broken = broken.leaves-notes-broken R meets
+
+  pub clears-nodes-broken : ClearsNodes R → ⊥
+  clears-nodes-broken = broken.clears-nodes-broken R meets
+
+  pub clears-attributes-broken : ClearsAttributes R → ⊥
+  clears-attributes-broken = broken.clears-attributes-broken R meets
+
+  pub clears-notes-broken : ClearsNotes R → ⊥
+  clears-notes-broken = broken.clears-notes-broken R meets
 
   pub first-start-broken : StopsAtStart R → ⊥
-  first-start-broken h = broken.first-start-broken R meets h
+  first-start-broken = broken.first-start-broken R meets
 
-  module _ (f names area ns ats : List ℕ) (os : List Note) (cap : ℕ) where
+  -- one that gives a file, be it one alone, more starts than open in it, more notes than its cap keeps, or notes of other kinds
+  module _ (f names area ns ats : List ℕ) (os : List Note) (cap : ℕ) (lent : Call f names area ns ats os cap) where
     pub invents-starts-broken : opensIn (eventsOf f names area) < numbersOf (R f names area ns ats os cap .answer) .starts → ⊥
-    invents-starts-broken h = broken.invents-starts-broken R meets f names area ns ats os cap h
+    invents-starts-broken = broken.invents-starts-broken R meets f names area ns ats os cap lent
 
     pub invents-notes-broken : length (keptNotes cap (notesIn (eventsOf f names area))) < numbersOf (R f names area ns ats os cap .answer) .notes → ⊥
-    invents-notes-broken h = broken.invents-notes-broken R meets f names area ns ats os cap h
+    invents-notes-broken = broken.invents-notes-broken R meets f names area ns ats os cap lent
+
+    pub wrong-kinds-broken : (c : ReadCounts) → R f names area ns ats os cap .answer ≡ Done c
+        → (kindsOf (take (c .notes) (R f names area ns ats os cap .notes)) ≡ kindsOf (map noteOf (keptNotes cap (notesIn (eventsOf f names area)))) → ⊥) → ⊥
+    wrong-kinds-broken = broken.wrong-kinds-broken R meets f names area ns ats os cap lent
+
+-- and the promise can be met: by the definition itself
+pub meets-some : Meets (λ f names area ns ats os cap. reading (roomIn ns ats os cap) f names area)
+meets-some = broken.meets-some
