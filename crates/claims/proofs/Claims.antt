@@ -13,6 +13,7 @@
 -- Room (L1): suffices of a file of any length, read-suffices of a call; listing-suffices, read-listed-suffices of a listing.
 -- Zeros (P1, B7, B8): refused-zeros, done-zeros, text-refused-zeros, text-done-zeros. Every success: structured, notes-kept.
 -- Readers that break the promise (P5): refuses-all-broken to wrong-kinds-broken, each of every reader of its sort (specs/Readers.antt); meets-some.
+-- The C interface: c-read-unique to c-first-refused-zeros, the same of its words: one answer, insertion, zeros.
 -- The marked cases (L5): `cases-right` of proofs/Cases.antt, one table and one theorem; `cases-read` of proofs/Given.antt: `read` gives them.
 -- Texts and names (P2): what ties them to Unicode's tables and to XML's ranges is named in ARCHITECTURE.md.
 use Prim.Native.Nat.{ℕ, _+_, _*_, _≤_, _<_}
@@ -50,7 +51,13 @@ use Rattle.walk.specs.Settle.{Room}
 use Rattle.walk.specs.Reading.{reading, roomIn, zeroNote, Reads}
 use Rattle.claims.specs.Insertion.{ForeignChunk, noteFor, stretchNotes, placesIn, insertedFile, placeNotes, AllOf, BeginsOther, withNotes, left}
 use Rattle.claims.specs.Counts.{opensIn, notesIn}
-use Rattle.claims.specs.Room.{HasRoom, nodesFor, attributesFor, placesFor, listingLimit, listingRoom}
+use Rattle.c_api.specs.Words.{ReadsWords}
+use Rattle.c_api.specs.Answers.{firstAnswerOf, AsksText}
+use Rattle.c_api.specs.declared.AxmlAnswer.{AxmlAnswer}
+use Rattle.c_api.specs.declared.AxmlTextAnswer.{AxmlTextAnswer}
+use Rattle.c_api.specs.declared.AxmlFirstAnswer.{AxmlFirstAnswer}
+use Rattle.claims.specs.InC.{noteWidth, leftInC, withNotesInC, RefusedInC, DoneInC, TextRefusedInC, TextDoneInC, FirstRefusedInC}
+use Rattle.claims.specs.Room.{isFullNumber, HasRoom, nodesFor, attributesFor, placesFor, listingLimit, listingRoom}
 use Rattle.claims.specs.Cleared.{RefusedZero, DoneZero, TextRefusedZero, TextDoneZero}
 use Rattle.claims.specs.Shape.{Structured}
 use Rattle.claims.specs.Readers.{Call, Reader, Meets, eventsOf, kindsOf, RefusesAll, Constant, ConstantOnRead, StopsAtStart}
@@ -64,6 +71,7 @@ use Rattle.claims.proofs.Suffices as room
 use Rattle.claims.proofs.Zeros as zeros
 use Rattle.claims.proofs.Structure as tree
 use Rattle.claims.proofs.Broken as broken
+use Rattle.claims.proofs.InC as inC
 
 module _ (f names area ns ats : List ℕ) (os : List Note) (cap : ℕ) where
   pub read-unique : (r r′ : ReadAnswer) (ns₁ ns₂ ats₁ ats₂ : List ℕ) (os₁ os₂ : List Note) → Reads f names area ns ats os cap r ns₁ ats₁ os₁
@@ -233,6 +241,61 @@ module _ (f names area before : List ℕ) (i : ℕ) (after : List ℕ) where
 
   pub text-done-zeros : (k : ℕ) → TextReads f names area before i (textIs.Text k) after → TextDoneZero (textNumbersOf (textIs.Text k)) before after
   text-done-zeros k h = zeros.text-done-zeros f names area before i k after h
+
+-- ---- the C interface: the same of its words and of its structs of numbers
+
+-- one answer
+module _ (f names area ns ats ws : List ℕ) (cap : ℕ) (a a′ : AxmlAnswer) (ns₁ ns₂ ats₁ ats₂ ws₁ ws₂ : List ℕ) where
+  pub c-read-unique : ReadsWords f names area ns ats ws cap a ns₁ ats₁ ws₁ → ReadsWords f names area ns ats ws cap a′ ns₂ ats₂ ws₂
+      → (a ≡ a′) × (ns₁ ≡ ns₂) × (ats₁ ≡ ats₂) × (ws₁ ≡ ws₂)
+  c-read-unique p q =
+      (p .answer ∙ sym (q .answer), p .nodes ∙ sym (q .nodes), p .attributes ∙ sym (q .attributes), p .notes ∙ sym (q .notes))
+
+pub c-text-unique : (f names area before : List ℕ) (i : ℕ) (a a′ : AxmlTextAnswer) (after after′ : List ℕ) → AsksText f names area before i a after
+    → AsksText f names area before i a′ after′ → (a ≡ a′) × (after ≡ after′)
+c-text-unique f names area before i a a′ after after′ p q = (p .answer ∙ sym (q .answer), p .out ∙ sym (q .out))
+
+module _ (f names area ns ats tag name : List ℕ) (nodes attributes : ℕ) (a a′ : AxmlFirstAnswer) where
+  pub c-first-unique : a ≡ firstAnswerOf (firstNumbersOf (firstAnswer f names area ns ats tag name nodes attributes))
+      → a′ ≡ firstAnswerOf (firstNumbersOf (firstAnswer f names area ns ats tag name nodes attributes)) → a ≡ a′
+  c-first-unique p q = p ∙ sym q
+
+-- insertion, of two calls of `axml_read`
+module _ (f names area ns ats ws : List ℕ) (cap : ℕ) (a : AxmlAnswer) (ns₁ ats₁ ws₁ : List ℕ) (one : 1 ≤ cap)
+    (first : ReadsWords f names area ns ats ws cap a ns₁ ats₁ ws₁) (done : a .refusal ≡ 0) (none : a .notes ≡ 0) (places : List (List ForeignChunk))
+    (few : length places ≤ placesIn f) (limit : length (insertedFile places f) ≤ 16777216) (ns′ ats′ ws′ : List ℕ) (cap′ : ℕ) (a′ : AxmlAnswer)
+    (ns₂ ats₂ ws₂ : List ℕ) (second : ReadsWords (insertedFile places f) names area ns′ ats′ ws′ cap′ a′ ns₂ ats₂ ws₂) where
+  pub c-insertion : isFullNumber (a′ .refusal) ≡ false
+      → leftInC a′ ns₂ ats₂ ws₂ ≡ withNotesInC (length ns′) (length ats′) (length ws′) (leftInC a ns₁ ats₁ ws₁) (keptNotes cap′ (placeNotes places))
+  c-insertion =
+      inC.insertion f names area ns ats ws cap a ns₁ ats₁ ws₁ one first done none places few limit ns′ ats′ ws′ cap′ a′ ns₂ ats₂ ws₂ second
+
+  pub c-insertion-same : length ns′ ≡ length ns → length ats′ ≡ length ats → isFullNumber (a′ .refusal) ≡ false → (ns₂ ≡ ns₁) × (ats₂ ≡ ats₁)
+  c-insertion-same =
+      inC.insertion-same f names area ns ats ws cap a ns₁ ats₁ ws₁ one first done none places few limit ns′ ats′ ws′ cap′ a′ ns₂ ats₂ ws₂ second
+
+  pub c-insertion-room : nodeWidth * a .nodes ≤ length ns′ → attributeWidth * a .attributes ≤ length ats′ → noteWidth * (2 * cap′) ≤ length ws′
+      → isFullNumber (a′ .refusal) ≡ false
+  c-insertion-room =
+      inC.insertion-room f names area ns ats ws cap a ns₁ ats₁ ws₁ one first done none places few limit ns′ ats′ ws′ cap′ a′ ns₂ ats₂ ws₂ second
+
+-- zeros
+module _ (f names area ns ats ws : List ℕ) (cap : ℕ) (a : AxmlAnswer) (ns′ ats′ ws′ : List ℕ) where
+  pub c-refused-zeros : ReadsWords f names area ns ats ws cap a ns′ ats′ ws′ → (a .refusal ≡ 0 → ⊥) → RefusedInC a ns ats ws ns′ ats′ ws′
+  c-refused-zeros = inC.refused-zeros f names area ns ats ws cap a ns′ ats′ ws′
+
+  pub c-done-zeros : ReadsWords f names area ns ats ws cap a ns′ ats′ ws′ → a .refusal ≡ 0 → DoneInC a ns ats ws ns′ ats′ ws′
+  c-done-zeros = inC.done-zeros f names area ns ats ws cap a ns′ ats′ ws′
+
+module _ (f names area before : List ℕ) (i : ℕ) (a : AxmlTextAnswer) (after : List ℕ) where
+  pub c-text-refused-zeros : AsksText f names area before i a after → (a .refusal ≡ 0 → ⊥) → TextRefusedInC a before after
+  c-text-refused-zeros = inC.text-refused-zeros f names area before i a after
+
+  pub c-text-done-zeros : AsksText f names area before i a after → a .refusal ≡ 0 → TextDoneInC a before after
+  c-text-done-zeros = inC.text-done-zeros f names area before i a after
+
+pub c-first-refused-zeros : (b : FirstAnswer) (a : AxmlFirstAnswer) → a ≡ firstAnswerOf (firstNumbersOf b) → (a .refusal ≡ 0 → ⊥) → FirstRefusedInC a
+c-first-refused-zeros = inC.first-refused-zeros
 
 -- ---- readers that break the promise (P5)
 

@@ -1,6 +1,6 @@
 -- Room: when a record is without a place, how much room always suffices, and the room of a listing. docs/FORMAT.md, B3 to B6, L1.
 --
---   isFull         refusals 8, 9 and 10: a node, an attribute or a note is due and has no place
+--   isFullNumber   8, 9 and 10: a node, an attribute or a note is due and has no place; isFull of a refusal
 --   HasRoom        an answer that is none of these
 --   nodesFor       words for all the nodes that a file of n bytes can make: the chunk of an element has 36 bytes at least
 --   attributesFor  the same of attributes: each has 20 bytes, and the leading one is paid for by its element
@@ -18,8 +18,11 @@ use Rattle.errors.specs.declared.ReadAnswer.the-variants.{Done, Refused}
 use Rattle.tables.specs.Keep.{nodeWidth, attributeWidth}
 use Rattle.walk.specs.Settle.{Room}
 
+abbrev pub isFullNumber : ℕ → Bool
+isFullNumber n = leb 8 n && leb n 10
+
 abbrev pub isFull : Refusal → Bool
-isFull x = leb 8 (numberOf x) && leb (numberOf x) 10
+isFull x = isFullNumber (numberOf x)
 
 abbrev pub HasRoom : ReadAnswer → Type 0
 HasRoom (Done c) = Unit {0}
