@@ -10,7 +10,7 @@
 --   invents-notes-broken     one that gives some file more notes than its cap keeps
 --   wrong-kinds-broken       one that gives some file notes of other kinds, be they as many
 -- The witnesses are file S and its relatives (proofs/Cases.antt).
-use Prim.Native.Nat.{ℕ, zero, suc, _≤_, _<_}
+use Prim.Native.Nat.{ℕ, zero, suc, _+_, _≤_, _<_}
 use native.Mathlib.Omega.{arith}
 use mathlib.Core.Path.{_≡_, refl, sym, _∙_, ap}
 use mathlib.Core.List.{List, [], _∷_, _++_, map}
@@ -26,6 +26,7 @@ use Rattle.errors.specs.declared.Refusal.the-variants.{TooLargeError}
 use Rattle.errors.specs.declared.ReadAnswer.{ReadAnswer}
 use Rattle.errors.specs.declared.ReadAnswer.the-variants.{Done, Refused}
 use Rattle.errors.specs.declared.ReadCounts.{ReadCounts}
+use Rattle.records.specs.Limits.{fileLimit}
 use Rattle.system_types.specs.Names.{namesOf}
 use Rattle.system_types.specs.declared.NamesRead.{NamesRead}
 use Rattle.system_types.specs.declared.NamesRead.the-variants.{Good, Bad}
@@ -54,9 +55,9 @@ zeros-below zero = refl
 zeros-below (suc n) = zeros-below n
 
 -- a file past the limit, and the empty one, have different answers, whatever is lent
-long-number : (r : Room) (f names area : List ℕ) → 16777216 < length f → _≡_ {A = ℕ} (numbersOf (reading r f names area .answer) .refusal) 2
+long-number : (r : Room) (f names area : List ℕ) → fileLimit < length f → _≡_ {A = ℕ} (numbersOf (reading r f names area .answer) .refusal) 2
 unfolding reading lengthCheck numbersOf numberOf
-long-number r f names area h = rw (lt-ltb 16777216 (length f) h)
+long-number r f names area h = rw (lt-ltb fileLimit (length f) h)
 
 empty-number : (r : Room) (names area : List ℕ) → _≡_ {A = ℕ} (numbersOf (reading r [] names area .answer) .refusal) 2 → ⊥
 unfolding reading lengthCheck numbersOf numberOf openedOf fileEvents settle
@@ -127,9 +128,9 @@ module _ (R : Reader) (meets : Meets R) where
   clears-notes-broken h = notes-stored (h (take 88 fileS) [] [] words words none 8 call-88)
 
   pub constant-broken : (names area ns ats : List ℕ) (os : List Note) (cap : ℕ) → Call [] names area ns ats os cap → Constant R names area ns ats os cap → ⊥
-  constant-broken names area ns ats os cap lent h = go (16777217) refl
+  constant-broken names area ns ats os cap lent h = go (fileLimit + 1) refl
     where
-      go : (n : ℕ) → n ≡ 16777217 → ⊥
+      go : (n : ℕ) → n ≡ fileLimit + 1 → ⊥
       go n e =
           let many : length {A = ℕ} (replicate n 0) ≡ n = length-replicate {A = ℕ} n 0 in
           let long : Call (replicate n 0) names area ns ats os cap = record {

@@ -22,8 +22,9 @@ use Rattle.errors.specs.declared.TextAnswer.{TextAnswer}
 use Rattle.errors.specs.declared.TextAnswer.the-variants as textIs
 use Rattle.errors.specs.declared.FirstAnswer.{FirstAnswer}
 use Rattle.errors.specs.declared.FirstAnswer.the-variants as firstIs
+use Rattle.records.specs.Limits.{fileLimit}
 use Rattle.head.specs.Ask.{TextReads, textAnswer}
-use Rattle.tables.specs.Keep.{nodeWidth, attributeWidth}
+use Rattle.records.specs.Words.{nodeWidth, attributeWidth, noteWidth}
 use Rattle.walk.specs.Settle.{Room}
 use Rattle.walk.specs.Reading.{Reading, reading, roomIn, zeroNote, Reads}
 use Rattle.c_api.specs.Words.{wordsOf, wordRoom, answerOf, ReadsWords}
@@ -34,7 +35,7 @@ use Rattle.c_api.specs.declared.AxmlFirstAnswer.{AxmlFirstAnswer}
 use Rattle.claims.specs.Cleared.{ZeroBehind}
 use Rattle.claims.specs.Insertion.{ForeignChunk, placesIn, insertedFile, placeNotes, withNotes}
 use Rattle.claims.specs.Room.{isFullNumber, HasRoom}
-use Rattle.claims.specs.InC.{noteWidth, LeftInC, leftInC, withNotesInC, RefusedInC, DoneInC, TextRefusedInC, TextDoneInC, FirstRefusedInC}
+use Rattle.claims.specs.InC.{LeftInC, leftInC, withNotesInC, RefusedInC, DoneInC, TextRefusedInC, TextDoneInC, FirstRefusedInC}
 use Rattle.claims.proofs.Foreign.{placeNotes-room}
 use Rattle.claims.proofs.Insertion as proved
 use Rattle.claims.proofs.Zeros as zeros
@@ -200,7 +201,7 @@ module _ (f names area ns ats ws : List ℕ) (cap : ℕ) (a : AxmlAnswer) (ns₁
   unfolding numbersOf
   no-notes = sym (ap (λ (x : AxmlAnswer). x .notes) told) ∙ none
 
-  module _ (places : List (List ForeignChunk)) (few : length places ≤ placesIn f) (limit : length (insertedFile places f) ≤ 16777216)
+  module _ (places : List (List ForeignChunk)) (few : length places ≤ placesIn f) (limit : length (insertedFile places f) ≤ fileLimit)
       (ns′ ats′ ws′ : List ℕ) (cap′ : ℕ) (a′ : AxmlAnswer) (ns₂ ats₂ ws₂ : List ℕ)
       (second : ReadsWords (insertedFile places f) names area ns′ ats′ ws′ cap′ a′ ns₂ ats₂ ws₂) where
     abbrev longer : Reading

@@ -22,7 +22,8 @@ use Rattle.xml_elements.specs.declared.XmlAttributeElement.{XmlAttributeElement
 use Rattle.xml_elements.proofs.Laws.{cond-by}
 use Rattle.events.specs.declared.Event.{Event}
 use Rattle.events.specs.declared.Event.the-variants.{Nothing, Open, Attribute, LeftOut, Close, Note, Refuse, Finish}
-use Rattle.tables.specs.Keep.{hasKey, nodeWidth, attributeWidth}
+use Rattle.records.specs.Words.{nodeWidth, attributeWidth}
+use Rattle.tables.specs.Keep.{hasKey}
 use Rattle.walk.specs.Settle.{Room, Tables, Out, going, refused, push, settle, opened, closed, kept, noted}
 use Rattle.claims.specs.Counts.{isOpen, stepped, opensAs, notesIn}
 

@@ -18,7 +18,8 @@ use Rattle.errors.specs.declared.Refusal.{Refusal}
 use Rattle.xml_elements.proofs.Laws.{cond-by}
 use Rattle.events.specs.declared.Event.{Event}
 use Rattle.events.specs.declared.Event.the-variants.{Nothing, Open, Attribute, LeftOut, Close, Note, Refuse, Finish}
-use Rattle.tables.specs.Keep.{nodeWidth, attributeWidth, hasKey}
+use Rattle.records.specs.Words.{nodeWidth, attributeWidth}
+use Rattle.tables.specs.Keep.{hasKey}
 use Rattle.walk.specs.Settle.{Room, Tables, Out, going, refused, opened, kept, push}
 use Rattle.claims.specs.Room.{isFull}
 use Rattle.claims.specs.Counts.{noted}

@@ -17,6 +17,7 @@ use Rattle.errors.specs.declared.ReadAnswer.the-variants.{Done, Refused}
 use Rattle.errors.specs.declared.TextAnswer.the-variants.{Text}
 use Rattle.errors.specs.declared.FirstAnswer.the-variants.{Found}
 use Rattle.errors.specs.declared.ReadCounts.{ReadCounts}
+use Rattle.records.specs.Limits.{fileLimit}
 use Rattle.field.specs.Le.{u16le, u32le}
 use Rattle.common.specs.Header.{headerOf}
 use Rattle.common.specs.ValueType.{isReference, valueTypeNumber, valueTypeOf}
@@ -70,7 +71,7 @@ unfolding noteOf
 s-by-theorem =
     let done : reading room fileS [] [] .answer ≡ Done counts = ap (λ (x : Reading). x .answer) s-reads in
     let few : length some ≤ placesIn fileS = rw (s-places .0) (omega arith) in
-    let limit : length (insertedFile some fileS) ≤ 16777216 = rw s-limit (omega arith) in
+    let limit : length (insertedFile some fileS) ≤ fileLimit = rw s-limit (omega arith) in
     insertion room fileS [] [] counts (omega arith) done refl some few limit room
     (insertion-room room fileS [] [] counts (omega arith) done refl some few limit room (omega arith) (omega arith) (rw s-kept (omega arith)))
     ∙ rw (s-reads, s-kept)

@@ -7,9 +7,9 @@ use native.Mathlib.Nat.{le-trans}
 use mathlib.Core.Path.{_≡_, refl, sym, _∙_, ap, subst}
 use mathlib.Core.List.{List, [], _∷_, _++_, append-assoc, append-nil, map, map-append}
 use mathlib.Core.Bool.{Bool, true, false}
-use lib.ListN.{length, replicate, length-append, length-map}
+use lib.ListN.{length, length-append, length-map}
 use Rattle.anomaly.specs.Note.{kindIndex, noteOf}
-use Rattle.anomaly.specs.Kept.{isDue, keptFrom, keptNotes}
+use Rattle.anomaly.specs.Kept.{isDue, none, keptFrom, keptNotes}
 use Rattle.anomaly.specs.declared.Note.{Note as NoteOf}
 use Rattle.anomaly.specs.declared.ResAnomaly.{ResAnomaly}
 use Rattle.anomaly.proofs.Laws.{keptFrom-due, keptFrom-past}
@@ -19,7 +19,7 @@ use Rattle.walk.specs.Settle.{Room, Tables, Out, going, refused, push, settle, 
 use Rattle.walk.proofs.Settle.{settle-refused}
 use Rattle.claims.specs.Counts.{noted, notesIn}
 use Rattle.claims.proofs.Erased.{othersIn}
-use Rattle.claims.proofs.Grown.{bare, grow, grown, grown-others, Sound, grown-more}
+use Rattle.claims.proofs.Grown.{bare, grow, grown, grown-others, grown-more}
 use Rattle.claims.proofs.Pushed.{Full, Stays, AllStay, stay-to, stay-from, keptOf, Pushed, Tells, push-tells, Going, push-roomy}
 
 -- one event's notes are not more than its notes and others
@@ -120,7 +120,7 @@ module _ (same : ℕ → ℕ → Bool) (r : Room) where
 -- ---- two lists of events that differ in their notes alone
 
 abbrev pub empty : Tables
-empty = record { nodes = []; attributes = []; first = 0; stack = []; notes = []; counts = replicate 13 0 }
+empty = record { nodes = []; attributes = []; first = 0; stack = []; notes = []; counts = none }
 
 -- u, settled from es, and u′, settled from es′ in tables of the room r′
 pub record Beside (r′ : Room) (es′ : List Event) (u u′ : Tables) : Type 0 where
@@ -130,12 +130,6 @@ pub record Beside (r′ : Room) (es′ : List Event) (u u′ : Tables) : Type 0 
 module _ (same : ℕ → ℕ → Bool) (r : Room) (es : List Event) (u : Tables) (base : settle same r nothingYet es ≡ going u) where
   pub settled : Settles same r empty es u
   settled = subst (TellsAll same r empty es) base (settle-tells same r es empty)
-
-  pub settled-sound : Sound (bare u)
-  settled-sound = rw (settled .tree) (grown-more same es (bare empty) .sound bare-sound)
-    where
-      bare-sound : Sound (bare empty)
-      bare-sound = record { whole = refl; even = refl; stack = tt; firsts = λ k h. absurd (let z : ⊥ = omega arith in z) }
 
   module _ (r′ : Room) (es′ : List Event) (others : othersIn es′ ≡ othersIn es) where
     same-grown : grown same (bare empty) es′ ≡ grown same (bare empty) es

@@ -8,7 +8,7 @@ use mathlib.Core.List.{List, []}
 use mathlib.Core.Bool.{Bool}
 use lib.ListN.{length, length-append, length-set}
 use Rattle.events.specs.declared.Event.{Event}
-use Rattle.tables.specs.Keep.{nodeWidth}
+use Rattle.records.specs.Words.{nodeWidth}
 use Rattle.walk.specs.Settle.{Room, Tables, going, settle, nothingYet}
 use Rattle.claims.specs.Counts.{opensIn}
 use Rattle.claims.proofs.PushBy.{idle-still, Goes, settle-in}

@@ -12,18 +12,19 @@ use Rattle.errors.specs.declared.ReadAnswer.the-variants.{Done}
 use Rattle.errors.specs.declared.ReadCounts.{ReadCounts}
 use Rattle.errors.proofs.Laws.{numbersOf-unique}
 use Rattle.head.specs.Ask.{Check, passes, fails, firstOf, lengthCheck, namesCheck}
+use Rattle.records.specs.Words.{nodeWidth}
 use Rattle.walk.specs.Settle.{Room, Tables, Out, going, refused, settle, nothingYet}
 use Rattle.walk.specs.Reading.{Reading, reading, readingBy, succeeds, nodesKept, attributesKept, roomIn, Reads}
 use Rattle.claims.specs.Readers.{namesFor, eventsOf}
 use Rattle.claims.proofs.StructureTables.{Shaped, settled-shaped}
 
 abbrev pub countsOf : Tables → ReadCounts
-countsOf t = record { starts = length (t .nodes) / 5; nodes = nodesKept t; attributes = attributesKept t; notes = length (t .notes) }
+countsOf t = record { starts = length (t .nodes) / nodeWidth; nodes = nodesKept t; attributes = attributesKept t; notes = length (t .notes) }
 
 pub record DoneBy (r : Room) (o : Out) (c : ReadCounts) (R : Reading) : Type 0 where
   pub tables : Tables
   pub out : o ≡ going tables
-  pub starts : c .starts ≡ length (tables .nodes) / 5
+  pub starts : c .starts ≡ length (tables .nodes) / nodeWidth
   pub nodes : c .nodes ≡ nodesKept tables
   pub attributes : c .attributes ≡ attributesKept tables
   pub notes : c .notes ≡ length (tables .notes)

@@ -1,10 +1,10 @@
--- `tables::put_five` meets its contract: five stores in a row are five words put at a place (proofs/Tables.antt).
+-- `records::put_node` meets its contract: its stores one behind the other are a node's words put at a place (proofs/Stores.antt).
 use borrow.Author.Needs.{needs}
 use native.Mathlib.Omega.{arith}
 use lib.ListN.{length-set}
-use Rattle.tables.proofs.Tables.{put5}
-use Rattle.tables.proofs.put_five.Statement.{statement}
-use Rattle.tables.proofs.put_five.Tie as tie
+use Rattle.records.proofs.Stores.{put-node}
+use Rattle.records.proofs.put_node.Statement.{statement}
+use Rattle.records.proofs.put_node.Tie as tie
 
 mul-words : tie.Need-mul-words
 mul-words c = search needs
@@ -52,10 +52,12 @@ same-length : tie.Need-same-length
 same-length c = search needs
 
 returns : tie.Need-returns
-returns c = put5 (c .args .words .now) (c .args .i) (c .args .a) (c .args .b) (c .args .c) (c .args .d) (c .args .e) (c .pre)
+returns c =
+    let a = c .args in
+    put-node (a .words .now) (a .i) (a .name) (a .fixed) (a .parent) (a .first) (a .count) (c .pre)
 
-pub put-five-spec : {M : Type 1} → statement M
-put-five-spec =
+pub put-node-spec : {M : Type 1} → statement M
+put-node-spec =
     tie.close
     (tie.spec
     mul-words
