@@ -18,8 +18,8 @@
 extern "C" {
 #endif
 
-/* The form of this interface: raised whenever a record or a signature below changes. A library is of this form exactly if axml_abi() == AXML_ABI;
- * one that is of another must not be called. */
+/* The form of this interface: raised whenever a record, a signature or a number below changes or is added. A library is of this form exactly if
+ * axml_abi() == AXML_ABI; one that is of another must not be called. */
 #define AXML_ABI 1u
 uint32_t axml_abi(void);
 
