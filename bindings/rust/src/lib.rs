@@ -153,7 +153,7 @@ impl Manifest {
     /// The first attribute of that name, whatever its prefix, on the first element of that tag.
     pub fn first_value(&self, tag: &str, name: &str) -> Option<Value> {
         let a = sys::first_value(&self.file, &self.names, &self.nodes, &self.attributes, tag.as_bytes(), name.as_bytes());
-        (a.refusal == sys::DONE).then(|| Value { kind: a.kind, data: a.data })
+        (a.refusal == sys::DONE).then_some(Value { kind: a.kind, data: a.data })
     }
 }
 
@@ -185,7 +185,7 @@ impl<'a> Node<'a> {
     /// The element around it; none for the root.
     pub fn parent(&self) -> Option<Node<'a>> {
         let parent = self.word(sys::NODE_PARENT);
-        (parent != sys::NO_PARENT).then(|| Node { of: self.of, index: parent as usize })
+        (parent != sys::NO_PARENT).then_some(Node { of: self.of, index: parent as usize })
     }
 
     /// Its attributes, in the order of the file.
