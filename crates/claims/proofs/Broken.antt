@@ -25,7 +25,7 @@ use Rattle.system_types.specs.Names.{namesOf}
 use Rattle.system_types.specs.declared.NamesRead.{NamesRead}
 use Rattle.system_types.specs.declared.NamesRead.the-variants.{Good, Bad}
 use Rattle.head.specs.Head.{openedOf}
-use Rattle.head.specs.Ask.{firstOf, lengthCheck, namesCheckBy}
+use Rattle.head.specs.Entry.{firstOf, lengthCheck, namesCheckBy}
 use Rattle.events.specs.Events.{fileEvents}
 use Rattle.walk.specs.Settle.{Room, Out, settle}
 use Rattle.walk.specs.Reading.{Reading, reading, readingBy, settledIn, zeroNote, roomIn, Reads}

@@ -22,7 +22,7 @@ use Rattle.utf.specs.Plain.{isAscii}
 use Rattle.system_types.specs.Names.{isGood, namesFrom, nameOf}
 use Rattle.text.specs.Content.{systemOf, stringAt, stringOf, contentOf}
 use Rattle.head.specs.Head.{tablesOf, openedOf, outsideIn}
-use Rattle.head.specs.Ask.{lengthCheck}
+use Rattle.head.specs.Entry.{lengthCheck}
 use Rattle.xml_elements.specs.Chunk.{startOf, attributeAt, startTurn, xmlTurn, numberOf, turnOf}
 use Rattle.events.specs.Events.{attributeEvent, attributesOf, fromLead, fromOpen, fromName, fromTrailing, fromSize, fromGap, eventsOn, bodyEvents, fileEvents}
 use Rattle.tables.specs.Keep.{hasKey}

@@ -11,7 +11,7 @@ use Rattle.anomaly.specs.declared.Note.{Note}
 use Rattle.errors.specs.declared.ReadAnswer.the-variants.{Done}
 use Rattle.errors.specs.declared.ReadCounts.{ReadCounts}
 use Rattle.errors.proofs.Laws.{numbersOf-unique}
-use Rattle.head.specs.Ask.{Check, passes, fails, firstOf, lengthCheck, namesCheck}
+use Rattle.head.specs.Entry.{Check, passes, fails, firstOf, entryChecks}
 use Rattle.walk.specs.Settle.{Room, Tables, Out, going, refused, settle, nothingYet}
 use Rattle.walk.specs.Reading.{Reading, reading, readingBy, succeeds, nodesKept, attributesKept, roomIn, Reads}
 use Rattle.claims.specs.Readers.{namesFor, eventsOf}
@@ -55,7 +55,7 @@ module _ (f names area ns ats : List ℕ) (os : List Note) (cap : ℕ) where
   pub done-by : (c : ReadCounts) (ns′ ats′ : List ℕ) (os′ : List Note) → Reads f names area ns ats os cap (Done c) ns′ ats′ os′
       → DoneBy room outOf c (reading room f names area)
   unfolding reading
-  done-by c ns′ ats′ os′ h = final-by room outOf (firstOf (lengthCheck f ∷ namesCheck area names ∷ [])) c (numbersOf-unique _ _ (h .answer))
+  done-by c ns′ ats′ os′ h = final-by room outOf (firstOf (entryChecks f names area)) c (numbersOf-unique _ _ (h .answer))
 
   pub done-shaped : (t : Tables) → outOf ≡ going t → Shaped room t
   done-shaped t e = rw e at (settled-shaped room (namesFor f names area .same) (eventsOf f names area))

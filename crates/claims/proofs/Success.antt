@@ -5,25 +5,26 @@ use Prim.Native.Nat.{ℕ, zero, suc, _+_, _-_, _*_, _/_, _≤_}
 use native.Mathlib.Omega.{arith}
 use mathlib.Core.Path.{_≡_, refl, sym, _∙_, ap, subst}
 use mathlib.Core.List.{List, [], _∷_, _++_, map}
-use mathlib.Core.Bool.{Bool, true, false}
-use borrow.Author.Tests.{ltb-false, le-ltb, lt-ltb}
+use mathlib.Core.Bool.{true}
+use borrow.Author.Tests.{lt-ltb}
 use lib.ListN.{length, take, getD, replicate, length-map}
 use lib.Seq.{length-take-le, take-at}
-use lib.Dec.{ltb}
 use Rattle.anomaly.specs.Note.{kindIndex, noteOf}
 use Rattle.anomaly.specs.Kept.{isDue, keptNotes}
 use Rattle.anomaly.specs.declared.ResAnomaly.{ResAnomaly}
 use Rattle.anomaly.proofs.Laws.{keptFrom-due}
 use Rattle.errors.specs.declared.Refusal.{Refusal}
-use Rattle.errors.specs.declared.Refusal.the-variants.{TooLargeError}
 use Rattle.errors.specs.declared.ReadAnswer.{ReadAnswer}
 use Rattle.errors.specs.declared.ReadAnswer.the-variants.{Done, Refused}
 use Rattle.errors.specs.declared.ReadCounts.{ReadCounts}
+use Rattle.system_types.specs.Names.{namesOf}
+use Rattle.system_types.specs.declared.NamesRead.the-variants.{Good}
 use Rattle.head.specs.Head.{openedOf}
-use Rattle.head.specs.Ask.{Check, passes, fails, lengthCheck, namesCheck}
+use Rattle.head.specs.Entry.{Check, passes, fails, firstOf, entryChecks}
+use Rattle.head.proofs.Entering.{Passed, passed, passes-all}
 use Rattle.tables.specs.Keep.{nodeWidth, attributeWidth}
 use Rattle.walk.specs.Settle.{Room, Tables, Out, going, refused}
-use Rattle.walk.specs.Reading.{Reading, nodesKept, attributesKept, refuses, succeeds, finalOf, settledIn, reading}
+use Rattle.walk.specs.Reading.{Reading, nodesKept, attributesKept, refuses, succeeds, finalOf, settledIn, readingBy, reading}
 use Rattle.claims.specs.Insertion.{withNotes}
 use Rattle.claims.proofs.Grown.{bare, Sound, sound-nodes, sound-attributes}
 
@@ -42,27 +43,22 @@ countsOf t = record { starts = length (t .nodes) / nodeWidth; nodes = nodesKept 
 
 pub record Success (r : Room) (f names area : List ℕ) (c : ReadCounts) : Type 0 where
   pub short : length f ≤ 16777216
-  pub good : namesCheck area names ≡ passes
+  pub good : namesOf area names ≡ Good
   pub tables : Tables
   pub settles : settledIn r f names area (openedOf f) ≡ going tables
   pub whole : reading r f names area ≡ succeeds r tables
   pub counts : countsOf tables ≡ c
 
 module _ (r : Room) (f names area : List ℕ) where
-  pub reading-of : length f ≤ 16777216 → namesCheck area names ≡ passes → reading r f names area ≡ finalOf r (settledIn r f names area (openedOf f))
-  unfolding reading lengthCheck
-  reading-of short good = rw (le-ltb 16777216 (length f) short, good)
+  reading-by : (k : Check) → firstOf (entryChecks f names area) ≡ k → reading r f names area ≡ readingBy r (settledIn r f names area (openedOf f)) k
+  unfolding reading
+  reading-by k q = ap (readingBy r (settledIn r f names area (openedOf f))) q
 
-  reading-long : ltb 16777216 (length f) ≡ true → reading r f names area ≡ refuses r TooLargeError
-  unfolding reading lengthCheck
-  reading-long q = rw q
-
-  reading-names : length f ≤ 16777216 → (x : Refusal) → namesCheck area names ≡ fails x → reading r f names area ≡ refuses r x
-  unfolding reading lengthCheck
-  reading-names short x q = rw (le-ltb 16777216 (length f) short, q)
+  pub reading-of : length f ≤ 16777216 → namesOf area names ≡ Good → reading r f names area ≡ finalOf r (settledIn r f names area (openedOf f))
+  reading-of short good = reading-by passes (passes-all f names area short good)
 
   pub success : (c : ReadCounts) → reading r f names area .answer ≡ Done c → Success r f names area c
-  success c e = long (ltb 16777216 (length f)) refl
+  success c e = checked (firstOf (entryChecks f names area)) refl
     where
       answer : Reading → ReadAnswer
       answer x = x .answer
@@ -70,19 +66,15 @@ module _ (r : Room) (f names area : List ℕ) where
       no-done : {A : Type 0} (x : Refusal) → reading r f names area ≡ refuses r x → A
       no-done x z = absurd (subst IsDone (sym (sym (ap answer z) ∙ e)) tt)
 
-      out : length f ≤ 16777216 → namesCheck area names ≡ passes → (o : Out) → settledIn r f names area (openedOf f) ≡ o → Success r f names area c
-      out short good (refused x) q = no-done x (reading-of short good ∙ ap (finalOf r) q)
-      out short good (going t) q =
-          let w : reading r f names area ≡ succeeds r t = reading-of short good ∙ ap (finalOf r) q in
-          record { short = short; good = good; tables = t; settles = q; whole = w; counts = ap (countsIn c) (sym (ap answer w) ∙ e) }
+      out : Passed f names area → (o : Out) → settledIn r f names area (openedOf f) ≡ o → Success r f names area c
+      out p (refused x) q = no-done x (reading-of (p .short) (p .good) ∙ ap (finalOf r) q)
+      out p (going t) q =
+          let w : reading r f names area ≡ succeeds r t = reading-of (p .short) (p .good) ∙ ap (finalOf r) q in
+          record { short = p .short; good = p .good; tables = t; settles = q; whole = w; counts = ap (countsIn c) (sym (ap answer w) ∙ e) }
 
-      named : length f ≤ 16777216 → (k : Check) → namesCheck area names ≡ k → Success r f names area c
-      named short passes q = out short q (settledIn r f names area (openedOf f)) refl
-      named short (fails x) q = no-done x (reading-names short x q)
-
-      long : (b : Bool) → ltb 16777216 (length f) ≡ b → Success r f names area c
-      long true q = no-done TooLargeError (reading-long q)
-      long false q = named (ltb-false 16777216 (length f) q) (namesCheck area names) refl
+      checked : (k : Check) → firstOf (entryChecks f names area) ≡ k → Success r f names area c
+      checked passes q = out (passed f names area q) (settledIn r f names area (openedOf f)) refl
+      checked (fails x) q = no-done x (reading-by (fails x) q)
 
 -- ---- two successes
 

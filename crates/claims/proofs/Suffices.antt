@@ -28,7 +28,7 @@ use Rattle.system_types.specs.declared.NamesRead.{NamesRead}
 use Rattle.system_types.specs.declared.NamesRead.the-variants.{Good, Bad}
 use Rattle.head.specs.declared.Opened.{Opened}
 use Rattle.head.specs.Head.{openedOf, tablesIn, bodyIn, headLen}
-use Rattle.head.specs.Ask.{Check, passes, fails, firstOf, lengthCheck, namesCheck, namesCheckBy}
+use Rattle.head.specs.Entry.{Check, passes, fails, firstOf, lengthCheck, namesCheckBy, entryChecks}
 use Rattle.xml_elements.proofs.Laws.{cond-by}
 use Rattle.events.specs.declared.Event.{Event}
 use Rattle.events.specs.Events.{namesIn, fileEvents}
@@ -117,10 +117,25 @@ unfolding numberOf
 names-under Good = tt
 names-under (Bad k) = refl
 
-first-under : (a b : Check) → Under a → Under b → Under (firstOf (a ∷ b ∷ []))
-first-under passes passes p q = tt
-first-under passes (fails y) p q = q
-first-under (fails x) b p q = p
+abbrev AllUnder : List Check → Type 0
+AllUnder [] = Unit {0}
+AllUnder (c ∷ cs) = Under c × AllUnder cs
+
+first-under : (cs : List Check) → AllUnder cs → Under (firstOf cs)
+first-under [] p = tt
+first-under (passes ∷ cs) p = first-under cs (p .1)
+first-under (fails x ∷ cs) p = p .0
+
+-- a line for each check
+entry-under : (f names area : List ℕ) → Under (firstOf (entryChecks f names area))
+entry-under f names area =
+    first-under (entryChecks f names area) (
+      length-under f,
+      (
+        names-under (namesOf area names),
+        tt,
+      ),
+    )
 
 final-under : (r : Room) (o : Out) (c : Check) → InOut (Enough r []) Other o → Under c → HasRoom (readingBy r o c .answer)
 final-under r (going t) passes p q = tt
@@ -146,8 +161,7 @@ module _ (r : Room) (f names area : List ℕ) (nodes : nodesFor (length f) ≤ r
   pub suffices : HasRoom (reading r f names area .answer)
   unfolding reading
   suffices =
-      final-under r (settledIn r f names area (openedOf f)) (firstOf (lengthCheck f ∷ namesCheck area names ∷ []))
-      (settled (openedOf f)) (first-under (lengthCheck f) (namesCheck area names) (length-under f) (names-under (namesOf area names)))
+      final-under r (settledIn r f names area (openedOf f)) (firstOf (entryChecks f names area)) (settled (openedOf f)) (entry-under f names area)
 
 -- ---- a call
 

@@ -11,8 +11,10 @@ use Rattle.errors.specs.declared.TextAnswer.{TextAnswer}
 use Rattle.errors.specs.declared.FirstAnswer.{FirstAnswer}
 use Rattle.errors.specs.Refusal.{textNumbersOf}
 use Rattle.errors.proofs.Laws.{textNumbersOf-unique}
+use Rattle.head.specs.declared.HeadEnd.the-variants.{Whole}
 use Rattle.head.specs.Head.{openedOf, tablesIn}
-use Rattle.head.specs.Ask.{Check, passes, fails, firstOf, checks, lengthCheck, headCheck, openBy, openOf, askedBy}
+use Rattle.head.specs.Entry.{Check, passes, fails, firstOf, lengthCheck, entryChecks}
+use Rattle.head.specs.Ask.{openBy, openOf, askedBy}
 use Rattle.head.specs.Ask.{textAnswer, textBuffer, contentAnswer, TextReads}
 use Rattle.first_value.specs.Question as first
 use Rattle.first_value.specs.Question.{firstAnswer}
@@ -31,23 +33,26 @@ module _ (r : Room) (f names area : List ℕ) (c : ReadCounts) (one : 1 ≤ r .c
   short : length f ≤ 16777216
   short = success r f names area c done .short
 
+  whole : openedOf f .end ≡ Whole
+  whole = head-whole r f names area c one done none
+
   opened-same : openedOf g ≡ openedOf f
   opened-same = insertion-head r f names area c one done none places .0
 
   tables-same : tablesIn g (openedOf f .head) ≡ tablesIn f (openedOf f .head)
-  tables-same = longer-tables f short (head-whole r f names area c one done none) places
+  tables-same = longer-tables f short whole places
 
   -- the head is opened as that of f, and it is that of f
   open-same : openOf g names area ≡ openOf f names area
-  unfolding openOf lengthCheck headCheck
+  unfolding openOf lengthCheck
   open-same = rw (le-ltb 16777216 (length g) limit, le-ltb 16777216 (length f) short, opened-same)
 
   asked-same : (i : ℕ) → askedBy g names area i (openOf g names area) ≡ askedBy f names area i (openOf f names area)
   unfolding openOf
-  asked-same i = ap (askedBy g names area i) open-same ∙ go (firstOf (checks f names area))
+  asked-same i = ap (askedBy g names area i) open-same ∙ go (firstOf (entryChecks f names area))
     where
-      go : (x : Check) → askedBy g names area i (openBy (openedOf f .head) x) ≡ askedBy f names area i (openBy (openedOf f .head) x)
-      go passes = rw tables-same
+      go : (x : Check) → askedBy g names area i (openBy (openedOf f) x) ≡ askedBy f names area i (openBy (openedOf f) x)
+      go passes = rw (whole, tables-same)
       go (fails y) = refl
 
   text-same : (n i : ℕ) → (textAnswer g names area n i ≡ textAnswer f names area n i) × (textBuffer g names area n i ≡ textBuffer f names area n i)
@@ -68,14 +73,14 @@ module _ (r : Room) (f names area : List ℕ) (c : ReadCounts) (one : 1 ≤ r .c
   insertion-content i s s′ p q = q ∙ content-same i ∙ sym p
 
   module _ (ns ats tag name : List ℕ) (nodes attributes : ℕ) where
-    asked-first : (x : Check) → first.askedBy g names area ns ats tag name nodes attributes (openBy (openedOf f .head) x)
-        ≡ first.askedBy f names area ns ats tag name nodes attributes (openBy (openedOf f .head) x)
-    asked-first passes = rw tables-same
+    asked-first : (x : Check) → first.askedBy g names area ns ats tag name nodes attributes (openBy (openedOf f) x)
+        ≡ first.askedBy f names area ns ats tag name nodes attributes (openBy (openedOf f) x)
+    asked-first passes = rw (whole, tables-same)
     asked-first (fails y) = refl
 
     first-same : firstAnswer g names area ns ats tag name nodes attributes ≡ firstAnswer f names area ns ats tag name nodes attributes
     unfolding firstAnswer openOf
-    first-same = ap (first.askedBy g names area ns ats tag name nodes attributes) open-same ∙ asked-first (firstOf (checks f names area))
+    first-same = ap (first.askedBy g names area ns ats tag name nodes attributes) open-same ∙ asked-first (firstOf (entryChecks f names area))
 
     pub insertion-first : (a a′ : FirstAnswer) → a ≡ firstAnswer f names area ns ats tag name nodes attributes
         → a′ ≡ firstAnswer g names area ns ats tag name nodes attributes → a′ ≡ a

@@ -24,7 +24,8 @@ use Rattle.errors.specs.declared.TextAnswer.the-variants as textIs
 use Rattle.errors.specs.declared.FirstAnswer.the-variants as firstIs
 use Rattle.errors.proofs.Laws.{numbersOf-unique, textNumbersOf-unique}
 use Rattle.head.specs.Head.{openedOf}
-use Rattle.head.specs.Ask.{Check, passes, fails, firstOf, lengthCheck, namesCheck, openOf, contentAsked}
+use Rattle.head.specs.Entry.{Check, passes, fails, firstOf, entryChecks}
+use Rattle.head.specs.Ask.{openOf, contentAsked}
 use Rattle.head.specs.Ask.{textAnswerBy, textAnswer, textBuffer, TextReads}
 use Rattle.head.specs.declared.OpenRead.{OpenRead}
 use Rattle.head.specs.declared.OpenRead.the-variants.{Open, Closed}
@@ -60,7 +61,7 @@ module _ (f names area ns ats : List ℕ) (os : List Note) (cap : ℕ) where
   unfolding reading numbersOf
   refused-zeros x ns′ ats′ os′ h =
       let r = roomIn ns ats os cap in
-      let c = firstOf (lengthCheck f ∷ namesCheck area names ∷ []) in
+      let c = firstOf (entryChecks f names area) in
       let o = settledIn r f names area (openedOf f) in
       let z = final-zeros r o c x (numbersOf-unique _ _ (h .answer)) in
       record {

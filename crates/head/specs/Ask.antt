@@ -1,7 +1,6 @@
 -- The text question and the content question: docs/FORMAT.md, B2, B7, B8, Q1 to Q3.
 --
---   checks        what refuses before an index is looked at, in order: 2, 7, then the head's 1, 3, 4, 5
---   openOf        the head, or the first refusal
+--   openOf        the head, or the first refusal: what every entry point checks (specs/Entry.antt), then the head's 1, 3, 4, 5
 --   textAnswer    the answer of the text question; textBuffer what then stands in the lent buffer, whole
 --   TextReads     the promise of the text question: the numbers of its answer and every byte of the buffer
 --   contentAnswer the answer of the content question: empty on a refusal, for no text, and for a string cut or outside
@@ -10,67 +9,34 @@
 use Prim.Native.Nat.{ℕ, _-_}
 use mathlib.Core.Path.{_≡_}
 use mathlib.Core.List.{List, [], _∷_, _++_}
-use mathlib.Core.Bool.{Bool, true, false, cond}
+use mathlib.Core.Bool.{cond}
 use lib.ListN.{length, replicate}
-use lib.Dec.{ltb, leb}
+use lib.Dec.{leb}
 use Rattle.errors.specs.Refusal.{textNumbersOf}
 use Rattle.errors.specs.declared.Refusal.{Refusal}
-use Rattle.errors.specs.declared.Refusal.the-variants.{TooLargeError, SystemNamesError, NothingFound, TextShort}
+use Rattle.errors.specs.declared.Refusal.the-variants.{NothingFound, TextShort}
 use Rattle.errors.specs.declared.TextAnswer.{TextAnswer}
 use Rattle.errors.specs.declared.TextAnswer.the-variants.{Text, Refused}
-use Rattle.system_types.specs.Names.{namesOf}
-use Rattle.system_types.specs.declared.NamesRead.{NamesRead}
-use Rattle.system_types.specs.declared.NamesRead.the-variants.{Good, Bad}
 use Rattle.text.specs.declared.Head.{Head}
 use Rattle.text.specs.Content.{Content, none, cut, some, contentOf, textIn, rawOf}
-use Rattle.head.specs.Head.{openedOf, refusalOf, tablesIn}
-use Rattle.head.specs.declared.HeadEnd.{HeadEnd}
-use Rattle.head.specs.declared.HeadEnd.the-variants.{Whole, TooSmall, HeaderSize, PoolShort, MapShort}
+use Rattle.head.specs.Head.{openedOf, isWhole, refusalOf, tablesIn}
+use Rattle.head.specs.Entry.{Check, passes, fails, firstOf, entryChecks}
 use Rattle.head.specs.declared.Opened.{Opened}
 use Rattle.head.specs.declared.OpenRead.{OpenRead}
 use Rattle.head.specs.declared.OpenRead.the-variants.{Open, Closed}
 
--- ---- the checks, each by itself
+-- ---- the head, or the first refusal
 
-pub data Check : Type 0 where
-  passes : Check
-  fails : Refusal → Check
+-- of a file that the entry checks pass
+abbrev pub headRead : Opened → OpenRead
+headRead o = cond (isWhole (o .end)) (Open (o .head)) (Closed (refusalOf (o .end)))
 
-unfoldable pub lengthCheck : List ℕ → Check
-lengthCheck f = cond (ltb 16777216 (length f)) (fails TooLargeError) passes
-
-abbrev pub namesCheckBy : NamesRead → Check
-namesCheckBy Good = passes
-namesCheckBy (Bad k) = fails (SystemNamesError k)
-
-abbrev pub namesCheck : List ℕ → List ℕ → Check
-namesCheck area names = namesCheckBy (namesOf area names)
-
-abbrev pub isWhole : HeadEnd → Bool
-isWhole Whole = true
-isWhole (TooSmall n) = false
-isWhole (HeaderSize n) = false
-isWhole (PoolShort e) = false
-isWhole (MapShort e) = false
-
-unfoldable pub headCheck : List ℕ → Check
-headCheck f = cond (isWhole (openedOf f .end)) passes (fails (refusalOf (openedOf f .end)))
-
--- the first that fails
-abbrev pub firstOf : List Check → Check
-firstOf [] = passes
-firstOf (passes ∷ cs) = firstOf cs
-firstOf (fails r ∷ cs) = fails r
-
-abbrev pub checks : List ℕ → List ℕ → List ℕ → List Check
-checks f names area = lengthCheck f ∷ namesCheck area names ∷ headCheck f ∷ []
-
-abbrev pub openBy : Head → Check → OpenRead
-openBy h passes = Open h
-openBy h (fails r) = Closed r
+abbrev pub openBy : Opened → Check → OpenRead
+openBy o passes = headRead o
+openBy o (fails r) = Closed r
 
 unfoldable pub openOf : List ℕ → List ℕ → List ℕ → OpenRead
-openOf f names area = openBy (openedOf f .head) (firstOf (checks f names area))
+openOf f names area = openBy (openedOf f) (firstOf (entryChecks f names area))
 
 -- ---- the text question
 

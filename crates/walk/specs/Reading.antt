@@ -18,7 +18,7 @@ use Rattle.errors.specs.declared.ReadAnswer.the-variants.{Done, Refused}
 use Rattle.errors.specs.Refusal.{numbersOf}
 use Rattle.head.specs.declared.Opened.{Opened}
 use Rattle.head.specs.Head.{openedOf, tablesIn, bodyIn}
-use Rattle.head.specs.Ask.{Check, passes, fails, firstOf, lengthCheck, namesCheck}
+use Rattle.head.specs.Entry.{Check, passes, fails, firstOf, entryChecks}
 use Rattle.events.specs.Events.{namesIn, fileEvents}
 use Rattle.tables.specs.Keep.{nodeWidth, attributeWidth}
 use Rattle.walk.specs.Settle.{Room, Tables, Out, going, refused, settle, nothingYet}
@@ -74,13 +74,13 @@ settledIn r f names area o =
     let N = namesIn (o .head) t names area in
     settle (N .same) r nothingYet (fileEvents N o t (bodyIn f (o .head)))
 
--- 2 and 7 come before the file is read
+-- the entry checks come before the file is read
 abbrev pub readingBy : Room → Out → Check → Reading
 readingBy r o passes = finalOf r o
 readingBy r o (fails x) = refuses r x
 
 unfoldable pub reading : Room → List ℕ → List ℕ → List ℕ → Reading
-reading r f names area = readingBy r (settledIn r f names area (openedOf f)) (firstOf (lengthCheck f ∷ namesCheck area names ∷ []))
+reading r f names area = readingBy r (settledIn r f names area (openedOf f)) (firstOf (entryChecks f names area))
 
 -- the room of tables with these contents before the call
 abbrev pub roomIn : List ℕ → List ℕ → List NoteOf → ℕ → Room

@@ -23,15 +23,14 @@ use errors::ReadAnswer;
 use errors::Refusal;
 use events::Cursor;
 use events::first_cursor;
+use head::Entered;
 use head::HeadEnd;
 use head::Opened;
-use head::open_head;
+use head::enter;
 use passing::pass_in;
 use placing::Stop;
 use placing::run_in;
 use res_string_pool::Garbage;
-use system_types::NamesRead;
-use system_types::check_names;
 use text::Head;
 use tree::Tree;
 
@@ -184,7 +183,7 @@ fn read_on(
     }
 }
 
-// The first call: the file's length, the lent names, and then the head (B2).
+// The first call: the way in (B2), and then the file.
 fn start(
     file: &[u8],
     names: &[u32],
@@ -197,20 +196,10 @@ fn start(
     ensures { λ r. ⌜ Adv (now (file .entry)) (now (names .entry)) (now (area .entry)) (now (nodes .entry)) (now (attributes .entry)) st r
         (now (nodes .exit)) (now (attributes .exit)) ⌝ }
 {
-    if 16777216 < file.len() {
-        return refuse(nodes, attributes, st, Refusal::TooLargeError);
-    }
-    let checked = check_names(names, area);
-    match checked {
-        NamesRead::Bad(k) => refuse(nodes, attributes, st, Refusal::SystemNamesError(k)),
-        NamesRead::Good => read_on(
-            file,
-            names,
-            area,
-            nodes,
-            attributes,
-            started(st, open_head(file)),
-        ),
+    let entered = enter(file, names, area);
+    match entered {
+        Entered::Out(x) => refuse(nodes, attributes, st, x),
+        Entered::In(opened) => read_on(file, names, area, nodes, attributes, started(st, opened)),
     }
 }
 
