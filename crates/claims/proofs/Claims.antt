@@ -12,7 +12,8 @@
 --   insertion-text, insertion-content, insertion-first   the three questions answer as before
 -- Room (L1): suffices of a file of any length, read-suffices of a call; listing-suffices, read-listed-suffices of a listing.
 -- Zeros (P1, B7, B8): refused-zeros, done-zeros, text-refused-zeros, text-done-zeros. Every success: structured, notes-kept.
--- Readers that break the promise (P5): refuses-all-broken to invents-notes-broken, each of every reader of its sort (specs/Readers.antt).
+-- Readers that break the promise (P5): refuses-all-broken to wrong-kinds-broken, each of every reader of its sort (specs/Readers.antt); meets-some.
+-- The C interface: c-read-unique to c-first-refused-zeros, the same of its words: one answer, insertion, zeros.
 -- The marked cases (L5): `cases-right` of proofs/Cases.antt, one table and one theorem; `cases-read` of proofs/Given.antt: `read` gives them.
 -- Texts and names (P2): what ties them to Unicode's tables and to XML's ranges is named in ARCHITECTURE.md.
 use Prim.Native.Nat.{ℕ, _+_, _*_, _≤_, _<_}
@@ -40,20 +41,28 @@ use Rattle.anomaly.specs.Note.{noteOf}
 use Rattle.anomaly.specs.declared.Note.{Note}
 use Rattle.anomaly.specs.Kept.{ofKind, keptNotes}
 use Rattle.anomaly.proofs.Laws.{keptNotes-of-kind}
+use Rattle.records.specs.Limits.{fileLimit, listedFile}
 use Rattle.listing_text.specs.Printed.{Printed}
 use Rattle.xml.specs.NCName.{validName}
 use Rattle.head.specs.Ask.{TextReads, contentAnswer}
 use Rattle.head.specs.Head.{openedOf, headLen}
-use Rattle.first_value.specs.Question.{firstAnswer}
-use Rattle.tables.specs.Keep.{nodeWidth, attributeWidth}
+use Rattle.first_value.specs.Question.{firstAnswer, FirstReads}
+use Rattle.records.specs.Words.{nodeWidth, attributeWidth, noteWidth}
 use Rattle.walk.specs.Settle.{Room}
 use Rattle.walk.specs.Reading.{reading, roomIn, zeroNote, Reads}
 use Rattle.claims.specs.Insertion.{ForeignChunk, noteFor, stretchNotes, placesIn, insertedFile, placeNotes, AllOf, BeginsOther, withNotes, left}
 use Rattle.claims.specs.Counts.{opensIn, notesIn}
-use Rattle.claims.specs.Room.{HasRoom, nodesFor, attributesFor, placesFor, listingLimit, listingRoom}
+use Rattle.c_api.specs.Words.{ReadsWords}
+use Rattle.c_api.specs.Answers.{firstAnswerOf, AsksText}
+use Rattle.c_api.specs.declared.AxmlAnswer.{AxmlAnswer}
+use Rattle.c_api.specs.declared.AxmlTextAnswer.{AxmlTextAnswer}
+use Rattle.c_api.specs.declared.AxmlFirstAnswer.{AxmlFirstAnswer}
+use Rattle.claims.specs.InC.{leftInC, withNotesInC, RefusedInC, DoneInC, TextRefusedInC, TextDoneInC, FirstRefusedInC}
+use Rattle.claims.specs.Room.{isFullNumber, HasRoom, nodesFor, attributesFor, placesFor, listingRoom}
 use Rattle.claims.specs.Cleared.{RefusedZero, DoneZero, TextRefusedZero, TextDoneZero}
 use Rattle.claims.specs.Shape.{Structured}
-use Rattle.claims.specs.Readers.{Reader, Meets, eventsOf, RefusesAll, Constant, LeavesNodes, LeavesAttributes, LeavesNotes, StopsAtStart}
+use Rattle.claims.specs.Readers.{Call, Reader, Meets, eventsOf, kindsOf, RefusesAll, Constant, ConstantOnRead, StopsAtStart}
+use Rattle.claims.specs.Readers.{LeavesNodes, LeavesAttributes, LeavesNotes, ClearsNodes, ClearsAttributes, ClearsNotes}
 use Rattle.claims.proofs.Longer.{insertedFile-none}
 use Rattle.claims.proofs.Foreign.{foreign-of, foreign-bytes, stretch-one, placeNotes-room}
 use Rattle.claims.proofs.Insertion as proved
@@ -63,6 +72,7 @@ use Rattle.claims.proofs.Suffices as room
 use Rattle.claims.proofs.Zeros as zeros
 use Rattle.claims.proofs.Structure as tree
 use Rattle.claims.proofs.Broken as broken
+use Rattle.claims.proofs.InC as inC
 
 module _ (f names area ns ats : List ℕ) (os : List Note) (cap : ℕ) where
   pub read-unique : (r r′ : ReadAnswer) (ns₁ ns₂ ats₁ ats₂ : List ℕ) (os₁ os₂ : List Note) → Reads f names area ns ats os cap r ns₁ ats₁ os₁
@@ -79,9 +89,9 @@ pub content-unique : (f names area : List ℕ) (i : ℕ) (s s′ : List ℕ) →
 content-unique f names area i s s′ p q = p ∙ sym q
 
 module _ (f names area ns ats tag name : List ℕ) (nodes attributes : ℕ) where
-  pub first-unique : (r r′ : FirstAnswer) → r ≡ firstAnswer f names area ns ats tag name nodes attributes
-      → r′ ≡ firstAnswer f names area ns ats tag name nodes attributes → r ≡ r′
-  first-unique r r′ p q = p ∙ sym q
+  pub first-unique : (r r′ : FirstAnswer) → FirstReads f names area ns ats tag name nodes attributes r
+      → FirstReads f names area ns ats tag name nodes attributes r′ → r ≡ r′
+  first-unique r r′ p q = firstNumbersOf-unique r r′ (p .answer ∙ sym (q .answer))
 
 pub listing-unique : (text before : List ℕ) (r r′ : TextAnswer) (after after′ : List ℕ) → Printed text before r after → Printed text before r′ after′
     → (r ≡ r′) × (after ≡ after′)
@@ -107,7 +117,7 @@ first-numbers-unique a b e = firstNumbersOf-unique a b e
 -- A file reads with no refusal and no note, at a cap of at least 1; `places` are lists of complete foreign chunks: the first list stands before the
 -- first chunk that the walk meets behind the map, the next before the next, and one more at the end if the last chunk is whole and nothing follows it.
 module _ (r : Room) (f names area : List ℕ) (c : ReadCounts) (one : 1 ≤ r .cap) (done : reading r f names area .answer ≡ Done c) (none : c .notes ≡ 0)
-    (places : List (List ForeignChunk)) (few : length places ≤ placesIn f) (limit : length (insertedFile places f) ≤ 16777216) (r′ : Room) where
+    (places : List (List ForeignChunk)) (few : length places ≤ placesIn f) (limit : length (insertedFile places f) ≤ fileLimit) (r′ : Room) where
   -- Every table has room: starts, kept nodes and attributes are the same, word for word, and the notes are one for each stretch, up to the cap of each kind.
   pub insertion : HasRoom (reading r′ (insertedFile places f) names area .answer)
       → reading r′ (insertedFile places f) names area ≡ withNotes r′ (reading r f names area) c (keptNotes (r′ .cap) (placeNotes places))
@@ -136,7 +146,7 @@ module _ (r : Room) (f names area : List ℕ) (c : ReadCounts) (one : 1 ≤ r .c
 -- The same of two calls, whatever results the promise allows: `left` is an answer and what stands in the three tables.
 module _ (f names area ns ats : List ℕ) (os : List Note) (cap : ℕ) (c : ReadCounts) (ns₁ ats₁ : List ℕ) (os₁ : List Note) (one : 1 ≤ cap)
     (first : Reads f names area ns ats os cap (Done c) ns₁ ats₁ os₁) (none : c .notes ≡ 0) (places : List (List ForeignChunk))
-    (few : length places ≤ placesIn f) (limit : length (insertedFile places f) ≤ 16777216) (ns′ ats′ : List ℕ) (os′ : List Note) (cap′ : ℕ)
+    (few : length places ≤ placesIn f) (limit : length (insertedFile places f) ≤ fileLimit) (ns′ ats′ : List ℕ) (os′ : List Note) (cap′ : ℕ)
     (a : ReadAnswer) (ns₂ ats₂ : List ℕ) (os₂ : List Note) (second : Reads (insertedFile places f) names area ns′ ats′ os′ cap′ a ns₂ ats₂ os₂) where
   pub insertion-read : HasRoom a
       → left a ns₂ ats₂ os₂ ≡ withNotes (roomIn ns′ ats′ os′ cap′) (left (Done c) ns₁ ats₁ os₁) c (keptNotes cap′ (placeNotes places))
@@ -153,7 +163,7 @@ module _ (f names area ns ats : List ℕ) (os : List Note) (cap : ℕ) (c : Read
 
 -- Text, content and first value, asked of the longer file, are those of the file: of any two results that the promises allow.
 module _ (r : Room) (f names area : List ℕ) (c : ReadCounts) (one : 1 ≤ r .cap) (done : reading r f names area .answer ≡ Done c) (none : c .notes ≡ 0)
-    (places : List (List ForeignChunk)) (limit : length (insertedFile places f) ≤ 16777216) where
+    (places : List (List ForeignChunk)) (limit : length (insertedFile places f) ≤ fileLimit) where
   pub insertion-text : (before : List ℕ) (i : ℕ) (a a′ : TextAnswer) (after after′ : List ℕ) → TextReads f names area before i a after
       → TextReads (insertedFile places f) names area before i a′ after′ → (a′ ≡ a) × (after′ ≡ after)
   insertion-text = values.insertion-text r f names area c one done none places limit
@@ -162,8 +172,8 @@ module _ (r : Room) (f names area : List ℕ) (c : ReadCounts) (one : 1 ≤ r .c
   insertion-content = values.insertion-content r f names area c one done none places limit
 
   pub insertion-first : (ns ats tag name : List ℕ) (nodes attributes : ℕ) (a a′ : FirstAnswer)
-      → a ≡ firstAnswer f names area ns ats tag name nodes attributes
-      → a′ ≡ firstAnswer (insertedFile places f) names area ns ats tag name nodes attributes → a′ ≡ a
+      → FirstReads f names area ns ats tag name nodes attributes a → FirstReads (insertedFile places f) names area ns ats tag name nodes attributes a′
+      → a′ ≡ a
   insertion-first = values.insertion-first r f names area c one done none places limit
 
 -- with nothing put in it is the same file
@@ -199,11 +209,11 @@ pub read-suffices : (f names area ns ats : List ℕ) (os : List Note) (cap : ℕ
 read-suffices = room.read-suffices
 
 -- the room of a listing is such for all the lengths that it reads
-pub listing-suffices : (n : ℕ) → n ≤ listingLimit
+pub listing-suffices : (n : ℕ) → n ≤ listedFile
     → (nodesFor n ≤ listingRoom .nodes) × (attributesFor n ≤ listingRoom .attributes) × (placesFor (listingRoom .cap) ≤ listingRoom .notes)
 listing-suffices = room.listing-suffices
 
-pub read-listed-suffices : (f ns ats : List ℕ) (a : ReadAnswer) (ns′ ats′ : List ℕ) (os′ : List Note) → length f ≤ listingLimit
+pub read-listed-suffices : (f ns ats : List ℕ) (a : ReadAnswer) (ns′ ats′ : List ℕ) (os′ : List Note) → length f ≤ listedFile
     → length ns ≡ listingRoom .nodes → length ats ≡ listingRoom .attributes
     → Reads f [] [] ns ats (replicate (listingRoom .notes) zeroNote) (listingRoom .cap) a ns′ ats′ os′ → HasRoom a
 read-listed-suffices = room.read-listed-suffices
@@ -233,24 +243,108 @@ module _ (f names area before : List ℕ) (i : ℕ) (after : List ℕ) where
   pub text-done-zeros : (k : ℕ) → TextReads f names area before i (textIs.Text k) after → TextDoneZero (textNumbersOf (textIs.Text k)) before after
   text-done-zeros k h = zeros.text-done-zeros f names area before i k after h
 
+-- ---- the C interface: the same of its words and of its structs of numbers
+
+-- one answer
+module _ (f names area ns ats ws : List ℕ) (cap : ℕ) (a a′ : AxmlAnswer) (ns₁ ns₂ ats₁ ats₂ ws₁ ws₂ : List ℕ) where
+  pub c-read-unique : ReadsWords f names area ns ats ws cap a ns₁ ats₁ ws₁ → ReadsWords f names area ns ats ws cap a′ ns₂ ats₂ ws₂
+      → (a ≡ a′) × (ns₁ ≡ ns₂) × (ats₁ ≡ ats₂) × (ws₁ ≡ ws₂)
+  c-read-unique p q =
+      (p .answer ∙ sym (q .answer), p .nodes ∙ sym (q .nodes), p .attributes ∙ sym (q .attributes), p .notes ∙ sym (q .notes))
+
+pub c-text-unique : (f names area before : List ℕ) (i : ℕ) (a a′ : AxmlTextAnswer) (after after′ : List ℕ) → AsksText f names area before i a after
+    → AsksText f names area before i a′ after′ → (a ≡ a′) × (after ≡ after′)
+c-text-unique f names area before i a a′ after after′ p q = (p .answer ∙ sym (q .answer), p .out ∙ sym (q .out))
+
+module _ (f names area ns ats tag name : List ℕ) (nodes attributes : ℕ) (a a′ : AxmlFirstAnswer) where
+  pub c-first-unique : a ≡ firstAnswerOf (firstNumbersOf (firstAnswer f names area ns ats tag name nodes attributes))
+      → a′ ≡ firstAnswerOf (firstNumbersOf (firstAnswer f names area ns ats tag name nodes attributes)) → a ≡ a′
+  c-first-unique p q = p ∙ sym q
+
+-- insertion, of two calls of `axml_read`
+module _ (f names area ns ats ws : List ℕ) (cap : ℕ) (a : AxmlAnswer) (ns₁ ats₁ ws₁ : List ℕ) (one : 1 ≤ cap)
+    (first : ReadsWords f names area ns ats ws cap a ns₁ ats₁ ws₁) (done : a .refusal ≡ 0) (none : a .notes ≡ 0) (places : List (List ForeignChunk))
+    (few : length places ≤ placesIn f) (limit : length (insertedFile places f) ≤ fileLimit) (ns′ ats′ ws′ : List ℕ) (cap′ : ℕ) (a′ : AxmlAnswer)
+    (ns₂ ats₂ ws₂ : List ℕ) (second : ReadsWords (insertedFile places f) names area ns′ ats′ ws′ cap′ a′ ns₂ ats₂ ws₂) where
+  pub c-insertion : isFullNumber (a′ .refusal) ≡ false
+      → leftInC a′ ns₂ ats₂ ws₂ ≡ withNotesInC (length ns′) (length ats′) (length ws′) (leftInC a ns₁ ats₁ ws₁) (keptNotes cap′ (placeNotes places))
+  c-insertion =
+      inC.insertion f names area ns ats ws cap a ns₁ ats₁ ws₁ one first done none places few limit ns′ ats′ ws′ cap′ a′ ns₂ ats₂ ws₂ second
+
+  pub c-insertion-same : length ns′ ≡ length ns → length ats′ ≡ length ats → isFullNumber (a′ .refusal) ≡ false → (ns₂ ≡ ns₁) × (ats₂ ≡ ats₁)
+  c-insertion-same =
+      inC.insertion-same f names area ns ats ws cap a ns₁ ats₁ ws₁ one first done none places few limit ns′ ats′ ws′ cap′ a′ ns₂ ats₂ ws₂ second
+
+  pub c-insertion-room : nodeWidth * a .nodes ≤ length ns′ → attributeWidth * a .attributes ≤ length ats′ → noteWidth * (2 * cap′) ≤ length ws′
+      → isFullNumber (a′ .refusal) ≡ false
+  c-insertion-room =
+      inC.insertion-room f names area ns ats ws cap a ns₁ ats₁ ws₁ one first done none places few limit ns′ ats′ ws′ cap′ a′ ns₂ ats₂ ws₂ second
+
+-- zeros
+module _ (f names area ns ats ws : List ℕ) (cap : ℕ) (a : AxmlAnswer) (ns′ ats′ ws′ : List ℕ) where
+  pub c-refused-zeros : ReadsWords f names area ns ats ws cap a ns′ ats′ ws′ → (a .refusal ≡ 0 → ⊥) → RefusedInC a ns ats ws ns′ ats′ ws′
+  c-refused-zeros = inC.refused-zeros f names area ns ats ws cap a ns′ ats′ ws′
+
+  pub c-done-zeros : ReadsWords f names area ns ats ws cap a ns′ ats′ ws′ → a .refusal ≡ 0 → DoneInC a ns ats ws ns′ ats′ ws′
+  c-done-zeros = inC.done-zeros f names area ns ats ws cap a ns′ ats′ ws′
+
+module _ (f names area before : List ℕ) (i : ℕ) (a : AxmlTextAnswer) (after : List ℕ) where
+  pub c-text-refused-zeros : AsksText f names area before i a after → (a .refusal ≡ 0 → ⊥) → TextRefusedInC a before after
+  c-text-refused-zeros = inC.text-refused-zeros f names area before i a after
+
+  pub c-text-done-zeros : AsksText f names area before i a after → a .refusal ≡ 0 → TextDoneInC a before after
+  c-text-done-zeros = inC.text-done-zeros f names area before i a after
+
+pub c-first-refused-zeros : (b : FirstAnswer) (a : AxmlFirstAnswer) → a ≡ firstAnswerOf (firstNumbersOf b) → (a .refusal ≡ 0 → ⊥) → FirstRefusedInC a
+c-first-refused-zeros = inC.first-refused-zeros
+
 -- ---- readers that break the promise (P5)
 
+-- The promise is asked of what a program can be called with, bytes and words (`Call`).
 module _ (R : Reader) (meets : Meets R) where
   pub refuses-all-broken : RefusesAll R → ⊥
-  refuses-all-broken h = broken.refuses-all-broken R meets h
+  refuses-all-broken = broken.refuses-all-broken R meets
 
-  pub constant-broken : (names area ns ats : List ℕ) (os : List Note) (cap : ℕ) → Constant R names area ns ats os cap → ⊥
-  constant-broken names area ns ats os cap h = broken.constant-broken R meets names area ns ats os cap h
+  pub constant-broken : (names area ns ats : List ℕ) (os : List Note) (cap : ℕ) → Call [] names area ns ats os cap → Constant R names area ns ats os cap → ⊥
+  constant-broken = broken.constant-broken R meets
 
-  pub stores-nothing-broken : LeavesNodes R → LeavesAttributes R → LeavesNotes R → ⊥
-  stores-nothing-broken n a o = broken.stores-nothing-broken R meets n a o
+  pub constant-on-read-broken : ConstantOnRead R → ⊥
+  constant-on-read-broken = broken.constant-on-read-broken R meets
+
+  -- one that leaves a table as it was, or zeros in it: each table by itself
+  pub leaves-nodes-broken : LeavesNodes R → ⊥
+  leaves-nodes-broken = broken.leaves-nodes-broken R meets
+
+  pub leaves-attributes-broken : LeavesAttributes R → ⊥
+  leaves-attributes-broken = broken.leaves-attributes-broken R meets
+
+  pub leaves-notes-broken : LeavesNotes R → ⊥
+  leaves-notes-broken = broken.leaves-notes-broken R meets
+
+  pub clears-nodes-broken : ClearsNodes R → ⊥
+  clears-nodes-broken = broken.clears-nodes-broken R meets
+
+  pub clears-attributes-broken : ClearsAttributes R → ⊥
+  clears-attributes-broken = broken.clears-attributes-broken R meets
+
+  pub clears-notes-broken : ClearsNotes R → ⊥
+  clears-notes-broken = broken.clears-notes-broken R meets
 
   pub first-start-broken : StopsAtStart R → ⊥
-  first-start-broken h = broken.first-start-broken R meets h
+  first-start-broken = broken.first-start-broken R meets
 
-  module _ (f names area ns ats : List ℕ) (os : List Note) (cap : ℕ) where
+  -- one that gives a file, be it one alone, more starts than open in it, more notes than its cap keeps, or notes of other kinds
+  module _ (f names area ns ats : List ℕ) (os : List Note) (cap : ℕ) (lent : Call f names area ns ats os cap) where
     pub invents-starts-broken : opensIn (eventsOf f names area) < numbersOf (R f names area ns ats os cap .answer) .starts → ⊥
-    invents-starts-broken h = broken.invents-starts-broken R meets f names area ns ats os cap h
+    invents-starts-broken = broken.invents-starts-broken R meets f names area ns ats os cap lent
 
     pub invents-notes-broken : length (keptNotes cap (notesIn (eventsOf f names area))) < numbersOf (R f names area ns ats os cap .answer) .notes → ⊥
-    invents-notes-broken h = broken.invents-notes-broken R meets f names area ns ats os cap h
+    invents-notes-broken = broken.invents-notes-broken R meets f names area ns ats os cap lent
+
+    pub wrong-kinds-broken : (c : ReadCounts) → R f names area ns ats os cap .answer ≡ Done c
+        → (kindsOf (take (c .notes) (R f names area ns ats os cap .notes)) ≡ kindsOf (map noteOf (keptNotes cap (notesIn (eventsOf f names area)))) → ⊥) → ⊥
+    wrong-kinds-broken = broken.wrong-kinds-broken R meets f names area ns ats os cap lent
+
+-- and the promise can be met: by the definition itself
+pub meets-some : Meets (λ f names area ns ats os cap. reading (roomIn ns ats os cap) f names area)
+meets-some = broken.meets-some

@@ -36,4 +36,5 @@ pub mod Structure
 pub mod Zeros
 pub mod BrokenSample
 pub mod Broken
+pub mod InC
 pub mod Claims

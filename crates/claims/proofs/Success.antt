@@ -9,8 +9,8 @@ use mathlib.Core.Bool.{true}
 use borrow.Author.Tests.{lt-ltb}
 use lib.ListN.{length, take, getD, replicate, length-map}
 use lib.Seq.{length-take-le, take-at}
-use Rattle.anomaly.specs.Note.{kindIndex, noteOf}
-use Rattle.anomaly.specs.Kept.{isDue, keptNotes}
+use Rattle.anomaly.specs.Note.{kinds, kindIndex, noteOf}
+use Rattle.anomaly.specs.Kept.{isDue, none, keptNotes}
 use Rattle.anomaly.specs.declared.ResAnomaly.{ResAnomaly}
 use Rattle.anomaly.proofs.Laws.{keptFrom-due}
 use Rattle.errors.specs.declared.Refusal.{Refusal}
@@ -22,11 +22,12 @@ use Rattle.system_types.specs.declared.NamesRead.the-variants.{Good}
 use Rattle.head.specs.Head.{openedOf}
 use Rattle.head.specs.Entry.{Check, passes, fails, firstOf, entryChecks}
 use Rattle.head.proofs.Entering.{Passed, passed, passes-all}
-use Rattle.tables.specs.Keep.{nodeWidth, attributeWidth}
+use Rattle.records.specs.Limits.{fileLimit}
+use Rattle.records.specs.Words.{nodeWidth, attributeWidth}
 use Rattle.walk.specs.Settle.{Room, Tables, Out, going, refused}
 use Rattle.walk.specs.Reading.{Reading, nodesKept, attributesKept, refuses, succeeds, finalOf, settledIn, readingBy, reading}
 use Rattle.claims.specs.Insertion.{withNotes}
-use Rattle.claims.proofs.Grown.{bare, Sound, sound-nodes, sound-attributes}
+use Rattle.claims.proofs.Grown.{bare}
 
 -- ---- what a success says
 
@@ -42,7 +43,7 @@ abbrev pub countsOf : Tables → ReadCounts
 countsOf t = record { starts = length (t .nodes) / nodeWidth; nodes = nodesKept t; attributes = attributesKept t; notes = length (t .notes) }
 
 pub record Success (r : Room) (f names area : List ℕ) (c : ReadCounts) : Type 0 where
-  pub short : length f ≤ 16777216
+  pub short : length f ≤ fileLimit
   pub good : namesOf area names ≡ Good
   pub tables : Tables
   pub settles : settledIn r f names area (openedOf f) ≡ going tables
@@ -54,7 +55,7 @@ module _ (r : Room) (f names area : List ℕ) where
   unfolding reading
   reading-by k q = ap (readingBy r (settledIn r f names area (openedOf f))) q
 
-  pub reading-of : length f ≤ 16777216 → namesOf area names ≡ Good → reading r f names area ≡ finalOf r (settledIn r f names area (openedOf f))
+  pub reading-of : length f ≤ fileLimit → namesOf area names ≡ Good → reading r f names area ≡ finalOf r (settledIn r f names area (openedOf f))
   reading-of short good = reading-by passes (passes-all f names area short good)
 
   pub success : (c : ReadCounts) → reading r f names area .answer ≡ Done c → Success r f names area c
@@ -81,8 +82,13 @@ module _ (r : Room) (f names area : List ℕ) where
 take-kept : (n : ℕ) (l z : List ℕ) → n ≤ length l → take n (take n l ++ z) ≡ take n l
 take-kept n l z h = take-at (take n l) z n (length-take-le n l h)
 
+-- what is kept is there
+pub record KeptThere (u : Tables) : Type 0 where
+  pub nodes : nodeWidth * nodesKept u ≤ length (u .nodes)
+  pub attributes : attributeWidth * attributesKept u ≤ length (u .attributes)
+
 -- what is kept of u′ is what is kept of u
-pub succeeds-beside : (r r′ : Room) (u u′ : Tables) (ns : List ResAnomaly) → bare u′ ≡ bare u → u′ .notes ≡ map noteOf ns → Sound (bare u)
+pub succeeds-beside : (r r′ : Room) (u u′ : Tables) (ns : List ResAnomaly) → bare u′ ≡ bare u → u′ .notes ≡ map noteOf ns → KeptThere u
     → succeeds r′ u′ ≡ withNotes r′ (succeeds r u) (countsOf u) ns
 succeeds-beside r r′ u u′ ns e o s =
     let n : u′ .nodes ≡ u .nodes = ap (λ (t : Tables). t .nodes) e in
@@ -94,9 +100,9 @@ succeeds-beside r r′ u u′ ns e o s =
       k,
       o,
       length-map ns noteOf,
-      take-kept (nodeWidth * nodesKept u) (u .nodes) (replicate (r .nodes - nodeWidth * nodesKept u) 0) (sound-nodes (bare u) s),
+      take-kept (nodeWidth * nodesKept u) (u .nodes) (replicate (r .nodes - nodeWidth * nodesKept u) 0) (s .nodes),
       take-kept (attributeWidth * attributesKept u) (u .attributes) (replicate (r .attributes - attributeWidth * attributesKept u) 0)
-          (sound-attributes (bare u) s),
+          (s .attributes),
     )
 
 -- what was kept of a reading, in a table of n words
@@ -107,14 +113,14 @@ abbrev pub keptAttributes : ℕ → Reading → ReadCounts → List ℕ
 keptAttributes n x c = take (attributeWidth * c .attributes) (x .attributes) ++ replicate (n - attributeWidth * c .attributes) 0
 
 -- in a table of the same length it is the whole table
-pub again-nodes : (r : Room) (u : Tables) → Sound (bare u) → keptNodes (r .nodes) (succeeds r u) (countsOf u) ≡ succeeds r u .nodes
-again-nodes r u s = rw (take-kept (nodeWidth * nodesKept u) (u .nodes) (replicate (r .nodes - nodeWidth * nodesKept u) 0) (sound-nodes (bare u) s))
+pub again-nodes : (r : Room) (u : Tables) → KeptThere u → keptNodes (r .nodes) (succeeds r u) (countsOf u) ≡ succeeds r u .nodes
+again-nodes r u s = rw (take-kept (nodeWidth * nodesKept u) (u .nodes) (replicate (r .nodes - nodeWidth * nodesKept u) 0) (s .nodes))
 
-pub again-attributes : (r : Room) (u : Tables) → Sound (bare u)
+pub again-attributes : (r : Room) (u : Tables) → KeptThere u
     → keptAttributes (r .attributes) (succeeds r u) (countsOf u) ≡ succeeds r u .attributes
 again-attributes r u s =
     rw (take-kept (attributeWidth * attributesKept u) (u .attributes) (replicate (r .attributes - attributeWidth * attributesKept u) 0)
-    (sound-attributes (bare u) s))
+    (s .attributes))
 
 -- ---- no note
 
@@ -127,6 +133,6 @@ getD-zeros (suc n) (suc k) = getD-zeros n k
 pub none-kept : (cap : ℕ) → 1 ≤ cap → (ns : List ResAnomaly) → length (keptNotes cap ns) ≡ 0 → ns ≡ []
 none-kept cap h [] e = refl
 none-kept cap h (x ∷ ns) e =
-    let due : isDue cap (replicate 13 0) (kindIndex x) ≡ true = lt-ltb _ cap (omega (arith, getD-zeros 13 (kindIndex x))) in
-    let e′ = rw (keptFrom-due cap (replicate 13 0) x ns due) at e in
+    let due : isDue cap none (kindIndex x) ≡ true = lt-ltb _ cap (omega (arith, getD-zeros kinds (kindIndex x))) in
+    let e′ = rw (keptFrom-due cap none x ns due) at e in
     absurd (let z : ⊥ = omega (arith, e′) in z)

@@ -2,6 +2,7 @@
 pub mod Insertion
 pub mod Counts
 pub mod Room
+pub mod InC
 pub mod Shape
 pub mod Cleared
 pub mod Readers
