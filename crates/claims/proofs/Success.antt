@@ -17,7 +17,7 @@ use Rattle.errors.specs.declared.Refusal.{Refusal}
 use Rattle.errors.specs.declared.ReadAnswer.{ReadAnswer}
 use Rattle.errors.specs.declared.ReadAnswer.the-variants.{Done, Refused}
 use Rattle.errors.specs.declared.ReadCounts.{ReadCounts}
-use Rattle.system_types.specs.Names.{namesOf}
+use Rattle.system_types.specs.Names.{Lent, namesOf}
 use Rattle.system_types.specs.declared.NamesRead.the-variants.{Good}
 use Rattle.head.specs.Head.{openedOf}
 use Rattle.head.specs.Entry.{Check, passes, fails, firstOf, entryChecks}
@@ -42,39 +42,39 @@ countsIn d (Refused x) = d
 abbrev pub countsOf : Tables → ReadCounts
 countsOf t = record { starts = length (t .nodes) / nodeWidth; nodes = nodesKept t; attributes = attributesKept t; notes = length (t .notes) }
 
-pub record Success (r : Room) (f names area : List ℕ) (c : ReadCounts) : Type 0 where
+pub record Success (r : Room) (f : List ℕ) (lent : Lent) (c : ReadCounts) : Type 0 where
   pub short : length f ≤ fileLimit
-  pub good : namesOf area names ≡ Good
+  pub good : namesOf lent ≡ Good
   pub tables : Tables
-  pub settles : settledIn r f names area (openedOf f) ≡ going tables
-  pub whole : reading r f names area ≡ succeeds r tables
+  pub settles : settledIn r f lent (openedOf f) ≡ going tables
+  pub whole : reading r f lent ≡ succeeds r tables
   pub counts : countsOf tables ≡ c
 
-module _ (r : Room) (f names area : List ℕ) where
-  reading-by : (k : Check) → firstOf (entryChecks f names area) ≡ k → reading r f names area ≡ readingBy r (settledIn r f names area (openedOf f)) k
+module _ (r : Room) (f : List ℕ) (lent : Lent) where
+  reading-by : (k : Check) → firstOf (entryChecks f lent) ≡ k → reading r f lent ≡ readingBy r (settledIn r f lent (openedOf f)) k
   unfolding reading
-  reading-by k q = ap (readingBy r (settledIn r f names area (openedOf f))) q
+  reading-by k q = ap (readingBy r (settledIn r f lent (openedOf f))) q
 
-  pub reading-of : length f ≤ fileLimit → namesOf area names ≡ Good → reading r f names area ≡ finalOf r (settledIn r f names area (openedOf f))
-  reading-of short good = reading-by passes (passes-all f names area short good)
+  pub reading-of : length f ≤ fileLimit → namesOf lent ≡ Good → reading r f lent ≡ finalOf r (settledIn r f lent (openedOf f))
+  reading-of short good = reading-by passes (passes-all f lent short good)
 
-  pub success : (c : ReadCounts) → reading r f names area .answer ≡ Done c → Success r f names area c
-  success c e = checked (firstOf (entryChecks f names area)) refl
+  pub success : (c : ReadCounts) → reading r f lent .answer ≡ Done c → Success r f lent c
+  success c e = checked (firstOf (entryChecks f lent)) refl
     where
       answer : Reading → ReadAnswer
       answer x = x .answer
 
-      no-done : {A : Type 0} (x : Refusal) → reading r f names area ≡ refuses r x → A
+      no-done : {A : Type 0} (x : Refusal) → reading r f lent ≡ refuses r x → A
       no-done x z = absurd (subst IsDone (sym (sym (ap answer z) ∙ e)) tt)
 
-      out : Passed f names area → (o : Out) → settledIn r f names area (openedOf f) ≡ o → Success r f names area c
+      out : Passed f lent → (o : Out) → settledIn r f lent (openedOf f) ≡ o → Success r f lent c
       out p (refused x) q = no-done x (reading-of (p .short) (p .good) ∙ ap (finalOf r) q)
       out p (going t) q =
-          let w : reading r f names area ≡ succeeds r t = reading-of (p .short) (p .good) ∙ ap (finalOf r) q in
+          let w : reading r f lent ≡ succeeds r t = reading-of (p .short) (p .good) ∙ ap (finalOf r) q in
           record { short = p .short; good = p .good; tables = t; settles = q; whole = w; counts = ap (countsIn c) (sym (ap answer w) ∙ e) }
 
-      checked : (k : Check) → firstOf (entryChecks f names area) ≡ k → Success r f names area c
-      checked passes q = out (passed f names area q) (settledIn r f names area (openedOf f)) refl
+      checked : (k : Check) → firstOf (entryChecks f lent) ≡ k → Success r f lent c
+      checked passes q = out (passed f lent q) (settledIn r f lent (openedOf f)) refl
       checked (fails x) q = no-done x (reading-by (fails x) q)
 
 -- ---- two successes

@@ -17,7 +17,7 @@ use Rattle.res_string_pool.specs.Pool.{countOf, numbered, endOf, poolFrom, behi
 use Rattle.res_string_pool.specs.Content.{split8, split16}
 use Rattle.resource_map.specs.Map.{idsIn, idsBy, mapOf, idOf}
 use Rattle.utf.specs.Plain.{isAscii}
-use Rattle.system_types.specs.Names.{isGood, namesFrom, nameOf}
+use Rattle.system_types.specs.Names.{lends, isGood, namesFrom, nameOf}
 use Rattle.errors.specs.declared.Refusal.the-variants.{NothingFound, TablesError}
 use Rattle.errors.specs.declared.FirstAnswer.{FirstAnswer}
 use Rattle.errors.specs.declared.FirstAnswer.the-variants.{Found, Refused}
@@ -70,7 +70,7 @@ cases =
 
 abbrev pub answers : List Case → List FirstAnswer
 answers [] = []
-answers (asked ns ats tag name n a r ∷ cs) = firstAnswer head [] [] ns ats tag name n a ∷ answers cs
+answers (asked ns ats tag name n a r ∷ cs) = firstAnswer head (lends [] []) ns ats tag name n a ∷ answers cs
 
 abbrev pub results : List Case → List FirstAnswer
 results [] = []

@@ -12,7 +12,7 @@ use lib.Dec.{ltb}
 use Rattle.records.specs.Limits.{fileLimit}
 use Rattle.errors.specs.declared.Refusal.{Refusal}
 use Rattle.errors.specs.declared.Refusal.the-variants.{TooLargeError, SystemNamesError}
-use Rattle.system_types.specs.Names.{namesOf}
+use Rattle.system_types.specs.Names.{Lent, namesOf}
 use Rattle.system_types.specs.declared.NamesRead.{NamesRead}
 use Rattle.system_types.specs.declared.NamesRead.the-variants.{Good, Bad}
 use Rattle.head.specs.Head.{openedOf}
@@ -54,48 +54,48 @@ both passes cs e = (refl, e)
 both (fails r) cs e = absurd (passes-not e)
 
 -- what a file that no check refuses tells
-pub record Passed (f names area : List ℕ) : Type 0 where
+pub record Passed (f : List ℕ) (lent : Lent) : Type 0 where
   pub short : length f ≤ fileLimit
-  pub good : namesOf area names ≡ Good
+  pub good : namesOf lent ≡ Good
 
-module _ (f names area : List ℕ) where
-  pub passed : firstOf (entryChecks f names area) ≡ passes → Passed f names area
+module _ (f : List ℕ) (lent : Lent) where
+  pub passed : firstOf (entryChecks f lent) ≡ passes → Passed f lent
   passed e =
-      let a = both (lengthCheck f) (namesCheck area names ∷ []) e in
-      let b = both (namesCheck area names) [] (a .1) in
-      record { short = short f (a .0); good = good (namesOf area names) (b .0) }
+      let a = both (lengthCheck f) (namesCheck lent ∷ []) e in
+      let b = both (namesCheck lent) [] (a .1) in
+      record { short = short f (a .0); good = good (namesOf lent) (b .0) }
 
-  pub passes-all : length f ≤ fileLimit → namesOf area names ≡ Good → firstOf (entryChecks f names area) ≡ passes
+  pub passes-all : length f ≤ fileLimit → namesOf lent ≡ Good → firstOf (entryChecks f lent) ≡ passes
   passes-all p e = rw (lengthCheck-short f p, e)
 
   -- ---- what `enter` gives
 
-  entered-by : (c : Check) → firstOf (entryChecks f names area) ≡ c → enteredBy (openedOf f) c ≡ enteredOf f names area
+  entered-by : (c : Check) → firstOf (entryChecks f lent) ≡ c → enteredBy (openedOf f) c ≡ enteredOf f lent
   unfolding enteredOf
   entered-by c e = sym (ap (enteredBy (openedOf f)) e)
 
-  pub entered-long : fileLimit < length f → Out TooLargeError ≡ enteredOf f names area
+  pub entered-long : fileLimit < length f → Out TooLargeError ≡ enteredOf f lent
   entered-long h = entered-by (fails TooLargeError) (rw (lengthCheck-long f h))
 
-  pub entered-names : length f ≤ fileLimit → {k : ℕ} → namesOf area names ≡ Bad k → Out (SystemNamesError k) ≡ enteredOf f names area
+  pub entered-names : length f ≤ fileLimit → {k : ℕ} → namesOf lent ≡ Bad k → Out (SystemNamesError k) ≡ enteredOf f lent
   entered-names h {k} e = entered-by (fails (SystemNamesError k)) (rw (lengthCheck-short f h, e))
 
-  pub entered-good : length f ≤ fileLimit → namesOf area names ≡ Good → In (openedOf f) ≡ enteredOf f names area
+  pub entered-good : length f ≤ fileLimit → namesOf lent ≡ Good → In (openedOf f) ≡ enteredOf f lent
   entered-good h e = entered-by passes (passes-all h e)
 
-  pub entered-in : {o : Opened} → enteredOf f names area ≡ In o → (firstOf (entryChecks f names area) ≡ passes) × (o ≡ openedOf f)
+  pub entered-in : {o : Opened} → enteredOf f lent ≡ In o → (firstOf (entryChecks f lent) ≡ passes) × (o ≡ openedOf f)
   unfolding enteredOf
-  entered-in {o} e = go (firstOf (entryChecks f names area)) refl e
+  entered-in {o} e = go (firstOf (entryChecks f lent)) refl e
     where
-      go : (c : Check) → firstOf (entryChecks f names area) ≡ c → enteredBy (openedOf f) c ≡ In o
-          → (firstOf (entryChecks f names area) ≡ passes) × (o ≡ openedOf f)
+      go : (c : Check) → firstOf (entryChecks f lent) ≡ c → enteredBy (openedOf f) c ≡ In o
+          → (firstOf (entryChecks f lent) ≡ passes) × (o ≡ openedOf f)
       go passes p q = (p, cc)
       go (fails r) p q = let z : _≡_ {A = ℕ} 0 1 = cc in absurd (let y : ⊥ = omega arith in y)
 
-  pub entered-out : {x : Refusal} → enteredOf f names area ≡ Out x → firstOf (entryChecks f names area) ≡ fails x
+  pub entered-out : {x : Refusal} → enteredOf f lent ≡ Out x → firstOf (entryChecks f lent) ≡ fails x
   unfolding enteredOf
-  entered-out {x} e = go (firstOf (entryChecks f names area)) refl e
+  entered-out {x} e = go (firstOf (entryChecks f lent)) refl e
     where
-      go : (c : Check) → firstOf (entryChecks f names area) ≡ c → enteredBy (openedOf f) c ≡ Out x → firstOf (entryChecks f names area) ≡ fails x
+      go : (c : Check) → firstOf (entryChecks f lent) ≡ c → enteredBy (openedOf f) c ≡ Out x → firstOf (entryChecks f lent) ≡ fails x
       go passes p q = let z : _≡_ {A = ℕ} 0 1 = cc in absurd (let y : ⊥ = omega arith in y)
       go (fails r) p q = let w : r ≡ x = cc in p ∙ ap fails w

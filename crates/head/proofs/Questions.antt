@@ -16,6 +16,7 @@ use Rattle.errors.specs.declared.Refusal.{Refusal}
 use Rattle.errors.specs.declared.Refusal.the-variants.{NothingFound, TextShort}
 use Rattle.errors.specs.declared.TextAnswer.{TextAnswer}
 use Rattle.errors.specs.declared.TextAnswer.the-variants.{Text, Refused}
+use Rattle.system_types.specs.Names.{Lent}
 use Rattle.text.specs.declared.Head.{Head}
 use Rattle.text.specs.declared.Found.{Found}
 use Rattle.text.specs.declared.Found.the-variants.{Nothing, Cut, System, Pool}
@@ -43,19 +44,19 @@ headRead-whole o w = rw w
 pub headRead-cut : (o : Opened) → isWhole (o .end) ≡ false → Closed (refusalOf (o .end)) ≡ headRead o
 headRead-cut o w = rw w
 
-module _ (f names area : List ℕ) where
-  pub openOf-in : {o : Opened} → enteredOf f names area ≡ In o → headRead o ≡ openOf f names area
+module _ (f : List ℕ) (lent : Lent) where
+  pub openOf-in : {o : Opened} → enteredOf f lent ≡ In o → headRead o ≡ openOf f lent
   unfolding openOf
-  openOf-in {o} e = let q = entered-in f names area e in rw (q .1, q .0)
+  openOf-in {o} e = let q = entered-in f lent e in rw (q .1, q .0)
 
-  pub openOf-out : {why : Refusal} → enteredOf f names area ≡ Out why → Closed why ≡ openOf f names area
+  pub openOf-out : {why : Refusal} → enteredOf f lent ≡ Out why → Closed why ≡ openOf f lent
   unfolding openOf
-  openOf-out {why} e = rw (entered-out f names area e)
+  openOf-out {why} e = rw (entered-out f lent e)
 
 -- ---- what an open file tells
 
-pub record Opens (f names area : List ℕ) (h : Head) : Type 0 where
-  pub passed : Passed f names area
+pub record Opens (f : List ℕ) (lent : Lent) (h : Head) : Type 0 where
+  pub passed : Passed f lent
   pub whole : isWhole (openedOf f .end) ≡ true
   pub head : openedOf f .head ≡ h
 
@@ -66,24 +67,24 @@ there-of-whole (TooSmall n) w = let z : _≡_ {A = ℕ} 0 1 = cc in absurd (let 
 there-of-whole (HeaderSize n) w = let z : _≡_ {A = ℕ} 0 1 = cc in absurd (let y : ⊥ = omega arith in y)
 there-of-whole (PoolShort p) w = let z : _≡_ {A = ℕ} 0 1 = cc in absurd (let y : ⊥ = omega arith in y)
 
-module _ (f names area : List ℕ) {h : Head} (open′ : openOf f names area ≡ Open h) where
-  pub openOf-open : Opens f names area h
+module _ (f : List ℕ) (lent : Lent) {h : Head} (open′ : openOf f lent ≡ Open h) where
+  pub openOf-open : Opens f lent h
   unfolding openOf
-  openOf-open = go (firstOf (entryChecks f names area)) refl (isWhole (openedOf f .end)) refl open′
+  openOf-open = go (firstOf (entryChecks f lent)) refl (isWhole (openedOf f .end)) refl open′
     where
       go
-          : (c : Check) → firstOf (entryChecks f names area) ≡ c
+          : (c : Check) → firstOf (entryChecks f lent) ≡ c
           → (w : Bool) → isWhole (openedOf f .end) ≡ w
           → openBy (openedOf f) c ≡ Open h
-          → Opens f names area h
+          → Opens f lent h
       go (fails r) p w q e = let z : _≡_ {A = ℕ} 0 1 = cc in absurd (let y : ⊥ = omega arith in y)
       go passes p false q e =
           let e′ = headRead-cut (openedOf f) q ∙ e in
           let z : _≡_ {A = ℕ} 0 1 = cc in
           absurd (let y : ⊥ = omega arith in y)
-      go passes p true q e = let e′ = headRead-whole (openedOf f) q ∙ e in record { passed = passed f names area p; whole = q; head = cc }
+      go passes p true q e = let e′ = headRead-whole (openedOf f) q ∙ e in record { passed = passed f lent p; whole = q; head = cc }
 
-  pub openOf-asks : Asks (tablesIn f h) names area h
+  pub openOf-asks : Asks (tablesIn f h) lent h
   openOf-asks =
       let o = openOf-open in
       let fits = openedOf-fits f (o .passed .short) (there-of-whole (openedOf f .end) (o .whole)) in
@@ -141,35 +142,35 @@ module _ (n : ℕ) (w : Bool) (t area : List ℕ) (f : Found) {c : Content} (e :
       → Gives n (textIn c) (textBy n c) r after
   gives-found p g = rw (← e, textBy-found n w t area f p) g
 
-module _ (f names area before after : List ℕ) (i : ℕ) {r : TextAnswer} where
+module _ (f : List ℕ) (lent : Lent) (before after : List ℕ) (i : ℕ) {r : TextAnswer} where
   pub reads-open
       : {h : Head} {t : List ℕ}
-      → openOf f names area ≡ Open h
+      → openOf f lent ≡ Open h
       → t ≡ tablesIn f h
-      → Gives (length before) (textIn (contentOf h t names area i)) (textBy (length before) (contentOf h t names area i)) r after
-      → TextReads f names area before i r after
+      → Gives (length before) (textIn (contentOf h t lent i)) (textBy (length before) (contentOf h t lent i)) r after
+      → TextReads f lent before i r after
   unfolding textAnswer textBuffer
   reads-open e q g = let g′ = rw q at g in record { answer = rw e (ap textNumbersOf (g′ .same)); out = rw e (g′ .out) }
 
   pub reads-closed
       : {why : Refusal}
-      → openOf f names area ≡ Closed why
+      → openOf f lent ≡ Closed why
       → Gives (length before) [] (Refused why) r after
-      → TextReads f names area before i r after
+      → TextReads f lent before i r after
   unfolding textAnswer textBuffer
   reads-closed e g = record { answer = rw e (ap textNumbersOf (g .same)); out = rw e (g .out) }
 
 -- ---- the content question
 
-module _ (f names area : List ℕ) (i : ℕ) where
+module _ (f : List ℕ) (lent : Lent) (i : ℕ) where
   pub content-open
       : {h : Head} {t : List ℕ}
-      → openOf f names area ≡ Open h
+      → openOf f lent ≡ Open h
       → t ≡ tablesIn f h
-      → rawOf (contentOf h t names area i) ≡ contentAnswer f names area i
+      → rawOf (contentOf h t lent i) ≡ contentAnswer f lent i
   unfolding contentAnswer
   content-open e q = rw (q, e)
 
-  pub content-closed : {why : Refusal} → openOf f names area ≡ Closed why → [] ≡ contentAnswer f names area i
+  pub content-closed : {why : Refusal} → openOf f lent ≡ Closed why → [] ≡ contentAnswer f lent i
   unfolding contentAnswer
   content-closed e = rw e

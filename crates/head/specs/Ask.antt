@@ -17,6 +17,7 @@ use Rattle.errors.specs.declared.Refusal.{Refusal}
 use Rattle.errors.specs.declared.Refusal.the-variants.{NothingFound, TextShort}
 use Rattle.errors.specs.declared.TextAnswer.{TextAnswer}
 use Rattle.errors.specs.declared.TextAnswer.the-variants.{Text, Refused}
+use Rattle.system_types.specs.Names.{Lent}
 use Rattle.text.specs.declared.Head.{Head}
 use Rattle.text.specs.Content.{Content, none, cut, some, contentOf, textIn, rawOf}
 use Rattle.head.specs.Head.{openedOf, isWhole, refusalOf, tablesIn}
@@ -35,8 +36,8 @@ abbrev pub openBy : Opened → Check → OpenRead
 openBy o passes = headRead o
 openBy o (fails r) = Closed r
 
-unfoldable pub openOf : List ℕ → List ℕ → List ℕ → OpenRead
-openOf f names area = openBy (openedOf f) (firstOf (entryChecks f names area))
+unfoldable pub openOf : List ℕ → Lent → OpenRead
+openOf f lent = openBy (openedOf f) (firstOf (entryChecks f lent))
 
 -- ---- the text question
 
@@ -49,27 +50,27 @@ textBy n none = Refused NothingFound
 textBy n cut = fitted n (textIn cut)
 textBy n (some w s) = fitted n (textIn (some w s))
 
-abbrev pub askedBy : List ℕ → List ℕ → List ℕ → ℕ → OpenRead → Content
-askedBy f names area i (Closed r) = none
-askedBy f names area i (Open h) = contentOf h (tablesIn f h) names area i
+abbrev pub askedBy : List ℕ → Lent → ℕ → OpenRead → Content
+askedBy f lent i (Closed r) = none
+askedBy f lent i (Open h) = contentOf h (tablesIn f h) lent i
 
-abbrev pub contentAsked : List ℕ → List ℕ → List ℕ → ℕ → Content
-contentAsked f names area i = askedBy f names area i (openOf f names area)
+abbrev pub contentAsked : List ℕ → Lent → ℕ → Content
+contentAsked f lent i = askedBy f lent i (openOf f lent)
 
 abbrev pub textAnswerBy : ℕ → Content → OpenRead → TextAnswer
 textAnswerBy n c (Closed r) = Refused r
 textAnswerBy n c (Open h) = textBy n c
 
-unfoldable pub textAnswer : List ℕ → List ℕ → List ℕ → ℕ → ℕ → TextAnswer
-textAnswer f names area n i = textAnswerBy n (contentAsked f names area i) (openOf f names area)
+unfoldable pub textAnswer : List ℕ → Lent → ℕ → ℕ → TextAnswer
+textAnswer f lent n i = textAnswerBy n (contentAsked f lent i) (openOf f lent)
 
 -- the lent buffer of n bytes afterwards: the text and zeros, or zeros
 abbrev pub bufferBy : ℕ → List ℕ → TextAnswer → List ℕ
 bufferBy n text (Refused r) = replicate n 0
 bufferBy n text (Text k) = text ++ replicate (n - k) 0
 
-unfoldable pub textBuffer : List ℕ → List ℕ → List ℕ → ℕ → ℕ → List ℕ
-textBuffer f names area n i = bufferBy n (textIn (contentAsked f names area i)) (textAnswer f names area n i)
+unfoldable pub textBuffer : List ℕ → Lent → ℕ → ℕ → List ℕ
+textBuffer f lent n i = bufferBy n (textIn (contentAsked f lent i)) (textAnswer f lent n i)
 
 -- what the code returns and leaves behind, for an answer a
 pub record Gives (n : ℕ) (text : List ℕ) (a r : TextAnswer) (after : List ℕ) : Type 0 where
@@ -77,11 +78,11 @@ pub record Gives (n : ℕ) (text : List ℕ) (a r : TextAnswer) (after : List �
   pub out : after ≡ bufferBy n text a
 
 -- the promise of the text question: the numbers of its answer, and the whole buffer
-pub record TextReads (f names area before : List ℕ) (i : ℕ) (r : TextAnswer) (after : List ℕ) : Type 0 where
-  pub answer : textNumbersOf r ≡ textNumbersOf (textAnswer f names area (length before) i)
-  pub out : after ≡ textBuffer f names area (length before) i
+pub record TextReads (f : List ℕ) (lent : Lent) (before : List ℕ) (i : ℕ) (r : TextAnswer) (after : List ℕ) : Type 0 where
+  pub answer : textNumbersOf r ≡ textNumbersOf (textAnswer f lent (length before) i)
+  pub out : after ≡ textBuffer f lent (length before) i
 
 -- ---- the content question
 
-unfoldable pub contentAnswer : List ℕ → List ℕ → List ℕ → ℕ → List ℕ
-contentAnswer f names area i = rawOf (contentAsked f names area i)
+unfoldable pub contentAnswer : List ℕ → Lent → ℕ → List ℕ
+contentAnswer f lent i = rawOf (contentAsked f lent i)

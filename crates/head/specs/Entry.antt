@@ -13,7 +13,7 @@ use lib.Dec.{ltb}
 use Rattle.records.specs.Limits.{fileLimit}
 use Rattle.errors.specs.declared.Refusal.{Refusal}
 use Rattle.errors.specs.declared.Refusal.the-variants.{TooLargeError, SystemNamesError}
-use Rattle.system_types.specs.Names.{namesOf}
+use Rattle.system_types.specs.Names.{Lent, namesOf}
 use Rattle.system_types.specs.declared.NamesRead.{NamesRead}
 use Rattle.system_types.specs.declared.NamesRead.the-variants.{Good, Bad}
 
@@ -36,13 +36,13 @@ abbrev pub namesCheckBy : NamesRead → Check
 namesCheckBy Good = passes
 namesCheckBy (Bad k) = fails (SystemNamesError k)
 
-abbrev pub namesCheck : List ℕ → List ℕ → Check
-namesCheck area names = namesCheckBy (namesOf area names)
+abbrev pub namesCheck : Lent → Check
+namesCheck lent = namesCheckBy (namesOf lent)
 
 -- ---- all of them, a line a check
 
-abbrev pub entryChecks : List ℕ → List ℕ → List ℕ → List Check
-entryChecks f names area =
+abbrev pub entryChecks : List ℕ → Lent → List Check
+entryChecks f lent =
     lengthCheck f
-    ∷ namesCheck area names
+    ∷ namesCheck lent
     ∷ []

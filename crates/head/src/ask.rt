@@ -15,6 +15,7 @@ ghost use Prim.Native.Nat.{_-_, _≤_};
 ghost use lib.ListN.{length, take, replicate};
 ghost use Rattle.records.specs.Limits.{fileLimit};
 ghost use Rattle.errors.specs.declared.TextAnswer.the-variants.{Refused};
+ghost use Rattle.system_types.specs.Names.{lends};
 ghost use Rattle.text.specs.Content.{contentOf, rawOf, textIn};
 ghost use Rattle.text.specs.Found.{partOf, Inside, isFound, Asks};
 ghost use Rattle.head.specs.Ask.{headRead, openOf, fitted, textBy, contentAnswer, Gives, TextReads};
@@ -44,7 +45,7 @@ fn head_read(opened: Opened) -> OpenRead
 // The head of a file, or the first refusal: what every entry point checks, then the head.
 // Ruled out: a head for a file of which a part of the pool is short.
 pub fn open_file(file: &[u8], names: &[u32], area: &[u8]) -> OpenRead
-    ensures { λ r. ⌜ r ≡ openOf (now (file .entry)) (now (names .entry)) (now (area .entry)) ⌝ }
+    ensures { λ r. ⌜ r ≡ openOf (now (file .entry)) (lends (now (names .entry)) (now (area .entry))) ⌝ }
 {
     let entered = enter(file, names, area);
     match entered {
@@ -102,9 +103,9 @@ fn text_in(
     out: &mut [u8],
     index: StringIndex,
 ) -> TextAnswer
-    requires { ⌜ Asks (now t) (now names) (now area) h ⌝ }
-    ensures { λ r. ⌜ Gives (length (now (out .entry))) (textIn (contentOf h (now (t .entry)) (now (names .entry)) (now (area .entry)) (index .0)))
-        (textBy (length (now (out .entry))) (contentOf h (now (t .entry)) (now (names .entry)) (now (area .entry)) (index .0))) r (now (out .exit)) ⌝ }
+    requires { ⌜ Asks (now t) (lends (now names) (now area)) h ⌝ }
+    ensures { λ r. ⌜ Gives (length (now (out .entry))) (textIn (contentOf h (now (t .entry)) (lends (now (names .entry)) (now (area .entry))) (index .0)))
+        (textBy (length (now (out .entry))) (contentOf h (now (t .entry)) (lends (now (names .entry)) (now (area .entry))) (index .0))) r (now (out .exit)) ⌝ }
 {
     let f = find(t, names, area, h, index);
     if !is_found(f) {
@@ -123,7 +124,7 @@ pub fn text(
     out: &mut [u8],
     index: StringIndex,
 ) -> TextAnswer
-    ensures { λ r. ⌜ TextReads (now (file .entry)) (now (names .entry)) (now (area .entry)) (now (out .entry)) (index .0) r (now (out .exit)) ⌝ }
+    ensures { λ r. ⌜ TextReads (now (file .entry)) (lends (now (names .entry)) (now (area .entry))) (now (out .entry)) (index .0) r (now (out .exit)) ⌝ }
 {
     let opened = open_file(file, names, area);
     match opened {
@@ -141,8 +142,8 @@ fn content_in<'a>(
     h: Head,
     index: StringIndex,
 ) -> &'a [u8]
-    requires { ⌜ Asks (now t) (now names) (now area) h ⌝ }
-    ensures { λ r. ⌜ now r ≡ rawOf (contentOf h (now (t .entry)) (now (names .entry)) (now (area .entry)) (index .0)) ⌝ }
+    requires { ⌜ Asks (now t) (lends (now names) (now area)) h ⌝ }
+    ensures { λ r. ⌜ now r ≡ rawOf (contentOf h (now (t .entry)) (lends (now (names .entry)) (now (area .entry))) (index .0)) ⌝ }
 {
     let f = find(t, names, area, h, index);
     content_of(t, area, f)
@@ -153,7 +154,7 @@ fn content_in<'a>(
 // names are checked again at each call.
 // Ruled out: `android:attr/` in front of a system name, and the closing byte of a string among its content.
 pub fn content<'a>(file: &'a [u8], names: &[u32], area: &'a [u8], index: StringIndex) -> &'a [u8]
-    ensures { λ r. ⌜ now r ≡ contentAnswer (now (file .entry)) (now (names .entry)) (now (area .entry)) (index .0) ⌝ }
+    ensures { λ r. ⌜ now r ≡ contentAnswer (now (file .entry)) (lends (now (names .entry)) (now (area .entry))) (index .0) ⌝ }
 {
     let opened = open_file(file, names, area);
     match opened {

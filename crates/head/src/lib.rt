@@ -12,6 +12,7 @@ ghost use mathlib.Core.Path.{_≡_};
 ghost use Prim.Native.Nat.{_+_, _*_, _≤_, min};
 ghost use lib.ListN.{length, drop};
 ghost use Rattle.records.specs.Limits.{fileLimit};
+ghost use Rattle.system_types.specs.Names.{lends};
 ghost use Rattle.resource_map.specs.Map.{mapOf};
 ghost use Rattle.text.specs.Found.{Fits};
 ghost use Rattle.head.specs.Head.{headBy, unopened, wholeHead, cutPool, cutMap, mappedBy, tablesOf, openedOf};
@@ -193,7 +194,7 @@ fn open_head(file: &[u8]) -> Opened
 // caller's to say, since notes can come before it.
 // Ruled out: 1 for a file of 7 bytes with names that break their rule, and a head for a file past the limit.
 pub fn enter(file: &[u8], names: &[u32], area: &[u8]) -> Entered
-    ensures { λ r. ⌜ r ≡ enteredOf (now (file .entry)) (now (names .entry)) (now (area .entry)) ⌝ }
+    ensures { λ r. ⌜ r ≡ enteredOf (now (file .entry)) (lends (now (names .entry)) (now (area .entry))) ⌝ }
 {
     if FILE_LIMIT < file.len() {
         return Entered::Out(Refusal::TooLargeError);

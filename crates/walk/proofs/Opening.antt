@@ -11,6 +11,7 @@ use Rattle.errors.specs.declared.Refusal.{Refusal}
 use Rattle.errors.specs.declared.ReadAnswer.{ReadAnswer}
 use Rattle.errors.specs.declared.ReadAnswer.the-variants.{Refused}
 use Rattle.errors.specs.Refusal.{numbersOf}
+use Rattle.system_types.specs.Names.{Lent}
 use Rattle.head.specs.Head.{openedOf, bodyIn}
 use Rattle.head.proofs.Laws.{openedOf-fits}
 use Rattle.head.specs.Entry.{Check, passes, fails, firstOf, entryChecks}
@@ -28,17 +29,17 @@ use Rattle.walk.proofs.Clearing.{fresh-not, clears}
 
 -- ---- the first state
 
-abbrev pub first-good : (f names area ns ats : List ℕ) (room cap : ℕ) → Good f names area ns ats (first room cap)
-first-good f names area ns ats room cap = record { stack = []; onWay = λ e. absurd (fresh-not e) }
+abbrev pub first-good : (f : List ℕ) (lent : Lent) (ns ats : List ℕ) (room cap : ℕ) → Good f lent ns ats (first room cap)
+first-good f lent ns ats room cap = record { stack = []; onWay = λ e. absurd (fresh-not e) }
 
-pub first-same : (f names area ns ats : List ℕ) (os : List NoteOf) (cap : ℕ)
-    → outcome f names area ns ats os (first (length os) cap) [] ≡ reading (roomIn ns ats os cap) f names area
-first-same f names area ns ats os cap = refl
+pub first-same : (f : List ℕ) (lent : Lent) (ns ats : List ℕ) (os : List NoteOf) (cap : ℕ)
+    → outcome f lent ns ats os (first (length os) cap) [] ≡ reading (roomIn ns ats os cap) f lent
+first-same f lent ns ats os cap = refl
 
 -- the one equation says the numbers and the tables
-pub reads-of-whole : (f names area ns ats : List ℕ) (os : List NoteOf) (cap : ℕ) (r : ReadAnswer) (ns′ ats′ : List ℕ) (os′ : List NoteOf)
-    → Leaves f names area ns ats os cap r ns′ ats′ os′ → Reads f names area ns ats os cap r ns′ ats′ os′
-reads-of-whole f names area ns ats os cap r ns′ ats′ os′ h = record {
+pub reads-of-whole : (f : List ℕ) (lent : Lent) (ns ats : List ℕ) (os : List NoteOf) (cap : ℕ) (r : ReadAnswer) (ns′ ats′ : List ℕ) (os′ : List NoteOf)
+    → Leaves f lent ns ats os cap r ns′ ats′ os′ → Reads f lent ns ats os cap r ns′ ats′ os′
+reads-of-whole f lent ns ats os cap r ns′ ats′ os′ h = record {
   answer = ap (λ (x : Reading). numbersOf (x .answer)) (h .whole);
   nodes = ap (λ (x : Reading). x .nodes) (h .whole);
   attributes = ap (λ (x : Reading). x .attributes) (h .whole);
@@ -47,38 +48,38 @@ reads-of-whole f names area ns ats os cap r ns′ ats′ os′ h = record {
 
 -- ---- what refuses before the file is read
 
-reading-by : (r : Room) (f names area : List ℕ) (c : Check) → firstOf (entryChecks f names area) ≡ c
-    → reading r f names area ≡ readingBy r (settledIn r f names area (openedOf f)) c
+reading-by : (r : Room) (f : List ℕ) (lent : Lent) (c : Check) → firstOf (entryChecks f lent) ≡ c
+    → reading r f lent ≡ readingBy r (settledIn r f lent (openedOf f)) c
 unfolding reading
-reading-by r f names area c e = ap (readingBy r (settledIn r f names area (openedOf f))) e
+reading-by r f lent c e = ap (readingBy r (settledIn r f lent (openedOf f))) e
 
-module _ (f names area ns ats : List ℕ) (st : State) (g : Good f names area ns ats st) (fresh : st .mode ≡ Fresh) where
+module _ (f : List ℕ) (lent : Lent) (ns ats : List ℕ) (st : State) (g : Good f lent ns ats st) (fresh : st .mode ≡ Fresh) where
   abbrev R : Room
   R = roomOf ns ats st
 
-  much : left f names area st ≡ 20 * length f + 15 + st .room + 1
+  much : left f lent st ≡ 20 * length f + 15 + st .room + 1
   much = rw fresh
 
-  refuses-first : (x : Refusal) → firstOf (entryChecks f names area) ≡ fails x → (r : State) (ns′ ats′ : List ℕ)
-      → Refuses ns ats st x r ns′ ats′ → Advanced f names area ns ats st g r ns′ ats′
+  refuses-first : (x : Refusal) → firstOf (entryChecks f lent) ≡ fails x → (r : State) (ns′ ats′ : List ℕ)
+      → Refuses ns ats st x r ns′ ats′ → Advanced f lent ns ats st g r ns′ ats′
   refuses-first x e r ns′ ats′ w =
       let z : st .room - 0 ≡ st .room = omega arith in
       rw (w .state, w .nodes, w .attributes)
-      (clears f names area ns ats st g (replicate (length ns) 0) (replicate (length ats) 0) 0 (Refused x) (λ lt. omega (arith, much))
-      (λ os l. rw (fresh, reading-by R f names area (fails x) e, z)))
+      (clears f lent ns ats st g (replicate (length ns) 0) (replicate (length ats) 0) 0 (Refused x) (λ lt. omega (arith, much))
+      (λ os l. rw (fresh, reading-by R f lent (fails x) e, z)))
 
-  pub fresh-out : {x : Refusal} → enteredOf f names area ≡ Out x → (r : State) (ns′ ats′ : List ℕ) → Refuses ns ats st x r ns′ ats′
-      → Advanced f names area ns ats st g r ns′ ats′
-  fresh-out {x} e = refuses-first x (entered-out f names area e)
+  pub fresh-out : {x : Refusal} → enteredOf f lent ≡ Out x → (r : State) (ns′ ats′ : List ℕ) → Refuses ns ats st x r ns′ ats′
+      → Advanced f lent ns ats st g r ns′ ats′
+  fresh-out {x} e = refuses-first x (entered-out f lent e)
 
   -- ---- the head is opened
 
-  module _ {o : Opened} (entered : enteredOf f names area ≡ In o) where
-    passes-in : firstOf (entryChecks f names area) ≡ passes
-    passes-in = entered-in f names area entered .0
+  module _ {o : Opened} (entered : enteredOf f lent ≡ In o) where
+    passes-in : firstOf (entryChecks f lent) ≡ passes
+    passes-in = entered-in f lent entered .0
 
-    told : Passed f names area
-    told = passed f names area passes-in
+    told : Passed f lent
+    told = passed f lent passes-in
 
     abbrev started : State
     started = startedBy st (openedOf f)
@@ -89,7 +90,7 @@ module _ (f names area ns ats : List ℕ) (st : State) (g : Good f names area ns
     body-le : length B ≤ length f
     body-le = rw length-drop (omega arith)
 
-    abbrev started-good : Good f names area ns ats started
+    abbrev started-good : Good f lent ns ats started
     started-good = record {
       stack = [];
       onWay = λ _. record {
@@ -110,17 +111,17 @@ module _ (f names area ns ats : List ℕ) (st : State) (g : Good f names area ns
     }
 
     as-started : (s : State) → s ≡ startedBy st o → s ≡ started
-    as-started s e = e ∙ ap (startedBy st) (entered-in f names area entered .1)
+    as-started s e = e ∙ ap (startedBy st) (entered-in f lent entered .1)
 
     -- what `read_on` asks
-    pub started-asks : (s : State) → s ≡ startedBy st o → Good f names area ns ats s × (s .mode ≡ InBody)
+    pub started-asks : (s : State) → s ≡ startedBy st o → Good f lent ns ats s × (s .mode ≡ InBody)
     started-asks s e = rw (as-started s e) (started-good, refl)
 
-    started-same : (os : List NoteOf) → outcome f names area ns ats os st (g .stack) ≡ outcome f names area ns ats os started []
-    started-same os = rw (fresh, reading-by R f names area passes passes-in, pending-first)
+    started-same : (os : List NoteOf) → outcome f lent ns ats os st (g .stack) ≡ outcome f lent ns ats os started []
+    started-same os = rw (fresh, reading-by R f lent passes passes-in, pending-first)
 
     pub advanced-started : (s : State) → s ≡ startedBy st o → (r : State) (ns′ ats′ : List ℕ)
-        → ((x : Good f names area ns ats s) → Advanced f names area ns ats s x r ns′ ats′) → Advanced f names area ns ats st g r ns′ ats′
+        → ((x : Good f lent ns ats s) → Advanced f lent ns ats s x r ns′ ats′) → Advanced f lent ns ats st g r ns′ ats′
     advanced-started s e r ns′ ats′ a₀ =
         let a = (rw (as-started s e) at a₀) started-good in
         record {

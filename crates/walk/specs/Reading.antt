@@ -21,6 +21,7 @@ use Rattle.head.specs.Head.{openedOf, tablesIn, bodyIn}
 use Rattle.head.specs.Entry.{Check, passes, fails, firstOf, entryChecks}
 use Rattle.events.specs.Events.{namesIn, fileEvents}
 use Rattle.records.specs.Words.{nodeWidth, nodeFirst, attributeWidth}
+use Rattle.system_types.specs.Names.{Lent}
 use Rattle.walk.specs.Settle.{Room, Tables, Out, going, refused, settle, nothingYet}
 
 pub record Reading : Type 0 where
@@ -68,10 +69,10 @@ finalOf r (going t) = succeeds r t
 -- ---- the promise
 
 -- the events of a file whose head is o, settled
-abbrev pub settledIn : Room → List ℕ → List ℕ → List ℕ → Opened → Out
-settledIn r f names area o =
+abbrev pub settledIn : Room → List ℕ → Lent → Opened → Out
+settledIn r f lent o =
     let t = tablesIn f (o .head) in
-    let N = namesIn (o .head) t names area in
+    let N = namesIn (o .head) t lent in
     settle (N .repeats) r nothingYet (fileEvents N o t (bodyIn f (o .head)))
 
 -- the entry checks come before the file is read
@@ -79,16 +80,16 @@ abbrev pub readingBy : Room → Out → Check → Reading
 readingBy r o passes = finalOf r o
 readingBy r o (fails x) = refuses r x
 
-unfoldable pub reading : Room → List ℕ → List ℕ → List ℕ → Reading
-reading r f names area = readingBy r (settledIn r f names area (openedOf f)) (firstOf (entryChecks f names area))
+unfoldable pub reading : Room → List ℕ → Lent → Reading
+reading r f lent = readingBy r (settledIn r f lent (openedOf f)) (firstOf (entryChecks f lent))
 
 -- the room of tables with these contents before the call
 abbrev pub roomIn : List ℕ → List ℕ → List NoteOf → ℕ → Room
 roomIn nodes attributes notes cap = record { nodes = length nodes; attributes = length attributes; notes = length notes; cap = cap }
 
 -- what a call of `read` leaves: the paper's numbers, and each lent table whole
-pub record Reads (f names area ns ats : List ℕ) (os : List NoteOf) (cap : ℕ) (r : ReadAnswer) (ns′ ats′ : List ℕ) (os′ : List NoteOf) : Type 0 where
-  pub answer : numbersOf r ≡ numbersOf (reading (roomIn ns ats os cap) f names area .answer)
-  pub nodes : ns′ ≡ reading (roomIn ns ats os cap) f names area .nodes
-  pub attributes : ats′ ≡ reading (roomIn ns ats os cap) f names area .attributes
-  pub notes : os′ ≡ reading (roomIn ns ats os cap) f names area .notes
+pub record Reads (f : List ℕ) (lent : Lent) (ns ats : List ℕ) (os : List NoteOf) (cap : ℕ) (r : ReadAnswer) (ns′ ats′ : List ℕ) (os′ : List NoteOf) : Type 0 where
+  pub answer : numbersOf r ≡ numbersOf (reading (roomIn ns ats os cap) f lent .answer)
+  pub nodes : ns′ ≡ reading (roomIn ns ats os cap) f lent .nodes
+  pub attributes : ats′ ≡ reading (roomIn ns ats os cap) f lent .attributes
+  pub notes : os′ ≡ reading (roomIn ns ats os cap) f lent .notes

@@ -10,6 +10,7 @@ pub mod placing;
 pub mod tree;
 
 ghost use mathlib.Core.Path.{_≡_};
+ghost use Rattle.system_types.specs.Names.{lends};
 ghost use Rattle.walk.specs.declared.Mode.the-variants.{Fresh, Reading as InBody};
 ghost use Rattle.walk.specs.Outcome.{noTree, first, startedBy, Good, Adv};
 use anomaly::Note;
@@ -153,8 +154,8 @@ fn read_on(
     attributes: &mut [u32],
     st: State,
 ) -> State
-    requires { ⌜ Good (now file) (now names) (now area) (now nodes) (now attributes) st × (st .mode ≡ InBody) ⌝ }
-    ensures { λ r. ⌜ Adv (now (file .entry)) (now (names .entry)) (now (area .entry)) (now (nodes .entry)) (now (attributes .entry)) st r
+    requires { ⌜ Good (now file) (lends (now names) (now area)) (now nodes) (now attributes) st × (st .mode ≡ InBody) ⌝ }
+    ensures { λ r. ⌜ Adv (now (file .entry)) (lends (now (names .entry)) (now (area .entry))) (now (nodes .entry)) (now (attributes .entry)) st r
         (now (nodes .exit)) (now (attributes .exit)) ⌝ }
 {
     let opened = st.opened;
@@ -192,8 +193,8 @@ fn start(
     attributes: &mut [u32],
     st: State,
 ) -> State
-    requires { ⌜ Good (now file) (now names) (now area) (now nodes) (now attributes) st × (st .mode ≡ Fresh) ⌝ }
-    ensures { λ r. ⌜ Adv (now (file .entry)) (now (names .entry)) (now (area .entry)) (now (nodes .entry)) (now (attributes .entry)) st r
+    requires { ⌜ Good (now file) (lends (now names) (now area)) (now nodes) (now attributes) st × (st .mode ≡ Fresh) ⌝ }
+    ensures { λ r. ⌜ Adv (now (file .entry)) (lends (now (names .entry)) (now (area .entry))) (now (nodes .entry)) (now (attributes .entry)) st r
         (now (nodes .exit)) (now (attributes .exit)) ⌝ }
 {
     let entered = enter(file, names, area);
@@ -213,8 +214,8 @@ pub fn advance(
     attributes: &mut [u32],
     st: State,
 ) -> State
-    requires { ⌜ Good (now file) (now names) (now area) (now nodes) (now attributes) st ⌝ }
-    ensures { λ r. ⌜ Adv (now (file .entry)) (now (names .entry)) (now (area .entry)) (now (nodes .entry)) (now (attributes .entry)) st r
+    requires { ⌜ Good (now file) (lends (now names) (now area)) (now nodes) (now attributes) st ⌝ }
+    ensures { λ r. ⌜ Adv (now (file .entry)) (lends (now (names .entry)) (now (area .entry))) (now (nodes .entry)) (now (attributes .entry)) st r
         (now (nodes .exit)) (now (attributes .exit)) ⌝ }
 {
     let mode = st.mode;

@@ -1,6 +1,7 @@
 -- `walk::start` meets its contract: a check that fails refuses before the file is read, and a call behind the head is a call from here (proofs/Opening.antt).
 use mathlib.Core.Path.{sym, _∙_}
 use borrow.Author.Needs.{needs}
+use Rattle.system_types.specs.Names.{lends}
 use Rattle.walk.proofs.Opening.{fresh-out, started-asks, advanced-started}
 use Rattle.walk.proofs.start.Statement.{statement}
 use Rattle.walk.proofs.start.Tie as tie
@@ -26,7 +27,7 @@ read-on-requires c κs =
     let at-start = at-enter .before .before .before .before .before .before in
     let a = at-start .args in
     let e = sym (at-enter .enter .ensures) ∙ c .before .before .before .before .entered2 .given .1 in
-    started-asks (a .file .now) (a .names .now) (a .area .now) (a .nodes .now) (a .attributes .now) (a .st) (at-start .pre .0) (at-start .pre .1) e
+    started-asks (a .file .now) (lends (a .names .now) (a .area .now)) (a .nodes .now) (a .attributes .now) (a .st) (at-start .pre .0) (at-start .pre .1) e
     (c .started .result) (c .started .ensures)
 
 same-length : tie.Need-same-length
@@ -44,7 +45,7 @@ returns c =
     let r = at-refuse .refuse in
     let e = sym (at-enter .enter .ensures) ∙ at-refuse .before .before .before .before .entered .given .1 in
     λ g.
-    fresh-out (a .file .now) (a .names .now) (a .area .now) (a .nodes .now) (a .attributes .now) (a .st) g (at-start .pre .1) e
+    fresh-out (a .file .now) (lends (a .names .now) (a .area .now)) (a .nodes .now) (a .attributes .now) (a .st) g (at-start .pre .1) e
     (r .result) (r .last .0) (r .last .1 .0) (r .ensures)
 
 same-length-3 : tie.Need-same-length-3
@@ -63,7 +64,7 @@ returns-2 c =
     let q = at-read-on .read-on in
     let e = sym (at-enter .enter .ensures) ∙ at-started .before .before .before .before .entered2 .given .1 in
     λ g.
-    advanced-started (a .file .now) (a .names .now) (a .area .now) (a .nodes .now) (a .attributes .now) (a .st) g (at-start .pre .1) e
+    advanced-started (a .file .now) (lends (a .names .now) (a .area .now)) (a .nodes .now) (a .attributes .now) (a .st) g (at-start .pre .1) e
     (at-started .started .result) (at-started .started .ensures) (q .result) (q .last .1 .1 .1 .0) (q .last .1 .1 .1 .1 .0) (q .ensures)
 
 pub start-spec : {M : Type 1} → statement M

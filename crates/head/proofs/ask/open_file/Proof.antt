@@ -2,6 +2,7 @@
 use mathlib.Core.Path.{sym, _∙_}
 use borrow.Author.Needs.{needs}
 use denote.Ref.{now}
+use Rattle.system_types.specs.Names.{lends}
 use Rattle.head.proofs.Questions.{openOf-in, openOf-out}
 use Rattle.head.proofs.ask.open_file.Statement.{statement}
 use Rattle.head.proofs.ask.open_file.Tie as tie
@@ -22,13 +23,13 @@ returns : tie.Need-returns
 returns c =
     let a = c .before .before .before .before .before .before .before .before .args in
     let e = sym (c .before .before .before .before .enter .ensures) ∙ c .before .before .entered .given .1 in
-    c .head-read .ensures ∙ openOf-in (now (a .file)) (now (a .names)) (now (a .area)) e
+    c .head-read .ensures ∙ openOf-in (now (a .file)) (lends (now (a .names)) (now (a .area))) e
 
 returns-2 : tie.Need-returns-2
 returns-2 c =
     let a = c .before .before .before .before .before .before .before .args in
     let e = sym (c .before .before .before .enter .ensures) ∙ c .before .entered2 .given .1 in
-    openOf-out (now (a .file)) (now (a .names)) (now (a .area)) e
+    openOf-out (now (a .file)) (lends (now (a .names)) (now (a .area))) e
 
 pub open-file-spec : {M : Type 1} → statement M
 open-file-spec =
