@@ -46,7 +46,7 @@ use Rattle.listing_text.specs.Printed.{Printed}
 use Rattle.xml.specs.NCName.{validName}
 use Rattle.head.specs.Ask.{TextReads, contentAnswer}
 use Rattle.head.specs.Head.{openedOf, headLen}
-use Rattle.first_value.specs.Question.{firstAnswer}
+use Rattle.first_value.specs.Question.{firstAnswer, FirstReads}
 use Rattle.records.specs.Words.{nodeWidth, attributeWidth, noteWidth}
 use Rattle.walk.specs.Settle.{Room}
 use Rattle.walk.specs.Reading.{reading, roomIn, zeroNote, Reads}
@@ -89,9 +89,9 @@ pub content-unique : (f names area : List ℕ) (i : ℕ) (s s′ : List ℕ) →
 content-unique f names area i s s′ p q = p ∙ sym q
 
 module _ (f names area ns ats tag name : List ℕ) (nodes attributes : ℕ) where
-  pub first-unique : (r r′ : FirstAnswer) → r ≡ firstAnswer f names area ns ats tag name nodes attributes
-      → r′ ≡ firstAnswer f names area ns ats tag name nodes attributes → r ≡ r′
-  first-unique r r′ p q = p ∙ sym q
+  pub first-unique : (r r′ : FirstAnswer) → FirstReads f names area ns ats tag name nodes attributes r
+      → FirstReads f names area ns ats tag name nodes attributes r′ → r ≡ r′
+  first-unique r r′ p q = firstNumbersOf-unique r r′ (p .answer ∙ sym (q .answer))
 
 pub listing-unique : (text before : List ℕ) (r r′ : TextAnswer) (after after′ : List ℕ) → Printed text before r after → Printed text before r′ after′
     → (r ≡ r′) × (after ≡ after′)
@@ -172,8 +172,8 @@ module _ (r : Room) (f names area : List ℕ) (c : ReadCounts) (one : 1 ≤ r .c
   insertion-content = values.insertion-content r f names area c one done none places limit
 
   pub insertion-first : (ns ats tag name : List ℕ) (nodes attributes : ℕ) (a a′ : FirstAnswer)
-      → a ≡ firstAnswer f names area ns ats tag name nodes attributes
-      → a′ ≡ firstAnswer (insertedFile places f) names area ns ats tag name nodes attributes → a′ ≡ a
+      → FirstReads f names area ns ats tag name nodes attributes a → FirstReads (insertedFile places f) names area ns ats tag name nodes attributes a′
+      → a′ ≡ a
   insertion-first = values.insertion-first r f names area c one done none places limit
 
 -- with nothing put in it is the same file

@@ -9,10 +9,10 @@ use mathlib.Core.Bool.{Bool, cond}
 use lib.ListN.{length, drop, length-append, length-set}
 use lib.Dec.{eqb}
 use Rattle.xml_elements.proofs.Laws.{cond-by}
+use Rattle.records.specs.Repeats.{Rule}
 use Rattle.events.specs.declared.Event.{Event}
 use Rattle.events.specs.declared.Event.the-variants.{Nothing, Open, Attribute, LeftOut, Close, Note, Refuse, Finish}
-use Rattle.tables.specs.Keep.{hasKey}
-use Rattle.walk.specs.Settle.{Tables, opened, closed, kept}
+use Rattle.walk.specs.Settle.{Tables, opened, closed, kept, repeated}
 use Rattle.claims.proofs.Erased.{othersIn}
 
 -- the tables without their notes
@@ -21,7 +21,7 @@ bare t = record { nodes = t .nodes; attributes = t .attributes; first = t .first
 
 -- ---- events
 
-module _ (same : ℕ → ℕ → Bool) where
+module _ (rule : Rule) where
   abbrev pub grow : Tables → Event → Tables
   grow t Nothing = t
   grow t Finish = t
@@ -31,7 +31,7 @@ module _ (same : ℕ → ℕ → Bool) where
   grow t Close = closed t
   grow t (Open name fixed line) = opened t (name .0) fixed
   grow t (Attribute p a) =
-      cond (eqb (length (t .nodes)) 0) t (cond (hasKey same p (a .name .0) (drop (t .first) (t .attributes))) t (kept t p a))
+      cond (eqb (length (t .nodes)) 0) t (cond (repeated rule t p a) t (kept t p a))
 
   abbrev pub grown : Tables → List Event → Tables
   grown t [] = t
@@ -67,7 +67,7 @@ module _ (same : ℕ → ℕ → Bool) where
       record { nodes = rw length-append (omega arith); attributes = le-refl _ }
   grow-more t (Attribute p a) =
       cond-by (More t) (eqb (length (t .nodes)) 0) (λ _. stays t)
-      (λ _. cond-by (More t) (hasKey same p (a .name .0) (drop (t .first) (t .attributes))) (λ _. stays t)
+      (λ _. cond-by (More t) (repeated rule t p a) (λ _. stays t)
       (λ _. record { nodes = rw length-set (omega arith); attributes = rw length-append (omega arith) }))
 
   pub grown-more : (es : List Event) (t : Tables) → More t (grown t es)

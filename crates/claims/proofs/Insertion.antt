@@ -57,8 +57,8 @@ module _ (r : Room) (f names area : List ℕ) (c : ReadCounts) (one : 1 ≤ r .c
   abbrev es : List Event
   es = fileEvents N o t l
 
-  told : Settles (N .same) r empty es (s .tables)
-  told = settled (N .same) r es (s .tables) (s .settles)
+  told : Settles (N .repeats) r empty es (s .tables)
+  told = settled (N .repeats) r es (s .tables) (s .settles)
 
   no-notes : notesIn es ≡ []
   no-notes =
@@ -76,9 +76,9 @@ module _ (r : Room) (f names area : List ℕ) (c : ReadCounts) (one : 1 ≤ r .c
   -- no second element is open in the end
   no-second : secondOf (s .tables .stack) ≡ 0
   no-second =
-      let e : grown (N .same) (bare empty) es .stack ≡ s .tables .stack = ap (λ (u : Tables). u .stack) (sym (told .tree)) in
+      let e : grown (N .repeats) (bare empty) es .stack ≡ s .tables .stack = ap (λ (u : Tables). u .stack) (sym (told .tree)) in
       let d : deep es 0 ≡ 0 = deep-file N o t head-whole l no-notes in
-      let h : length (grown (N .same) (bare empty) es .stack) ≤ deep es 0 + 1 = grown-stack (N .same) es (bare empty) 0 (omega arith) in
+      let h : length (grown (N .repeats) (bare empty) es .stack) ≤ deep es 0 + 1 = grown-stack (N .repeats) es (bare empty) 0 (omega arith) in
       second-none (s .tables .stack) (rw (← e) (omega (arith, d, h)))
 
   -- so nothing is dropped: all starts and all attributes are kept
@@ -86,7 +86,7 @@ module _ (r : Room) (f names area : List ℕ) (c : ReadCounts) (one : 1 ≤ r .c
   nothing-dropped = rw (← s .counts, no-second)
 
   shaped : Shaped r (s .tables)
-  shaped = rw (s .settles) at (settled-shaped r (N .same) es)
+  shaped = rw (s .settles) at (settled-shaped r (N .repeats) es)
 
   there : KeptThere (s .tables)
   there =
@@ -110,10 +110,10 @@ module _ (r : Room) (f names area : List ℕ) (c : ReadCounts) (one : 1 ≤ r .c
     abbrev ns : List ResAnomaly
     ns = keptNotes (r′ .cap) (placeNotes places)
 
-    longer : reading r′ (insertedFile places f) names area ≡ finalOf r′ (settle (N .same) r′ nothingYet es′)
+    longer : reading r′ (insertedFile places f) names area ≡ finalOf r′ (settle (N .repeats) r′ nothingYet es′)
     longer = reading-of r′ (insertedFile places f) names area limit (s .good) ∙ ap (finalOf r′) same
       where
-        same : settledIn r′ (insertedFile places f) names area (openedOf (insertedFile places f)) ≡ settle (N .same) r′ nothingYet es′
+        same : settledIn r′ (insertedFile places f) names area (openedOf (insertedFile places f)) ≡ settle (N .repeats) r′ nothingYet es′
         same =
             rw (
               longer-opened f (s .short) head-whole places,
@@ -131,9 +131,9 @@ module _ (r : Room) (f names area : List ℕ) (c : ReadCounts) (one : 1 ≤ r .c
     pub insertion : HasRoom (reading r′ (insertedFile places f) names area .answer)
         → reading r′ (insertedFile places f) names area ≡ withNotes r′ (reading r f names area) c ns
     insertion room =
-        go (settle (N .same) r′ nothingYet es′) longer (settle-beside (N .same) r es (s .tables) (s .settles) r′ es′ others)
+        go (settle (N .repeats) r′ nothingYet es′) longer (settle-beside (N .repeats) r es (s .tables) (s .settles) r′ es′ others)
       where
-        go : (x : Out) → reading r′ (insertedFile places f) names area ≡ finalOf r′ x → Comes (N .same) r es (s .tables) (s .settles) r′ es′ others x
+        go : (x : Out) → reading r′ (insertedFile places f) names area ≡ finalOf r′ x → Comes (N .repeats) r es (s .tables) (s .settles) r′ es′ others x
             → reading r′ (insertedFile places f) names area ≡ withNotes r′ (reading r f names area) c ns
         go (refused x) e full = absurd (true-false (sym full ∙ (rw e at room)))
         go (going u) e b =
@@ -145,10 +145,10 @@ module _ (r : Room) (f names area : List ℕ) (c : ReadCounts) (one : 1 ≤ r .c
         → HasRoom (reading r′ (insertedFile places f) names area .answer)
     insertion-room n a m =
         rw longer
-        (go (settle (N .same) r′ nothingYet es′)
-        (beside-roomy (N .same) r es (s .tables) (s .settles) r′ es′ others (rw all-nodes n) (rw all-attributes a) (rw notes m)))
+        (go (settle (N .repeats) r′ nothingYet es′)
+        (beside-roomy (N .repeats) r es (s .tables) (s .settles) r′ es′ others (rw all-nodes n) (rw all-attributes a) (rw notes m)))
       where
-        go : (x : Out) → Going (N .same) r′ x → HasRoom (finalOf r′ x .answer)
+        go : (x : Out) → Going (N .repeats) r′ x → HasRoom (finalOf r′ x .answer)
         go (going u) g = tt
         go (refused x) g = absurd g
 

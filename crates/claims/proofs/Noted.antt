@@ -18,15 +18,16 @@ use Rattle.anomaly.specs.Kept.{isDue, counted, keptFrom, keptNotes, ofKind as o
 use Rattle.anomaly.specs.declared.ResAnomaly.{ResAnomaly}
 use Rattle.anomaly.proofs.Laws.{keptFrom-due, keptFrom-past, keptNotes-of-kind-le}
 use Rattle.anomaly.proofs.Numbers.{kind-place}
+use Rattle.records.specs.Repeats.{Rule}
 use Rattle.events.specs.declared.Event.{Event}
 use Rattle.walk.specs.Settle.{Room, Tables, going, settle, nothingYet}
 use Rattle.claims.specs.Counts.{notesIn}
 use Rattle.claims.specs.Shape.{ofKind}
 use Rattle.claims.proofs.Settled.{settled}
 
-pub settled-notes : (same : ℕ → ℕ → Bool) (r : Room) (es : List Event) (t : Tables) → settle same r nothingYet es ≡ going t
+pub settled-notes : (rule : Rule) (r : Room) (es : List Event) (t : Tables) → settle rule r nothingYet es ≡ going t
     → t .notes ≡ map noteOf (keptNotes (r .cap) (notesIn es))
-settled-notes same r es t e = settled same r es t e .notes
+settled-notes rule r es t e = settled rule r es t e .notes
 
 -- ---- all anomalies, and those that are kept
 

@@ -22,6 +22,7 @@ use Rattle.errors.specs.declared.ReadCounts.{ReadCounts}
 use Rattle.head.specs.Head.{openedOf, tablesIn, bodyIn}
 use Rattle.events.specs.declared.Event.{Event}
 use Rattle.records.specs.Words.{nodeWidth, nodeName, nodeFixed, nodeParent, nodeFirst, nodeCount, attributeWidth, attributeOwner}
+use Rattle.records.specs.Repeats.{Rule}
 use Rattle.walk.specs.Settle.{Room, Tables, settle, nothingYet}
 use Rattle.walk.specs.Reading.{Reading, reading, secondOf, nodesKept, attributesKept, roomIn, Reads}
 use Rattle.claims.specs.Counts.{opensIn, notesIn, depthFrom}
@@ -107,26 +108,26 @@ module _ (f names area ns ats : List ℕ) (os : List Note) (cap : ℕ) (c : Read
   abbrev es : List Event
   es = eventsOf f names area
 
-  abbrev same : ℕ → ℕ → Bool
-  same = namesFor f names area .same
+  abbrev rule : Rule
+  rule = namesFor f names area .repeats
 
   abbrev r : Room
   r = roomIn ns ats os cap
 
-  d : DoneBy r (settle same r nothingYet es) c (reading r f names area)
+  d : DoneBy r (settle rule r nothingYet es) c (reading r f names area)
   d = done-by f names area ns ats os cap c ns′ ats′ os′ reads
 
   abbrev t : Tables
   t = d .tables
 
   pub starts-right : c .starts ≡ opensIn es
-  starts-right = omega (arith, d .starts, settled-starts same r es t (d .out))
+  starts-right = omega (arith, d .starts, settled-starts rule r es t (d .out))
 
   abbrev ks : List ResAnomaly
   ks = keptNotes cap (notesIn es)
 
   told : t .notes ≡ map noteOf ks
-  told = settled-notes same r es t (d .out)
+  told = settled-notes rule r es t (d .out)
 
   pub notes-many : c .notes ≡ length ks
   notes-many = d .notes ∙ ap length told ∙ length-map ks noteOf
@@ -137,7 +138,7 @@ module _ (f names area ns ats : List ℕ) (os : List Note) (cap : ℕ) (c : Read
       ∙ ap (take (length (t .notes))) (reads .notes ∙ ap (λ (x : Reading). x .notes) (d .whole)) ∙ take-at (t .notes) _ (length (t .notes)) refl ∙ told
 
   walk : WalkedFile es
-  walk = settled-walked same r es t (file-ends (namesFor f names area) (openedOf f) (tablesIn f (openedOf f .head)) (bodyIn f (openedOf f .head))) (d .out)
+  walk = settled-walked rule r es t (file-ends (namesFor f names area) (openedOf f) (tablesIn f (openedOf f .head)) (bodyIn f (openedOf f .head))) (d .out)
 
   some-start : 0 < opensIn es
   some-start = walked-some es walk
@@ -146,8 +147,8 @@ module _ (f names area ns ats : List ℕ) (os : List Note) (cap : ℕ) (c : Read
   structured =
       let h = done-shaped f names area ns ats os cap t (d .out) in
       let k = kept-in r t h in
-      let near = settled-near same r es t (d .out) in
-      let n = settled-starts same r es t (d .out) in
+      let near = settled-near rule r es t (d .out) in
+      let n = settled-starts rule r es t (d .out) in
       let sn = kept-same nodeWidth (t .nodes) ns′ _ (nodesKept t) (omega (arith, k .nodes, h .nodes)) (reads .nodes ∙ ap (λ (x : Reading). x .nodes) (d .whole)) in
       let sa = kept-same attributeWidth (t .attributes) ats′ _ (attributesKept t) (omega (arith, k .attributes, h .attributes))
       (reads .attributes ∙ ap (λ (x : Reading). x .attributes) (d .whole)) in
@@ -158,8 +159,8 @@ module _ (f names area ns ats : List ℕ) (os : List Note) (cap : ℕ) (c : Read
         starts = omega (arith, n);
         some = kept-some r t h (omega (arith, some-start, h .nodes, n));
         within = omega (arith, k .nodes, h .nodes);
-        names = λ i l. sn i nodeName l (omega arith) ∙ settled-names same r es t (d .out) (h .n) i (h .nodes) (omega (arith, k .nodes));
-        fixed = λ i l. sn i nodeFixed l (omega arith) ∙ settled-fixed same r es t (d .out) (h .n) i (h .nodes) (omega (arith, k .nodes));
+        names = λ i l. sn i nodeName l (omega arith) ∙ settled-names rule r es t (d .out) (h .n) i (h .nodes) (omega (arith, k .nodes));
+        fixed = λ i l. sn i nodeFixed l (omega arith) ∙ settled-fixed rule r es t (d .out) (h .n) i (h .nodes) (omega (arith, k .nodes));
         parents = parents-same (t .nodes) ns′ (nodesKept t) (h .n) sn (k .nodes) (h .parents);
         runs = runs;
         owns = owns;

@@ -51,7 +51,7 @@ module _ (f names area ns ats : List ℕ) (os : List Note) (cap : ℕ) where
   room = roomIn ns ats os cap
 
   abbrev pub outOf : Out
-  outOf = settle (namesFor f names area .same) room nothingYet (eventsOf f names area)
+  outOf = settle (namesFor f names area .repeats) room nothingYet (eventsOf f names area)
 
   pub done-by : (c : ReadCounts) (ns′ ats′ : List ℕ) (os′ : List Note) → Reads f names area ns ats os cap (Done c) ns′ ats′ os′
       → DoneBy room outOf c (reading room f names area)
@@ -59,4 +59,4 @@ module _ (f names area ns ats : List ℕ) (os : List Note) (cap : ℕ) where
   done-by c ns′ ats′ os′ h = final-by room outOf (firstOf (lengthCheck f ∷ namesCheck area names ∷ [])) c (numbersOf-unique _ _ (h .answer))
 
   pub done-shaped : (t : Tables) → outOf ≡ going t → Shaped room t
-  done-shaped t e = rw e at (settled-shaped room (namesFor f names area .same) (eventsOf f names area))
+  done-shaped t e = rw e at (settled-shaped room (namesFor f names area .repeats) (eventsOf f names area))

@@ -6,13 +6,13 @@ use Prim.Native.Nat.{ℕ, _+_, _-_, _*_, _/_, _<_}
 use native.Mathlib.Omega.{arith}
 use mathlib.Core.Path.{_≡_, refl, sym, _∙_, ap}
 use mathlib.Core.List.{List, [], _∷_, _++_}
-use mathlib.Core.Bool.{Bool}
 use lib.ListN.{length, drop, getD, length-append, length-set}
 use lib.Seq.{getD-drop, drop-drop}
 use Rattle.common.specs.declared.StringIndex.{StringIndex}
 use Rattle.events.specs.declared.Event.{Event}
 use Rattle.events.specs.declared.Event.the-variants.{Open}
 use Rattle.records.specs.Words.{nodeWidth, nodeName, nodeFixed, nodeCount, nodeWords, attributeWidth}
+use Rattle.records.specs.Repeats.{Rule}
 use Rattle.walk.specs.Settle.{Room, Tables, going, settle, nothingYet, parentIn, opened, lastNode}
 use Rattle.claims.specs.Counts.{opensAs, openNames, openFixed}
 use Rattle.claims.specs.Shape.{nodeWord}
@@ -61,14 +61,14 @@ module _ (r : Room) (k : ℕ) (pick : ℕ → ℕ → ℕ) (all : List ℕ) (low
             behind = sym (drop-drop 1 (h .n) all) ∙ ap (λ (l : List ℕ). drop 1 l) (h .behind);
           }
 
-module _ (same : ℕ → ℕ → Bool) (r : Room) (es : List Event) (t : Tables) (e : settle same r nothingYet es ≡ going t) where
+module _ (rule : Rule) (r : Room) (es : List Event) (t : Tables) (e : settle rule r nothingYet es ≡ going t) where
   settled-column : (k : ℕ) (pick : ℕ → ℕ → ℕ) → k < nodeWidth → (k ≡ nodeCount → ⊥)
       → ((name fixed parent first : ℕ) → getD (nodeWords name fixed parent first 0) k 0 ≡ pick name fixed)
       → (n i : ℕ) → length (t .nodes) ≡ nodeWidth * n → i < n → nodeWord (t .nodes) i k ≡ getD (opensAs pick es) i 0
   settled-column k pick low kept puts n i l g =
       let start : Ordered k pick (opensAs pick es) es empty =
       record { n = 0; nodes = refl; before = λ i l. absurd (let y : ⊥ = omega arith in y); behind = refl } in
-      let h = rw e at (settle-in same r (Ordered k pick (opensAs pick es)) (goes r k pick (opensAs pick es) low kept puts) nothingYet es start) in
+      let h = rw e at (settle-in rule r (Ordered k pick (opensAs pick es)) (goes r k pick (opensAs pick es) low kept puts) nothingYet es start) in
       h .before i (omega (arith, h .nodes))
 
   pub settled-names : (n i : ℕ) → length (t .nodes) ≡ nodeWidth * n → i < n → nodeWord (t .nodes) i nodeName ≡ getD (openNames es) i 0

@@ -8,28 +8,28 @@ use native.Mathlib.Omega.{arith}
 use native.Mathlib.Nat.{mul-suc, mul-le-mul-left}
 use mathlib.Core.Path.{_≡_, sym, _∙_, ap}
 use mathlib.Core.List.{List, _++_}
-use mathlib.Core.Bool.{Bool}
 use lib.ListN.{length, set, getD, List·getD-append}
 use lib.Seq.{getD-append-add, getD-set-same, getD-set-other}
 use Rattle.anomaly.specs.declared.ResAnomaly.{ResAnomaly}
 use Rattle.xml_elements.specs.declared.XmlAttributeElement.{XmlAttributeElement}
 use Rattle.events.specs.declared.Event.{Event}
 use Rattle.records.specs.Words.{nodeWidth, nodeCount, attributeWidth}
+use Rattle.records.specs.Repeats.{Rule}
 use Rattle.walk.specs.Settle.{Room, Tables, Out, settle, opened, closed, kept, noted}
 use Rattle.claims.specs.Shape.{word, nodeWord}
 use Rattle.claims.proofs.PushBy.{InTables, settle-in}
 
 -- ---- events put away
 
-module _ (same : ℕ → ℕ → Bool) (r : Room) (P : Tables → Type 0)
+module _ (rule : Rule) (r : Room) (P : Tables → Type 0)
     (opens : (t : Tables) (name fixed : ℕ) → length (t .nodes) + nodeWidth ≤ r .nodes → P t → P (opened t name fixed))
     (closes : (t : Tables) → P t → P (closed t))
     (keeps : (t : Tables) (p : ℕ) (a : XmlAttributeElement) → (length (t .nodes) ≡ 0 → ⊥) → length (t .attributes) + attributeWidth ≤ r .attributes → P t
     → P (kept t p a))
     (notes : (t : Tables) (x : ResAnomaly) → length (t .notes) < r .notes → P t → P (noted t x)) where
-  pub settle-keeps : (o : Out) (es : List Event) → InTables P o → InTables P (settle same r o es)
+  pub settle-keeps : (o : Out) (es : List Event) → InTables P o → InTables P (settle rule r o es)
   settle-keeps =
-      settle-in same r (λ es t. P t) (record {
+      settle-in rule r (λ es t. P t) (record {
         idles = λ t e es i h. h;
         closes = λ t es h. closes t h;
         opens = λ t es n f l g h. opens t (n .0) f g h;

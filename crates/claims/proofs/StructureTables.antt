@@ -16,6 +16,7 @@ use Rattle.anomaly.specs.declared.ResAnomaly.{ResAnomaly}
 use Rattle.xml_elements.specs.declared.XmlAttributeElement.{XmlAttributeElement}
 use Rattle.events.specs.declared.Event.{Event}
 use Rattle.records.specs.Words.{nodeWidth, nodeFirst, nodeWords, attributeWidth}
+use Rattle.records.specs.Repeats.{Rule}
 use Rattle.walk.specs.Settle.{Room, Tables, settle, nothingYet, opened, closed, kept, noted, parentIn}
 use Rattle.walk.specs.Reading.{secondOf, nodesKept, attributesKept}
 use Rattle.claims.specs.Shape.{Descends, begin, end, Runs, Owns}
@@ -144,9 +145,9 @@ module _ (r : Room) where
     first = h .first;
   }
 
-  pub settled-shaped : (same : ℕ → ℕ → Bool) (es : List Event) → InTables (Shaped r) (settle same r nothingYet es)
-  settled-shaped same es =
-      settle-keeps same r (Shaped r) shaped-opened shaped-closed shaped-kept shaped-noted nothingYet es shaped-none
+  pub settled-shaped : (rule : Rule) (es : List Event) → InTables (Shaped r) (settle rule r nothingYet es)
+  settled-shaped rule es =
+      settle-keeps rule r (Shaped r) shaped-opened shaped-closed shaped-kept shaped-noted nothingYet es shaped-none
 
 -- ---- what is kept
 

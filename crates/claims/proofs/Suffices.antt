@@ -137,7 +137,7 @@ module _ (r : Room) (f names area : List ℕ) (nodes : nodesFor (length f) ≤ r
       let b = bodyIn f (o .head) in
       let few = file-few N o t b in
       let l : length b ≡ length f - (8 + headLen (o .head)) = length-drop (8 + headLen (o .head)) f in
-      settle-by (N .same) r (Enough r) Other (goes r) (stops r) nothingYet (fileEvents N o t b) (record {
+      settle-by (N .repeats) r (Enough r) Other (goes r) (stops r) nothingYet (fileEvents N o t b) (record {
         nodes = omega (arith, few .opens);
         attributes = omega (arith, few .attributes);
         fine = few .fine;

@@ -9,14 +9,14 @@ use Rattle.errors.specs.declared.ReadAnswer.the-variants.{Done}
 use Rattle.errors.specs.declared.ReadCounts.{ReadCounts}
 use Rattle.errors.specs.declared.TextAnswer.{TextAnswer}
 use Rattle.errors.specs.declared.FirstAnswer.{FirstAnswer}
-use Rattle.errors.specs.Refusal.{textNumbersOf}
-use Rattle.errors.proofs.Laws.{textNumbersOf-unique}
+use Rattle.errors.specs.Refusal.{textNumbersOf, firstNumbersOf}
+use Rattle.errors.proofs.Laws.{textNumbersOf-unique, firstNumbersOf-unique}
 use Rattle.records.specs.Limits.{fileLimit}
 use Rattle.head.specs.Head.{openedOf, tablesIn}
 use Rattle.head.specs.Ask.{Check, passes, fails, firstOf, checks, lengthCheck, headCheck, openBy, openOf, askedBy}
 use Rattle.head.specs.Ask.{textAnswer, textBuffer, contentAnswer, TextReads}
 use Rattle.first_value.specs.Question as first
-use Rattle.first_value.specs.Question.{firstAnswer}
+use Rattle.first_value.specs.Question.{firstAnswer, FirstReads}
 use Rattle.walk.specs.Settle.{Room}
 use Rattle.walk.specs.Reading.{reading}
 use Rattle.claims.specs.Insertion.{ForeignChunk, insertedFile}
@@ -78,6 +78,6 @@ module _ (r : Room) (f names area : List ℕ) (c : ReadCounts) (one : 1 ≤ r .c
     unfolding firstAnswer openOf
     first-same = ap (first.askedBy g names area ns ats tag name nodes attributes) open-same ∙ asked-first (firstOf (checks f names area))
 
-    pub insertion-first : (a a′ : FirstAnswer) → a ≡ firstAnswer f names area ns ats tag name nodes attributes
-        → a′ ≡ firstAnswer g names area ns ats tag name nodes attributes → a′ ≡ a
-    insertion-first a a′ p q = q ∙ first-same ∙ sym p
+    pub insertion-first : (a a′ : FirstAnswer) → FirstReads f names area ns ats tag name nodes attributes a
+        → FirstReads g names area ns ats tag name nodes attributes a′ → a′ ≡ a
+    insertion-first a a′ p q = firstNumbersOf-unique a′ a (q .answer ∙ ap firstNumbersOf first-same ∙ sym (p .answer))
