@@ -19,20 +19,22 @@ use Rattle.errors.specs.declared.Refusal.the-variants.{AttributesFull, NotesFul
 use Rattle.errors.specs.declared.TextAnswer.{TextAnswer}
 use Rattle.errors.specs.declared.TextAnswer.the-variants.{Text, Refused}
 use Rattle.errors.proofs.Laws.{textNumbersOf-unique}
-use Rattle.head.specs.Ask.{Check, passes, fails, firstOf, lengthCheck, namesCheck}
+use Rattle.head.specs.Entry.{Check, passes, fails, firstOf, entryChecks}
 use Rattle.head.specs.Head.{openedOf}
 use Rattle.xml_elements.proofs.Laws.{cond-by}
 use Rattle.events.specs.declared.Event.{Event}
 use Rattle.events.specs.declared.Event.the-variants.{Nothing, Open, Attribute, LeftOut, Close, Note, Refuse, Finish}
 use Rattle.records.specs.Words.{nodeWidth, attributeWidth}
 use Rattle.records.specs.Limits.{listedFile, listedNodes, listedAttributes, listedNotes, listedCap}
+use Rattle.system_types.specs.Names.{Lent, lends}
 use Rattle.records.specs.Repeats.{Rule}
 use Rattle.walk.specs.Settle.{Room, Tables, Out, going, refused, repeated, kept, noted, push, settle, nothingYet}
 use Rattle.walk.specs.Reading.{Reading, refuses, succeeds, nodesKept, attributesKept, zeroNote, readingBy, settledIn, reading}
-use Rattle.listing_text.specs.Size.{listedBytes}
+use Rattle.listing_text.specs.Inner.Size.{listedBytes}
 use Rattle.listing_text.specs.Printed.{listingAnswer}
 use Rattle.listing_text.proofs.Lengths.{listingText-fits}
-use Rattle.listed.specs.Lists.{listedRoom, listed, listedText, Lists, Roomy}
+use Rattle.listed.specs.Inner.Roomy.{Roomy}
+use Rattle.listed.specs.Lists.{listedRoom, listed, listedText, Lists}
 
 -- ---- events settled in tables
 
@@ -116,10 +118,10 @@ readingBy-le r (going t) passes h = succeeds-le r t h
 readingBy-le r (refused x) passes h = refuses-le r x
 readingBy-le r o (fails x) h = refuses-le r x
 
-pub reading-le : (r : Room) (f names area : List ℕ) → Left r (reading r f names area)
+pub reading-le : (r : Room) (f : List ℕ) (lent : Lent) → Left r (reading r f lent)
 unfolding reading
-reading-le r f names area =
-    readingBy-le r (settledIn r f names area (openedOf f)) (firstOf (lengthCheck f ∷ namesCheck area names ∷ []))
+reading-le r f lent =
+    readingBy-le r (settledIn r f lent (openedOf f)) (firstOf (entryChecks f lent))
     (settle-held _ r nothingYet _ (record { nodes = omega arith; attributes = omega arith; notes = omega arith }))
 
 -- ---- the text of a listing
@@ -128,7 +130,7 @@ listed-le : (f : List ℕ) (ns ats : ℕ) → Left (listedRoom ns ats) (listed f
 unfolding listed
 listed-le f ns ats =
     cond-by (Left (listedRoom ns ats)) (ltb listedFile (length f)) (λ e. refuses-le (listedRoom ns ats) TooLargeError)
-    (λ e. reading-le (listedRoom ns ats) f [] [])
+    (λ e. reading-le (listedRoom ns ats) f (lends [] []))
 
 pub listedText-fits :
     (f : List ℕ) (ns ats : ℕ) → ns ≤ nodeWidth * listedNodes → ats ≤ attributeWidth * listedAttributes → length (listedText f ns ats) ≤ listedBytes

@@ -19,6 +19,7 @@ use Rattle.xml_elements.specs.declared.Turn.the-variants.{Foreign}
 use Rattle.xml_elements.specs.Chunk.{numberOf, turnOf}
 use Rattle.xml_elements.proofs.Laws.{turnOf-run}
 use Rattle.records.specs.Repeats.{Rule}
+use Rattle.system_types.specs.Names.{Lent}
 use Rattle.head.specs.declared.Opened.{Opened}
 use Rattle.events.specs.declared.Cursor.{Cursor}
 use Rattle.events.specs.declared.Event.{Event}
@@ -113,10 +114,10 @@ module _ (b : List ℕ) (cap : ℕ) (cs : List ℕ) (c : Cursor) (at run : ℕ) 
 
 -- ---- the loop's head of `read_on`
 
-pub read-passed : (f names area ns₀ ats₀ : List ℕ) (st : State) (g : Good f names area ns₀ ats₀ st) (ns ats : List ℕ) (c : Cursor) (tree : Tree)
-    → ReadHead f names area ns₀ ats₀ st g ns ats c tree → (c′ : Cursor) → PassesOn (body f names area st) (st .cap) (st .notes .counts) c c′
-    → ReadHead f names area ns₀ ats₀ st g ns ats c′ tree
-read-passed f names area ns₀ ats₀ st g ns ats c tree hd c′ p = record {
+pub read-passed : (f : List ℕ) (lent : Lent) (ns₀ ats₀ : List ℕ) (st : State) (g : Good f lent ns₀ ats₀ st) (ns ats : List ℕ) (c : Cursor) (tree : Tree)
+    → ReadHead f lent ns₀ ats₀ st g ns ats c tree → (c′ : Cursor) → PassesOn (body f lent st) (st .cap) (st .notes .counts) c c′
+    → ReadHead f lent ns₀ ats₀ st g ns ats c′ tree
+read-passed f lent ns₀ ats₀ st g ns ats c tree hd c′ p = record {
   now = record {
     stack = hd .now .stack;
     ready = hd .now .ready;
@@ -132,5 +133,5 @@ read-passed f names area ns₀ ats₀ st g ns ats c tree hd c′ p = record {
   much = hd .much;
   same = λ os l.
       (hd .same os l
-      ∙ ap (finalOf (roomOf ns₀ ats₀ st)) (p .quiet (N f names area st) (st .opened) (tables f names area st) (roomOf ns₀ ats₀ st) _ refl refl));
+      ∙ ap (finalOf (roomOf ns₀ ats₀ st)) (p .quiet (N f lent st) (st .opened) (tables f lent st) (roomOf ns₀ ats₀ st) _ refl refl));
 }

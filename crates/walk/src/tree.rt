@@ -11,6 +11,7 @@ ghost use lib.ListN.{length, drop, take, getD};
 ghost use lib.Dec.{eqb};
 ghost use Rattle.records.specs.Words.{nodeWidth, nodeParent};
 ghost use Rattle.records.specs.Repeats.{byPrefix};
+ghost use Rattle.system_types.specs.Names.{lends};
 ghost use Rattle.text.specs.Content.{sameName};
 ghost use Rattle.text.specs.Found.{Asks};
 ghost use Rattle.walk.specs.Tree.{parentOf, openedTree, closedTree, keptTree, openedWords, keptNodes, keptAttributes, Fit, Keeps};
@@ -179,8 +180,8 @@ pub fn keep(
     prefix: u32,
     a: XmlAttributeElement,
 ) -> Put
-    requires { ⌜ Asks (now t) (now names) (now area) h × Fit (now nodes) (now attributes) tree ⌝ }
-    ensures { λ r. ⌜ Keeps (byPrefix (sameName h (now (t .entry)) (now (names .entry)) (now (area .entry)))) r tree prefix a
+    requires { ⌜ Asks (now t) (lends (now names) (now area)) h × Fit (now nodes) (now attributes) tree ⌝ }
+    ensures { λ r. ⌜ Keeps (byPrefix (sameName h (now (t .entry)) (lends (now (names .entry)) (now (area .entry))))) r tree prefix a
         (now (nodes .entry)) (now (attributes .entry)) (now (nodes .exit)) (now (attributes .exit)) ⌝ }
 {
     let n = tree.nodes;
