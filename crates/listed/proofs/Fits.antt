@@ -28,8 +28,8 @@ use Rattle.events.specs.declared.Event.the-variants.{Nothing, Open, Attribute, 
 use Rattle.records.specs.Words.{nodeWidth, attributeWidth}
 use Rattle.records.specs.Limits.{listedFile, listedNodes, listedAttributes, listedNotes, listedCap}
 use Rattle.system_types.specs.Names.{Lent, lends}
-use Rattle.tables.specs.Keep.{hasKey}
-use Rattle.walk.specs.Settle.{Room, Tables, Out, going, refused, nodeWords, opened, closed, kept, noted, push, settle, nothingYet}
+use Rattle.records.specs.Repeats.{Rule}
+use Rattle.walk.specs.Settle.{Room, Tables, Out, going, refused, opened, closed, kept, noted, repeated, push, settle, nothingYet}
 use Rattle.walk.specs.Reading.{Reading, refuses, succeeds, nodesKept, attributesKept, zeroNote, finalOf, readingBy, settledIn, reading}
 use Rattle.listing_text.specs.Size.{listedBytes}
 use Rattle.listing_text.specs.Printed.{Printed, listingAnswer}
@@ -47,8 +47,8 @@ abbrev pub InHeld : Room → Out → Type 0
 InHeld r (going t) = Held r t
 InHeld r (refused x) = Unit {0}
 
-module _ (same : ℕ → ℕ → Bool) (r : Room) where
-  push-held : (t : Tables) (e : Event) → Held r t → InHeld r (push same r (going t) e)
+module _ (rule : Rule) (r : Room) where
+  push-held : (t : Tables) (e : Event) → Held r t → InHeld r (push rule r (going t) e)
   push-held t Nothing h = h
   push-held t Finish h = h
   push-held t (LeftOut n) h = h
@@ -64,7 +64,7 @@ module _ (same : ℕ → ℕ → Bool) (r : Room) where
       (λ e. tt)
   push-held t (Attribute p a) h =
       cond-by (InHeld r) (eqb (length (t .nodes)) 0) (λ e. h)
-      (λ n. cond-by (InHeld r) (hasKey same p (a .name .0) (drop (t .first) (t .attributes))) {x = going t}
+      (λ n. cond-by (InHeld r) (repeated rule t p a) {x = going t}
       {y = cond (leb (length (t .attributes) + attributeWidth) (r .attributes)) (going (kept t p a)) (refused (AttributesFull (r .attributes / attributeWidth)))}
       (λ e. h)
       (λ k. cond-by (InHeld r) (leb (length (t .attributes) + attributeWidth) (r .attributes)) {x = going (kept t p a)}
@@ -82,11 +82,11 @@ module _ (same : ℕ → ℕ → Bool) (r : Room) where
       (λ e. tt))
       (λ d. h)
 
-  settle-held : (o : Out) (es : List Event) → InHeld r o → InHeld r (settle same r o es)
+  settle-held : (o : Out) (es : List Event) → InHeld r o → InHeld r (settle rule r o es)
   unfolding settle
   settle-held o [] h = h
   settle-held (refused x) (e ∷ es) h = settle-held (refused x) es tt
-  settle-held (going t) (e ∷ es) h = settle-held (push same r (going t) e) es (push-held t e h)
+  settle-held (going t) (e ∷ es) h = settle-held (push rule r (going t) e) es (push-held t e h)
 
 -- ---- what a reading leaves
 
