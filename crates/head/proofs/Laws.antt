@@ -26,7 +26,7 @@ use Rattle.resource_map.specs.declared.MapRead.{MapRead}
 use Rattle.resource_map.specs.declared.MapRead.the-variants.{Ids, HeaderShort as MapHeaderShort, IdsShort}
 use Rattle.resource_map.proofs.Laws.{mapOf-fits, mapOf-append}
 use Rattle.text.specs.declared.Head.{Head}
-use Rattle.text.specs.Found.{Fits}
+use Rattle.text.specs.Inner.Found.{Fits}
 use Rattle.head.specs.Head.{headBy, mappedBy, pooledBy, tablesOf, openedOf, headLen, tablesIn, bodyIn, PoolThere}
 use Rattle.head.specs.declared.HeadEnd.the-variants.{Whole}
 use Rattle.head.specs.declared.Opened.{Opened}

@@ -14,7 +14,7 @@ ghost use lib.ListN.{length, drop};
 ghost use Rattle.records.specs.Limits.{fileLimit};
 ghost use Rattle.system_types.specs.Names.{lends};
 ghost use Rattle.resource_map.specs.Map.{mapOf};
-ghost use Rattle.text.specs.Found.{Fits};
+ghost use Rattle.text.specs.Inner.Found.{Fits};
 ghost use Rattle.head.specs.Head.{headBy, unopened, wholeHead, cutPool, cutMap, mappedBy, tablesOf, openedOf};
 ghost use Rattle.head.specs.Head.{headLen, tablesIn, bodyIn, isWhole, refusalOf, outsideIn};
 ghost use Rattle.head.specs.Inner.Entered.{enteredOf};
