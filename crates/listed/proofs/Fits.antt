@@ -4,19 +4,18 @@
 --   reading-le        so a reading leaves no more words and notes than there is room for
 --   listedText-fits   so the buffer of `Roomy` takes every listing
 --   lists-answer      and the answer of `list_into` in that room is a text
-use Prim.Native.Nat.{ℕ, _+_, _-_, _*_, _/_, _≤_, _<_}
+use Prim.Native.Nat.{ℕ, _+_, _-_, _*_, _/_, _≤_}
 use native.Mathlib.Omega.{arith}
-use mathlib.Core.Path.{_≡_, refl, sym, _∙_, ap}
+use mathlib.Core.Path.{_≡_, sym, _∙_}
 use mathlib.Core.List.{List, [], _∷_, _++_}
-use mathlib.Core.Bool.{Bool, true, false, cond}
-use borrow.Author.Tests.{leb-true, ltb-true, ltb-false, le-leb, le-ltb, lt-ltb}
-use lib.ListN.{length, take, drop, set, getD, replicate, length-append, length-set, length-replicate, length-take}
+use mathlib.Core.Bool.{cond}
+use borrow.Author.Tests.{leb-true, ltb-true, le-leb}
+use lib.ListN.{length, take, getD, replicate, length-append, length-set, length-replicate, length-take}
 use lib.Dec.{ltb, leb, eqb}
-use Rattle.anomaly.specs.Note.{kindIndex, noteOf}
-use Rattle.anomaly.specs.declared.Note.{Note as NoteOf}
-use Rattle.errors.specs.Refusal.{numbersOf, textNumbersOf}
+use Rattle.anomaly.specs.Note.{kindIndex}
+use Rattle.errors.specs.Refusal.{numbersOf}
 use Rattle.errors.specs.declared.Refusal.{Refusal}
-use Rattle.errors.specs.declared.Refusal.the-variants.{NodesFull, AttributesFull, NotesFull, TooLargeError}
+use Rattle.errors.specs.declared.Refusal.the-variants.{AttributesFull, NotesFull, TooLargeError}
 use Rattle.errors.specs.declared.TextAnswer.{TextAnswer}
 use Rattle.errors.specs.declared.TextAnswer.the-variants.{Text, Refused}
 use Rattle.errors.proofs.Laws.{textNumbersOf-unique}
@@ -29,10 +28,10 @@ use Rattle.records.specs.Words.{nodeWidth, attributeWidth}
 use Rattle.records.specs.Limits.{listedFile, listedNodes, listedAttributes, listedNotes, listedCap}
 use Rattle.system_types.specs.Names.{Lent, lends}
 use Rattle.records.specs.Repeats.{Rule}
-use Rattle.walk.specs.Settle.{Room, Tables, Out, going, refused, opened, closed, kept, noted, repeated, push, settle, nothingYet}
-use Rattle.walk.specs.Reading.{Reading, refuses, succeeds, nodesKept, attributesKept, zeroNote, finalOf, readingBy, settledIn, reading}
+use Rattle.walk.specs.Settle.{Room, Tables, Out, going, refused, repeated, kept, noted, push, settle, nothingYet}
+use Rattle.walk.specs.Reading.{Reading, refuses, succeeds, nodesKept, attributesKept, zeroNote, readingBy, settledIn, reading}
 use Rattle.listing_text.specs.Size.{listedBytes}
-use Rattle.listing_text.specs.Printed.{Printed, listingAnswer}
+use Rattle.listing_text.specs.Printed.{listingAnswer}
 use Rattle.listing_text.proofs.Lengths.{listingText-fits}
 use Rattle.listed.specs.Lists.{listedRoom, listed, listedText, Lists, Roomy}
 
