@@ -14,6 +14,7 @@
 -- Zeros (P1, B7, B8): refused-zeros, done-zeros, text-refused-zeros, text-done-zeros. Every success: structured, notes-kept.
 -- Readers that break the promise (P5): refuses-all-broken to wrong-kinds-broken, each of every reader of its sort (specs/Readers.antt); meets-some.
 -- The C interface: c-read-unique to c-first-refused-zeros, the same of its words: one answer, insertion, zeros.
+-- The listing's function: list-unique to list-suffices: one answer, zeros, room.
 -- The marked cases (L5): `cases-right` of proofs/Cases.antt, one table and one theorem; `cases-read` of proofs/Given.antt: `read` gives them.
 -- Texts and names (P2): what ties them to Unicode's tables and to XML's ranges is named in ARCHITECTURE.md.
 use Prim.Native.Nat.{ℕ, _+_, _*_, _≤_, _<_}
@@ -43,6 +44,7 @@ use Rattle.anomaly.specs.Kept.{ofKind, keptNotes}
 use Rattle.anomaly.proofs.Laws.{keptNotes-of-kind}
 use Rattle.records.specs.Limits.{fileLimit, listedFile}
 use Rattle.listing_text.specs.Printed.{Printed}
+use Rattle.listed.specs.Lists.{listed, Lists, Roomy}
 use Rattle.xml.specs.NCName.{validName}
 use Rattle.head.specs.Ask.{TextReads, contentAnswer}
 use Rattle.head.specs.Head.{openedOf, headLen}
@@ -60,7 +62,7 @@ use Rattle.c_api.specs.declared.AxmlTextAnswer.{AxmlTextAnswer}
 use Rattle.c_api.specs.declared.AxmlFirstAnswer.{AxmlFirstAnswer}
 use Rattle.claims.specs.InC.{leftInC, withNotesInC, RefusedInC, DoneInC, TextRefusedInC, TextDoneInC, FirstRefusedInC}
 use Rattle.claims.specs.Room.{isFullNumber, HasRoom, nodesFor, attributesFor, placesFor, listingRoom}
-use Rattle.claims.specs.Cleared.{RefusedZero, DoneZero, TextRefusedZero, TextDoneZero}
+use Rattle.claims.specs.Cleared.{ZeroBehind, RefusedZero, DoneZero, TextRefusedZero, TextDoneZero}
 use Rattle.claims.specs.Shape.{Structured}
 use Rattle.claims.specs.Readers.{Call, Reader, Meets, eventsOf, kindsOf, RefusesAll, Constant, ConstantOnRead, StopsAtStart}
 use Rattle.claims.specs.Readers.{LeavesNodes, LeavesAttributes, LeavesNotes, ClearsNodes, ClearsAttributes, ClearsNotes}
@@ -74,6 +76,7 @@ use Rattle.claims.proofs.Zeros as zeros
 use Rattle.claims.proofs.Structure as tree
 use Rattle.claims.proofs.Broken as broken
 use Rattle.claims.proofs.InC as inC
+use Rattle.claims.proofs.Lists as lists
 
 module _ (f : List ℕ) (lent : Lent) (ns ats : List ℕ) (os : List Note) (cap : ℕ) where
   pub read-unique : (r r′ : ReadAnswer) (ns₁ ns₂ ats₁ ats₂ : List ℕ) (os₁ os₂ : List Note) → Reads f lent ns ats os cap r ns₁ ats₁ os₁
@@ -298,6 +301,36 @@ module _ (f : List ℕ) (lent : Lent) (before : List ℕ) (i : ℕ) (a : AxmlTex
 
 pub c-first-refused-zeros : (b : FirstAnswer) (a : AxmlFirstAnswer) → a ≡ firstAnswerOf (firstNumbersOf b) → (a .refusal ≡ 0 → ⊥) → FirstRefusedInC a
 c-first-refused-zeros = inC.first-refused-zeros
+
+-- ---- the listing's function
+
+module _ (f ns ats before : List ℕ) where
+  pub list-unique : (r r′ : TextAnswer) (ns₁ ns₂ ats₁ ats₂ after after′ : List ℕ) → Lists f ns ats before r ns₁ ats₁ after
+      → Lists f ns ats before r′ ns₂ ats₂ after′ → (r ≡ r′) × (ns₁ ≡ ns₂) × (ats₁ ≡ ats₂) × (after ≡ after′)
+  list-unique r r′ ns₁ ns₂ ats₁ ats₂ after after′ p q =
+      let e = listing-unique _ before r r′ after after′ (p .printed) (q .printed) in
+      (e .0, p .nodes ∙ sym (q .nodes), p .attributes ∙ sym (q .attributes), e .1)
+
+  module _ (ns′ ats′ after : List ℕ) where
+    -- in the buffer, where the text has no place, and behind the text
+    pub list-refused-zeros : (x : Refusal) → Lists f ns ats before (textIs.Refused x) ns′ ats′ after → after ≡ replicate (length before) 0
+    list-refused-zeros x h = lists.printed-refused _ before after x (h .printed)
+
+    pub list-done-zeros : (k : ℕ) → Lists f ns ats before (textIs.Text k) ns′ ats′ after → ZeroBehind 0 k before after
+    list-done-zeros k h = lists.printed-done _ before after k (h .printed)
+
+    -- in the tables, where the file is refused, and behind the records that the listing has
+    pub list-unread-zeros : (r : TextAnswer) → Lists f ns ats before r ns′ ats′ after → (x : Refusal)
+        → listed f (length ns) (length ats) .answer ≡ Refused x → (ns′ ≡ replicate (length ns) 0) × (ats′ ≡ replicate (length ats) 0)
+    list-unread-zeros r h x e = let z = lists.unread-zeros f ns ats x e in (h .nodes ∙ z .0, h .attributes ∙ z .1)
+
+    pub list-read-zeros : (r : TextAnswer) → Lists f ns ats before r ns′ ats′ after → (c : ReadCounts) → listed f (length ns) (length ats) .answer ≡ Done c
+        → ZeroBehind 0 (nodeWidth * c .nodes) ns ns′ × ZeroBehind 0 (attributeWidth * c .attributes) ats ats′
+    list-read-zeros r h c e = rw (h .nodes, h .attributes) (lists.read-zeros f ns ats c e)
+
+-- in the room of a listing no record is without a place, whatever came in
+pub list-suffices : (f : List ℕ) (ns ats room : ℕ) → Roomy ns ats room → HasRoom (listed f ns ats .answer)
+list-suffices = lists.list-suffices
 
 -- ---- readers that break the promise (P5)
 

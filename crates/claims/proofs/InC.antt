@@ -27,7 +27,7 @@ use Rattle.head.specs.Ask.{TextReads, textAnswer}
 use Rattle.records.specs.Words.{nodeWidth, attributeWidth, noteWidth}
 use Rattle.system_types.specs.Names.{Lent}
 use Rattle.walk.specs.Settle.{Room}
-use Rattle.walk.specs.Reading.{Reading, reading, roomIn, zeroNote, Reads}
+use Rattle.walk.specs.Reading.{Reading, reading, zeroNote, Reads}
 use Rattle.c_api.specs.Words.{wordsOf, wordRoom, answerOf, ReadsWords}
 use Rattle.c_api.proofs.Noting.{length-words, words-behind}
 use Rattle.c_api.specs.Answers.{textAnswerOf, firstAnswerOf, AsksText}
@@ -39,6 +39,7 @@ use Rattle.claims.specs.Insertion.{ForeignChunk, placesIn, insertedFile,
 use Rattle.claims.specs.Room.{isFullNumber, HasRoom}
 use Rattle.claims.specs.InC.{LeftInC, leftInC, withNotesInC, RefusedInC, DoneInC, TextRefusedInC, TextDoneInC, FirstRefusedInC}
 use Rattle.claims.proofs.Foreign.{placeNotes-room}
+use Rattle.claims.proofs.Calls.{reading-left}
 use Rattle.claims.proofs.Insertion as proved
 use Rattle.claims.proofs.Zeros as zeros
 
@@ -100,16 +101,7 @@ module _ (f : List ℕ) (lent : Lent) (ns ats ws : List ℕ) (cap : ℕ) where
 
   as-reads : (a : ReadAnswer) → reading room f lent .answer ≡ a
       → Reads f lent ns ats places cap a (reading room f lent .nodes) (reading room f lent .attributes) (reading room f lent .notes)
-  as-reads a e =
-      let same : reading (roomIn ns ats places cap) f lent ≡ reading room f lent =
-      ap (λ (n : ℕ). reading (record { nodes = length ns; attributes = length ats; notes = n; cap = cap }) f lent)
-      (length-replicate (length ws / noteWidth) zeroNote) in
-      record {
-        answer = sym (ap (λ (x : Reading). numbersOf (x .answer)) same ∙ ap numbersOf e);
-        nodes = sym (ap (λ (x : Reading). x .nodes) same);
-        attributes = sym (ap (λ (x : Reading). x .attributes) same);
-        notes = sym (ap (λ (x : Reading). x .notes) same);
-      }
+  as-reads a e = reading-left f lent ns ats (length ws / noteWidth) cap (reading room f lent) refl a e
 
   many : length places ≡ length ws / noteWidth
   many = length-replicate (length ws / noteWidth) zeroNote

@@ -37,4 +37,5 @@ pub mod Zeros
 pub mod BrokenSample
 pub mod Broken
 pub mod InC
+pub mod Lists
 pub mod Claims
