@@ -1,4 +1,5 @@
 -- The root of the crate's laws.
+pub mod Back
 pub mod Laws
 pub mod Written
 pub mod Fitted

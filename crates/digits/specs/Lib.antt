@@ -1,4 +1,3 @@
 -- The root of the crate's definitions.
-pub mod Inner
 pub mod Digits
 pub mod Written

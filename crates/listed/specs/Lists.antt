@@ -4,10 +4,9 @@
 --   listed       the reading of what came in; more bytes than the limit are refused with 2, and leave zeros as every refusal does
 --   listedText   its listing
 --   Lists        what `list_into` promises: the answer and the buffer (listing_text, `Printed`), and every word of both tables
---   Roomy        the room that suffices for every listing: that of crate `records`, and a buffer for full tables of it
 --
--- That the buffer suffices: proofs/Fits.antt, `listedText-fits`.
-use Prim.Native.Nat.{ℕ, _*_, _≤_}
+-- That the program's room suffices: proofs/Fits.antt, `listedText-fits`.
+use Prim.Native.Nat.{ℕ}
 use mathlib.Core.Path.{_≡_}
 use mathlib.Core.Bool.{cond}
 use mathlib.Core.List.{List, []}
@@ -16,14 +15,12 @@ use lib.Dec.{ltb}
 use Rattle.errors.specs.Refusal.{numbersOf}
 use Rattle.errors.specs.declared.Refusal.the-variants.{TooLargeError}
 use Rattle.errors.specs.declared.TextAnswer.{TextAnswer}
-use Rattle.records.specs.Words.{nodeWidth, attributeWidth}
-use Rattle.records.specs.Limits.{listedFile, listedNodes, listedAttributes, listedNotes, listedCap}
+use Rattle.records.specs.Limits.{listedFile, listedNotes, listedCap}
 use Rattle.system_types.specs.Names.{lends}
 use Rattle.walk.specs.Settle.{Room}
 use Rattle.walk.specs.Reading.{Reading, refuses, reading}
 use Rattle.listing_text.specs.Listing.{listingText}
 use Rattle.listing_text.specs.Printed.{Printed}
-use Rattle.listing_text.specs.Size.{listedBytes}
 
 abbrev pub listedRoom : ℕ → ℕ → Room
 listedRoom ns ats = record { nodes = ns; attributes = ats; notes = listedNotes; cap = listedCap }
@@ -42,9 +39,3 @@ pub record Lists (f ns ats before : List ℕ) (r : TextAnswer) (ns′ ats′ aft
   pub printed : Printed (listedText f (length ns) (length ats)) before r after
   pub nodes : ns′ ≡ listed f (length ns) (length ats) .nodes
   pub attributes : ats′ ≡ listed f (length ns) (length ats) .attributes
-
--- words of the two tables, bytes of the buffer
-pub record Roomy (ns ats room : ℕ) : Type 0 where
-  pub nodes : ns ≡ nodeWidth * listedNodes
-  pub attributes : ats ≡ attributeWidth * listedAttributes
-  pub out : listedBytes ≤ room

@@ -6,9 +6,7 @@ use anomaly::Note;
 use errors::ReadAnswer;
 use errors::Refusal;
 use errors::TextAnswer;
-ghost use Rattle.errors.specs.declared.TextAnswer.the-variants.{Text};
-ghost use lib.ListN.{length};
-ghost use Rattle.listed.specs.Lists.{Lists, Roomy};
+ghost use Rattle.listed.specs.Lists.{Lists};
 use records::LISTED_CAP;
 use records::LISTED_FILE;
 use records::LISTED_NOTES;
@@ -41,18 +39,4 @@ pub fn list_into(
     let notes = l.notes;
     let n = errors::read_numbers(answer);
     listing_text::listing_into(LISTED_CAP, n, nodes, attributes, notes, out)
-}
-
-// The same in the room of a listing, which always suffices: the answer is a text, and the number its length.
-// Ruled out: a listing that does not fit the buffer, and one of other tables.
-pub fn list_whole(file: &[u8], nodes: &mut [u32], attributes: &mut [u32], out: &mut [u8]) -> usize
-    requires { ⌜ Roomy (length (now nodes)) (length (now attributes)) (length (now out)) ⌝ }
-    ensures { λ r. ⌜ Lists (now (file .entry)) (now (nodes .entry)) (now (attributes .entry)) (now (out .entry)) (Text r)
-        (now (nodes .exit)) (now (attributes .exit)) (now (out .exit)) ⌝ }
-{
-    let answer = list_into(file, nodes, attributes, out);
-    match answer {
-        TextAnswer::Text(length) => length,
-        TextAnswer::Refused(_) => 0, // never: the buffer takes every listing
-    }
 }

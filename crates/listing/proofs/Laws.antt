@@ -1,4 +1,4 @@
--- Laws of specs/Input.antt: each case of what came in. No contract cites this file.
+-- Laws of specs/Inner/Input.antt: each case of what came in. No contract cites this file.
 use mathlib.Core.Path.{_≡_}
 use mathlib.Core.List.{List, _++_}
 use Prim.Native.Nat.{ℕ, _≤_, _<_}
@@ -10,7 +10,7 @@ use Rattle.listed.specs.Lists.{Lists}
 use Rattle.listed.proofs.Lists.{lists-longer}
 use Rattle.listing.specs.declared.Input.{Input}
 use Rattle.listing.specs.declared.Input.the-variants.{Whole, Full, Failed}
-use Rattle.listing.specs.Input.{Within, Runs}
+use Rattle.listing.specs.Inner.Input.{Within, Runs}
 
 pub within-whole : (x : Input) (n room : ℕ) → x ≡ Whole n → Within x room → n < room
 unfolding Within

@@ -1,2 +1,2 @@
 -- The root of the crate's definitions.
-pub mod Input
+pub mod Inner

@@ -1,8 +1,9 @@
 // Lists a binary XML file: standard input in, the lines of docs/FORMAT.md (L1 to L4) out.
 //
-// The program only moves bytes: what it lists is `listed::list_whole`'s promise, and `list_input` says so of what came in. More than the limit is
+// The program only moves bytes: what it lists is `listed::list_into`'s promise, and `list_input` says so of what came in. More than the limit is
 // refused with 2 and not read to its end. A read that fails prints nothing on standard output and a line on standard error, so that a part of a
 // file is never listed as if it were the whole; a write that fails says so too, for what was written then is a part of the listing.
+use errors::TextAnswer;
 use libc::STDERR_FILENO;
 use libc::STDIN_FILENO;
 use libc::STDOUT_FILENO;
@@ -10,8 +11,10 @@ use listing_text::LISTED_BYTES;
 ghost use Prim.Native.Nat.{_≤_, _<_};
 ghost use lib.ListN.{length};
 ghost use Rattle.records.specs.Limits.{listedFile};
-ghost use Rattle.listed.specs.Lists.{Roomy};
-ghost use Rattle.listing.specs.Input.{Within, Runs};
+ghost use Rattle.errors.specs.declared.TextAnswer.the-variants.{Text};
+ghost use Rattle.listed.specs.Lists.{Lists};
+ghost use Rattle.listed.specs.Inner.Roomy.{Roomy};
+ghost use Rattle.listing.specs.Inner.Input.{Within, Runs};
 use records::ATTRIBUTE_WORDS;
 use records::LISTED_ATTRIBUTES;
 use records::LISTED_FILE;
@@ -44,6 +47,20 @@ fn take_in(room: &mut [u8]) -> Input
     Input::Full
 }
 
+// The listing of `file` in the room of a listing, which always suffices: the answer is a text, and the number its length.
+// Ruled out: a listing that does not fit the buffer, and one of other tables.
+fn list_whole(file: &[u8], nodes: &mut [u32], attributes: &mut [u32], out: &mut [u8]) -> usize
+    requires { ⌜ Roomy (length (now nodes)) (length (now attributes)) (length (now out)) ⌝ }
+    ensures { λ r. ⌜ Lists (now (file .entry)) (now (nodes .entry)) (now (attributes .entry)) (now (out .entry)) (Text r)
+        (now (nodes .exit)) (now (attributes .exit)) (now (out .exit)) ⌝ }
+{
+    let answer = listed::list_into(file, nodes, attributes, out);
+    match answer {
+        TextAnswer::Text(length) => length,
+        TextAnswer::Refused(_) => 0, // never: the buffer takes every listing
+    }
+}
+
 // The listing of what came in, and its length. The room for the file has more bytes than a file may have, so that a full room is refused
 // whatever follows it. Ruled out: the listing of a part of the input.
 fn list_input(
@@ -58,8 +75,8 @@ fn list_input(
         (now (nodes .exit)) (now (attributes .exit)) (now (out .exit)) × (r ≤ length (now (out .entry))) ⌝ }
 {
     match input {
-        Input::Whole(n) => listed::list_whole(&file[..n], nodes, attributes, out),
-        Input::Full => listed::list_whole(file, nodes, attributes, out),
+        Input::Whole(n) => list_whole(&file[..n], nodes, attributes, out),
+        Input::Full => list_whole(file, nodes, attributes, out),
         Input::Failed => 0,
     }
 }

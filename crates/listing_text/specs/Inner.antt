@@ -1,2 +1,3 @@
 -- How the code goes: no promise of a public function needs it.
+pub mod Size
 pub mod Three

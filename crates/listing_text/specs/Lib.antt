@@ -3,4 +3,3 @@ pub mod Inner
 pub mod Keys
 pub mod Listing
 pub mod Printed
-pub mod Size

@@ -1,7 +1,7 @@
 // The text of a listing, into a lent buffer.
 //
 // No file of the Rust prints a listing. The lines and their order: docs/FORMAT.md, L1 to L4.
-// Definitions: specs/Listing.antt (lines and their text), specs/Keys.antt, specs/Printed.antt (the answer and the buffer), specs/Size.antt.
+// Definitions: specs/Listing.antt (lines and their text), specs/Keys.antt, specs/Printed.antt (the answer and the buffer).
 // One pass: each `put` takes the place reached so far, writes what lies within the buffer, and answers the place behind its text (crate `digits`),
 // so that the last place is the length of the whole text whether it fits or not.
 mod fields;
@@ -39,7 +39,7 @@ ghost use Rattle.records.specs.Limits.{listedNotes};
 ghost use Rattle.listing_text.specs.Printed.{Printed};
 
 // How many bytes the seven lines of every answer take at most, how many the line of a record, and so how many the listing of full tables:
-// specs/Size.antt.
+// specs/Inner/Size.antt.
 const HEAD_BYTES: usize = 195;
 
 const LINE_BYTES: usize = 164;

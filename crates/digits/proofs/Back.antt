@@ -1,4 +1,4 @@
--- What number a text of digits stands for. No contract cites this file: it is the measure by which specs/Digits.antt can be checked.
+-- What number a text of digits stands for: no promise cites it, and it is the measure by which specs/Digits.antt can be checked.
 --
 --   numberFrom   the number of decimal digits behind the number v; of none, v
 --   signedOf     the number of decimal digits, negative where `-` stands before them

@@ -1,8 +1,8 @@
--- `listed::list_whole` meets its contract: in the room of a listing the answer is a text (proofs/Fits.antt).
+-- `listing::list_whole` meets its contract: in the room of a listing the answer is a text (listed/proofs/Fits.antt).
 use borrow.Author.Needs.{needs}
 use Rattle.listed.proofs.Fits.{lists-text, lists-never}
-use Rattle.listed.proofs.list_whole.Statement.{statement}
-use Rattle.listed.proofs.list_whole.Tie as tie
+use Rattle.listing.proofs.list_whole.Statement.{statement}
+use Rattle.listing.proofs.list_whole.Tie as tie
 
 list-into-requires : tie.Need-list-into-requires
 list-into-requires c κs = search needs

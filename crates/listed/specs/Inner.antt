@@ -1,0 +1,2 @@
+-- What no promise of a public function needs.
+pub mod Roomy
