@@ -11,6 +11,7 @@
 --   insertion        of the promise; insertion-read of two calls. What the hypotheses and the notes mean: insertion-head to insertion-cap
 --   insertion-text, insertion-content, insertion-first   the three questions answer as before
 -- Room (L1): suffices of a file of any length, read-suffices of a call; listing-suffices, read-listed-suffices of a listing.
+-- A part of the head that is short (P6): part-offset, part-cut of a reading, text-part-cut of the text question.
 -- Zeros (P1, B7, B8): refused-zeros, done-zeros, text-refused-zeros, text-done-zeros. Every success: structured, notes-kept.
 -- Readers that break the promise (P5): refuses-all-broken to wrong-kinds-broken, each of every reader of its sort (specs/Readers.antt); meets-some.
 -- The C interface: c-read-unique to c-first-refused-zeros, the same of its words: one answer, insertion, zeros.
@@ -21,7 +22,7 @@ use Prim.Native.Nat.{ℕ, _+_, _*_, _≤_, _<_}
 use mathlib.Core.Path.{_≡_, sym, _∙_}
 use mathlib.Core.List.{List, [], _∷_, _++_, map}
 use lib.Ieee.{Float}
-use mathlib.Core.Bool.{Bool, false}
+use mathlib.Core.Bool.{Bool, true, false}
 use lib.ListN.{length, take, replicate}
 use Rattle.common.specs.Complex.{Complex}
 use Rattle.common.specs.Header.{headerOf}
@@ -29,7 +30,7 @@ use Rattle.common.specs.declared.ResChunkHeader.{ResChunkHeader}
 use Rattle.common.specs.declared.HeaderRead.the-variants.{Whole}
 use Rattle.common.proofs.Product.{Complex-unique}
 use Rattle.chunk.specs.Sort.{sortOf}
-use Rattle.errors.specs.Refusal.{numbersOf, textNumbersOf, firstNumbersOf}
+use Rattle.errors.specs.Refusal.{valueOf, numbersOf, textNumbersOf, firstNumbersOf}
 use Rattle.errors.specs.declared.ReadAnswer.{ReadAnswer}
 use Rattle.errors.specs.declared.ReadAnswer.the-variants.{Done, Refused}
 use Rattle.errors.specs.declared.Refusal.{Refusal}
@@ -46,7 +47,7 @@ use Rattle.records.specs.Limits.{fileLimit, listedFile}
 use Rattle.listing_text.specs.Printed.{Printed}
 use Rattle.listed.specs.Lists.{listed, Lists, Roomy}
 use Rattle.xml.specs.NCName.{validName}
-use Rattle.head.specs.Ask.{TextReads, contentAnswer}
+use Rattle.head.specs.Ask.{textAnswer, TextReads, contentAnswer}
 use Rattle.head.specs.Head.{openedOf, headLen}
 use Rattle.first_value.specs.Question.{firstAnswer, FirstReads}
 use Rattle.records.specs.Words.{nodeWidth, attributeWidth, noteWidth}
@@ -62,6 +63,7 @@ use Rattle.c_api.specs.declared.AxmlTextAnswer.{AxmlTextAnswer}
 use Rattle.c_api.specs.declared.AxmlFirstAnswer.{AxmlFirstAnswer}
 use Rattle.claims.specs.InC.{leftInC, withNotesInC, RefusedInC, DoneInC, TextRefusedInC, TextDoneInC, FirstRefusedInC}
 use Rattle.claims.specs.Room.{isFullNumber, HasRoom, nodesFor, attributesFor, placesFor, listingRoom}
+use Rattle.claims.specs.Parts.{isPart}
 use Rattle.claims.specs.Cleared.{ZeroBehind, RefusedZero, DoneZero, TextRefusedZero, TextDoneZero}
 use Rattle.claims.specs.Shape.{Structured}
 use Rattle.claims.specs.Readers.{Call, Reader, Meets, eventsOf, kindsOf, RefusesAll, Constant, ConstantOnRead, StopsAtStart}
@@ -72,6 +74,7 @@ use Rattle.claims.proofs.Insertion as proved
 use Rattle.claims.proofs.Calls as calls
 use Rattle.claims.proofs.Values as values
 use Rattle.claims.proofs.Suffices as room
+use Rattle.claims.proofs.Parts as parts
 use Rattle.claims.proofs.Zeros as zeros
 use Rattle.claims.proofs.Structure as tree
 use Rattle.claims.proofs.Broken as broken
@@ -221,6 +224,25 @@ pub read-listed-suffices : (f ns ats : List ℕ) (a : ReadAnswer) (ns′ ats′ 
     → length ns ≡ listingRoom .nodes → length ats ≡ listingRoom .attributes
     → Reads f (lends [] []) ns ats (replicate (listingRoom .notes) zeroNote) (listingRoom .cap) a ns′ ats′ os′ → HasRoom a
 read-listed-suffices = room.read-listed-suffices
+
+-- ---- a part of pool or map that is short (H15): the value of the refusal is where it should begin
+
+module _ (r : Room) (f : List ℕ) (lent : Lent) (x : Refusal) (part : isPart x ≡ true) (refused : reading r f lent .answer ≡ Refused x) where
+  -- a place in the file, behind its header
+  pub part-offset : (8 ≤ valueOf x) × (valueOf x ≤ length f)
+  part-offset = parts.part-offset f lent x (parts.reading-part f lent x part r refused)
+
+  -- the file cut there leaves the same, every word
+  pub part-cut : reading r (take (valueOf x) f) lent ≡ reading r f lent
+  part-cut = parts.part-cut f lent x (parts.reading-part f lent x part r refused) r
+
+-- and so does the text question of any index, whatever the buffer
+module _ (f : List ℕ) (lent : Lent) (n i : ℕ) (x : Refusal) (part : isPart x ≡ true) (refused : textAnswer f lent n i ≡ textIs.Refused x) where
+  pub text-part-cut : (8 ≤ valueOf x) × (valueOf x ≤ length f) × (textAnswer (take (valueOf x) f) lent n i ≡ textIs.Refused x)
+  text-part-cut =
+      let e = parts.text-part f lent x part n i refused in
+      let p = parts.open-part f lent x part e in
+      (parts.part-offset f lent x p .0, parts.part-offset f lent x p .1, parts.part-cut-text f lent x p n i e)
 
 -- ---- zeros (B7, B8), and the structure of a success (W25 to W29, B9 to B15)
 

@@ -10,11 +10,9 @@ use Rattle.anomaly.specs.Note.{noteOf}
 use Rattle.anomaly.specs.Kept.{keptNotes}
 use Rattle.anomaly.specs.declared.Note.{Note}
 use Rattle.anomaly.specs.declared.ResAnomaly.{ResAnomaly}
+use Rattle.errors.proofs.Laws.{numberOf-some}
 use Rattle.errors.specs.Refusal.{numberOf, numbersOf, textNumbersOf, firstNumbersOf}
 use Rattle.errors.specs.declared.Refusal.{Refusal}
-use Rattle.errors.specs.declared.Refusal.the-variants.{TooSmallError, TooLargeError, HeaderSizeError, StringPoolError}
-use Rattle.errors.specs.declared.Refusal.the-variants.{ResourceMapError, MissingRoot, SystemNamesError, NodesFull}
-use Rattle.errors.specs.declared.Refusal.the-variants.{AttributesFull, NotesFull, TextShort, NothingFound, TablesError}
 use Rattle.errors.specs.declared.ReadAnswer.{ReadAnswer}
 use Rattle.errors.specs.declared.ReadAnswer.the-variants.{Done, Refused}
 use Rattle.errors.specs.declared.ReadCounts.{ReadCounts}
@@ -60,20 +58,7 @@ zeros-behind os m n k e = sym (words-behind os m n) ∙ ap (λ (j : ℕ). wordsO
 -- ---- an answer by its numbers
 
 some-number : (x : Refusal) → _≡_ {A = ℕ} (numberOf x) 0 → ⊥
-unfolding numberOf
-some-number (TooSmallError length) e = omega arith
-some-number TooLargeError e = omega arith
-some-number (HeaderSizeError size) e = omega arith
-some-number StringPoolError e = omega arith
-some-number ResourceMapError e = omega arith
-some-number MissingRoot e = omega arith
-some-number (SystemNamesError entry) e = omega arith
-some-number (NodesFull places) e = omega arith
-some-number (AttributesFull places) e = omega arith
-some-number (NotesFull places) e = omega arith
-some-number (TextShort needed) e = omega arith
-some-number NothingFound e = omega arith
-some-number (TablesError node) e = omega arith
+some-number x e = let q = rw e at (numberOf-some x) in let z : _≡_ {A = ℕ} 0 1 = cc in omega arith
 
 done-of : (a : ReadAnswer) → _≡_ {A = ℕ} (numbersOf a .refusal) 0 → (c : ReadCounts) × (a ≡ Done c)
 unfolding numbersOf

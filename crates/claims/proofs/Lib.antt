@@ -33,6 +33,8 @@ pub mod StructureWalk
 pub mod StructureOpen
 pub mod StructureSaid
 pub mod Structure
+pub mod PartsBody
+pub mod Parts
 pub mod Zeros
 pub mod BrokenSample
 pub mod Broken
