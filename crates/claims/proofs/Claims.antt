@@ -45,7 +45,8 @@ use Rattle.anomaly.specs.Kept.{ofKind, keptNotes}
 use Rattle.anomaly.proofs.Laws.{keptNotes-of-kind}
 use Rattle.records.specs.Limits.{fileLimit, listedFile}
 use Rattle.listing_text.specs.Printed.{Printed}
-use Rattle.listed.specs.Lists.{listed, Lists, Roomy}
+use Rattle.listed.specs.Lists.{listed, Lists}
+use Rattle.listed.specs.Roomy.{Roomy}
 use Rattle.xml.specs.NCName.{validName}
 use Rattle.head.specs.Ask.{textAnswer, TextReads, contentAnswer}
 use Rattle.head.specs.Head.{openedOf, headLen}

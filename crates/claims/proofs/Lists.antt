@@ -22,7 +22,8 @@ use Rattle.records.specs.Limits.{listedFile, listedNotes, listedCap}
 use Rattle.system_types.specs.Names.{lends}
 use Rattle.walk.specs.Reading.{Reading, zeroNote, refuses, reading}
 use Rattle.listing_text.specs.Printed.{listingAnswer, Printed}
-use Rattle.listed.specs.Lists.{listedRoom, listed, Roomy}
+use Rattle.listed.specs.Lists.{listedRoom, listed}
+use Rattle.listed.specs.Roomy.{Roomy}
 use Rattle.claims.specs.Cleared.{ZeroBehind}
 use Rattle.claims.specs.Room.{HasRoom}
 use Rattle.claims.proofs.Calls.{reading-left}
