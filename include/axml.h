@@ -20,7 +20,7 @@ extern "C" {
 
 /* The form of this interface: raised whenever a record, a signature or a number below changes or is added. A library is of this form exactly if
  * axml_abi() == AXML_ABI; one that is of another must not be called. */
-#define AXML_ABI 1u
+#define AXML_ABI 2u
 uint32_t axml_abi(void);
 
 /* The longest file that is read, in bytes: one byte more is refused with AXML_TOO_LARGE. */
@@ -50,8 +50,6 @@ enum axml_refusal {
   AXML_TOO_SMALL = 1,        /* fewer than 8 bytes: their number */
   AXML_TOO_LARGE = 2,        /* more than AXML_LONGEST_FILE bytes: 0 */
   AXML_HEADER_SIZE = 3,      /* the first header's size is not 8: that size */
-  AXML_STRING_POOL = 4,      /* the string pool is cut: 0 */
-  AXML_RESOURCE_MAP = 5,     /* the resource map is cut: 0 */
   AXML_MISSING_ROOT = 6,     /* no element: 0 */
   AXML_SYSTEM_NAMES = 7,     /* the lent names break their rule: the first such entry, or how many whole ones there are (N5) */
   AXML_NODES_FULL = 8,       /* a node has no place: the places that there are */
@@ -59,7 +57,15 @@ enum axml_refusal {
   AXML_NOTES_FULL = 10,      /* a note has no place: the places that there are */
   AXML_TEXT_SHORT = 11,      /* the buffer is too short: the bytes that the text needs */
   AXML_NOTHING_FOUND = 12,   /* no such text, or no such value: 0 */
-  AXML_TABLES = 13           /* the lent tables do not fit the question: the node count, or the first bad node (Q6) */
+  AXML_TABLES = 13,          /* the lent tables do not fit the question: the node count, or the first bad node (Q6) */
+  /* a part of the head is cut, and the value is the file offset at which it should begin (H15) */
+  AXML_POOL_GARBAGE = 41,   /* a chunk in the pool's place is cut */
+  AXML_POOL_HEADER = 42,    /* a header of the string pool, or its five numbers, are cut */
+  AXML_POOL_OFFSETS = 43,   /* the pool's offsets are cut */
+  AXML_POOL_STYLES = 44,    /* the pool's styles are cut */
+  AXML_POOL_DATA = 45,      /* the pool's data is cut */
+  AXML_MAP_HEADER = 51,     /* the resource map's header is cut */
+  AXML_MAP_IDS = 52         /* the map's ids are cut */
 };
 
 /* What is amiss in a file that is read all the same, and what a and b tell of it (B12). b is 0 where nothing is said. */

@@ -4,7 +4,7 @@
 
 For each file, with one of three name sets and one of five caps: the whole reading, the text of every index, the names of
 the kept records as text, three first values, and the reading with each table a few places short (what follows from the
-order in which the Rust's records fall due). Prints a line; exit 1 at the first disagreement, with the file in hexadecimal.
+order in which the Rust's records fall due). Of a head that is cut the Rust tells less (docs/DIFFERENCES.md, 10): it is asked for that alone. Prints a line; exit 1 at the first disagreement, with the file in hexadecimal.
 """
 import random
 import sys
@@ -38,7 +38,7 @@ def main(program, seed, count):
                 if ours != theirs:
                     print(f"{what} differs, names {k}, cap {cap}: {f.hex()}\nrules: {ours}\nRust:  {theirs}")
                     sys.exit(1)
-            same("reading", right, a.reading())
+            same("reading", model.coarse(right), a.reading())
             refused[right[0]] = refused.get(right[0], 0) + 1
             if a.texts:
                 head = model.Head(f, names, lambda *_: None, set(), "")
@@ -56,7 +56,7 @@ def main(program, seed, count):
             room = [5 * due[0] + 3, 5 * due[1] + 3, due[2] + 1]
             t = r.randrange(3)
             room[t] = r.randrange(room[t] + 1)
-            same(f"reading with room {room}", model.read(f, names, cap, room, trusted=True), cases.due_answer(a, room))
+            same(f"reading with room {room}", model.coarse(model.read(f, names, cap, room, trusted=True)), cases.due_answer(a, room))
             rooms += 1
     print(f"seed {seed}: {count} files agree; refusals {dict(sorted(refused.items()))}; texts {told}, first values found {firsts}, short rooms {rooms}")
 

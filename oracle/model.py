@@ -35,7 +35,8 @@ WRONG = {
     "styles_not_skipped": "H10", "data_at_strings_start": "H11", "data_size_whole": "H11", "map_at_pool_end": "H11", "data_to_styles_start": "H11",
     "offset_at_length_inside": "H12", "note_2_each": "H12", "note_2_without_number": "H12", "note_2_after_map": "H12", "note_2_before_data": "H12",
     "map_type_tested": "H13", "map_optional": "H13", "map_header_size_moves": "H14", "map_header_is_8": "H14", "map_rest_skipped": "H14",
-    "map_cut_taken": "H15", "map_short_is_4": "H15", "pool_short_is_5": "H15",
+    "map_cut_taken": "H15", "map_short_is_pool": "H15", "pool_short_is_map": "H15", "offset_behind_header": "H15", "first_missing_byte": "H15",
+    "offsets_are_42": "H15", "part_without_place": "H15",
     "utf8_flag_bit_0": "T1", "utf8_flags_equal": "T1", "utf8_length_low_first": "T2", "char_length_for_bytes": "T2", "char_length_one_byte": "T2",
     "closing_byte_missing_ok": "T3", "closing_byte_zero": "T3", "utf16_length_low_first": "T4", "utf16_length_short": "T4",
     "closing_unit_missing_ok": "T5", "closing_unit_zero": "T5", "cut_is_no_text": "T6", "outside_is_no_text": "T6", "cut_takes_rest": "T6",
@@ -99,6 +100,15 @@ class Refused(Exception):
         self.number, self.value = number, value
 
 
+# the refusal of each part of the head that is short (H15)
+PARTS = {"garbage": 41, "header": 42, "second": 42, "numbers": 42, "offsets": 43, "styles": 44, "data": 45, "map-header": 51, "map-ids": 52}
+
+
+def coarse(answer):
+    """An answer as the Rust tells it: of a part that is short only whether it is the pool's or the map's, and no place."""
+    return (answer[0] // 10, 0, *answer[2:]) if answer[0] in PARTS.values() else answer
+
+
 class Stop(Exception):
     pass
 
@@ -159,14 +169,21 @@ class Head:
         for x in late:
             note(*x)
 
-    def need(self, many, part, number=4):
+    def need(self, many, part):
         if len(self.file) - self.at < many:
             self.hits.add("H15-" + part)
-            if self.w == "map_short_is_4" and number == 5:
-                number = 4
-            if self.w == "pool_short_is_5" and number == 4:
-                number = 5
-            raise Refused(number)
+            number, place = PARTS[part], self.at
+            if self.w == "map_short_is_pool" and number > 50:
+                number = 45
+            if self.w == "pool_short_is_map" and number < 50:
+                number = 51
+            if self.w == "offsets_are_42" and number in (42, 43):
+                number = 85 - number
+            if self.w == "offset_behind_header":
+                place -= 8
+            if self.w == "first_missing_byte":
+                place = len(self.file)
+            raise Refused(number, 0 if self.w == "part_without_place" else place)
 
     def pool(self, note, n):
         f, w, hits = self.file, self.w, self.hits
@@ -177,12 +194,12 @@ class Head:
         first_size = size
         if kind != 1:
             if w == "garbage_refused":
-                raise Refused(4)
+                raise Refused(42, begin)
             skipped = max(size - 8, 0)
             if w == "garbage_skips_size":
                 skipped = size
             if w == "garbage_size_under_8_short" and size < 8:
-                raise Refused(4)
+                raise Refused(41, self.at)
             hits.add("H4-small" if size < 8 else "H4-none" if size == 8 else "H4")
             b = size if w == "garbage_b_is_size" else skipped
             if w == "garbage_noted_first":
@@ -198,7 +215,7 @@ class Head:
             if kind != 1:
                 hits.add("H5-type")
                 if w == "second_type_tested":
-                    raise Refused(4)
+                    raise Refused(42, begin)
             if w == "garbage_size_for_pool":
                 size = first_size
         if hs != 28:
@@ -289,12 +306,12 @@ class Head:
 
     def map(self, n):
         f, w, hits = self.file, self.w, self.hits
-        self.need(8, "map-header", 5)
+        self.need(8, "map-header")
         kind, hs, size = header(f, self.at)
         if kind != 0x180:
             hits.add("H13")
             if w == "map_type_tested":
-                raise Refused(5)
+                raise Refused(51, self.at)
             if w == "map_optional":
                 self.ids = ()
                 return
@@ -302,14 +319,14 @@ class Head:
         if hs != 8:
             hits.add("H14-more" if hs > 8 else "H14-less")
         if w == "map_header_size_moves" and hs > 8:
-            self.need(hs - 8, "map-ids", 5)
+            self.need(hs - 8, "map-ids")
             self.at += hs - 8
         many = max(size - (8 if w == "map_header_is_8" else hs), 0) // 4
         if max(size - hs, 0) % 4:
             hits.add("H14-rest")
         if w == "map_cut_taken":
             many = min(many, (n - self.at) // 4)
-        self.need(4 * many, "map-ids", 5)
+        self.need(4 * many, "map-ids")
         self.ids = struct.unpack_from(f"<{many}I", f, self.at)
         self.at += 4 * many
         if w == "map_rest_skipped":

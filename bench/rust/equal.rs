@@ -52,7 +52,9 @@ macro_rules! build {
                             AXMLError::MissingRoot => (6, 0),
                             other => return Err(format!("an error without a number: {other:?}")),
                         };
-                        return same("refusal", 0, refusal, (answer.refusal, answer.value));
+                        // of a head that is cut the Rust says whether it is the pool or the map, and not which part
+                        let ours = if answer.refusal > 40 { (answer.refusal / 10, 0) } else { (answer.refusal, answer.value) };
+                        return same("refusal", 0, refusal, ours);
                     }
                 };
                 same("refusal", 0, 0, answer.refusal)?;

@@ -75,7 +75,7 @@ static void readings(void) {
   reads(S, S_BYTES, &as_s);
   const struct expected seven = {"first 7", {AXML_TOO_SMALL, 7, 0, 0, 0, 0}, {0}, {0}, {0}};
   reads(S, 7, &seven);
-  const struct expected eight = {"first 8", {AXML_STRING_POOL, 0, 0, 0, 0, 0}, {0}, {0}, {0}};
+  const struct expected eight = {"first 8", {AXML_POOL_HEADER, 8, 0, 0, 0, 0}, {0}, {0}, {0}};
   reads(S, 8, &eight);
   const struct expected unclosed = {"no end", {0, 0, 1, 1, 1, 1}, {ROOT}, {LEADING}, {AXML_UNCLOSED_ELEMENTS, 1, 0}};
   reads(S, 88, &unclosed);
@@ -189,7 +189,7 @@ static void questions(void) {
   texts("text 0, one byte", S_BYTES, 0, 1, AXML_DONE, 0, "a");
   texts("text 0, no bytes", S_BYTES, 0, 0, AXML_TEXT_SHORT, 1, "");
   texts("text 1", S_BYTES, 1, 8, AXML_NOTHING_FOUND, 0, "");
-  texts("text of 8 bytes", 8, 0, 8, AXML_STRING_POOL, 0, "");
+  texts("text of 8 bytes", 8, 0, 8, AXML_POOL_HEADER, 8, "");
   first("value", "a", "android", 1, AXML_DONE, 0, 3);
   first("reference", "a", "android", 1, AXML_DONE, 0, 1);
   first("tag and name swapped", "android", "a", 1, AXML_NOTHING_FOUND, 0, 3);

@@ -164,8 +164,10 @@ static void answer(uint32_t flags, uint32_t cap, names s, uint32_t asked)
     zeros_behind(attributes, 5 * (size_t)a.attributes, rooms[1]);
     zeros_behind(notes, 3 * (size_t)a.notes, 3 * rooms[2]);
     used = 0;
-    put_word(a.refusal);
-    put_word(a.value);
+    /* which part of the head is cut, and where, the Rust does not say: its numbers are the tens of ours */
+    int part = a.refusal >= AXML_POOL_GARBAGE && a.refusal <= AXML_MAP_IDS;
+    put_word(part ? a.refusal / 10 : a.refusal);
+    put_word(part ? 0 : a.value);
     put_word(a.starts);
     put_word(a.nodes);
     put_word(a.attributes);

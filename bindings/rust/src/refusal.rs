@@ -4,7 +4,7 @@ use std::fmt;
 
 /// Why a file was not read, or why a question has no answer. `Display` says it in words and with its numbers.
 ///
-/// [`Manifest::read`](crate::Manifest::read) lends tables that are large enough for every file, so that it is refused by the first seven alone.
+/// [`Manifest::read`](crate::Manifest::read) lends tables that are large enough for every file, so that it is refused by the first five, and by those of the pool and the map, alone.
 #[derive(Clone, Copy, Debug, PartialEq, Eq)]
 #[non_exhaustive]
 pub enum Refusal {
@@ -14,10 +14,6 @@ pub enum Refusal {
     TooLarge,
     /// The file's header does not have 8 bytes, with what it says.
     HeaderSize(u64),
-    /// The string pool is cut.
-    StringPool,
-    /// The resource map is cut.
-    ResourceMap,
     /// There is no element that was read whole.
     NoElement,
     /// The lent system names break their rule, with the first entry that does.
@@ -34,6 +30,20 @@ pub enum Refusal {
     NothingFound,
     /// The lent tables do not fit the question, with the number of nodes, or the first bad one.
     Tables(u64),
+    /// A chunk in the string pool's place is cut, with the file offset at which its bytes should begin.
+    PoolGarbage(u64),
+    /// A header of the string pool, or its five numbers, are cut, with the file offset at which they should begin.
+    PoolHeader(u64),
+    /// The string pool's offsets are cut, with the file offset at which they should begin.
+    PoolOffsets(u64),
+    /// The string pool's styles are cut, with the file offset at which they should begin.
+    PoolStyles(u64),
+    /// The string pool's data is cut, with the file offset at which it should begin.
+    PoolData(u64),
+    /// The resource map's header is cut, with the file offset at which it should begin.
+    MapHeader(u64),
+    /// The resource map's ids are cut, with the file offset at which they should begin.
+    MapIds(u64),
     /// A number that this crate does not know, and its value: the crate is older than the library.
     Other(u32, u64),
 }
@@ -46,8 +56,6 @@ impl Refusal {
             1 => Refusal::TooSmall(value),
             2 => Refusal::TooLarge,
             3 => Refusal::HeaderSize(value),
-            4 => Refusal::StringPool,
-            5 => Refusal::ResourceMap,
             6 => Refusal::NoElement,
             7 => Refusal::SystemNames(value),
             8 => Refusal::NodesFull(value),
@@ -56,6 +64,13 @@ impl Refusal {
             11 => Refusal::TextShort(value),
             12 => Refusal::NothingFound,
             13 => Refusal::Tables(value),
+            41 => Refusal::PoolGarbage(value),
+            42 => Refusal::PoolHeader(value),
+            43 => Refusal::PoolOffsets(value),
+            44 => Refusal::PoolStyles(value),
+            45 => Refusal::PoolData(value),
+            51 => Refusal::MapHeader(value),
+            52 => Refusal::MapIds(value),
             _ => Refusal::Other(number, value),
         })
     }
@@ -66,8 +81,6 @@ impl Refusal {
             Refusal::TooSmall(_) => 1,
             Refusal::TooLarge => 2,
             Refusal::HeaderSize(_) => 3,
-            Refusal::StringPool => 4,
-            Refusal::ResourceMap => 5,
             Refusal::NoElement => 6,
             Refusal::SystemNames(_) => 7,
             Refusal::NodesFull(_) => 8,
@@ -76,6 +89,13 @@ impl Refusal {
             Refusal::TextShort(_) => 11,
             Refusal::NothingFound => 12,
             Refusal::Tables(_) => 13,
+            Refusal::PoolGarbage(_) => 41,
+            Refusal::PoolHeader(_) => 42,
+            Refusal::PoolOffsets(_) => 43,
+            Refusal::PoolStyles(_) => 44,
+            Refusal::PoolData(_) => 45,
+            Refusal::MapHeader(_) => 51,
+            Refusal::MapIds(_) => 52,
             Refusal::Other(number, _) => number,
         }
     }
@@ -85,8 +105,9 @@ impl Refusal {
         match *self {
             Refusal::TooSmall(v) | Refusal::HeaderSize(v) | Refusal::SystemNames(v) | Refusal::NodesFull(v) => v,
             Refusal::AttributesFull(v) | Refusal::NotesFull(v) | Refusal::TextShort(v) | Refusal::Tables(v) => v,
-            Refusal::Other(_, v) => v,
-            Refusal::TooLarge | Refusal::StringPool | Refusal::ResourceMap | Refusal::NoElement | Refusal::NothingFound => 0,
+            Refusal::PoolGarbage(v) | Refusal::PoolHeader(v) | Refusal::PoolOffsets(v) | Refusal::PoolStyles(v) | Refusal::PoolData(v) => v,
+            Refusal::MapHeader(v) | Refusal::MapIds(v) | Refusal::Other(_, v) => v,
+            Refusal::TooLarge | Refusal::NoElement | Refusal::NothingFound => 0,
         }
     }
 
@@ -96,8 +117,6 @@ impl Refusal {
             Refusal::TooSmall(_) => "the file is cut short: it has fewer than 8 bytes",
             Refusal::TooLarge => "the file is too large",
             Refusal::HeaderSize(_) => "this is not binary XML: its first header does not have 8 bytes",
-            Refusal::StringPool => "the string pool is cut short",
-            Refusal::ResourceMap => "the resource map is cut short",
             Refusal::NoElement => "the file has no element",
             Refusal::SystemNames(_) => "the system names break their rule",
             Refusal::NodesFull(_) => "the node table is full",
@@ -106,6 +125,13 @@ impl Refusal {
             Refusal::TextShort(_) => "the buffer is too short for the text",
             Refusal::NothingFound => "nothing was found",
             Refusal::Tables(_) => "the tables do not fit the question",
+            Refusal::PoolGarbage(_) => "the chunk before the string pool is cut short",
+            Refusal::PoolHeader(_) => "the string pool's header is cut short",
+            Refusal::PoolOffsets(_) => "the string pool's offsets are cut short",
+            Refusal::PoolStyles(_) => "the string pool's styles are cut short",
+            Refusal::PoolData(_) => "the string pool's data is cut short",
+            Refusal::MapHeader(_) => "the resource map's header is cut short",
+            Refusal::MapIds(_) => "the resource map's ids are cut short",
             Refusal::Other(..) => "refused for a reason that this crate does not know",
         }
     }
@@ -122,8 +148,10 @@ impl fmt::Display for Refusal {
             Refusal::NodesFull(n) | Refusal::AttributesFull(n) | Refusal::NotesFull(n) => write!(f, " ({n} places)"),
             Refusal::TextShort(n) => write!(f, " ({n} bytes are needed)"),
             Refusal::Tables(n) => write!(f, " ({n})"),
+            Refusal::PoolGarbage(n) | Refusal::PoolHeader(n) | Refusal::PoolData(n) | Refusal::MapHeader(n) => write!(f, ": byte {n} should be the first of it"),
+            Refusal::PoolOffsets(n) | Refusal::PoolStyles(n) | Refusal::MapIds(n) => write!(f, ": byte {n} should be the first of them"),
             Refusal::Other(number, value) => write!(f, " (number {number}, value {value})"),
-            Refusal::StringPool | Refusal::ResourceMap | Refusal::NoElement | Refusal::NothingFound => Ok(()),
+            Refusal::NoElement | Refusal::NothingFound => Ok(()),
         }
     }
 }

@@ -63,8 +63,9 @@ fn parents_and_unclosed_elements() {
 #[test]
 fn refusals_say_what_to_do() {
     assert_eq!(Manifest::read(&[]).unwrap_err(), Refusal::TooSmall(0));
-    assert_eq!(Manifest::read(&HEAD[..40]).unwrap_err(), Refusal::StringPool);
-    assert_eq!(Refusal::StringPool.to_string(), "the string pool is cut short");
+    assert_eq!(Manifest::read(&HEAD[..39]).unwrap_err(), Refusal::PoolOffsets(36));
+    assert_eq!(Refusal::PoolOffsets(36).to_string(), "the string pool's offsets are cut short: byte 36 should be the first of them");
+    assert_eq!(Manifest::read(&HEAD[..51]).unwrap_err(), Refusal::MapHeader(44));
     assert_eq!(Manifest::read(&[3, 0, 8]).unwrap_err().to_string(), "the file is cut short: it has fewer than 8 bytes (it has 3)");
     assert_eq!(Manifest::read(HEAD).unwrap_err(), Refusal::NoElement);
     assert_eq!(Manifest::read(&vec![0; (1 << 24) + 1]).unwrap_err(), Refusal::TooLarge);

@@ -16,7 +16,7 @@ use Rattle.text.specs.declared.Found.{Found}
 use Rattle.text.specs.declared.Found.the-variants.{Nothing, Cut, System, Pool}
 use Rattle.text.specs.declared.Head.{Head}
 use Rattle.text.specs.Content.{Content, none, contentOf, rawOf}
-use Rattle.text.specs.Found.{partOf, Inside, Stands}
+use Rattle.text.specs.Inner.Found.{partOf, Inside, Stands}
 use Rattle.text.proofs.Parts.{take-drop-part}
 use Rattle.head.specs.Head.{tablesIn, headLen}
 use Rattle.head.specs.Ask.{openOf, contentAsked, contentAnswer}

@@ -25,7 +25,7 @@ use Rattle.walk.specs.declared.Mode.{Mode}
 use Rattle.walk.specs.declared.Mode.the-variants.{Fresh, Reading as InBody, Clearing}
 use Rattle.walk.specs.declared.State.{State}
 use Rattle.walk.specs.Reading.{Reading, reading}
-use Rattle.walk.specs.Outcome.{Adv, Advanced, Good, first, left, cleared, outcome}
+use Rattle.walk.specs.Inner.Outcome.{Adv, Advanced, Good, first, left, cleared, outcome}
 use Rattle.walk.proofs.Clearing.{false-true}
 use Rattle.walk.proofs.Opening.{first-good}
 use Rattle.c_api.specs.declared.AxmlAnswer.{AxmlAnswer}

@@ -7,7 +7,7 @@ ghost use Prim.Native.Nat.{_≤_};
 ghost use lib.ListN.{length};
 ghost use Rattle.records.specs.Limits.{fileLimit};
 ghost use Rattle.system_types.specs.Names.{lends};
-ghost use Rattle.text.specs.Found.{Inside};
+ghost use Rattle.text.specs.Inner.Found.{Inside};
 ghost use Rattle.c_api.specs.Place.{AsksContent};
 ghost use Rattle.c_api.specs.Inner.Placed.{placeOf};
 use common::StringIndex;

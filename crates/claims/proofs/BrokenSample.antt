@@ -40,7 +40,7 @@ read-S = ap (λ (l : List Reading). getD l 0 (oneNode 1 0 none)) cases-right
 
 pub read-88 : reading room (take 88 fileS) (lends [] []) ≡ oneNode 1 1 (note 12 1 ∷ zeroNote ∷ zeroNote ∷ zeroNote ∷ [])
 unfolding cases
-read-88 = ap (λ (l : List Reading). getD l 3 (oneNode 1 0 none)) cases-right
+read-88 = ap (λ (l : List Reading). getD l 4 (oneNode 1 0 none)) cases-right
 
 no-start : _≡_ {A = ℕ} (opensIn (eventsOf headS (lends [] []))) 0
 unfolding fileS headS startS endS settle u16le u32le headerOf isXml sortOf contentLen foreignLen walk walkFrom trace traceFrom

@@ -1,20 +1,22 @@
 -- The insertion theorem of calls: whatever two results the promise `Reads` allows for a file and the longer one. No contract cites this file.
--- In order: what a call left, as a reading (`left-reading`); the theorem (`insertion-read`), tables of the same lengths, when there is room.
+-- In order: what a call left, as a reading (`left-reading`), and a reading as what a call left (`reading-left`); the theorem (`insertion-read`), tables of
+-- the same lengths, when there is room.
 use Prim.Native.Nat.{ℕ, _*_, _≤_}
 use native.Mathlib.Nat.{le-trans}
 use mathlib.Core.Path.{_≡_, sym, _∙_, ap, subst}
 use mathlib.Core.List.{List}
-use lib.ListN.{length}
+use lib.ListN.{length, replicate, length-replicate}
 use Rattle.anomaly.specs.Kept.{keptNotes}
 use Rattle.anomaly.specs.declared.Note.{Note as NoteOf}
 use Rattle.errors.specs.declared.ReadAnswer.{ReadAnswer}
 use Rattle.errors.specs.declared.ReadAnswer.the-variants.{Done}
 use Rattle.errors.specs.declared.ReadCounts.{ReadCounts}
+use Rattle.errors.specs.Refusal.{numbersOf}
 use Rattle.errors.proofs.Laws.{numbersOf-unique}
 use Rattle.records.specs.Limits.{fileLimit}
 use Rattle.records.specs.Words.{nodeWidth, attributeWidth}
 use Rattle.system_types.specs.Names.{Lent}
-use Rattle.walk.specs.Reading.{Reading, reading, roomIn, Reads}
+use Rattle.walk.specs.Reading.{Reading, reading, roomIn, zeroNote, Reads}
 use Rattle.claims.specs.Insertion.{ForeignChunk, placesIn, insertedFile, placeNotes, withNotes, left}
 use Rattle.claims.specs.Room.{HasRoom}
 use Rattle.claims.proofs.Foreign.{placeNotes-room}
@@ -23,6 +25,20 @@ use Rattle.claims.proofs.Insertion.{insertion, insertion-room, insertio
 module _ (f : List ℕ) (lent : Lent) (ns ats : List ℕ) (os : List NoteOf) (cap : ℕ) (a : ReadAnswer) (ns′ ats′ : List ℕ) (os′ : List NoteOf) where
   pub left-reading : Reads f lent ns ats os cap a ns′ ats′ os′ → left a ns′ ats′ os′ ≡ reading (roomIn ns ats os cap) f lent
   left-reading p = rw (numbersOf-unique a _ (p .answer), p .nodes, p .attributes, p .notes)
+
+-- with k places for notes
+pub reading-left : (f : List ℕ) (lent : Lent) (ns ats : List ℕ) (k cap : ℕ) (R : Reading)
+    → R ≡ reading (record { nodes = length ns; attributes = length ats; notes = k; cap = cap }) f lent → (a : ReadAnswer) → R .answer ≡ a
+    → Reads f lent ns ats (replicate k zeroNote) cap a (R .nodes) (R .attributes) (R .notes)
+reading-left f lent ns ats k cap R is a e =
+    let same : R ≡ reading (roomIn ns ats (replicate k zeroNote) cap) f lent =
+    is ∙ ap (λ (n : ℕ). reading (record { nodes = length ns; attributes = length ats; notes = n; cap = cap }) f lent) (sym (length-replicate k zeroNote)) in
+    record {
+      answer = ap numbersOf (sym e) ∙ ap (λ (x : Reading). numbersOf (x .answer)) same;
+      nodes = ap (λ (x : Reading). x .nodes) same;
+      attributes = ap (λ (x : Reading). x .attributes) same;
+      notes = ap (λ (x : Reading). x .notes) same;
+    }
 
 module _ (f : List ℕ) (lent : Lent) (ns ats : List ℕ) (os : List NoteOf) (cap : ℕ) (c : ReadCounts) (ns₁ ats₁ : List ℕ) (os₁ : List NoteOf) (one : 1 ≤ cap)
     (first : Reads f lent ns ats os cap (Done c) ns₁ ats₁ os₁) (none : c .notes ≡ 0) where

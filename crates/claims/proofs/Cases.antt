@@ -10,7 +10,7 @@ use mathlib.Core.List.{List, [], _∷_, _++_}
 use lib.ListN.{take, replicate}
 use Rattle.anomaly.specs.declared.Note.{Note}
 use Rattle.anomaly.specs.Note.{noteOf, kindIndex}
-use Rattle.errors.specs.declared.Refusal.the-variants.{TooSmallError, StringPoolError}
+use Rattle.errors.specs.declared.Refusal.the-variants.{TooSmallError, StringPoolHeader}
 use Rattle.errors.specs.declared.ReadAnswer.the-variants.{Done, Refused}
 use Rattle.errors.specs.declared.ReadAnswer.{ReadAnswer}
 use Rattle.field.specs.Le.{u16le, u32le}
@@ -113,7 +113,8 @@ unfolding fileS headS startS endS
 cases =
     row fileS (oneNode 1 0 none) ∷
     row (take 7 fileS) (refusal (Refused (TooSmallError 7))) ∷
-    row (take 8 fileS) (refusal (Refused StringPoolError)) ∷
+    row (take 8 fileS) (refusal (Refused (StringPoolHeader 8))) ∷
+    row (take 35 fileS) (refusal (Refused (StringPoolHeader 16))) ∷
     row (take 88 fileS) (oneNode 1 1 (note 12 1 ∷ zeroNote ∷ zeroNote ∷ zeroNote ∷ [])) ∷
     row (take 95 fileS) (oneNode 1 1 (note 12 1 ∷ zeroNote ∷ zeroNote ∷ zeroNote ∷ [])) ∷
     row (take 103 fileS) (oneNode 1 2 (note 11 0 ∷ note 12 1 ∷ zeroNote ∷ zeroNote ∷ [])) ∷

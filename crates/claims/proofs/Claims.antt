@@ -11,16 +11,18 @@
 --   insertion        of the promise; insertion-read of two calls. What the hypotheses and the notes mean: insertion-head to insertion-cap
 --   insertion-text, insertion-content, insertion-first   the three questions answer as before
 -- Room (L1): suffices of a file of any length, read-suffices of a call; listing-suffices, read-listed-suffices of a listing.
+-- A part of the head that is short (P6): part-offset, part-cut of a reading, text-part-cut of the text question.
 -- Zeros (P1, B7, B8): refused-zeros, done-zeros, text-refused-zeros, text-done-zeros. Every success: structured, notes-kept.
 -- Readers that break the promise (P5): refuses-all-broken to wrong-kinds-broken, each of every reader of its sort (specs/Readers.antt); meets-some.
 -- The C interface: c-read-unique to c-first-refused-zeros, the same of its words: one answer, insertion, zeros.
+-- The listing's function: list-unique to list-suffices: one answer, zeros, room.
 -- The marked cases (L5): `cases-right` of proofs/Cases.antt, one table and one theorem; `cases-read` of proofs/Given.antt: `read` gives them.
 -- Texts and names (P2): what ties them to Unicode's tables and to XML's ranges is named in ARCHITECTURE.md.
 use Prim.Native.Nat.{ℕ, _+_, _*_, _≤_, _<_}
 use mathlib.Core.Path.{_≡_, sym, _∙_}
 use mathlib.Core.List.{List, [], _∷_, _++_, map}
 use lib.Ieee.{Float}
-use mathlib.Core.Bool.{Bool, false}
+use mathlib.Core.Bool.{Bool, true, false}
 use lib.ListN.{length, take, replicate}
 use Rattle.common.specs.Complex.{Complex}
 use Rattle.common.specs.Header.{headerOf}
@@ -28,7 +30,7 @@ use Rattle.common.specs.declared.ResChunkHeader.{ResChunkHeader}
 use Rattle.common.specs.declared.HeaderRead.the-variants.{Whole}
 use Rattle.common.proofs.Product.{Complex-unique}
 use Rattle.chunk.specs.Sort.{sortOf}
-use Rattle.errors.specs.Refusal.{numbersOf, textNumbersOf, firstNumbersOf}
+use Rattle.errors.specs.Refusal.{valueOf, numbersOf, textNumbersOf, firstNumbersOf}
 use Rattle.errors.specs.declared.ReadAnswer.{ReadAnswer}
 use Rattle.errors.specs.declared.ReadAnswer.the-variants.{Done, Refused}
 use Rattle.errors.specs.declared.Refusal.{Refusal}
@@ -43,8 +45,10 @@ use Rattle.anomaly.specs.Kept.{ofKind, keptNotes}
 use Rattle.anomaly.proofs.Laws.{keptNotes-of-kind}
 use Rattle.records.specs.Limits.{fileLimit, listedFile}
 use Rattle.listing_text.specs.Printed.{Printed}
+use Rattle.listed.specs.Lists.{listed, Lists}
+use Rattle.listed.specs.Roomy.{Roomy}
 use Rattle.xml.specs.NCName.{validName}
-use Rattle.head.specs.Ask.{TextReads, contentAnswer}
+use Rattle.head.specs.Ask.{textAnswer, TextReads, contentAnswer}
 use Rattle.head.specs.Head.{openedOf, headLen}
 use Rattle.first_value.specs.Question.{firstAnswer, FirstReads}
 use Rattle.records.specs.Words.{nodeWidth, attributeWidth, noteWidth}
@@ -60,7 +64,8 @@ use Rattle.c_api.specs.declared.AxmlTextAnswer.{AxmlTextAnswer}
 use Rattle.c_api.specs.declared.AxmlFirstAnswer.{AxmlFirstAnswer}
 use Rattle.claims.specs.InC.{leftInC, withNotesInC, RefusedInC, DoneInC, TextRefusedInC, TextDoneInC, FirstRefusedInC}
 use Rattle.claims.specs.Room.{isFullNumber, HasRoom, nodesFor, attributesFor, placesFor, listingRoom}
-use Rattle.claims.specs.Cleared.{RefusedZero, DoneZero, TextRefusedZero, TextDoneZero}
+use Rattle.claims.specs.Parts.{isPart}
+use Rattle.claims.specs.Cleared.{ZeroBehind, RefusedZero, DoneZero, TextRefusedZero, TextDoneZero}
 use Rattle.claims.specs.Shape.{Structured}
 use Rattle.claims.specs.Readers.{Call, Reader, Meets, eventsOf, kindsOf, RefusesAll, Constant, ConstantOnRead, StopsAtStart}
 use Rattle.claims.specs.Readers.{LeavesNodes, LeavesAttributes, LeavesNotes, ClearsNodes, ClearsAttributes, ClearsNotes}
@@ -70,10 +75,12 @@ use Rattle.claims.proofs.Insertion as proved
 use Rattle.claims.proofs.Calls as calls
 use Rattle.claims.proofs.Values as values
 use Rattle.claims.proofs.Suffices as room
+use Rattle.claims.proofs.Parts as parts
 use Rattle.claims.proofs.Zeros as zeros
 use Rattle.claims.proofs.Structure as tree
 use Rattle.claims.proofs.Broken as broken
 use Rattle.claims.proofs.InC as inC
+use Rattle.claims.proofs.Lists as lists
 
 module _ (f : List ℕ) (lent : Lent) (ns ats : List ℕ) (os : List Note) (cap : ℕ) where
   pub read-unique : (r r′ : ReadAnswer) (ns₁ ns₂ ats₁ ats₂ : List ℕ) (os₁ os₂ : List Note) → Reads f lent ns ats os cap r ns₁ ats₁ os₁
@@ -219,6 +226,25 @@ pub read-listed-suffices : (f ns ats : List ℕ) (a : ReadAnswer) (ns′ ats′ 
     → Reads f (lends [] []) ns ats (replicate (listingRoom .notes) zeroNote) (listingRoom .cap) a ns′ ats′ os′ → HasRoom a
 read-listed-suffices = room.read-listed-suffices
 
+-- ---- a part of pool or map that is short (H15): the value of the refusal is where it should begin
+
+module _ (r : Room) (f : List ℕ) (lent : Lent) (x : Refusal) (part : isPart x ≡ true) (refused : reading r f lent .answer ≡ Refused x) where
+  -- a place in the file, behind its header
+  pub part-offset : (8 ≤ valueOf x) × (valueOf x ≤ length f)
+  part-offset = parts.part-offset f lent x (parts.reading-part f lent x part r refused)
+
+  -- the file cut there leaves the same, every word
+  pub part-cut : reading r (take (valueOf x) f) lent ≡ reading r f lent
+  part-cut = parts.part-cut f lent x (parts.reading-part f lent x part r refused) r
+
+-- and so does the text question of any index, whatever the buffer
+module _ (f : List ℕ) (lent : Lent) (n i : ℕ) (x : Refusal) (part : isPart x ≡ true) (refused : textAnswer f lent n i ≡ textIs.Refused x) where
+  pub text-part-cut : (8 ≤ valueOf x) × (valueOf x ≤ length f) × (textAnswer (take (valueOf x) f) lent n i ≡ textIs.Refused x)
+  text-part-cut =
+      let e = parts.text-part f lent x part n i refused in
+      let p = parts.open-part f lent x part e in
+      (parts.part-offset f lent x p .0, parts.part-offset f lent x p .1, parts.part-cut-text f lent x p n i e)
+
 -- ---- zeros (B7, B8), and the structure of a success (W25 to W29, B9 to B15)
 
 module _ (f : List ℕ) (lent : Lent) (ns ats : List ℕ) (os : List Note) (cap : ℕ) (ns′ ats′ : List ℕ) (os′ : List Note) where
@@ -298,6 +324,36 @@ module _ (f : List ℕ) (lent : Lent) (before : List ℕ) (i : ℕ) (a : AxmlTex
 
 pub c-first-refused-zeros : (b : FirstAnswer) (a : AxmlFirstAnswer) → a ≡ firstAnswerOf (firstNumbersOf b) → (a .refusal ≡ 0 → ⊥) → FirstRefusedInC a
 c-first-refused-zeros = inC.first-refused-zeros
+
+-- ---- the listing's function
+
+module _ (f ns ats before : List ℕ) where
+  pub list-unique : (r r′ : TextAnswer) (ns₁ ns₂ ats₁ ats₂ after after′ : List ℕ) → Lists f ns ats before r ns₁ ats₁ after
+      → Lists f ns ats before r′ ns₂ ats₂ after′ → (r ≡ r′) × (ns₁ ≡ ns₂) × (ats₁ ≡ ats₂) × (after ≡ after′)
+  list-unique r r′ ns₁ ns₂ ats₁ ats₂ after after′ p q =
+      let e = listing-unique _ before r r′ after after′ (p .printed) (q .printed) in
+      (e .0, p .nodes ∙ sym (q .nodes), p .attributes ∙ sym (q .attributes), e .1)
+
+  module _ (ns′ ats′ after : List ℕ) where
+    -- in the buffer, where the text has no place, and behind the text
+    pub list-refused-zeros : (x : Refusal) → Lists f ns ats before (textIs.Refused x) ns′ ats′ after → after ≡ replicate (length before) 0
+    list-refused-zeros x h = lists.printed-refused _ before after x (h .printed)
+
+    pub list-done-zeros : (k : ℕ) → Lists f ns ats before (textIs.Text k) ns′ ats′ after → ZeroBehind 0 k before after
+    list-done-zeros k h = lists.printed-done _ before after k (h .printed)
+
+    -- in the tables, where the file is refused, and behind the records that the listing has
+    pub list-unread-zeros : (r : TextAnswer) → Lists f ns ats before r ns′ ats′ after → (x : Refusal)
+        → listed f (length ns) (length ats) .answer ≡ Refused x → (ns′ ≡ replicate (length ns) 0) × (ats′ ≡ replicate (length ats) 0)
+    list-unread-zeros r h x e = let z = lists.unread-zeros f ns ats x e in (h .nodes ∙ z .0, h .attributes ∙ z .1)
+
+    pub list-read-zeros : (r : TextAnswer) → Lists f ns ats before r ns′ ats′ after → (c : ReadCounts) → listed f (length ns) (length ats) .answer ≡ Done c
+        → ZeroBehind 0 (nodeWidth * c .nodes) ns ns′ × ZeroBehind 0 (attributeWidth * c .attributes) ats ats′
+    list-read-zeros r h c e = rw (h .nodes, h .attributes) (lists.read-zeros f ns ats c e)
+
+-- in the room of a listing no record is without a place, whatever came in
+pub list-suffices : (f : List ℕ) (ns ats room : ℕ) → Roomy ns ats room → HasRoom (listed f ns ats .answer)
+list-suffices = lists.list-suffices
 
 -- ---- readers that break the promise (P5)
 

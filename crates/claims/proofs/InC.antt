@@ -10,11 +10,9 @@ use Rattle.anomaly.specs.Note.{noteOf}
 use Rattle.anomaly.specs.Kept.{keptNotes}
 use Rattle.anomaly.specs.declared.Note.{Note}
 use Rattle.anomaly.specs.declared.ResAnomaly.{ResAnomaly}
+use Rattle.errors.proofs.Laws.{numberOf-some}
 use Rattle.errors.specs.Refusal.{numberOf, numbersOf, textNumbersOf, firstNumbersOf}
 use Rattle.errors.specs.declared.Refusal.{Refusal}
-use Rattle.errors.specs.declared.Refusal.the-variants.{TooSmallError, TooLargeError, HeaderSizeError, StringPoolError}
-use Rattle.errors.specs.declared.Refusal.the-variants.{ResourceMapError, MissingRoot, SystemNamesError, NodesFull}
-use Rattle.errors.specs.declared.Refusal.the-variants.{AttributesFull, NotesFull, TextShort, NothingFound, TablesError}
 use Rattle.errors.specs.declared.ReadAnswer.{ReadAnswer}
 use Rattle.errors.specs.declared.ReadAnswer.the-variants.{Done, Refused}
 use Rattle.errors.specs.declared.ReadCounts.{ReadCounts}
@@ -27,7 +25,7 @@ use Rattle.head.specs.Ask.{TextReads, textAnswer}
 use Rattle.records.specs.Words.{nodeWidth, attributeWidth, noteWidth}
 use Rattle.system_types.specs.Names.{Lent}
 use Rattle.walk.specs.Settle.{Room}
-use Rattle.walk.specs.Reading.{Reading, reading, roomIn, zeroNote, Reads}
+use Rattle.walk.specs.Reading.{Reading, reading, zeroNote, Reads}
 use Rattle.c_api.specs.Words.{wordsOf, wordRoom, answerOf, ReadsWords}
 use Rattle.c_api.proofs.Noting.{length-words, words-behind}
 use Rattle.c_api.specs.Answers.{textAnswerOf, firstAnswerOf, AsksText}
@@ -39,6 +37,7 @@ use Rattle.claims.specs.Insertion.{ForeignChunk, placesIn, insertedFile,
 use Rattle.claims.specs.Room.{isFullNumber, HasRoom}
 use Rattle.claims.specs.InC.{LeftInC, leftInC, withNotesInC, RefusedInC, DoneInC, TextRefusedInC, TextDoneInC, FirstRefusedInC}
 use Rattle.claims.proofs.Foreign.{placeNotes-room}
+use Rattle.claims.proofs.Calls.{reading-left}
 use Rattle.claims.proofs.Insertion as proved
 use Rattle.claims.proofs.Zeros as zeros
 
@@ -59,20 +58,7 @@ zeros-behind os m n k e = sym (words-behind os m n) ∙ ap (λ (j : ℕ). wordsO
 -- ---- an answer by its numbers
 
 some-number : (x : Refusal) → _≡_ {A = ℕ} (numberOf x) 0 → ⊥
-unfolding numberOf
-some-number (TooSmallError length) e = omega arith
-some-number TooLargeError e = omega arith
-some-number (HeaderSizeError size) e = omega arith
-some-number StringPoolError e = omega arith
-some-number ResourceMapError e = omega arith
-some-number MissingRoot e = omega arith
-some-number (SystemNamesError entry) e = omega arith
-some-number (NodesFull places) e = omega arith
-some-number (AttributesFull places) e = omega arith
-some-number (NotesFull places) e = omega arith
-some-number (TextShort needed) e = omega arith
-some-number NothingFound e = omega arith
-some-number (TablesError node) e = omega arith
+some-number x e = let q = rw e at (numberOf-some x) in let z : _≡_ {A = ℕ} 0 1 = cc in omega arith
 
 done-of : (a : ReadAnswer) → _≡_ {A = ℕ} (numbersOf a .refusal) 0 → (c : ReadCounts) × (a ≡ Done c)
 unfolding numbersOf
@@ -100,16 +86,7 @@ module _ (f : List ℕ) (lent : Lent) (ns ats ws : List ℕ) (cap : ℕ) where
 
   as-reads : (a : ReadAnswer) → reading room f lent .answer ≡ a
       → Reads f lent ns ats places cap a (reading room f lent .nodes) (reading room f lent .attributes) (reading room f lent .notes)
-  as-reads a e =
-      let same : reading (roomIn ns ats places cap) f lent ≡ reading room f lent =
-      ap (λ (n : ℕ). reading (record { nodes = length ns; attributes = length ats; notes = n; cap = cap }) f lent)
-      (length-replicate (length ws / noteWidth) zeroNote) in
-      record {
-        answer = sym (ap (λ (x : Reading). numbersOf (x .answer)) same ∙ ap numbersOf e);
-        nodes = sym (ap (λ (x : Reading). x .nodes) same);
-        attributes = sym (ap (λ (x : Reading). x .attributes) same);
-        notes = sym (ap (λ (x : Reading). x .notes) same);
-      }
+  as-reads a e = reading-left f lent ns ats (length ws / noteWidth) cap (reading room f lent) refl a e
 
   many : length places ≡ length ws / noteWidth
   many = length-replicate (length ws / noteWidth) zeroNote

@@ -33,8 +33,11 @@ pub mod StructureWalk
 pub mod StructureOpen
 pub mod StructureSaid
 pub mod Structure
+pub mod PartsBody
+pub mod Parts
 pub mod Zeros
 pub mod BrokenSample
 pub mod Broken
 pub mod InC
+pub mod Lists
 pub mod Claims

@@ -17,7 +17,11 @@ use Rattle.errors.specs.declared.Refusal.the-variants.{MissingRoot}
 use Rattle.head.specs.declared.HeadEnd.{HeadEnd}
 use Rattle.head.specs.declared.HeadEnd.the-variants.{Whole, TooSmall, HeaderSize, PoolShort, MapShort}
 use Rattle.head.specs.declared.Opened.{Opened}
-use Rattle.head.specs.Head.{refusalOf, garbageNotes, countNotes, offsetNotes}
+use Rattle.head.specs.declared.PoolPart.{PoolPart}
+use Rattle.head.specs.declared.PoolPart.the-variants.{Skipped, Header, Offsets, Styles, Data}
+use Rattle.head.specs.declared.MapPart.{MapPart}
+use Rattle.head.specs.declared.MapPart.the-variants.{MapHeader, MapIds}
+use Rattle.head.specs.Head.{poolRefusal, mapRefusal, refusalOf, garbageNotes, countNotes, offsetNotes}
 use Rattle.xml_elements.specs.declared.Chunk.{Chunk}
 use Rattle.xml_elements.specs.declared.Chunk.the-variants.{Start, End, Other, Last}
 use Rattle.xml_elements.specs.declared.CutChunk.{CutChunk}
@@ -32,6 +36,7 @@ use Rattle.events.specs.declared.Event.the-variants.{Refuse}
 use Rattle.events.specs.Events.{Names, Spot, when}
 use Rattle.events.specs.Events.{fromRoot, foreignNote, chunkYield, cutYield, yieldOf, used, out, next, lastOf, eventsOn, bodyEvents}
 use Rattle.events.specs.Events.{notesOf, afterPool, fileEvents}
+use Rattle.claims.specs.Room.{isFull}
 use Rattle.claims.specs.Counts.{isOpen, isAttribute, opensIn, attributesIn}
 use Rattle.claims.proofs.SufficesStart.{sum-append, Fine, fine-append, Few, few-none, few-note, few-when, few-noted, few-start}
 use Rattle.claims.proofs.SufficesStart.{few-gap-cut, few-attributes-cut, few-trailing-cut}
@@ -124,12 +129,26 @@ notes-few (x ∷ xs) =
 behind-notes : (xs : List ResAnomaly) (es : List Event) (n : ℕ) → Paid es n → Paid (notesOf xs ++ es) n
 behind-notes xs es n h = paid-append (notesOf xs) es 0 n n (paid-none _ 0 (notes-few xs)) h (omega arith)
 
+-- a part that is short is no want of a place
+pool-fine : (e : PoolPart) → isFull (poolRefusal e) ≡ false
+unfolding numberOf
+pool-fine (Skipped at) = refl
+pool-fine (Header at) = refl
+pool-fine (Offsets at) = refl
+pool-fine (Styles at) = refl
+pool-fine (Data at) = refl
+
+map-fine : (e : MapPart) → isFull (mapRefusal e) ≡ false
+unfolding numberOf
+map-fine (MapHeader at) = refl
+map-fine (MapIds at) = refl
+
 module _ (N : Names) (o : Opened) (t b : List ℕ) where
   refusal-few : (e : HeadEnd) → Paid (Refuse (refusalOf e) ∷ []) (length b)
   unfolding numberOf
   refusal-few Whole = paid-none _ _ (record { opens = omega arith; attributes = omega arith; fine = (refl, tt) })
-  refusal-few (MapShort m) = paid-none _ _ (record { opens = omega arith; attributes = omega arith; fine = (refl, tt) })
-  refusal-few (PoolShort e) = paid-none _ _ (record { opens = omega arith; attributes = omega arith; fine = (refl, tt) })
+  refusal-few (MapShort e) = paid-none _ _ (record { opens = omega arith; attributes = omega arith; fine = (map-fine e, tt) })
+  refusal-few (PoolShort e) = paid-none _ _ (record { opens = omega arith; attributes = omega arith; fine = (pool-fine e, tt) })
   refusal-few (TooSmall n) = paid-none _ _ (record { opens = omega arith; attributes = omega arith; fine = (refl, tt) })
   refusal-few (HeaderSize n) = paid-none _ _ (record { opens = omega arith; attributes = omega arith; fine = (refl, tt) })
 

@@ -40,7 +40,7 @@ use Rattle.claims.proofs.StructureTables.{kept-in}
 
 -- ---- a list, and zeros behind it
 
-behind : {A : Type 0} (z : A) (k n : ℕ) (x l l′ : List A) → length x ≡ k → n ≡ length l → k ≤ n → l′ ≡ x ++ replicate (n - k) z → ZeroBehind z k l l′
+pub behind : {A : Type 0} (z : A) (k n : ℕ) (x l l′ : List A) → length x ≡ k → n ≡ length l → k ≤ n → l′ ≡ x ++ replicate (n - k) z → ZeroBehind z k l l′
 behind z k n x l l′ e m h q = record {
   long = rw q (length-append x (replicate (n - k) z) ∙ rw (length-replicate (n - k) z, e) (omega arith));
   there = omega arith;

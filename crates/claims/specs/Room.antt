@@ -5,7 +5,7 @@
 --   nodesFor       words for all the nodes that a file of n bytes can make: the chunk of an element has 36 bytes at least
 --   attributesFor  the same of attributes: each has 20 bytes, and the leading one is paid for by its element
 --   placesFor      places for all the notes that a cap keeps: the kinds are counted apart
---   listingRoom    the room of a listing, by the numbers of records/Limits
+--   listingRoom    the room of a listing: words for the nodes and attributes that records/Limits names
 use Prim.Native.Nat.{ℕ, _*_, _/_}
 use mathlib.Core.Path.{_≡_}
 use mathlib.Core.Bool.{Bool, false, _&&_}
@@ -16,8 +16,9 @@ use Rattle.errors.specs.declared.Refusal.{Refusal}
 use Rattle.errors.specs.declared.ReadAnswer.{ReadAnswer}
 use Rattle.errors.specs.declared.ReadAnswer.the-variants.{Done, Refused}
 use Rattle.records.specs.Words.{nodeWidth, attributeWidth}
-use Rattle.records.specs.Limits.{listedNodes, listedAttributes, listedCap, listedNotes}
+use Rattle.records.specs.Limits.{listedNodes, listedAttributes}
 use Rattle.walk.specs.Settle.{Room}
+use Rattle.listed.specs.Lists.{listedRoom}
 
 abbrev pub isFullNumber : ℕ → Bool
 isFullNumber n = leb 8 n && leb n 10
@@ -39,4 +40,4 @@ abbrev pub placesFor : ℕ → ℕ
 placesFor cap = kinds * cap
 
 abbrev pub listingRoom : Room
-listingRoom = record { nodes = nodeWidth * listedNodes; attributes = attributeWidth * listedAttributes; notes = listedNotes; cap = listedCap }
+listingRoom = listedRoom (nodeWidth * listedNodes) (attributeWidth * listedAttributes)

@@ -6,9 +6,11 @@ use mathlib.Core.Bool.{Bool, true, false, cond}
 use lib.Dec.{eqb}
 use Rattle.errors.specs.Refusal.{numberOf, valueOf, numbersOf, textNumbersOf, firstNumbersOf}
 use Rattle.errors.specs.declared.Refusal.{Refusal}
-use Rattle.errors.specs.declared.Refusal.the-variants.{TooSmallError, TooLargeError, HeaderSizeError, StringPoolError}
-use Rattle.errors.specs.declared.Refusal.the-variants.{ResourceMapError, MissingRoot, SystemNamesError, NodesFull}
+use Rattle.errors.specs.declared.Refusal.the-variants.{TooSmallError, TooLargeError, HeaderSizeError}
+use Rattle.errors.specs.declared.Refusal.the-variants.{MissingRoot, SystemNamesError, NodesFull}
 use Rattle.errors.specs.declared.Refusal.the-variants.{AttributesFull, NotesFull, TextShort, NothingFound, TablesError}
+use Rattle.errors.specs.declared.Refusal.the-variants.{StringPoolGarbage, StringPoolHeader, StringPoolOffsets, StringPoolStyles}
+use Rattle.errors.specs.declared.Refusal.the-variants.{StringPoolData, ResourceMapHeader, ResourceMapIds}
 use Rattle.errors.specs.declared.Numbers.{Numbers}
 use Rattle.errors.specs.declared.TextNumbers.{TextNumbers}
 use Rattle.errors.specs.declared.FirstNumbers.{FirstNumbers}
@@ -31,23 +33,26 @@ refusalOf n v =
     cond (eqb n 1) (TooSmallError v) (
     cond (eqb n 2) TooLargeError (
     cond (eqb n 3) (HeaderSizeError v) (
-    cond (eqb n 4) StringPoolError (
-    cond (eqb n 5) ResourceMapError (
     cond (eqb n 6) MissingRoot (
     cond (eqb n 7) (SystemNamesError v) (
     cond (eqb n 8) (NodesFull v) (
     cond (eqb n 9) (AttributesFull v) (
     cond (eqb n 10) (NotesFull v) (
     cond (eqb n 11) (TextShort v) (
-    cond (eqb n 12) NothingFound (TablesError v))))))))))))
+    cond (eqb n 12) NothingFound (
+    cond (eqb n 13) (TablesError v) (
+    cond (eqb n 41) (StringPoolGarbage v) (
+    cond (eqb n 42) (StringPoolHeader v) (
+    cond (eqb n 43) (StringPoolOffsets v) (
+    cond (eqb n 44) (StringPoolStyles v) (
+    cond (eqb n 45) (StringPoolData v) (
+    cond (eqb n 51) (ResourceMapHeader v) (ResourceMapIds v)))))))))))))))))
 
 refusalOf-back : (r : Refusal) → refusalOf (numberOf r) (valueOf r) ≡ r
 unfolding numberOf valueOf refusalOf
 refusalOf-back (TooSmallError v) = refl
 refusalOf-back TooLargeError = refl
 refusalOf-back (HeaderSizeError v) = refl
-refusalOf-back StringPoolError = refl
-refusalOf-back ResourceMapError = refl
 refusalOf-back MissingRoot = refl
 refusalOf-back (SystemNamesError v) = refl
 refusalOf-back (NodesFull v) = refl
@@ -56,6 +61,13 @@ refusalOf-back (NotesFull v) = refl
 refusalOf-back (TextShort v) = refl
 refusalOf-back NothingFound = refl
 refusalOf-back (TablesError v) = refl
+refusalOf-back (StringPoolGarbage v) = refl
+refusalOf-back (StringPoolHeader v) = refl
+refusalOf-back (StringPoolOffsets v) = refl
+refusalOf-back (StringPoolStyles v) = refl
+refusalOf-back (StringPoolData v) = refl
+refusalOf-back (ResourceMapHeader v) = refl
+refusalOf-back (ResourceMapIds v) = refl
 
 -- number and value tell refusals apart
 pub numberOf-unique : (a b : Refusal) → numberOf a ≡ numberOf b → valueOf a ≡ valueOf b → a ≡ b
@@ -67,8 +79,6 @@ unfolding numberOf
 numberOf-some (TooSmallError v) = refl
 numberOf-some TooLargeError = refl
 numberOf-some (HeaderSizeError v) = refl
-numberOf-some StringPoolError = refl
-numberOf-some ResourceMapError = refl
 numberOf-some MissingRoot = refl
 numberOf-some (SystemNamesError v) = refl
 numberOf-some (NodesFull v) = refl
@@ -77,6 +87,13 @@ numberOf-some (NotesFull v) = refl
 numberOf-some (TextShort v) = refl
 numberOf-some NothingFound = refl
 numberOf-some (TablesError v) = refl
+numberOf-some (StringPoolGarbage v) = refl
+numberOf-some (StringPoolHeader v) = refl
+numberOf-some (StringPoolOffsets v) = refl
+numberOf-some (StringPoolStyles v) = refl
+numberOf-some (StringPoolData v) = refl
+numberOf-some (ResourceMapHeader v) = refl
+numberOf-some (ResourceMapIds v) = refl
 
 -- ---- a reading
 

@@ -1,7 +1,7 @@
 -- The numbers of an answer: docs/FORMAT.md, B1, B7.
 --
---   numberOf         the number of a refusal, 1 to 13
---   valueOf          the value of a refusal; 0 where it has none
+--   numberOf         the number of a refusal: 1 to 3, 6 to 13; of a part of pool or map that is short, 41 to 45, 51, 52 (4 and 5 are none)
+--   valueOf          the value of a refusal; 0 where it has none; of a part that is short, the file offset at which it should begin
 --   numbersOf        the numbers of a reading's answer: refusal 0 and value 0 with the counts, or a refusal and its value with every count 0
 --   textNumbersOf    the same of a text question; its count is the length of the text
 --   firstNumbersOf   the same of a first-value question; its reference is 1 or 0
@@ -10,9 +10,11 @@
 use Prim.Native.Nat.{ℕ}
 use mathlib.Core.Bool.{cond}
 use Rattle.errors.specs.declared.Refusal.{Refusal}
-use Rattle.errors.specs.declared.Refusal.the-variants.{TooSmallError, TooLargeError, HeaderSizeError, StringPoolError}
-use Rattle.errors.specs.declared.Refusal.the-variants.{ResourceMapError, MissingRoot, SystemNamesError, NodesFull}
+use Rattle.errors.specs.declared.Refusal.the-variants.{TooSmallError, TooLargeError, HeaderSizeError}
+use Rattle.errors.specs.declared.Refusal.the-variants.{MissingRoot, SystemNamesError, NodesFull}
 use Rattle.errors.specs.declared.Refusal.the-variants.{AttributesFull, NotesFull, TextShort, NothingFound, TablesError}
+use Rattle.errors.specs.declared.Refusal.the-variants.{StringPoolGarbage, StringPoolHeader, StringPoolOffsets, StringPoolStyles}
+use Rattle.errors.specs.declared.Refusal.the-variants.{StringPoolData, ResourceMapHeader, ResourceMapIds}
 use Rattle.errors.specs.declared.Numbers.{Numbers}
 use Rattle.errors.specs.declared.TextNumbers.{TextNumbers}
 use Rattle.errors.specs.declared.FirstNumbers.{FirstNumbers}
@@ -27,8 +29,6 @@ unfoldable pub numberOf : Refusal → ℕ
 numberOf (TooSmallError length) = 1
 numberOf TooLargeError = 2
 numberOf (HeaderSizeError size) = 3
-numberOf StringPoolError = 4
-numberOf ResourceMapError = 5
 numberOf MissingRoot = 6
 numberOf (SystemNamesError entry) = 7
 numberOf (NodesFull places) = 8
@@ -37,13 +37,18 @@ numberOf (NotesFull places) = 10
 numberOf (TextShort needed) = 11
 numberOf NothingFound = 12
 numberOf (TablesError node) = 13
+numberOf (StringPoolGarbage at) = 41
+numberOf (StringPoolHeader at) = 42
+numberOf (StringPoolOffsets at) = 43
+numberOf (StringPoolStyles at) = 44
+numberOf (StringPoolData at) = 45
+numberOf (ResourceMapHeader at) = 51
+numberOf (ResourceMapIds at) = 52
 
 unfoldable pub valueOf : Refusal → ℕ
 valueOf (TooSmallError length) = length
 valueOf TooLargeError = 0
 valueOf (HeaderSizeError size) = size
-valueOf StringPoolError = 0
-valueOf ResourceMapError = 0
 valueOf MissingRoot = 0
 valueOf (SystemNamesError entry) = entry
 valueOf (NodesFull places) = places
@@ -52,6 +57,13 @@ valueOf (NotesFull places) = places
 valueOf (TextShort needed) = needed
 valueOf NothingFound = 0
 valueOf (TablesError node) = node
+valueOf (StringPoolGarbage at) = at
+valueOf (StringPoolHeader at) = at
+valueOf (StringPoolOffsets at) = at
+valueOf (StringPoolStyles at) = at
+valueOf (StringPoolData at) = at
+valueOf (ResourceMapHeader at) = at
+valueOf (ResourceMapIds at) = at
 
 unfoldable pub numbersOf : read.ReadAnswer → Numbers
 numbersOf (readIs.Done c) =

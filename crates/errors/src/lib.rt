@@ -1,8 +1,9 @@
 // Why a question is refused, what the three questions answer, and the numbers of an answer.
 //
 // Mirrors errors.rs (apk-info 13770539b8), whose names are kept for the refusals that it has: `TooSmallError`, `HeaderSizeError`,
-// `StringPoolError`, `ResourceMapError`, `MissingRoot`. The others are those of a file that is too large, of lent names, tables and
-// buffers, and of a question without an answer. Definitions: specs/Refusal.antt.
+// `MissingRoot`. Its `StringPoolError` is 41 to 45 here and its `ResourceMapError` 51 and 52, which say the part that is short and where it
+// should begin; 4 and 5 are no refusal's number. The others are those of a file that is too large, of lent names, tables and buffers, and
+// of a question without an answer. Definitions: specs/Refusal.antt.
 ghost use mathlib.Core.Path.{_≡_};
 ghost use mathlib.Core.Bool.{cond};
 ghost use Rattle.errors.specs.Refusal.{numberOf, valueOf, numbersOf, textNumbersOf, firstNumbersOf};
@@ -12,8 +13,6 @@ pub enum Refusal {
     TooSmallError(usize), // 1, with the length
     TooLargeError, // 2
     HeaderSizeError(u32), // 3, with that size
-    StringPoolError, // 4
-    ResourceMapError, // 5
     MissingRoot, // 6
     SystemNamesError(usize), // 7, with the first bad entry, or how many whole ones there are
     NodesFull(usize), // 8, with the places
@@ -22,6 +21,14 @@ pub enum Refusal {
     TextShort(usize), // 11, with the bytes needed
     NothingFound, // 12
     TablesError(u32), // 13, with the first bad node, or the node count
+    // what of the head is short, each with the file offset at which the missing piece should begin
+    StringPoolGarbage(usize), // 41, a chunk in the pool's place
+    StringPoolHeader(usize), // 42, a header of the pool, or its five numbers
+    StringPoolOffsets(usize), // 43
+    StringPoolStyles(usize), // 44
+    StringPoolData(usize), // 45
+    ResourceMapHeader(usize), // 51
+    ResourceMapIds(usize), // 52
 }
 
 // What a reading counted: the starts read whole, dropped ones too, and the records that it kept.
@@ -88,8 +95,6 @@ pub fn refusal_number(r: Refusal) -> u32
         Refusal::TooSmallError(_) => 1,
         Refusal::TooLargeError => 2,
         Refusal::HeaderSizeError(_) => 3,
-        Refusal::StringPoolError => 4,
-        Refusal::ResourceMapError => 5,
         Refusal::MissingRoot => 6,
         Refusal::SystemNamesError(_) => 7,
         Refusal::NodesFull(_) => 8,
@@ -98,6 +103,13 @@ pub fn refusal_number(r: Refusal) -> u32
         Refusal::TextShort(_) => 11,
         Refusal::NothingFound => 12,
         Refusal::TablesError(_) => 13,
+        Refusal::StringPoolGarbage(_) => 41,
+        Refusal::StringPoolHeader(_) => 42,
+        Refusal::StringPoolOffsets(_) => 43,
+        Refusal::StringPoolStyles(_) => 44,
+        Refusal::StringPoolData(_) => 45,
+        Refusal::ResourceMapHeader(_) => 51,
+        Refusal::ResourceMapIds(_) => 52,
     }
 }
 
@@ -109,8 +121,6 @@ pub fn refusal_value(r: Refusal) -> u64
         Refusal::TooSmallError(length) => length as u64,
         Refusal::TooLargeError => 0,
         Refusal::HeaderSizeError(size) => size as u64,
-        Refusal::StringPoolError => 0,
-        Refusal::ResourceMapError => 0,
         Refusal::MissingRoot => 0,
         Refusal::SystemNamesError(entry) => entry as u64,
         Refusal::NodesFull(places) => places as u64,
@@ -119,6 +129,13 @@ pub fn refusal_value(r: Refusal) -> u64
         Refusal::TextShort(needed) => needed as u64,
         Refusal::NothingFound => 0,
         Refusal::TablesError(node) => node as u64,
+        Refusal::StringPoolGarbage(at) => at as u64,
+        Refusal::StringPoolHeader(at) => at as u64,
+        Refusal::StringPoolOffsets(at) => at as u64,
+        Refusal::StringPoolStyles(at) => at as u64,
+        Refusal::StringPoolData(at) => at as u64,
+        Refusal::ResourceMapHeader(at) => at as u64,
+        Refusal::ResourceMapIds(at) => at as u64,
     }
 }
 

@@ -6,16 +6,16 @@ use mathlib.Core.List.{List}
 use lib.ListN.{length}
 use Rattle.records.specs.Limits.{fileLimit}
 use Rattle.system_types.specs.Names.{Lent}
-use Rattle.text.specs.Found.{Fits, Asks}
+use Rattle.text.specs.Inner.Found.{Fits, Asks}
 use Rattle.head.specs.declared.Opened.{Opened}
 use Rattle.head.specs.Head.{PoolThere}
 use Rattle.xml_elements.specs.Chunk.{strideOf, trailingOf}
 use Rattle.events.specs.declared.Phase.{Phase}
 use Rattle.events.specs.Events.{Names}
-use Rattle.events.specs.Steps.{stepBy, stepOf}
+use Rattle.events.specs.Inner.Steps.{stepBy, stepOf}
 use Rattle.events.specs.declared.Phase.the-variants.{AtOffsets, AtName, AtAttribute}
 use Rattle.events.specs.declared.Cursor.{Cursor}
-use Rattle.events.specs.Pending.{Ready, Within}
+use Rattle.events.specs.Inner.Pending.{Ready, Within}
 use Rattle.events.proofs.Model.{fit-here}
 
 module _ {t : List ℕ} {lent : Lent} {b : List ℕ} {o : Opened} {c : Cursor} (r : Ready t lent o) (w : Within o b c) where

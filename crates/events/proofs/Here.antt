@@ -15,8 +15,8 @@ use Rattle.events.specs.declared.Phase.{Phase}
 use Rattle.events.specs.declared.Cursor.{Cursor}
 use Rattle.events.specs.declared.Step.{Step}
 use Rattle.events.specs.Events.{Names}
-use Rattle.events.specs.Steps.{toPhase}
-use Rattle.events.specs.Pending.{Held, Within, Unmoved, pendBy, pending, rank, steps, the}
+use Rattle.events.specs.Inner.Steps.{toPhase}
+use Rattle.events.specs.Inner.Pending.{Held, Within, Unmoved, pendBy, pending, rank, steps, the}
 use Rattle.events.proofs.Model.{Goes}
 
 pub record Here (o : Opened) (b : List ℕ) (c : Cursor) (p : Phase) : Type 0 where

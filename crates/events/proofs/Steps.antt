@@ -12,8 +12,8 @@ use Rattle.events.specs.declared.Phase.the-variants.{AtGarbage, AtCount,
 use Rattle.events.specs.declared.Phase.the-variants.{AtShort, AtName, AtOpen, AtLead, AtAttribute, AtLast, AtRoot, Over}
 use Rattle.events.specs.declared.Cursor.{Cursor}
 use Rattle.events.specs.Events.{Names, fileEvents}
-use Rattle.events.specs.Steps.{firstCursor, stepBy, stepOf}
-use Rattle.events.specs.Pending.{Within, Stepped, pending, steps}
+use Rattle.events.specs.Inner.Steps.{firstCursor, stepBy, stepOf}
+use Rattle.events.specs.Inner.Pending.{Within, Stepped, pending, steps}
 use Rattle.events.proofs.Here.{Here, SteppedBy}
 use Rattle.events.proofs.Heads.{garbage-step, count-step, offsets-step, refuse-step, short-step, last-step, root-step, over-step}
 use Rattle.events.proofs.Starts.{gap-step, size-step, trailing-step, name-step, open-step, lead-step, attribute-step}

@@ -1,15 +1,15 @@
 // What a file makes, one step at a time: elements that open and close, attributes, notes, refusals.
 //
 // Mirrors axml.rs (apk-info 13770539b8): `get_xml_tree`, without its stack. Each step makes one event, or none, and hands the cursor on.
-// Answers: `Step`. Definitions: specs/Events.antt (what a file makes), specs/Steps.antt and specs/Pending.antt (how the code goes).
+// Answers: `Step`. Definitions: specs/Events.antt (what a file makes), specs/Inner/Steps.antt and specs/Inner/Pending.antt (how the code goes).
 // That the steps make what the file makes, one by one and to the end, is the law `stepped` (proofs/Steps.antt).
 // In moves.rt: where the cursor goes; in notes.rt: notes that a test lets pass; in turns.rt: a chunk; in naming.rt: elements and attributes.
 ghost use mathlib.Core.Path.{_≡_};
 ghost use Prim.Native.Nat.{_+_, _≤_, _<_};
 ghost use Rattle.system_types.specs.Names.{lends};
 ghost use Rattle.events.specs.Events.{namesIn};
-ghost use Rattle.events.specs.Steps.{firstCursor, stepOf};
-ghost use Rattle.events.specs.Pending.{Ready, Within};
+ghost use Rattle.events.specs.Inner.Steps.{firstCursor, stepOf};
+ghost use Rattle.events.specs.Inner.Pending.{Ready, Within};
 use anomaly::ResAnomaly;
 use common::StringIndex;
 use errors::Refusal;

@@ -1,8 +1,8 @@
-// Where the cursor goes, and steps that only change its phase. Each function gives what the definition of its name in specs/Steps.antt gives.
+// Where the cursor goes, and steps that only change its phase. Each function gives what the definition of its name in specs/Inner/Steps.antt gives.
 ghost use mathlib.Core.Path.{_≡_};
 ghost use Prim.Native.Nat.{_-_, _≤_, _<_};
 ghost use Rattle.records.specs.Limits.{fileLimit};
-ghost use Rattle.events.specs.Steps.{toPhase, begunBy, passedTo, closedTo, leftNext, behindOf, openedBy, movedBy, afterOpen, toStep};
+ghost use Rattle.events.specs.Inner.Steps.{toPhase, begunBy, passedTo, closedTo, leftNext, behindOf, openedBy, movedBy, afterOpen, toStep};
 ghost use Rattle.events.specs.declared.Event.the-variants.{Nothing, Finish};
 ghost use Rattle.events.specs.declared.Phase.the-variants.{Over};
 use crate::Cursor;

@@ -1,12 +1,12 @@
 // Steps that ask for names: an element that opens, and its attributes one by one.
-// Each function follows the definition of its name in specs/Steps.antt; t, names and area are what texts are read from.
+// Each function follows the definition of its name in specs/Inner/Steps.antt; t, names and area are what texts are read from.
 ghost use mathlib.Core.Path.{_≡_};
 ghost use Prim.Native.Nat.{_+_, _≤_, _<_};
 ghost use lib.ListN.{length, drop};
 ghost use Rattle.records.specs.Limits.{fileLimit};
-ghost use Rattle.text.specs.Found.{Asks};
+ghost use Rattle.text.specs.Inner.Found.{Asks};
 ghost use Rattle.events.specs.Events.{namesIn, leading, attributeBy, attributeEvent};
-ghost use Rattle.events.specs.Steps.{openedBy, movedBy, openStep, nameStep, toStep};
+ghost use Rattle.events.specs.Inner.Steps.{openedBy, movedBy, openStep, nameStep, toStep};
 ghost use Rattle.events.specs.declared.Event.the-variants.{Note, Attribute};
 ghost use Rattle.events.specs.declared.Phase.the-variants.{AtOpen};
 ghost use Rattle.anomaly.specs.declared.ResAnomaly.the-variants.{InvalidElementName, InvalidAttributeName};

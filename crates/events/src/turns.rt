@@ -1,5 +1,5 @@
 // The step at a chunk: a start is begun, an end closes, a stretch of foreign chunks is passed whole, what is cut ends the walk.
-// Each function follows the definition of its name in specs/Steps.antt.
+// Each function follows the definition of its name in specs/Inner/Steps.antt.
 ghost use mathlib.Core.Path.{_≡_};
 ghost use mathlib.Core.Bool.{cond};
 ghost use Prim.Native.Nat.{_+_, _≤_, _<_};
@@ -9,7 +9,7 @@ ghost use Rattle.records.specs.Limits.{fileLimit};
 ghost use Rattle.xml_elements.specs.Chunk.{turnOf, lenOf};
 ghost use Rattle.xml_elements.specs.declared.Chunk.the-variants.{Start, End, Other, Last};
 ghost use Rattle.events.specs.Events.{foreignNote};
-ghost use Rattle.events.specs.Steps.{begunBy, passedTo, closedTo, plainNext, chunkStep, cutStep, foreignStep, turnStep};
+ghost use Rattle.events.specs.Inner.Steps.{begunBy, passedTo, closedTo, plainNext, chunkStep, cutStep, foreignStep, turnStep};
 ghost use Rattle.events.specs.declared.Event.the-variants.{Nothing, Close, Note};
 ghost use Rattle.events.specs.declared.Phase.the-variants.{AtGap};
 use crate::Cursor;

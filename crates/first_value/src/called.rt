@@ -3,7 +3,7 @@
 // Mirrors axml.rs (apk-info 13770539b8), `get_attribute_value`, its two comparisons. Definitions: specs/Question.antt, docs/FORMAT.md, Q7 and Q8.
 ghost use mathlib.Core.Path.{_≡_};
 ghost use Rattle.system_types.specs.Names.{lends};
-ghost use Rattle.text.specs.Found.{Asks};
+ghost use Rattle.text.specs.Inner.Found.{Asks};
 ghost use Rattle.first_value.specs.Question.{tagIs, nameIs};
 use common::StringIndex;
 use text::Head;

@@ -23,9 +23,10 @@ use Rattle.res_string_pool.proofs.Laws.{poolOf-fits}
 use Rattle.resource_map.specs.Map.{mapOf}
 use Rattle.resource_map.specs.declared.MapRead.{MapRead}
 use Rattle.text.specs.declared.Head.{Head}
-use Rattle.text.specs.Found.{Fits}
+use Rattle.text.specs.Inner.Found.{Fits}
 use Rattle.head.specs.Head.{cutPool, mappedBy, pooledBy, unopened, tablesOf, openedOf, headLen, tablesIn, bodyIn, outsideIn}
 use Rattle.head.specs.declared.HeadEnd.the-variants.{TooSmall, HeaderSize}
+use Rattle.head.specs.declared.PoolPart.{PoolPart}
 
 -- all that follows a place, as a range gives it
 pub rest-all : (at : ℕ) (l : List ℕ) → take (length l - at) (drop at l) ≡ drop at l
@@ -37,8 +38,8 @@ pub mappedBy-of
     : (g : Garbage) (p : Pool) (at : ℕ) (t : List ℕ) {r m : MapRead}
     → r ≡ mapOf (take (length t - at) (drop at t))
     → r ≡ m
-    → mappedBy g p m ≡ mappedBy g p (mapOf (drop at t))
-mappedBy-of g p at t e f = ap (mappedBy g p) (sym f ∙ e ∙ ap mapOf (rest-all at t))
+    → mappedBy t g p m ≡ mappedBy t g p (mapOf (drop at t))
+mappedBy-of g p at t e f = ap (mappedBy t g p) (sym f ∙ e ∙ ap mapOf (rest-all at t))
 
 -- ---- the pool
 
@@ -49,7 +50,7 @@ module _ (t : List ℕ) {r : PoolRead} (e : r ≡ poolOf t) where
 
   pub tablesOf-complete
       : r .end ≡ Complete
-      → mappedBy (r .garbage) (r .pool) (mapOf (drop (r .pool .strings + r .pool .size) t)) ≡ tablesOf t
+      → mappedBy t (r .garbage) (r .pool) (mapOf (drop (r .pool .strings + r .pool .size) t)) ≡ tablesOf t
   tablesOf-complete q = ap (pooledBy t (r .garbage) (r .pool)) (sym q) ∙ tablesOf-by
 
   pub pool-fits : r .end ≡ Complete → r .pool .strings + r .pool .size ≤ length t
@@ -57,12 +58,14 @@ module _ (t : List ℕ) {r : PoolRead} (e : r ≡ poolOf t) where
       let all : poolOf t .end ≡ Complete = ap (λ (x : PoolRead). x .end) (sym e) ∙ q in
       rw e (poolOf-fits t all)
 
+  -- a part ran out, and v is where it should begin
   pub tablesOf-cut
-      : {s : PoolEnd}
+      : {s : PoolEnd} {v : ℕ} (left : ℕ) (part : ℕ → PoolPart)
       → r .end ≡ s
-      → cutPool (r .garbage) (r .pool) s ≡ pooledBy t (r .garbage) (r .pool) s
-      → cutPool (r .garbage) (r .pool) s ≡ tablesOf t
-  tablesOf-cut q i = i ∙ ap (pooledBy t (r .garbage) (r .pool)) (sym q) ∙ tablesOf-by
+      → v ≡ 8 + length t - left
+      → cutPool (r .garbage) (r .pool) (part (8 + length t - left)) ≡ pooledBy t (r .garbage) (r .pool) s
+      → cutPool (r .garbage) (r .pool) (part v) ≡ tablesOf t
+  tablesOf-cut left part q a i = ap (λ (x : ℕ). cutPool (r .garbage) (r .pool) (part x)) a ∙ i ∙ ap (pooledBy t (r .garbage) (r .pool)) (sym q) ∙ tablesOf-by
 
 -- ---- the file's header
 

@@ -26,7 +26,7 @@ use Rattle.resource_map.specs.declared.MapRead.{MapRead}
 use Rattle.resource_map.specs.declared.MapRead.the-variants.{Ids, HeaderShort as MapHeaderShort, IdsShort}
 use Rattle.resource_map.proofs.Laws.{mapOf-fits, mapOf-append}
 use Rattle.text.specs.declared.Head.{Head}
-use Rattle.text.specs.Found.{Fits}
+use Rattle.text.specs.Inner.Found.{Fits}
 use Rattle.head.specs.Head.{headBy, mappedBy, pooledBy, tablesOf, openedOf, headLen, tablesIn, bodyIn, PoolThere}
 use Rattle.head.specs.declared.HeadEnd.the-variants.{Whole}
 use Rattle.head.specs.declared.Opened.{Opened}
@@ -66,7 +66,7 @@ mappedBy-fits
     → Parts p 0 (length t)
     → (m : MapRead)
     → mapOf (drop (p .strings + p .size) t) ≡ m
-    → FitsIn t (mappedBy g p m)
+    → FitsIn t (mappedBy t g p m)
 mappedBy-fits t g p short parts (Ids n) e there =
     let at = p .strings + p .size in
     let q = mapOf-fits (drop at t) e in
@@ -115,26 +115,26 @@ openedOf-fits f short there = go (ltb (length f) 8) refl (eqb (u16le f 2) 8) ref
 -- ---- a whole head looks at nothing behind its map
 
 mappedBy-behind
-    : (g : Garbage) (p : Pool) (r : MapRead)
-    → mappedBy g p r .end ≡ Whole
-    → p .strings + p .size ≤ headLen (mappedBy g p r .head)
-mappedBy-behind g p (Ids n) w = omega arith
-mappedBy-behind g p (MapHeaderShort k) w = omega arith
-mappedBy-behind g p (IdsShort k) w = omega arith
+    : (t : List ℕ) (g : Garbage) (p : Pool) (r : MapRead)
+    → mappedBy t g p r .end ≡ Whole
+    → p .strings + p .size ≤ headLen (mappedBy t g p r .head)
+mappedBy-behind t g p (Ids n) w = omega arith
+mappedBy-behind t g p (MapHeaderShort k) w = omega arith
+mappedBy-behind t g p (IdsShort k) w = omega arith
 
 module _ (c m m′ : List ℕ) where
   mappedBy-append
       : (g : Garbage) (p : Pool) (at : ℕ) (r : MapRead)
       → at ≡ p .strings + p .size
       → mapOf (drop at (c ++ m)) ≡ r
-      → mappedBy g p r .end ≡ Whole
-      → headLen (mappedBy g p r .head) ≤ length c
-      → mappedBy g p (mapOf (drop at (c ++ m′))) ≡ mappedBy g p r
+      → mappedBy (c ++ m) g p r .end ≡ Whole
+      → headLen (mappedBy (c ++ m) g p r .head) ≤ length c
+      → mappedBy (c ++ m′) g p (mapOf (drop at (c ++ m′))) ≡ mappedBy (c ++ m) g p r
   mappedBy-append g p at (Ids n) a e w h =
       let split : drop at (c ++ m) ≡ drop at c ++ m = drop-append-le at c m (omega arith) in
       let split′ : drop at (c ++ m′) ≡ drop at c ++ m′ = drop-append-le at c m′ (omega arith) in
       let room : 8 + 4 * n ≤ length (drop at c) = rw length-drop (omega arith) in
-      ap (mappedBy g p) (ap mapOf split′ ∙ mapOf-append (drop at c) m m′ (sym (ap mapOf split) ∙ e) room)
+      ap (mappedBy (c ++ m′) g p) (ap mapOf split′ ∙ mapOf-append (drop at c) m m′ (sym (ap mapOf split) ∙ e) room)
   mappedBy-append g p at (MapHeaderShort k) a e w h = let z : _≡_ {A = ℕ} 0 1 = cc in absurd (let y : ⊥ = omega arith in y)
   mappedBy-append g p at (IdsShort k) a e w h = let z : _≡_ {A = ℕ} 0 1 = cc in absurd (let y : ⊥ = omega arith in y)
 
@@ -160,7 +160,7 @@ module _ (c m m′ : List ℕ) where
       go Complete e w h =
           let at = p .strings + p .size in
           let r = mapOf (drop at (c ++ m)) in
-          let low : at ≤ length c = le-trans (mappedBy-behind g p r w) h in
+          let low : at ≤ length c = le-trans (mappedBy-behind (c ++ m) g p r w) h in
           let same : poolOf (c ++ m′) ≡ poolOf (c ++ m) = poolOf-append c m m′ e low in
           rw (same, e) (mappedBy-append g p at r refl refl w h)
       go (GarbageShort k) e w h = let z : _≡_ {A = ℕ} 0 1 = cc in absurd (let y : ⊥ = omega arith in y)

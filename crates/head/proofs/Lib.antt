@@ -1,6 +1,7 @@
 -- The node file of the crate's proofs.
 pub mod Cases
 pub mod Laws
+pub mod Shorts
 pub mod Zeros
 pub mod Entering
 pub mod Questions

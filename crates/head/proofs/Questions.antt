@@ -21,7 +21,7 @@ use Rattle.text.specs.declared.Head.{Head}
 use Rattle.text.specs.declared.Found.{Found}
 use Rattle.text.specs.declared.Found.the-variants.{Nothing, Cut, System, Pool}
 use Rattle.text.specs.Content.{Content, none, contentOf, textIn, rawOf}
-use Rattle.text.specs.Found.{partOf, isFound, Asks, Wrote}
+use Rattle.text.specs.Inner.Found.{partOf, isFound, Asks, Wrote}
 use Rattle.head.specs.Head.{openedOf, tablesIn, isWhole, refusalOf, PoolThere}
 use Rattle.head.specs.Entry.{Check, passes, fails, firstOf, entryChecks}
 use Rattle.head.specs.Inner.Entered.{enteredOf}

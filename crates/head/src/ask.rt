@@ -17,7 +17,7 @@ ghost use Rattle.records.specs.Limits.{fileLimit};
 ghost use Rattle.errors.specs.declared.TextAnswer.the-variants.{Refused};
 ghost use Rattle.system_types.specs.Names.{lends};
 ghost use Rattle.text.specs.Content.{contentOf, rawOf, textIn};
-ghost use Rattle.text.specs.Found.{partOf, Inside, isFound, Asks};
+ghost use Rattle.text.specs.Inner.Found.{partOf, Inside, isFound, Asks};
 ghost use Rattle.head.specs.Ask.{headRead, openOf, fitted, textBy, contentAnswer, Gives, TextReads};
 use common::StringIndex;
 use errors::Refusal;

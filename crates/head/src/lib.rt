@@ -9,14 +9,14 @@ pub use ask::content;
 pub use ask::open_file;
 pub use ask::text;
 ghost use mathlib.Core.Path.{_≡_};
-ghost use Prim.Native.Nat.{_+_, _*_, _≤_, min};
+ghost use Prim.Native.Nat.{_+_, _-_, _*_, _≤_, min};
 ghost use lib.ListN.{length, drop};
 ghost use Rattle.records.specs.Limits.{fileLimit};
 ghost use Rattle.system_types.specs.Names.{lends};
 ghost use Rattle.resource_map.specs.Map.{mapOf};
-ghost use Rattle.text.specs.Found.{Fits};
+ghost use Rattle.text.specs.Inner.Found.{Fits};
 ghost use Rattle.head.specs.Head.{headBy, unopened, wholeHead, cutPool, cutMap, mappedBy, tablesOf, openedOf};
-ghost use Rattle.head.specs.Head.{headLen, tablesIn, bodyIn, isWhole, refusalOf, outsideIn};
+ghost use Rattle.head.specs.Head.{headLen, tablesIn, bodyIn, isWhole, poolRefusal, mapRefusal, refusalOf, outsideIn};
 ghost use Rattle.head.specs.Inner.Entered.{enteredOf};
 use errors::Refusal;
 use field::u16_at;
@@ -32,6 +32,23 @@ use system_types::NamesRead;
 use system_types::check_names;
 use text::Head;
 
+// The part of the pool that ran out, with the file offset at which it should begin.
+pub enum PoolPart {
+    // the chunk in the pool's place
+    Skipped(usize),
+    // either header, or the five numbers
+    Header(usize),
+    Offsets(usize),
+    Styles(usize),
+    Data(usize),
+}
+
+// The same of the map.
+pub enum MapPart {
+    MapHeader(usize),
+    MapIds(usize),
+}
+
 // What is amiss with a head, or that it is whole.
 pub enum HeadEnd {
     Whole,
@@ -39,10 +56,8 @@ pub enum HeadEnd {
     TooSmall(usize),
     // the header size
     HeaderSize(u32),
-    // the part of the pool that ran out
-    PoolShort(PoolEnd),
-    // the part of the map that ran out
-    MapShort(MapRead),
+    PoolShort(PoolPart),
+    MapShort(MapPart),
 }
 
 // What the head says: the chunk in the pool's place, the declared count, what is amiss, what texts are read by.
@@ -106,7 +121,7 @@ fn not_opened(end: HeadEnd) -> Opened
     }
 }
 
-fn pool_short(garbage: Garbage, p: Pool, e: PoolEnd) -> Opened
+fn pool_short(garbage: Garbage, p: Pool, e: PoolPart) -> Opened
     ensures { λ r. ⌜ r ≡ cutPool garbage p e ⌝ }
 {
     Opened {
@@ -117,7 +132,7 @@ fn pool_short(garbage: Garbage, p: Pool, e: PoolEnd) -> Opened
     }
 }
 
-fn map_short(garbage: Garbage, p: Pool, at: usize, e: MapRead) -> Opened
+fn map_short(garbage: Garbage, p: Pool, at: usize, e: MapPart) -> Opened
     ensures { λ r. ⌜ r ≡ cutMap garbage p at e ⌝ }
 {
     Opened {
@@ -139,17 +154,38 @@ fn whole(garbage: Garbage, p: Pool, map: usize, ids: u32) -> Opened
     }
 }
 
+// Where in the file a part should begin that had only `left` of the n bytes behind the file's header.
+fn begins_at(n: usize, left: usize) -> usize
+    requires { ⌜ n ≤ fileLimit ⌝ }
+    ensures { λ r. ⌜ r ≡ 8 + n - left ⌝ }
+{
+    if 8 + n <= left {
+        return 0;
+    }
+    8 + n - left
+}
+
 // Behind a whole pool the map.
 fn mapped(t: &[u8], garbage: Garbage, p: Pool) -> Opened
     requires { ⌜ (p .strings + p .size ≤ length (now t)) × (length (now t) ≤ fileLimit) ⌝ }
-    ensures { λ r. ⌜ r ≡ mappedBy garbage p (mapOf (drop (p .strings + p .size) (now (t .entry)))) ⌝ }
+    ensures { λ r. ⌜ r ≡ mappedBy (now (t .entry)) garbage p (mapOf (drop (p .strings + p .size) (now (t .entry)))) ⌝ }
 {
     let at = p.strings + p.size;
     let read = map_of(&t[at..]);
     match read {
         MapRead::Ids(n) => whole(garbage, p, at + 8, n),
-        MapRead::HeaderShort(k) => map_short(garbage, p, at, MapRead::HeaderShort(k)),
-        MapRead::IdsShort(k) => map_short(garbage, p, at, MapRead::IdsShort(k)),
+        MapRead::HeaderShort(left) => map_short(
+            garbage,
+            p,
+            at,
+            MapPart::MapHeader(begins_at(t.len(), left)),
+        ),
+        MapRead::IdsShort(left) => map_short(
+            garbage,
+            p,
+            at,
+            MapPart::MapIds(begins_at(t.len(), left)),
+        ),
     }
 }
 
@@ -164,16 +200,37 @@ fn tables_at(t: &[u8]) -> Opened
     let end = read.end;
     match end {
         PoolEnd::Complete => mapped(t, garbage, pool),
-        PoolEnd::GarbageShort(k) => pool_short(garbage, pool, PoolEnd::GarbageShort(k)),
-        PoolEnd::HeaderShort(k) => pool_short(garbage, pool, PoolEnd::HeaderShort(k)),
-        PoolEnd::OffsetsShort(k) => pool_short(garbage, pool, PoolEnd::OffsetsShort(k)),
-        PoolEnd::StylesShort(k) => pool_short(garbage, pool, PoolEnd::StylesShort(k)),
-        PoolEnd::DataShort(k) => pool_short(garbage, pool, PoolEnd::DataShort(k)),
+        PoolEnd::GarbageShort(left) => pool_short(
+            garbage,
+            pool,
+            PoolPart::Skipped(begins_at(t.len(), left)),
+        ),
+        PoolEnd::HeaderShort(left) => pool_short(
+            garbage,
+            pool,
+            PoolPart::Header(begins_at(t.len(), left)),
+        ),
+        PoolEnd::OffsetsShort(left) => pool_short(
+            garbage,
+            pool,
+            PoolPart::Offsets(begins_at(t.len(), left)),
+        ),
+        PoolEnd::StylesShort(left) => pool_short(
+            garbage,
+            pool,
+            PoolPart::Styles(begins_at(t.len(), left)),
+        ),
+        PoolEnd::DataShort(left) => pool_short(
+            garbage,
+            pool,
+            PoolPart::Data(begins_at(t.len(), left)),
+        ),
     }
 }
 
 // The head of a file. Type and total size of its header are not looked at.
-// Ruled out: a refusal for a file of type 0, and a head that is whole where the last id of the map is cut.
+// Ruled out: a refusal for a file of type 0, a head that is whole where the last id of the map is cut, and an offset counted from behind
+// the file's header.
 fn open_head(file: &[u8]) -> Opened
     requires { ⌜ length (now file) ≤ fileLimit ⌝ }
     ensures { λ r. ⌜ r ≡ openedOf (now (file .entry)) ⌝ }
@@ -266,8 +323,29 @@ pub fn is_whole(e: HeadEnd) -> bool
     }
 }
 
+fn pool_refusal(e: PoolPart) -> Refusal
+    ensures { λ r. ⌜ r ≡ poolRefusal e ⌝ }
+{
+    match e {
+        PoolPart::Skipped(at) => Refusal::StringPoolGarbage(at),
+        PoolPart::Header(at) => Refusal::StringPoolHeader(at),
+        PoolPart::Offsets(at) => Refusal::StringPoolOffsets(at),
+        PoolPart::Styles(at) => Refusal::StringPoolStyles(at),
+        PoolPart::Data(at) => Refusal::StringPoolData(at),
+    }
+}
+
+fn map_refusal(e: MapPart) -> Refusal
+    ensures { λ r. ⌜ r ≡ mapRefusal e ⌝ }
+{
+    match e {
+        MapPart::MapHeader(at) => Refusal::ResourceMapHeader(at),
+        MapPart::MapIds(at) => Refusal::ResourceMapIds(at),
+    }
+}
+
 // The refusal of a head that is not whole. (Of one that is, the refusal that is left: no start.)
-// Ruled out: one number for a short pool and a short map, and 0 in place of the header size.
+// Ruled out: one number for a short pool and a short map, and 0 in place of the header size or of a part's offset.
 pub fn refusal_of(e: HeadEnd) -> Refusal
     ensures { λ r. ⌜ r ≡ refusalOf e ⌝ }
 {
@@ -275,8 +353,8 @@ pub fn refusal_of(e: HeadEnd) -> Refusal
         HeadEnd::Whole => Refusal::MissingRoot,
         HeadEnd::TooSmall(n) => Refusal::TooSmallError(n),
         HeadEnd::HeaderSize(n) => Refusal::HeaderSizeError(n),
-        HeadEnd::PoolShort(_) => Refusal::StringPoolError,
-        HeadEnd::MapShort(_) => Refusal::ResourceMapError,
+        HeadEnd::PoolShort(part) => pool_refusal(part),
+        HeadEnd::MapShort(part) => map_refusal(part),
     }
 }
 

@@ -44,8 +44,6 @@ pub(crate) fn print_refusals() {
     print_refusal(Refusal::TooSmallError(5));
     print_refusal(Refusal::TooLargeError);
     print_refusal(Refusal::HeaderSizeError(16));
-    print_refusal(Refusal::StringPoolError);
-    print_refusal(Refusal::ResourceMapError);
     print_refusal(Refusal::MissingRoot);
     print_refusal(Refusal::SystemNamesError(7000));
     print_refusal(Refusal::NodesFull(8000));
@@ -54,4 +52,11 @@ pub(crate) fn print_refusals() {
     print_refusal(Refusal::TextShort(11000));
     print_refusal(Refusal::NothingFound);
     print_refusal(Refusal::TablesError(13000));
+    print_refusal(Refusal::StringPoolGarbage(41000));
+    print_refusal(Refusal::StringPoolHeader(42000));
+    print_refusal(Refusal::StringPoolOffsets(43000));
+    print_refusal(Refusal::StringPoolStyles(44000));
+    print_refusal(Refusal::StringPoolData(45000));
+    print_refusal(Refusal::ResourceMapHeader(51000));
+    print_refusal(Refusal::ResourceMapIds(52000));
 }

@@ -30,10 +30,10 @@ use Rattle.system_types.specs.Names.{Lent, lends}
 use Rattle.records.specs.Repeats.{Rule}
 use Rattle.walk.specs.Settle.{Room, Tables, Out, going, refused, repeated, kept, noted, push, settle, nothingYet}
 use Rattle.walk.specs.Reading.{Reading, refuses, succeeds, nodesKept, attributesKept, zeroNote, readingBy, settledIn, reading}
-use Rattle.listing_text.specs.Inner.Size.{listedBytes}
+use Rattle.listing_text.specs.Size.{listedBytes}
 use Rattle.listing_text.specs.Printed.{listingAnswer}
 use Rattle.listing_text.proofs.Lengths.{listingText-fits}
-use Rattle.listed.specs.Inner.Roomy.{Roomy}
+use Rattle.listed.specs.Roomy.{Roomy}
 use Rattle.listed.specs.Lists.{listedRoom, listed, listedText, Lists}
 
 -- ---- events settled in tables

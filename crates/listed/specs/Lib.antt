@@ -1,3 +1,3 @@
 -- The root of the crate's definitions.
-pub mod Inner
 pub mod Lists
+pub mod Roomy

@@ -13,7 +13,7 @@ ghost use lib.ListN.{length};
 ghost use Rattle.records.specs.Limits.{listedFile};
 ghost use Rattle.errors.specs.declared.TextAnswer.the-variants.{Text};
 ghost use Rattle.listed.specs.Lists.{Lists};
-ghost use Rattle.listed.specs.Inner.Roomy.{Roomy};
+ghost use Rattle.listed.specs.Roomy.{Roomy};
 ghost use Rattle.listing.specs.Inner.Input.{Within, Runs};
 use records::ATTRIBUTE_WORDS;
 use records::LISTED_ATTRIBUTES;

@@ -1,4 +1,4 @@
--- How long a listing can be, whatever its numbers (specs/Inner/Size.antt): of tables of so many places, and so of the tables that a listing has, full.
+-- How long a listing can be, whatever its numbers (specs/Size.antt): of tables of so many places, and so of the tables that a listing has, full.
 -- No contract cites this file.
 use Prim.Native.Nat.{ℕ, zero, suc, _+_, _*_, _≤_, _<_}
 use mathlib.Core.Path.{_≡_, refl}
@@ -14,7 +14,7 @@ use Rattle.errors.specs.declared.Numbers.{Numbers}
 use Rattle.records.specs.Words.{nodeWidth, nodeName, nodeFixed, nodeParent, nodeFirst, nodeCount}
 use Rattle.records.specs.Words.{attributeWidth, attributeOwner, attributePrefix, attributeName, attributeType, attributeData}
 use Rattle.records.specs.Limits.{listedNodes, listedAttributes, listedNotes}
-use Rattle.listing_text.specs.Inner.Size.{headBytes, lineBytes, listedBytes}
+use Rattle.listing_text.specs.Size.{headBytes, lineBytes, listedBytes}
 use Rattle.listing_text.specs.Keys.{nodeKey, nameKey, fixedKey, parentKey, firstKey, countKey, attributeKey, ownerKey}
 use Rattle.listing_text.specs.Keys.{prefixKey, typeKey, dataKey, noteKey, kindKey, aKey, bKey}
 use Rattle.listing_text.specs.Listing.{Field, Line, field, lineText, linesText, headLines, nodeLine, recordLines}

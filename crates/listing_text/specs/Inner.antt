@@ -1,3 +1,2 @@
 -- How the code goes: no promise of a public function needs it.
-pub mod Size
 pub mod Three

@@ -3,3 +3,4 @@ pub mod Inner
 pub mod Keys
 pub mod Listing
 pub mod Printed
+pub mod Size

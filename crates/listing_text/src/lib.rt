@@ -39,7 +39,7 @@ ghost use Rattle.records.specs.Limits.{listedNotes};
 ghost use Rattle.listing_text.specs.Printed.{Printed};
 
 // How many bytes the seven lines of every answer take at most, how many the line of a record, and so how many the listing of full tables:
-// specs/Inner/Size.antt.
+// specs/Size.antt.
 const HEAD_BYTES: usize = 195;
 
 const LINE_BYTES: usize = 164;

@@ -1,21 +1,21 @@
 // What was asked for and what was right, in one table of numbers: two for each group, and the sets of names.
 use libc::STDOUT_FILENO;
 
-// Groups 0 to 13 are the readings with that refusal, 16 to 29 the first values; 0 and 16 are those that are not refused.
-pub const FIRST: usize = 16;
+// Groups 0 to 63 are the readings with that refusal, 64 to 127 the first values; 0 and 64 are those that are not refused.
+pub const FIRST: usize = 64;
 
-pub const READINGS: usize = 32;
+pub const READINGS: usize = 128;
 
-pub const LISTED: usize = 33;
+pub const LISTED: usize = 129;
 
-pub const FIRSTS: usize = 34;
+pub const FIRSTS: usize = 130;
 
-pub const NAMES: usize = 35;
+pub const NAMES: usize = 131;
 
-pub const COMPLEX: usize = 36;
+pub const COMPLEX: usize = 132;
 
 // The place of a number that stands alone.
-pub const SETS: usize = 74;
+pub const SETS: usize = 266;
 
 fn wide(n: u32) -> u64 {
     n as u64
@@ -38,7 +38,7 @@ pub(crate) fn bump(counts: &mut [u32], place: usize) {
 
 // One more answer of a group, and one more right one where it is.
 pub(crate) fn tally(counts: &mut [u32], group: usize, right: bool) {
-    if group < 37 {
+    if group < 133 {
         bump(counts, 2 * group + 1);
         if right {
             bump(counts, 2 * group);
@@ -49,7 +49,7 @@ pub(crate) fn tally(counts: &mut [u32], group: usize, right: bool) {
 // The same of the group of a refusal, among those from `groups` on. A number that no refusal has belongs to none.
 pub(crate) fn tally_refusal(counts: &mut [u32], groups: usize, refusal: u32, right: bool) {
     if groups <= FIRST {
-        if refusal < 14 {
+        if refusal < 64 {
             tally(counts, groups + refusal as usize, right);
         }
     }
@@ -67,7 +67,7 @@ fn print_one(label: &[u8], counts: &[u32], place: usize) {
 }
 
 fn print_group(label: &[u8], counts: &[u32], group: usize) {
-    if group < 37 {
+    if group < 133 {
         print_one(label, counts, 2 * group);
         print_one(b" of ", counts, 2 * group + 1);
         say(b"\n");
@@ -79,13 +79,22 @@ fn print_readings(counts: &[u32]) {
     print_group(b"  done ", counts, 0);
     print_group(b"  refusal 1, too small: ", counts, 1);
     print_group(b"  refusal 3, header size: ", counts, 3);
-    print_group(b"  refusal 4, string pool: ", counts, 4);
-    print_group(b"  refusal 5, resource map: ", counts, 5);
     print_group(b"  refusal 6, no root: ", counts, 6);
     print_group(b"  refusal 7, system names: ", counts, 7);
     print_group(b"  refusal 8, nodes full: ", counts, 8);
     print_group(b"  refusal 9, attributes full: ", counts, 9);
     print_group(b"  refusal 10, notes full: ", counts, 10);
+    print_group(b"  refusal 41, skipped garbage: ", counts, 41);
+    print_group(
+        b"  refusal 42, the pool's headers and numbers: ",
+        counts,
+        42,
+    );
+    print_group(b"  refusal 43, offsets: ", counts, 43);
+    print_group(b"  refusal 44, styles: ", counts, 44);
+    print_group(b"  refusal 45, string data: ", counts, 45);
+    print_group(b"  refusal 51, the map's header: ", counts, 51);
+    print_group(b"  refusal 52, ids: ", counts, 52);
     print_group(b"readings listed ", counts, LISTED);
 }
 
@@ -94,11 +103,15 @@ fn print_firsts(counts: &[u32]) {
     print_group(b"  found ", counts, FIRST);
     print_group(b"  refusal 1, too small: ", counts, FIRST + 1);
     print_group(b"  refusal 3, header size: ", counts, FIRST + 3);
-    print_group(b"  refusal 4, string pool: ", counts, FIRST + 4);
-    print_group(b"  refusal 5, resource map: ", counts, FIRST + 5);
     print_group(b"  refusal 7, system names: ", counts, FIRST + 7);
     print_group(b"  refusal 12, nothing found: ", counts, FIRST + 12);
     print_group(b"  refusal 13, tables: ", counts, FIRST + 13);
+    print_group(
+        b"  refusal 42, the pool's headers and numbers: ",
+        counts,
+        FIRST + 42,
+    );
+    print_group(b"  refusal 51, the map's header: ", counts, FIRST + 51);
 }
 
 pub(crate) fn print_counts(counts: &[u32]) {

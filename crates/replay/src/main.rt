@@ -159,7 +159,7 @@ fn space() -> [u8; 1048576]
 
 // Replays the data and prints the counts.
 fn report(data: &[u8]) {
-    let mut counts = [0u32; 75];
+    let mut counts = [0u32; 267];
     replay(data, &mut counts);
     count::print_counts(&counts);
 }

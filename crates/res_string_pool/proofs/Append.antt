@@ -23,7 +23,7 @@ use Rattle.res_string_pool.proofs.Laws.{poolFrom-numbered, behindGarbag
 
 -- ---- the pool from its header on
 
-numbered-append : (at : ℕ) (h : ResChunkHeader) (c m : List ℕ) → 28 ≤ length c → numbered at h (c ++ m) ≡ numbered at h c
+pub numbered-append : (at : ℕ) (h : ResChunkHeader) (c m : List ℕ) → 28 ≤ length c → numbered at h (c ++ m) ≡ numbered at h c
 unfolding numbered
 numbered-append at h c m p =
     rw (
@@ -78,7 +78,7 @@ poolFrom-append g at h c m m′ all p =
 
 -- ---- behind garbage
 
-headerHere-append : (c m : List ℕ) → 8 ≤ length c → headerHere (c ++ m) ≡ headerHere c
+pub headerHere-append : (c m : List ℕ) → 8 ≤ length c → headerHere (c ++ m) ≡ headerHere c
 -- ---- behind garbage
 
 headerHere-append c m p = rw (u16le-append c m 0 (omega arith), u16le-append c m 2 (omega arith), u32le-append c m 4 (omega arith))

@@ -4,3 +4,4 @@ pub mod Ends
 pub mod Laws
 pub mod Offsets
 pub mod Strings
+pub mod Shorts

@@ -1,5 +1,6 @@
 -- Laws of specs/Map.antt. No contract cites this file.
--- In order: a map lies in its list (`mapOf-fits`); it looks at nothing behind itself (`mapOf-append`); one id of a rest or of a
+-- In order: a map lies in its list (`mapOf-fits`); it looks at nothing behind itself (`mapOf-append`); a short one cut where
+-- its short part should begin (`mapOf-left`, `mapOf-cut`); one id of a rest or of a
 -- front (`idOf-drop`, `idOf-append`).
 use Prim.Native.Nat.{ℕ, _+_, _-_, _*_, _≤_, _<_}
 use native.Mathlib.Omega.{arith}
@@ -16,6 +17,7 @@ use Rattle.common.proofs.Laws.{headerHere, headerOf-whole, headerOf-short}
 use Rattle.common.specs.declared.ResChunkHeader.{ResChunkHeader}
 use Rattle.common.specs.declared.HeaderRead.the-variants.{Whole, Short}
 use Rattle.resource_map.specs.Map.{idsIn, idsBy, mapOf, idOf}
+use Rattle.resource_map.specs.declared.MapRead.{MapRead}
 use Rattle.resource_map.specs.declared.MapRead.the-variants.{Ids, HeaderShort, IdsShort}
 
 -- ---- the cases
@@ -89,6 +91,66 @@ mapOf-append c m m′ {n} e p =
     let q = idsBy-ids (length (c ++ m) - 8) (headerHere (c ++ m)) (sym (mapOf-behind (c ++ m) (omega arith)) ∙ e) in
     let k : idsIn (headerHere (c ++ m′)) ≡ n = rw (← same) (q .0) in
     mapOf-behind (c ++ m′) (omega arith) ∙ (idsBy-whole (length (c ++ m′) - 8) (headerHere (c ++ m′)) (omega arith) ∙ rw k)
+
+-- ---- of a map that is short, the bytes from the short part on can go, and it is short there with none left
+
+abbrev pub leftOf : MapRead → ℕ
+leftOf (Ids n) = 0
+leftOf (HeaderShort k) = k
+leftOf (IdsShort k) = k
+
+abbrev pub none-left : MapRead → MapRead
+none-left (Ids n) = Ids n
+none-left (HeaderShort k) = HeaderShort 0
+none-left (IdsShort k) = IdsShort 0
+
+abbrev pub IsShort : MapRead → Type 0
+IsShort (Ids n) = ⊥
+IsShort (HeaderShort k) = Unit {0}
+IsShort (IdsShort k) = Unit {0}
+
+pub mapOf-left : (l : List ℕ) → IsShort (mapOf l) → leftOf (mapOf l) ≤ length l
+mapOf-left l short = go (ltb (length l) 8) refl
+  where
+    ids : 8 ≤ length l → (b : Bool) → ltb (length l - 8) (4 * idsIn (headerHere l)) ≡ b → leftOf (mapOf l) ≤ length l
+    ids p true t = rw (mapOf-behind l p, idsBy-short (length l - 8) (headerHere l) (ltb-true _ _ t)) (omega arith)
+    ids p false t = rw (mapOf-behind l p, idsBy-whole (length l - 8) (headerHere l) (ltb-false _ _ t)) (omega arith)
+
+    go : (b : Bool) → ltb (length l) 8 ≡ b → leftOf (mapOf l) ≤ length l
+    go true t = rw (mapOf-short l (ltb-true _ _ t)) (omega arith)
+    go false t = ids (ltb-false _ _ t) (ltb (length l - 8) (4 * idsIn (headerHere l))) refl
+
+pub mapOf-cut : (c m : List ℕ) → IsShort (mapOf (c ++ m)) → leftOf (mapOf (c ++ m)) ≡ length m → mapOf c ≡ none-left (mapOf (c ++ m))
+mapOf-cut c m short left = go (ltb (length (c ++ m)) 8) refl
+  where
+    sum : length (c ++ m) ≡ length c + length m
+    sum = length-append c m
+
+    ids
+        : 8 ≤ length (c ++ m)
+        → (b : Bool) → ltb (length (c ++ m) - 8) (4 * idsIn (headerHere (c ++ m))) ≡ b
+        → mapOf c ≡ none-left (mapOf (c ++ m))
+    ids p false t =
+        let e = mapOf-behind (c ++ m) p ∙ idsBy-whole (length (c ++ m) - 8) (headerHere (c ++ m)) (ltb-false _ _ t) in
+        absurd (rw e at short)
+    ids p true t =
+        let lt = ltb-true (length (c ++ m) - 8) (4 * idsIn (headerHere (c ++ m))) t in
+        let e = mapOf-behind (c ++ m) p ∙ idsBy-short (length (c ++ m) - 8) (headerHere (c ++ m)) lt in
+        let left′ : length (c ++ m) - 8 ≡ length m = rw e at left in
+        let is : length c ≡ 8 = omega (arith, sum, left′, p) in
+        let z : length c - 8 ≡ 0 = omega (arith, is) in
+        let same : headerHere (c ++ m) ≡ headerHere c =
+        rw (u16le-append c m 0 (omega (arith, is)), u16le-append c m 2 (omega (arith, is)), u32le-append c m 4 (omega (arith, is))) in
+        let lt′ : 0 < 4 * idsIn (headerHere c) = rw (← same) (omega (arith, lt)) in
+        rw (e, mapOf-behind c (omega (arith, is)), z, idsBy-short 0 (headerHere c) lt′)
+
+    go : (b : Bool) → ltb (length (c ++ m)) 8 ≡ b → mapOf c ≡ none-left (mapOf (c ++ m))
+    go true t =
+        let e = mapOf-short (c ++ m) (ltb-true _ _ t) in
+        let left′ : length (c ++ m) ≡ length m = rw e at left in
+        let z : length c ≡ 0 = omega (arith, sum, left′) in
+        rw (e, mapOf-short c (omega (arith, z)), z)
+    go false t = ids (ltb-false _ _ t) (ltb (length (c ++ m) - 8) (4 * idsIn (headerHere (c ++ m)))) refl
 
 -- ---- one id
 

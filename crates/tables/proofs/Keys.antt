@@ -14,7 +14,7 @@ use Rattle.records.specs.Words.{attributeWidth, attributePrefix, attributeName,
 use Rattle.records.specs.Repeats.{Rule, byPrefix, repeatsOne, isRepeat}
 use Rattle.system_types.specs.Names.{Lent}
 use Rattle.text.specs.Content.{contentOf, sameText, sameName}
-use Rattle.text.specs.Found.{partOf, Finds}
+use Rattle.text.specs.Inner.Found.{partOf, Finds}
 use Rattle.text.specs.declared.Head.{Head}
 use Rattle.text.specs.declared.Found.{Found}
 

@@ -10,7 +10,7 @@ ghost use Rattle.records.specs.Words.{attributeWords};
 ghost use Rattle.records.specs.Repeats.{byPrefix, isRepeat};
 ghost use Rattle.system_types.specs.Names.{lends};
 ghost use Rattle.text.specs.Content.{sameName};
-ghost use Rattle.text.specs.Found.{Asks};
+ghost use Rattle.text.specs.Inner.Found.{Asks};
 use common::StringIndex;
 use records::ATTRIBUTE_NAME;
 use records::ATTRIBUTE_PREFIX;

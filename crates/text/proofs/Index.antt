@@ -20,7 +20,7 @@ use Rattle.text.specs.declared.Head.{Head}
 use Rattle.text.specs.declared.Found.{Found}
 use Rattle.text.specs.declared.Found.the-variants.{Nothing, Cut, System, Pool}
 use Rattle.text.specs.Content.{none, namedBy, systemOf, stringAt, stringOf, dataOf, contentOf}
-use Rattle.text.specs.Found.{Fits, Stands, isFound}
+use Rattle.text.specs.Inner.Found.{Fits, Stands, isFound}
 
 module _ (h : Head) (t : List ℕ) (i : ℕ) where
   pub stringOf-past : h .count ≤ i → stringOf h t i ≡ none

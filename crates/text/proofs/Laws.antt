@@ -23,7 +23,7 @@ use Rattle.res_string_pool.proofs.Offsets.{offsetOf-append}
 use Rattle.text.specs.declared.Head.{Head}
 use Rattle.text.specs.Content.{Content, none, cut, some, namedBy, systemOf, stringAt, dataOf, stringOf, contentOf, rawOf, textIn, hasText}
 use Rattle.text.specs.Content.{isName}
-use Rattle.text.specs.Found.{Fits}
+use Rattle.text.specs.Inner.Found.{Fits}
 use Rattle.text.proofs.Index.{stringOf-past, stringOf-in, systemOf-past, systemOf-in}
 use Rattle.text.proofs.Read.{textOf-system}
 

@@ -16,8 +16,8 @@ use Rattle.text.specs.declared.Found.{Found}
 use Rattle.text.specs.declared.Found.the-variants.{Pool}
 use Rattle.text.specs.declared.Marks.{Marks}
 use Rattle.text.specs.Content.{plainIn}
-use Rattle.text.specs.Found.{partOf}
-use Rattle.text.specs.Told.{Other, stringIn, Heads, Ends, Chosen, firstOf, Marked}
+use Rattle.text.specs.Inner.Found.{partOf}
+use Rattle.text.specs.Inner.Told.{Other, stringIn, Heads, Ends, Chosen, firstOf, Marked}
 use Rattle.text.proofs.Others.{other-at, narrow-in, wide-in, system-first}
 
 -- ---- a string of the same length

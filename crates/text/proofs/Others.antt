@@ -29,8 +29,8 @@ use Rattle.text.specs.declared.Found.{Found}
 use Rattle.text.specs.declared.Found.the-variants.{Pool}
 use Rattle.text.specs.Content.{Content, none, cut, some, namedBy, systemOf, splitBy, stringAt, dataOf, stringOf, orElse, contentOf}
 use Rattle.text.specs.Content.{plainIn, sameText}
-use Rattle.text.specs.Found.{Fits, partOf}
-use Rattle.text.specs.Told.{Other, stringIn, firstOf}
+use Rattle.text.specs.Inner.Found.{Fits, partOf}
+use Rattle.text.specs.Inner.Told.{Other, stringIn, firstOf}
 use Rattle.text.proofs.Parts.{take-drop-part, slice-of, data-from, length-data}
 use Rattle.text.proofs.Index.{stringOf-in, systemOf-past, systemOf-in}
 use Rattle.text.proofs.Read.{part-lt}

@@ -27,7 +27,7 @@ use Rattle.text.specs.declared.Found.{Found}
 use Rattle.text.specs.declared.Found.the-variants.{Nothing, Cut, System, Pool}
 use Rattle.text.specs.Content.{Content, none, cut, some, systemOf, splitBy, stringAt, dataOf, stringOf, orElse, contentOf, textIn, hasText}
 use Rattle.text.specs.Content.{sameText, isText}
-use Rattle.text.specs.Found.{partOf, Inside, isFound, Wrote}
+use Rattle.text.specs.Inner.Found.{partOf, Inside, isFound, Wrote}
 use Rattle.text.proofs.Index.{stringOf-in, stringOf-past}
 use Rattle.text.proofs.Parts.{slice-of}
 

@@ -2,7 +2,7 @@
 // `find` does.
 //
 // Stands for the hash in the Rust's `HashSet` of attribute names, which tells most names apart. An answer of no says nothing: the string
-// may be cut, or have lengths of two parts. Definitions: specs/Told.antt, specs/Content.antt, specs/Found.antt.
+// may be cut, or have lengths of two parts. Definitions: specs/Inner/Told.antt, specs/Content.antt, specs/Inner/Found.antt.
 use super::Found;
 use super::Head;
 use super::Marks;
@@ -14,8 +14,8 @@ ghost use Rattle.utf.specs.Text.{eqBytes};
 ghost use Rattle.utf.specs.Plain.{Known};
 ghost use Rattle.system_types.specs.Names.{lends};
 ghost use Rattle.text.specs.Content.{contentOf, plainIn, sameText};
-ghost use Rattle.text.specs.Found.{Fits, Asks, Inside, partOf};
-ghost use Rattle.text.specs.Told.{Other, stringIn, Ends, Chosen, Marked, firstOf};
+ghost use Rattle.text.specs.Inner.Found.{Fits, Asks, Inside, partOf};
+ghost use Rattle.text.specs.Inner.Told.{Other, stringIn, Ends, Chosen, Marked, firstOf};
 use common::StringIndex;
 use field::u16_at;
 use field::u32_at;

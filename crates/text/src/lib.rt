@@ -1,7 +1,7 @@
 // The text of a string index: a lent system name, else a string of the pool, else none.
 //
 // Mirrors structs/res_string_pool.rs (apk-info 13770539b8): `get`, `get_with_resources`, `contains_with_resources`.
-// A text is never copied: the code answers where it lies (`Found`). Definitions: specs/Content.antt, specs/Found.antt.
+// A text is never copied: the code answers where it lies (`Found`). Definitions: specs/Content.antt, specs/Inner/Found.antt.
 pub mod apart;
 pub mod equal;
 pub mod part;
@@ -24,8 +24,8 @@ ghost use Rattle.utf.specs.Plain.{isAscii, Known};
 ghost use Rattle.system_types.specs.Names.{lends};
 ghost use Rattle.system_types.specs.declared.Lookup.the-variants.{Name};
 ghost use Rattle.text.specs.Content.{namedBy, systemOf, stringAt, stringOf, contentOf, hasText, stateIn, plainIn, sameText, isText};
-ghost use Rattle.text.specs.Found.{Fits, Asks, Inside, Stands, Finds, partOf, isFound};
-ghost use Rattle.text.specs.Told.{Marked};
+ghost use Rattle.text.specs.Inner.Found.{Fits, Asks, Inside, Stands, Finds, partOf, isFound};
+ghost use Rattle.text.specs.Inner.Told.{Marked};
 use common::StringIndex;
 use field::u32_at;
 use res_string_pool::Split;

@@ -1,7 +1,7 @@
 // What was found, as a part of what was lent: its content as it stands, whether it is a valid name, and its text as UTF-8.
 //
 // Mirrors structs/res_string_pool.rs (apk-info 13770539b8), `decode`; there a text is a string of its own, here it is written into a lent
-// buffer. Definitions: specs/Content.antt, specs/Found.antt.
+// buffer. Definitions: specs/Content.antt, specs/Inner/Found.antt.
 use super::Found;
 use super::NameState;
 ghost use mathlib.Core.Path.{_≡_};
@@ -10,7 +10,7 @@ ghost use Prim.Native.Nat.{_≤_};
 ghost use lib.ListN.{length};
 ghost use Rattle.records.specs.Limits.{fileLimit};
 ghost use Rattle.text.specs.Content.{rawOf, textIn, validBy, stateIn};
-ghost use Rattle.text.specs.Found.{partOf, Inside, Wrote};
+ghost use Rattle.text.specs.Inner.Found.{partOf, Inside, Wrote};
 use utf::text_into;
 use xml::valid_name;
 

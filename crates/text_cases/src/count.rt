@@ -1,17 +1,17 @@
 // What was asked for and what was right, in one table of numbers: two for each group, then the files and the sets of names.
 use libc::STDOUT_FILENO;
 
-// Groups 1 to 13 are the refusals with that number.
+// Groups 1 to 63 are the refusals with that number.
 pub const TEXTS: usize = 0;
 
-pub const BUFFERS: usize = 14;
+pub const BUFFERS: usize = 64;
 
-pub const CONTENTS: usize = 15;
+pub const CONTENTS: usize = 65;
 
 // The places of two numbers that stand alone.
-pub const FILES: usize = 32;
+pub const FILES: usize = 132;
 
-pub const SETS: usize = 33;
+pub const SETS: usize = 133;
 
 fn wide(n: u32) -> u64 {
     n as u64
@@ -34,7 +34,7 @@ pub(crate) fn bump(counts: &mut [u32], place: usize) {
 
 // One more answer of a group, and one more right one where it is.
 pub(crate) fn tally(counts: &mut [u32], group: usize, right: bool) {
-    if group < 16 {
+    if group < 66 {
         bump(counts, 2 * group + 1);
         if right {
             bump(counts, 2 * group);
@@ -61,7 +61,7 @@ fn print_one(label: &[u8], counts: &[u32], place: usize) {
 }
 
 fn print_group(label: &[u8], counts: &[u32], group: usize) {
-    if group < 16 {
+    if group < 66 {
         print_one(label, counts, 2 * group);
         print_one(b" of ", counts, 2 * group + 1);
         say(b"\n");
@@ -77,9 +77,14 @@ pub(crate) fn print_counts(counts: &[u32]) {
     print_group(b"contents ", counts, CONTENTS);
     print_group(b"refusal 1, too small: ", counts, 1);
     print_group(b"refusal 3, header size: ", counts, 3);
-    print_group(b"refusal 4, string pool: ", counts, 4);
-    print_group(b"refusal 5, resource map: ", counts, 5);
     print_group(b"refusal 7, system names: ", counts, 7);
     print_group(b"refusal 11, text short: ", counts, 11);
     print_group(b"refusal 12, no text: ", counts, 12);
+    print_group(b"refusal 41, skipped garbage: ", counts, 41);
+    print_group(b"refusal 42, the pool's headers and numbers: ", counts, 42);
+    print_group(b"refusal 43, offsets: ", counts, 43);
+    print_group(b"refusal 44, styles: ", counts, 44);
+    print_group(b"refusal 45, string data: ", counts, 45);
+    print_group(b"refusal 51, the map's header: ", counts, 51);
+    print_group(b"refusal 52, ids: ", counts, 52);
 }

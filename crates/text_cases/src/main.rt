@@ -105,7 +105,7 @@ fn space() -> [u8; 1572864]
 
 // Replays the data and prints the counts.
 fn report(data: &[u8]) {
-    let mut counts = [0u32; 40];
+    let mut counts = [0u32; 134];
     replay(data, &mut counts);
     count::print_counts(&counts);
 }

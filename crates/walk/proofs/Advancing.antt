@@ -22,7 +22,7 @@ use Rattle.head.specs.Head.{tablesIn, bodyIn}
 use Rattle.events.specs.declared.Cursor.{Cursor}
 use Rattle.events.specs.declared.Event.the-variants.{Note}
 use Rattle.events.specs.Events.{Names, namesIn}
-use Rattle.events.specs.Pending.{Within, pending, steps}
+use Rattle.events.specs.Inner.Pending.{Within, pending, steps}
 use Rattle.walk.specs.declared.tree.Tree.{Tree}
 use Rattle.walk.specs.declared.Mode.the-variants.{Reading as InBody}
 use Rattle.walk.specs.declared.State.{State}
@@ -30,9 +30,9 @@ use Rattle.walk.specs.declared.placing.Halt.{Halt}
 use Rattle.walk.specs.declared.placing.Stop.the-variants.{Full, Due}
 use Rattle.walk.specs.Settle.{Room, Tables, Out, going, refused, push, settle, noted}
 use Rattle.walk.specs.Reading.{finalOf}
-use Rattle.walk.specs.Tree.{tablesOf}
-use Rattle.walk.specs.Run.{Running, onFrom, RanBy, Ran, RanIn}
-use Rattle.walk.specs.Outcome.{notedBy, Refuses, Noted, roomOf, outcome, Good, left, Advanced}
+use Rattle.walk.specs.Inner.Tree.{tablesOf}
+use Rattle.walk.specs.Inner.Run.{Running, onFrom, RanBy, Ran, RanIn}
+use Rattle.walk.specs.Inner.Outcome.{notedBy, Refuses, Noted, roomOf, outcome, Good, left, Advanced}
 use Rattle.walk.proofs.Settle.{settle-cons, settle-refused}
 use Rattle.walk.proofs.Clearing.{clears, false-true}
 

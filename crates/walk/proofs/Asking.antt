@@ -10,7 +10,7 @@ use lib.Dec.{eqb}
 use Rattle.anomaly.specs.declared.ResAnomaly.{ResAnomaly}
 use Rattle.common.specs.declared.StringIndex.{StringIndex}
 use Rattle.errors.specs.declared.Refusal.{Refusal}
-use Rattle.text.specs.Found.{Asks}
+use Rattle.text.specs.Inner.Found.{Asks}
 use Rattle.head.specs.declared.Opened.{Opened}
 use Rattle.head.specs.Head.{PoolThere}
 use Rattle.xml_elements.specs.declared.XmlAttributeElement.{XmlAttributeElement}
@@ -24,12 +24,12 @@ use Rattle.events.specs.declared.Phase.the-variants.{AtShort, AtName, AtOpen, A
 use Rattle.events.specs.declared.Event.{Event}
 use Rattle.events.specs.declared.Event.the-variants.{Nothing, Open, Attribute, LeftOut, Close, Note, Refuse, Finish}
 use Rattle.events.specs.Events.{Names, namesIn}
-use Rattle.events.specs.Steps.{noteIf, stepBy, stepOf}
-use Rattle.events.specs.Pending.{Held, Ready, Within}
+use Rattle.events.specs.Inner.Steps.{noteIf, stepBy, stepOf}
+use Rattle.events.specs.Inner.Pending.{Held, Ready, Within}
 use Rattle.walk.specs.declared.tree.Tree.{Tree}
 use Rattle.walk.specs.declared.placing.Placed.{Placed}
 use Rattle.walk.specs.declared.placing.Placed.the-variants.{Done, Full, Due, Finished}
-use Rattle.walk.specs.Tree.{Tied, PlacesBy, NotEnd, AsksFor}
+use Rattle.walk.specs.Inner.Tree.{Tied, PlacesBy, NotEnd, AsksFor}
 
 -- ---- which events ask for texts
 

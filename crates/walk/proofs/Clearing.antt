@@ -16,7 +16,7 @@ use Rattle.system_types.specs.Names.{Lent}
 use Rattle.walk.specs.declared.Mode.the-variants.{Fresh, Reading as InBody, Clearing}
 use Rattle.walk.specs.declared.State.{State}
 use Rattle.walk.specs.Reading.{Reading, zeroNote}
-use Rattle.walk.specs.Outcome.{clearingAt, clearNext, cleared, outcome, Good, left, Advanced}
+use Rattle.walk.specs.Inner.Outcome.{clearingAt, clearNext, cleared, outcome, Good, left, Advanced}
 
 pub true-false : true ≡ false → ⊥
 true-false e = let z : _≡_ {A = ℕ} 0 1 = cc in omega arith

@@ -20,9 +20,9 @@ use Rattle.walk.specs.declared.placing.Halt.{Halt}
 use Rattle.walk.specs.declared.placing.Stop.the-variants.{Finished}
 use Rattle.walk.specs.Settle.{Room, Tables, going}
 use Rattle.walk.specs.Reading.{Reading, zeroNote, finalOf, nodesKept, attributesKept, secondOf}
-use Rattle.walk.specs.Tree.{Tied, tablesOf, keptNodes, keptAttributes}
-use Rattle.walk.specs.Run.{RanBy, RanIn}
-use Rattle.walk.specs.Outcome.{doneAnswer, Keepable, Finishes, roomOf, cleared, outcome, Good, Advanced}
+use Rattle.walk.specs.Inner.Tree.{Tied, tablesOf, keptNodes, keptAttributes}
+use Rattle.walk.specs.Inner.Run.{RanBy, RanIn}
+use Rattle.walk.specs.Inner.Outcome.{doneAnswer, Keepable, Finishes, roomOf, cleared, outcome, Good, Advanced}
 use Rattle.walk.proofs.Trees.{second-in}
 use Rattle.walk.proofs.Clearing.{clears}
 use Rattle.walk.proofs.Advancing.{tables, body, ReadHead}

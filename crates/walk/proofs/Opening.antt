@@ -24,7 +24,7 @@ use Rattle.walk.specs.declared.Mode.the-variants.{Fresh, Reading as InBo
 use Rattle.walk.specs.declared.State.{State}
 use Rattle.walk.specs.Settle.{Room}
 use Rattle.walk.specs.Reading.{Reading, settledIn, readingBy, reading, roomIn, Reads}
-use Rattle.walk.specs.Outcome.{first, startedBy, Refuses, roomOf, outcome, Good, left, Advanced, Leaves}
+use Rattle.walk.specs.Inner.Outcome.{first, startedBy, Refuses, roomOf, outcome, Good, left, Advanced, Leaves}
 use Rattle.walk.proofs.Clearing.{fresh-not, clears}
 
 -- ---- the first state

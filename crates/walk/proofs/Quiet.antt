@@ -14,7 +14,7 @@ use Rattle.anomaly.specs.Kept.{isDue}
 use Rattle.anomaly.specs.declared.ResAnomaly.{ResAnomaly}
 use Rattle.anomaly.specs.declared.ResAnomaly.the-variants.{NonXmlChunk, XmlNodeHeaderSize}
 use Rattle.common.proofs.Laws.{headerHere}
-use Rattle.chunk.specs.Run.{runUsed}
+use Rattle.chunk.specs.Inner.Run.{runUsed}
 use Rattle.xml_elements.specs.declared.Turn.the-variants.{Foreign}
 use Rattle.xml_elements.specs.Chunk.{numberOf, turnOf}
 use Rattle.xml_elements.proofs.Laws.{turnOf-run}
@@ -26,16 +26,16 @@ use Rattle.events.specs.declared.Event.{Event}
 use Rattle.events.specs.declared.Event.the-variants.{Note}
 use Rattle.events.specs.declared.Phase.the-variants.{AtChunk}
 use Rattle.events.specs.Events.{Names, Spot, when, eventsOn}
-use Rattle.events.specs.Steps.{passedTo}
-use Rattle.events.specs.Pending.{Within, pending, steps}
+use Rattle.events.specs.Inner.Steps.{passedTo}
+use Rattle.events.specs.Inner.Pending.{Within, pending, steps}
 use Rattle.events.proofs.Model.{eventsOn-turn}
 use Rattle.walk.specs.declared.tree.Tree.{Tree}
 use Rattle.walk.specs.declared.State.{State}
 use Rattle.walk.specs.Settle.{Room, Tables, going, settle}
 use Rattle.walk.specs.Reading.{finalOf}
-use Rattle.walk.specs.Tree.{tablesOf}
-use Rattle.walk.specs.Outcome.{Good, roomOf}
-use Rattle.walk.specs.Pass.{spotAt, NoneDue, Reaches, PassesOn}
+use Rattle.walk.specs.Inner.Tree.{tablesOf}
+use Rattle.walk.specs.Inner.Outcome.{Good, roomOf}
+use Rattle.walk.specs.Inner.Pass.{spotAt, NoneDue, Reaches, PassesOn}
 use Rattle.walk.proofs.Advancing.{ReadHead, body, tables, N}
 
 -- ---- a note past its cap

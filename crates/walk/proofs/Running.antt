@@ -15,16 +15,16 @@ use Rattle.events.specs.declared.Step.{Step}
 use Rattle.events.specs.declared.Event.{Event}
 use Rattle.events.specs.declared.Event.the-variants.{Note}
 use Rattle.events.specs.Events.{Names, namesIn}
-use Rattle.events.specs.Steps.{stepOf}
-use Rattle.events.specs.Pending.{pending, steps, the, Stepped}
+use Rattle.events.specs.Inner.Steps.{stepOf}
+use Rattle.events.specs.Inner.Pending.{pending, steps, the, Stepped}
 use Rattle.events.proofs.Steps.{stepped}
 use Rattle.walk.specs.declared.tree.Tree.{Tree}
 use Rattle.walk.specs.declared.placing.Placed.{Placed}
 use Rattle.walk.specs.declared.placing.Placed.the-variants.{Done, Full, Due, Finished}
 use Rattle.walk.specs.declared.placing.Stop.the-variants.{Full as StopFull, Due as StopDue, Finished as StopFinished}
 use Rattle.walk.specs.Settle.{Room, Out, going, push, settle}
-use Rattle.walk.specs.Tree.{Fit, tablesOf, PlacesBy, Places, NotEnd}
-use Rattle.walk.specs.Run.{Running, onFrom, RanBy}
+use Rattle.walk.specs.Inner.Tree.{Fit, tablesOf, PlacesBy, Places, NotEnd}
+use Rattle.walk.specs.Inner.Run.{Running, onFrom, RanBy}
 use Rattle.walk.proofs.Settle.{settle-the, settle-refused, settle-nil}
 use Rattle.walk.proofs.Asking.{not-other}
 

@@ -12,7 +12,7 @@ pub mod tree;
 ghost use mathlib.Core.Path.{_≡_};
 ghost use Rattle.system_types.specs.Names.{lends};
 ghost use Rattle.walk.specs.declared.Mode.the-variants.{Fresh, Reading as InBody};
-ghost use Rattle.walk.specs.Outcome.{noTree, first, startedBy, Good, Adv};
+ghost use Rattle.walk.specs.Inner.Outcome.{noTree, first, startedBy, Good, Adv};
 use anomaly::Note;
 use anomaly::Notes;
 use anomaly::kind_index;

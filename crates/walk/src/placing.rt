@@ -1,15 +1,15 @@
 // Events are put away one by one, until one is for the caller.
 //
 // Mirrors axml.rs (apk-info 13770539b8): the body of the loop of `get_xml_tree`.
-// Definitions: specs/Tree.antt, specs/Run.antt. Differs from the Rust: a record without a place refuses.
+// Definitions: specs/Inner/Tree.antt, specs/Inner/Run.antt. Differs from the Rust: a record without a place refuses.
 ghost use Prim.Native.Nat.{ℕ};
 ghost use Rattle.records.specs.Repeats.{Rule, byPrefix};
 ghost use Rattle.system_types.specs.Names.{lends};
 ghost use Rattle.text.specs.Content.{sameName};
-ghost use Rattle.text.specs.Found.{Asks};
+ghost use Rattle.text.specs.Inner.Found.{Asks};
 ghost use Rattle.events.specs.declared.Event.the-variants.{Open, Attribute, Close};
-ghost use Rattle.walk.specs.Tree.{Fit, Places, NotEnd, AsksFor};
-ghost use Rattle.walk.specs.Run.{Running, RanOn, RunningIn, RanIn};
+ghost use Rattle.walk.specs.Inner.Tree.{Fit, Places, NotEnd, AsksFor};
+ghost use Rattle.walk.specs.Inner.Run.{Running, RanOn, RunningIn, RanIn};
 use crate::tree::Put;
 use crate::tree::Tree;
 use crate::tree::close_node;

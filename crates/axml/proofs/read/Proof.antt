@@ -52,7 +52,7 @@ use denote.Signature.{plain}
 use Rattle.anomaly.specs.declared.Note.{Note}
 use Rattle.errors.specs.declared.ReadAnswer.{ReadAnswer as Answer}
 use Rattle.walk.specs.declared.State.{State}
-use Rattle.walk.specs.Outcome.{Adv, Good, first}
+use Rattle.walk.specs.Inner.Outcome.{Adv, Good, first}
 use Rattle.system_types.specs.Names.{lends}
 use Rattle.walk.specs.Reading.{Reads}
 use Rattle.axml.proofs.Fields.{gets}

@@ -49,7 +49,7 @@ use denote.Signature.{plain}
 use Rattle.anomaly.specs.declared.Note.{Note}
 use Rattle.errors.specs.declared.ReadAnswer.{ReadAnswer as Answer}
 use Rattle.axml.specs.declared.Listed.{Listed}
-use Rattle.walk.specs.Outcome.{first}
+use Rattle.walk.specs.Inner.Outcome.{first}
 use Rattle.walk.specs.Reading.{zeroNote}
 use Rattle.system_types.specs.Names.{lends}
 use Rattle.records.specs.Limits.{listedCap, listedNotes}

@@ -4,7 +4,7 @@ use borrow.Author.Needs.{needs}
 use native.Mathlib.Omega.{arith}
 use mathlib.Core.Path.{sym, _∙_}
 use Rattle.system_types.specs.Names.{lends}
-use Rattle.walk.specs.Outcome.{left}
+use Rattle.walk.specs.Inner.Outcome.{left}
 use Rattle.c_api.proofs.Points.{Point, point-first, point-fits, point-slot, point-less, point-next, point-cleared, point-last}
 use Rattle.c_api.proofs.read_words.Statement.{statement}
 use Rattle.c_api.proofs.read_words.Tie as tie

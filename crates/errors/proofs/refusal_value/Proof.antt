@@ -19,12 +19,6 @@ cast-result c = search needs
 enum-told-2 : tie.Need-enum-told-2
 enum-told-2 c = search needs
 
-enum-told-3 : tie.Need-enum-told-3
-enum-told-3 c = search needs
-
-enum-told-4 : tie.Need-enum-told-4
-enum-told-4 c = search needs
-
 enum-known-r-3 : tie.Need-enum-known-r-3
 enum-known-r-3 c = search needs
 
@@ -40,14 +34,35 @@ enum-known-r-6 c = search needs
 enum-known-r-7 : tie.Need-enum-known-r-7
 enum-known-r-7 c = search needs
 
-enum-told-5 : tie.Need-enum-told-5
-enum-told-5 c = search needs
+enum-told-3 : tie.Need-enum-told-3
+enum-told-3 c = search needs
 
 enum-known-r-8 : tie.Need-enum-known-r-8
 enum-known-r-8 c = search needs
 
 cast-result-2 : tie.Need-cast-result-2
 cast-result-2 c = search needs
+
+enum-known-r-9 : tie.Need-enum-known-r-9
+enum-known-r-9 c = search needs
+
+enum-known-r-10 : tie.Need-enum-known-r-10
+enum-known-r-10 c = search needs
+
+enum-known-r-11 : tie.Need-enum-known-r-11
+enum-known-r-11 c = search needs
+
+enum-known-r-12 : tie.Need-enum-known-r-12
+enum-known-r-12 c = search needs
+
+enum-known-r-13 : tie.Need-enum-known-r-13
+enum-known-r-13 c = search needs
+
+enum-known-r-14 : tie.Need-enum-known-r-14
+enum-known-r-14 c = search needs
+
+enum-known-r-15 : tie.Need-enum-known-r-15
+enum-known-r-15 c = search needs
 
 returns : tie.Need-returns
 unfolding valueOf
@@ -67,39 +82,59 @@ returns-4 c = rw (c .enum-told2 .given .1)
 
 returns-5 : tie.Need-returns-5
 unfolding valueOf
-returns-5 c = rw (c .enum-told3 .given .1)
+returns-5 c = rw (c .before .r3 .given .1)
 
 returns-6 : tie.Need-returns-6
 unfolding valueOf
-returns-6 c = rw (c .enum-told4 .given .1)
+returns-6 c = rw (c .before .r4 .given .1)
 
 returns-7 : tie.Need-returns-7
 unfolding valueOf
-returns-7 c = rw (c .before .r3 .given .1)
+returns-7 c = rw (c .before .r5 .given .1)
 
 returns-8 : tie.Need-returns-8
 unfolding valueOf
-returns-8 c = rw (c .before .r4 .given .1)
+returns-8 c = rw (c .before .r6 .given .1)
 
 returns-9 : tie.Need-returns-9
 unfolding valueOf
-returns-9 c = rw (c .before .r5 .given .1)
+returns-9 c = rw (c .before .r7 .given .1)
 
 returns-10 : tie.Need-returns-10
 unfolding valueOf
-returns-10 c = rw (c .before .r6 .given .1)
+returns-10 c = rw (c .enum-told3 .given .1)
 
 returns-11 : tie.Need-returns-11
 unfolding valueOf
-returns-11 c = rw (c .before .r7 .given .1)
+returns-11 c = rw (c .before .r8 .given .1)
 
 returns-12 : tie.Need-returns-12
 unfolding valueOf
-returns-12 c = rw (c .enum-told5 .given .1)
+returns-12 c = rw (c .before .r9 .given .1)
 
 returns-13 : tie.Need-returns-13
 unfolding valueOf
-returns-13 c = rw (c .before .r8 .given .1)
+returns-13 c = rw (c .before .r10 .given .1)
+
+returns-14 : tie.Need-returns-14
+unfolding valueOf
+returns-14 c = rw (c .before .r11 .given .1)
+
+returns-15 : tie.Need-returns-15
+unfolding valueOf
+returns-15 c = rw (c .before .r12 .given .1)
+
+returns-16 : tie.Need-returns-16
+unfolding valueOf
+returns-16 c = rw (c .before .r13 .given .1)
+
+returns-17 : tie.Need-returns-17
+unfolding valueOf
+returns-17 c = rw (c .before .r14 .given .1)
+
+returns-18 : tie.Need-returns-18
+unfolding valueOf
+returns-18 c = rw (c .before .r15 .given .1)
 
 pub refusal-value-spec : {M : Type 1} → statement M
 refusal-value-spec =
@@ -110,16 +145,21 @@ refusal-value-spec =
     enum-known-r-2
     cast-result
     enum-told-2
-    enum-told-3
-    enum-told-4
     enum-known-r-3
     enum-known-r-4
     enum-known-r-5
     enum-known-r-6
     enum-known-r-7
-    enum-told-5
+    enum-told-3
     enum-known-r-8
     cast-result-2
+    enum-known-r-9
+    enum-known-r-10
+    enum-known-r-11
+    enum-known-r-12
+    enum-known-r-13
+    enum-known-r-14
+    enum-known-r-15
     returns
     returns-2
     returns-3
@@ -132,4 +172,9 @@ refusal-value-spec =
     returns-10
     returns-11
     returns-12
-    returns-13)
+    returns-13
+    returns-14
+    returns-15
+    returns-16
+    returns-17
+    returns-18)

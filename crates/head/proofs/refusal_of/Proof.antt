@@ -12,11 +12,17 @@ enum-known-e c = search needs
 enum-known-e-2 : tie.Need-enum-known-e-2
 enum-known-e-2 c = search needs
 
-enum-told-2 : tie.Need-enum-told-2
-enum-told-2 c = search needs
+enum-known-e-3 : tie.Need-enum-known-e-3
+enum-known-e-3 c = search needs
 
-enum-told-3 : tie.Need-enum-told-3
-enum-told-3 c = search needs
+pool-refusal-requires : tie.Need-pool-refusal-requires
+pool-refusal-requires c κs = search needs
+
+enum-known-e-4 : tie.Need-enum-known-e-4
+enum-known-e-4 c = search needs
+
+map-refusal-requires : tie.Need-map-refusal-requires
+map-refusal-requires c κs = search needs
 
 returns : tie.Need-returns
 returns c = search needs
@@ -40,8 +46,10 @@ refusal-of-spec =
     enum-told
     enum-known-e
     enum-known-e-2
-    enum-told-2
-    enum-told-3
+    enum-known-e-3
+    pool-refusal-requires
+    enum-known-e-4
+    map-refusal-requires
     returns
     returns-2
     returns-3

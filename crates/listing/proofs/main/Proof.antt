@@ -2,7 +2,7 @@
 use mathlib.Core.Path.{sym}
 use Prim.Native.Nat.{ℕ}
 use lib.ListN.{length-replicate}
-use Rattle.listing_text.specs.Inner.Size.{listedBytes}
+use Rattle.listing_text.specs.Size.{listedBytes}
 use Rattle.listing.proofs.Laws.{as-long}
 use borrow.Author.Needs.{needs}
 use Rattle.listing.proofs.main.Statement.{statement}

@@ -11,7 +11,7 @@ use Rattle.records.specs.Words.{attributeWords}
 use Rattle.records.specs.Repeats.{byPrefix, isRepeat}
 use Rattle.system_types.specs.Names.{lends}
 use Rattle.text.specs.Content.{plainIn, sameName}
-use Rattle.text.specs.Found.{partOf, Finds}
+use Rattle.text.specs.Inner.Found.{partOf, Finds}
 use Rattle.text.proofs.Plains.{known-of}
 use Rattle.tables.proofs.Keys.{repeat-end, repeat-found, repeat-prefix, repeat-name, same-found}
 use Rattle.tables.proofs.has.Statement.{statement}

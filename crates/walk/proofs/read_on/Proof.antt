@@ -9,8 +9,8 @@ use lib.ListN.{length}
 use Rattle.anomaly.proofs.Laws.{kindIndex-lt}
 use Rattle.system_types.specs.Names.{lends}
 use Rattle.head.specs.Head.{bodyIn}
-use Rattle.events.specs.Pending.{steps}
-use Rattle.walk.specs.Outcome.{Good}
+use Rattle.events.specs.Inner.Pending.{steps}
+use Rattle.walk.specs.Inner.Outcome.{Good}
 use Rattle.walk.proofs.Advancing.{ReadHead, read-first, read-full, due-less, due-within, read-past, read-due}
 use Rattle.walk.proofs.Quiet.{read-passed}
 use Rattle.walk.proofs.Finishing.{read-keepable, read-done}

@@ -22,7 +22,7 @@ use Rattle.errors.specs.Refusal.{numbersOf}
 use Rattle.system_types.specs.Names.{Lent}
 use Rattle.walk.specs.declared.Mode.the-variants.{Fresh, Reading as InBody}
 use Rattle.walk.specs.Reading.{Reading, Reads, roomIn, reading}
-use Rattle.walk.specs.Outcome.{Adv, Advanced, Good, first, left, outcome}
+use Rattle.walk.specs.Inner.Outcome.{Adv, Advanced, Good, first, left, outcome}
 use Rattle.walk.proofs.State as S
 use Rattle.walk.proofs.State.Laws as S′
 

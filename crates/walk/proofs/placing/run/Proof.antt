@@ -4,8 +4,8 @@ use mathlib.Core.Path.{_≡_, refl, _∙_}
 use borrow.Author.Needs.{needs}
 use lib.ListN.{length}
 use Rattle.system_types.specs.Names.{lends}
-use Rattle.events.specs.Pending.{steps}
-use Rattle.walk.specs.Run.{Running}
+use Rattle.events.specs.Inner.Pending.{steps}
+use Rattle.walk.specs.Inner.Run.{Running}
 use Rattle.walk.proofs.Asking.{asks-for}
 use Rattle.walk.proofs.Running.{RunHead, run-first, fit-of, run-less, run-goes, run-full, run-due, run-finished}
 use Rattle.walk.proofs.placing.run.Statement.{statement}

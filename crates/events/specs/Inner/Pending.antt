@@ -16,7 +16,7 @@ use lib.Dec.{eqb}
 use Rattle.records.specs.Limits.{fileLimit}
 use Rattle.system_types.specs.Names.{Lent, namesOf}
 use Rattle.system_types.specs.declared.NamesRead.the-variants.{Good}
-use Rattle.text.specs.Found.{Fits}
+use Rattle.text.specs.Inner.Found.{Fits}
 use Rattle.head.specs.declared.HeadEnd.{HeadEnd}
 use Rattle.head.specs.declared.HeadEnd.the-variants.{Whole, TooSmall, HeaderSize, PoolShort, MapShort}
 use Rattle.head.specs.declared.Opened.{Opened}
@@ -32,7 +32,7 @@ use Rattle.events.specs.declared.Cursor.{Cursor}
 use Rattle.events.specs.declared.Step.{Step}
 use Rattle.events.specs.Events.{Names, attributesOf, cutShort, fromGap, fromSize, fromTrailing, fromName, fromLead}
 use Rattle.events.specs.Events.{Spot, started, fromRoot, lastOf, eventsOn, bodyEvents, notesOf, afterPool, fileEvents}
-use Rattle.events.specs.Steps.{stepOf}
+use Rattle.events.specs.Inner.Steps.{stepOf}
 
 -- ---- what holds of a cursor
 

@@ -13,7 +13,7 @@ use mathlib.Core.Bool.{Bool, true, false, cond}
 use lib.ListN.{length, take, drop, set, getD}
 use lib.Dec.{eqb}
 use Rattle.anomaly.specs.declared.Note.{Note as NoteOf}
-use Rattle.text.specs.Found.{Asks}
+use Rattle.text.specs.Inner.Found.{Asks}
 use Rattle.text.specs.declared.Head.{Head}
 use Rattle.xml_elements.specs.declared.XmlAttributeElement.{XmlAttributeElement}
 use Rattle.records.specs.Words.{nodeWidth, nodeParent, nodeFirst, nodeCount, noParent, nodeWords, attributeWidth, attributeWords}

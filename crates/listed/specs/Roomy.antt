@@ -3,7 +3,7 @@ use Prim.Native.Nat.{ℕ, _*_, _≤_}
 use mathlib.Core.Path.{_≡_}
 use Rattle.records.specs.Words.{nodeWidth, attributeWidth}
 use Rattle.records.specs.Limits.{listedNodes, listedAttributes}
-use Rattle.listing_text.specs.Inner.Size.{listedBytes}
+use Rattle.listing_text.specs.Size.{listedBytes}
 
 -- words of the two tables, bytes of the buffer
 pub record Roomy (ns ats room : ℕ) : Type 0 where

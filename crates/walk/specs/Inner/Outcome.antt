@@ -27,16 +27,16 @@ use Rattle.head.specs.declared.Opened.{Opened}
 use Rattle.head.specs.Head.{unopened, tablesIn, bodyIn}
 use Rattle.events.specs.declared.Cursor.{Cursor}
 use Rattle.events.specs.Events.{namesIn}
-use Rattle.events.specs.Steps.{firstCursor}
-use Rattle.events.specs.Pending.{Ready, Within, steps}
+use Rattle.events.specs.Inner.Steps.{firstCursor}
+use Rattle.events.specs.Inner.Pending.{Ready, Within, steps}
 use Rattle.walk.specs.declared.tree.Tree.{Tree}
 use Rattle.walk.specs.declared.Mode.{Mode}
 use Rattle.walk.specs.declared.Mode.the-variants.{Fresh, Reading as InBody, Clearing}
 use Rattle.walk.specs.declared.State.{State}
 use Rattle.walk.specs.Settle.{Room}
 use Rattle.walk.specs.Reading.{Reading, zeroNote, finalOf, reading, roomIn}
-use Rattle.walk.specs.Tree.{Tied, keptNodes, keptAttributes}
-use Rattle.walk.specs.Run.{onFrom}
+use Rattle.walk.specs.Inner.Tree.{Tied, keptNodes, keptAttributes}
+use Rattle.walk.specs.Inner.Run.{onFrom}
 
 -- ---- states
 

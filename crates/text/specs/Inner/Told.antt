@@ -21,7 +21,7 @@ use Rattle.text.specs.declared.Found.{Found}
 use Rattle.text.specs.declared.Found.the-variants.{Pool}
 use Rattle.text.specs.declared.Marks.{Marks}
 use Rattle.text.specs.Content.{Content, none, some, systemOf, splitBy, plainIn}
-use Rattle.text.specs.Found.{partOf}
+use Rattle.text.specs.Inner.Found.{partOf}
 
 pub record Other (w : Bool) (t : List ℕ) (c : Content) (s : List ℕ) : Type 0 where
   pub from : ℕ

@@ -16,13 +16,13 @@ use Rattle.head.specs.Head.{tablesIn, bodyIn}
 use Rattle.events.specs.declared.Cursor.{Cursor}
 use Rattle.events.specs.declared.Event.the-variants.{Note}
 use Rattle.events.specs.Events.{Names, namesIn}
-use Rattle.events.specs.Pending.{Ready, Within, pending, steps}
+use Rattle.events.specs.Inner.Pending.{Ready, Within, pending, steps}
 use Rattle.walk.specs.declared.tree.Tree.{Tree}
 use Rattle.walk.specs.declared.placing.Halt.{Halt}
 use Rattle.walk.specs.declared.placing.Stop.{Stop}
 use Rattle.walk.specs.declared.placing.Stop.the-variants.{Full, Due, Finished}
 use Rattle.walk.specs.Settle.{Room, Out, going, refused, settle}
-use Rattle.walk.specs.Tree.{Tied, tablesOf}
+use Rattle.walk.specs.Inner.Tree.{Tied, tablesOf}
 
 -- the list of open elements is the proof's to know
 pub record Running (t : List ℕ) (lent : Lent) (b : List ℕ) (o : Opened) (ns ats : List ℕ) (c : Cursor) (tree : Tree) : Type 0 where

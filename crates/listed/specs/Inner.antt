@@ -1,2 +1,0 @@
--- What no promise of a public function needs.
-pub mod Roomy
