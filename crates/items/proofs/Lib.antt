@@ -1,0 +1,3 @@
+-- The node file of the crate's proofs.
+pub mod Laws
+pub mod Flags
