@@ -1,12 +1,9 @@
--- Laws of specs/Listing.antt, for this crate and for whoever reads a listing. In order: digits, lines, the words of a record.
--- Not here: decimal numbers (proofs/Decimal.antt), greatest lengths (proofs/Lengths.antt).
-use Prim.Native.Nat.{ℕ, zero, suc, _+_, _-_, _/_, _%_, _≤_, _<_}
+-- Laws of specs/Listing.antt, for this crate and for whoever reads a listing. In order: lines, the words of a record.
+-- Not here: decimal numbers (crate digits), greatest lengths (proofs/Lengths.antt).
+use Prim.Native.Nat.{ℕ, _+_}
 use mathlib.Core.Path.{_≡_, refl}
 use mathlib.Core.List.{List, [], _∷_, _++_, append-assoc}
-use native.Mathlib.Omega.{arith}
-use native.Mathlib.Nat.{mod-eq-of-lt, add-zero}
-use native.Mathlib.Numerals.{sub-one}
-use borrow.Author.Tests.{lt-ltb, le-ltb}
+use native.Mathlib.Nat.{add-zero}
 use lib.ListN.{getD, drop}
 use lib.Seq.{getD-drop}
 use Rattle.anomaly.specs.declared.Note.{Note}
@@ -14,29 +11,9 @@ use Rattle.errors.specs.declared.Refusal.{Refusal}
 use Rattle.errors.specs.declared.ReadAnswer.the-variants.{Refused}
 use Rattle.errors.specs.Refusal.{numbersOf}
 use Rattle.listing_text.specs.Keys.{nodeKey, nameKey, fixedKey, parentKey, firstKey, countKey, attributeKey, ownerKey, prefixKey, typeKey, dataKey}
-use Rattle.listing_text.specs.Listing.{Field, Line, digits, fieldText, lineText, linesText, field, nodeLine, attributeLine}
+use Rattle.listing_text.specs.Listing.{Field, Line, fieldText, lineText, linesText, field, nodeLine, attributeLine}
 use Rattle.listing_text.specs.Listing.{headLines, nodeLines, attributeLines, noteLines, listing}
-use Rattle.listing_text.specs.Printed.{threeText}
-
--- ---- digits
-
--- the last of them alone
-pub digits-zero : (k n : ℕ) → k ≡ 0 → digits k n ≡ (48 + n % 10) ∷ []
-unfolding digits
-digits-zero k n h = rw h
-
-pub digits-lt : (k n : ℕ) → n < 10 → digits k n ≡ (48 + n % 10) ∷ []
-unfolding digits
-digits-lt zero n h = refl
-digits-lt (suc k) n h = rw (lt-ltb n 10 h, mod-eq-of-lt h)
-
-pub digits-suc : (k n : ℕ) → 10 ≤ n → digits (suc k) n ≡ digits k (n / 10) ++ ((48 + n % 10) ∷ [])
-unfolding digits
-digits-suc k n h = rw (le-ltb n 10 h)
-
-pub digits-step : (k n : ℕ) → 0 < k → 10 ≤ n → digits k n ≡ digits (k - 1) (n / 10) ++ ((48 + n % 10) ∷ [])
-digits-step zero n z h = absurd (let f : ⊥ = omega arith in f)
-digits-step (suc k) n z h = rw sub-one (digits-suc k n h)
+use Rattle.listing_text.specs.Inner.Three.{threeText}
 
 -- ---- lines
 

@@ -11,22 +11,10 @@ use Rattle.anomaly.specs.declared.Note.{Note}
 use Rattle.errors.specs.declared.Numbers.{Numbers}
 use Rattle.listing_text.specs.Keys.{nodeKey, nameKey, fixedKey, parentKey, firstKey, countKey, attributeKey, ownerKey}
 use Rattle.listing_text.specs.Keys.{prefixKey, typeKey, dataKey, noteKey, kindKey, aKey, bKey}
-use Rattle.listing_text.specs.Listing.{Field, Line, digits, decimal, field, lineText, linesText, headLines, nodeLine, nodeLines}
+use Rattle.listing_text.specs.Listing.{Field, Line, field, lineText, linesText, headLines, nodeLine, nodeLines}
 use Rattle.listing_text.specs.Listing.{attributeLine, attributeLines, noteLine, noteLines, listingText}
+use Rattle.digits.proofs.Laws.{decimal-le}
 use Rattle.listing_text.proofs.Whole.{listingText-parts}
-
-pub digits-le : (k n : ℕ) → length (digits k n) ≤ k + 1
-unfolding digits
-digits-le zero n = omega arith
-digits-le (suc k) n = go (ltb n 10) (digits-le k (n / 10)) where
-  go : (t : Bool) → length (digits k (n / 10)) ≤ k + 1 →
-      length (cond t ((48 + n) ∷ []) (digits k (n / 10) ++ ((48 + n % 10) ∷ []))) ≤ suc k + 1
-  go true h = omega arith
-  go false h = rw length-append (omega arith)
-
--- at most 20 digits
-decimal-le : (n : ℕ) → length (decimal n) ≤ 20
-decimal-le n = digits-le 19 n
 
 module _ (f g h i : Field) where
   four-le : length (lineText (f ∷ g ∷ h ∷ i ∷ [])) ≤ length (f .key) + length (g .key) + length (h .key) + length (i .key) + 88

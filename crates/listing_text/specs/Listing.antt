@@ -1,18 +1,18 @@
 -- A listing as data, and its text: docs/FORMAT.md, L1 to L4.
 --
 --   Field       a key and a number, `key=number`
---   decimal     a number in decimal digits, without leading zeros; 0 is `0`
 --   lineText    the fields of a line with a space between them, and a newline at its end
 --   listing     the lines of an answer: seven lines of one field each, then a line for each node, attribute and note
 --   listingText their text
 --
--- A refusal has the first seven lines alone, the last four 0. Laws: proofs/Laws.antt.
-use Prim.Native.Nat.{ℕ, zero, suc, _+_, _/_, _%_}
+-- A refusal has the first seven lines alone, the last four 0. Numbers are in decimal (digits/specs/Digits.antt). Laws: proofs/Laws.antt.
+use Prim.Native.Nat.{ℕ, zero, suc, _+_}
 use mathlib.Core.List.{List, [], _∷_, _++_}
 use mathlib.Core.Bool.{cond}
 use lib.ListN.{length, drop, getD}
 use lib.Dec.{ltb}
 use Rattle.anomaly.specs.declared.Note.{Note}
+use Rattle.digits.specs.Digits.{decimal}
 use Rattle.errors.specs.declared.Numbers.{Numbers}
 use Rattle.listing_text.specs.Keys.{refusalKey, valueKey, capKey, startsKey, nodesKey, attributesKey, notesKey}
 use Rattle.listing_text.specs.Keys.{nodeKey, nameKey, fixedKey, parentKey, firstKey, countKey}
@@ -27,16 +27,7 @@ Line = List Field
 
 -- ---- the printer
 
--- the last k + 1 digits at most: numbers of 64 bits have 20
-unfoldable pub digits : ℕ → ℕ → List ℕ
-digits zero n = (48 + n % 10) ∷ []
-digits (suc k) n = cond (ltb n 10) ((48 + n) ∷ []) (digits k (n / 10) ++ ((48 + n % 10) ∷ []))
-
-abbrev pub decimal : ℕ → List ℕ
-decimal n = digits 19 n
-
 unfoldable pub fieldText : Field → List ℕ
-unfolding digits
 fieldText f = f .key ++ (61 ∷ decimal (f .number))
 
 unfoldable pub lineText : Line → List ℕ

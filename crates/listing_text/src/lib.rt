@@ -2,23 +2,24 @@
 //
 // No file of the Rust prints a listing. The lines and their order: docs/FORMAT.md, L1 to L4.
 // Definitions: specs/Listing.antt (lines and their text), specs/Keys.antt, specs/Printed.antt (the answer and the buffer).
-// One pass: each `put` takes the place reached so far, writes what lies within the buffer, and answers the place behind its text (src/buffer.rt),
+// One pass: each `put` takes the place reached so far, writes what lies within the buffer, and answers the place behind its text (crate `digits`),
 // so that the last place is the length of the whole text whether it fits or not.
-mod buffer;
+mod fields;
 
 use anomaly::Note;
-use buffer::put_field;
-use buffer::put_three;
-use buffer::zero;
+use digits::zero;
 use errors::Numbers;
 use errors::Refusal;
 use errors::TextAnswer;
+use fields::put_field;
+use fields::put_three;
 ghost use mathlib.Core.Path.{_≡_};
 ghost use Prim.Native.Nat.{_+_, _*_, _≤_, _<_};
 ghost use lib.ListN.{length, drop, getD};
 ghost use Rattle.listing_text.specs.Listing.{lineText, linesText, headLines, nodeLine, attributeLine, noteLine};
 ghost use Rattle.listing_text.specs.Listing.{nodeLines, attributeLines, noteLines, listingText};
-ghost use Rattle.listing_text.specs.Printed.{Wrote, Printed};
+ghost use Rattle.digits.specs.Written.{Wrote};
+ghost use Rattle.listing_text.specs.Printed.{Printed};
 
 // The seven lines of every answer, from the front of the buffer on.
 fn put_head(out: &mut [u8], cap: u32, n: Numbers) -> usize

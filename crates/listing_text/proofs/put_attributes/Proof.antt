@@ -6,7 +6,7 @@ use native.Mathlib.Nat.{sub-zero}
 use borrow.Author.Needs.{needs}
 use denote.Ref.{now}
 use lib.ListN.{length, drop}
-use Rattle.listing_text.proofs.Written.{Left, left-first, left-piece, left-none}
+use Rattle.digits.proofs.Written.{Left, left-first, left-piece, left-none}
 use Rattle.listing_text.specs.Listing.{linesText, attributeLines}
 use Rattle.listing_text.proofs.Turns.{attributeLines-stop, attributeLines-short, attributeLines-step}
 use Rattle.listing_text.proofs.put_attributes.Statement.{statement}

@@ -1,6 +1,6 @@
 -- `listing_text::put_node` meets its contract: a line as two times three fields.
 use native.Mathlib.Omega.{arith}
-use Rattle.listing_text.proofs.Written.{wrote-more, wrote-append}
+use Rattle.digits.proofs.Written.{wrote-more, wrote-append}
 use denote.Ref.{now}
 use Rattle.listing_text.proofs.Laws.{nodeLine-drop}
 use borrow.Author.Needs.{needs}

@@ -5,7 +5,7 @@ use native.Mathlib.Omega.{arith}
 use native.Mathlib.Nat.{sub-zero}
 use borrow.Author.Needs.{needs}
 use lib.ListN.{length, drop}
-use Rattle.listing_text.proofs.Written.{Left, left-first, left-piece, left-none}
+use Rattle.digits.proofs.Written.{Left, left-first, left-piece, left-none}
 use Rattle.listing_text.specs.Listing.{linesText, noteLines}
 use Rattle.listing_text.proofs.Turns.{noteLines-stop, noteLines-short, noteLines-step}
 use Rattle.listing_text.proofs.put_notes.Statement.{statement}
