@@ -1,3 +1,4 @@
 -- The node file of the crate's proofs.
 pub mod Laws
-pub mod Flags
+pub mod FlagLaws
+pub mod TurnLaws

@@ -6,7 +6,7 @@
 --   joined      the names of items with `|` between them
 --   sumOf       the sum of the items' values: a measure by which `taken` can be checked
 --
--- The taken values and what is left add up to the data (`taken-sum` of proofs/Flags.antt), and uncovered is 0 exactly where the taken
+-- The taken values and what is left add up to the data (`taken-sum` of proofs/FlagLaws.antt), and uncovered is 0 exactly where the taken
 -- values alone do (`uncovered-none`).
 use Prim.Native.Nat.{ℕ, zero, suc, _+_, _/_, _%_}
 use mathlib.Core.Bool.{Bool, true, false, cond, not, _&&_}

@@ -1,8 +1,12 @@
 // The names of attributes' values: a table that the caller lends, its rule, and what it says of a value.
 //
 // Mirrors structs/attrs_manifest.rs (apk-info 13770539b8): `get_attr_value`. Answers: `ItemsRead`, `EnumFound`.
-// Definitions: specs/Items.antt, specs/Flags.antt. Differs from the Rust: there the table is compiled in, here it is six words an item
+// Definitions: specs/Items.antt, specs/Flags.antt, specs/Values.antt. Differs from the Rust: there the table is compiled in, here it is six words an item
 // over an area of bytes.
+pub mod taking;
+pub mod values;
+
+pub use values::attr_value;
 ghost use mathlib.Core.Path.{_≡_};
 ghost use Prim.Native.Nat.{_+_, _*_, _≤_, _<_};
 ghost use lib.ListN.{length};
@@ -31,6 +35,20 @@ pub enum ItemsRead {
 pub enum EnumFound {
     Named(Item),
     Unnamed,
+}
+
+// What is left of a flag behind some items: the place behind the names taken, the bits left, whether a name was taken.
+pub struct Flags {
+    pub at: usize,
+    pub left: u32,
+    pub some: bool,
+}
+
+// What the items of an attribute say of a value: whether they have a text, its length, and how many bits no name covers.
+pub struct Said {
+    pub some: bool,
+    pub length: usize,
+    pub uncovered: u32,
 }
 
 // ---- an item

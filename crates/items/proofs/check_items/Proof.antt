@@ -33,7 +33,8 @@ returns c =
     let a = c .before .before .before .before .before .before .before .args in
     let l = c .before .before .before .before .loop in
     let w = now (a .items) in
-    rule-bad (now (a .area)) w (endOf w) (length w / 6) (l .k) (omega arith) (c .before .before .item-at .ensures) (c .before .is-good .ensures) (c .if1 .taken) ∙ sym (l .inv .1)
+    rule-bad (now (a .area)) w (endOf w) (length w / 6) (l .k) (omega arith) (c .before .before .item-at .ensures) (c .before .is-good .ensures)
+    (c .if1 .taken) ∙ sym (l .inv .1)
 
 add-k : tie.Need-add-k Inv-loop μ-loop
 add-k c = search needs
@@ -45,8 +46,11 @@ loop-again : tie.Need-loop-again Inv-loop μ-loop
 loop-again c =
     let a = c .before .before .before .before .before .before .before .args in
     let l = c .before .before .before .before .loop in
-    let w = now (a .items) in
-    (omega arith, l .inv .1 ∙ rule-next (now (a .area)) w (endOf w) (length w / 6) (l .k) (omega arith) (c .before .before .item-at .ensures) (c .before .is-good .ensures) (c .if1 .left))
+    let w = now (a .items) in (
+      omega arith,
+      l .inv .1 ∙ rule-next (now (a .area)) w (endOf w) (length w / 6) (l .k) (omega arith) (c .before .before .item-at .ensures)
+          (c .before .is-good .ensures) (c .if1 .left),
+    )
 
 returns-2 : tie.Need-returns-2 Inv-loop μ-loop
 returns-2 c =
@@ -54,7 +58,8 @@ returns-2 c =
     let l = c .before .before .loop in
     let w = now (a .items) in
     let k : l .k ≡ length w / 6 = omega arith in
-    sym (l .inv .1 ∙ rule-end (now (a .area)) w (endOf w) (length w / 6) (l .k) (omega arith) ∙ table-rest (now (a .area)) w (c .if2 .taken) ∙ ap Bad (sym k))
+    sym (l .inv .1 ∙ rule-end (now (a .area)) w (endOf w) (length w / 6) (l .k) (omega arith) ∙ table-rest (now (a .area)) w (c .if2 .taken) ∙ ap Bad
+    (sym k))
 
 returns-3 : tie.Need-returns-3 Inv-loop μ-loop
 returns-3 c =

@@ -39,7 +39,8 @@ may-stand-requires c κs = search needs
 returns-4 : tie.Need-returns-4
 returns-4 c =
     let a = c .before .before .before .before .before .before .before .before .before .args in
-    let p = sym (c .before .before .before .before .before .before .is-name .ensures) ∙ not-false _ (c .before .before .before .before .before .if1 .left) in
+    let p = sym (c .before .before .before .before .before .before .is-name .ensures) ∙ not-false _
+    (c .before .before .before .before .before .if1 .left) in
     let q = sym (c .before .before .before .before .is-name2 .ensures) ∙ not-false _ (c .before .before .before .if2 .left) in
     c .may-stand .ensures ∙ sym (isGood-stands (now (a .area)) (backTo (now (a .items)) (a .k)) (a .i) p q (c .before .if3 .left))
 

@@ -32,7 +32,8 @@ returns : tie.Need-returns Inv-loop μ-loop
 returns c =
     let a = c .before .before .before .before .before .before .before .args in
     let l = c .before .before .before .before .loop in
-    sym (l .inv .1 ∙ isNew-same (now (a .area)) (now (a .items)) (a .i) (l .j) (c .before .before .before .loop-test .taken) (c .before .before .item-at .ensures) (c .before .same-attribute .ensures) (c .if1 .taken))
+    sym (l .inv .1 ∙ isNew-same (now (a .area)) (now (a .items)) (a .i) (l .j) (c .before .before .before .loop-test .taken)
+    (c .before .before .item-at .ensures) (c .before .same-attribute .ensures) (c .if1 .taken))
 
 loop-less : tie.Need-loop-less Inv-loop μ-loop
 loop-less c = search needs
@@ -40,8 +41,11 @@ loop-less c = search needs
 loop-again : tie.Need-loop-again Inv-loop μ-loop
 loop-again c =
     let a = c .before .before .before .before .before .before .before .args in
-    let l = c .before .before .before .before .loop in
-    (omega arith, l .inv .1 ∙ isNew-other (now (a .area)) (now (a .items)) (a .i) (l .j) (c .before .before .before .loop-test .taken) (c .before .before .item-at .ensures) (c .before .same-attribute .ensures) (c .if1 .left))
+    let l = c .before .before .before .before .loop in (
+      omega arith,
+      l .inv .1 ∙ isNew-other (now (a .area)) (now (a .items)) (a .i) (l .j) (c .before .before .before .loop-test .taken)
+          (c .before .before .item-at .ensures) (c .before .same-attribute .ensures) (c .if1 .left),
+    )
 
 returns-2 : tie.Need-returns-2 Inv-loop μ-loop
 returns-2 c =

@@ -21,7 +21,8 @@ same-attribute-requires c κs = search needs
 returns-2 : tie.Need-returns-2
 returns-2 c =
     let a = c .before .before .before .before .before .before .before .before .args in
-    sym (stands-same (now (a .area)) (now (a .items)) (a .i) (a .k) (omega arith) (c .before .before .before .before .item-at .ensures) (c .before .before .before .same-attribute .ensures) (c .before .before .if2 .taken))
+    sym (stands-same (now (a .area)) (now (a .items)) (a .i) (a .k) (omega arith) (c .before .before .before .before .item-at .ensures)
+    (c .before .before .before .same-attribute .ensures) (c .before .before .if2 .taken))
 
 is-new-requires : tie.Need-is-new-requires
 is-new-requires c κs = search needs
@@ -29,7 +30,8 @@ is-new-requires c κs = search needs
 returns-3 : tie.Need-returns-3
 returns-3 c =
     let a = c .before .before .before .before .before .before .before .args in
-    c .is-new .ensures ∙ sym (stands-other (now (a .area)) (now (a .items)) (a .i) (a .k) (omega arith) (c .before .before .before .item-at .ensures) (c .before .before .same-attribute .ensures) (c .before .if2 .left))
+    c .is-new .ensures ∙ sym (stands-other (now (a .area)) (now (a .items)) (a .i) (a .k) (omega arith) (c .before .before .before .item-at .ensures)
+    (c .before .before .same-attribute .ensures) (c .before .if2 .left))
 
 pub may-stand-spec : {M : Type 1} → statement M
 may-stand-spec =
