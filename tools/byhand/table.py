@@ -18,6 +18,7 @@ SHARED = [("file", "u8"), ("names", "u32"), ("area", "u8")]  # `&[T]`, the first
 TABLES = [("nodes", "u32"), ("attributes", "u32")]           # `&mut [T]`, the next
 NOTES = "notes"                                              # `&mut [Note]`
 NUMBERS = [("cap", "u32")]                                   # by value, the last
+LENT = ("Rattle.system_types.specs.Names", "lends", ["names", "area"])  # shared slices that the definitions take as one record, by this function
 
 # the definitions that the proofs name, and their modules; x=y is x under the name y, which the generators use
 OUTCOME = ("Rattle.walk.specs.Outcome", "Adv Good first")    # what `advance` leaves and asks, and what `begin` makes
@@ -25,8 +26,9 @@ READING = ("Rattle.walk.specs.Reading", "Reads")             # what `read` leav
 ZERO = ("Rattle.walk.specs.Reading", "zeroNote")             # what the array of notes is made of
 
 LISTED = "Listed"                   # the struct that `read_listed` answers: the answer, and the array of notes
-COUNT = 104                         # notes of that array
+LIMITS = ("Rattle.records.specs.Limits", "listedCap listedNotes")  # the cap and the notes of a listing
+COUNT = "listedNotes"               # notes of that array
 EMPTY = ["names", "area"]           # what `read_listed` lends `read` as `&[]`
-FIXED = {"cap": 8}                  # and the numbers that it passes
+FIXED = {"cap": "listedCap"}        # and the numbers that it passes
 
 WIDTH = 150                         # columns of a generated line

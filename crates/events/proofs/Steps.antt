@@ -5,6 +5,7 @@ use native.Mathlib.Omega.{arith}
 use mathlib.Core.Path.{_≡_, refl}
 use mathlib.Core.List.{List}
 use lib.ListN.{length}
+use Rattle.records.specs.Limits.{fileLimit}
 use Rattle.head.specs.declared.Opened.{Opened}
 use Rattle.events.specs.declared.Phase.{Phase}
 use Rattle.events.specs.declared.Phase.the-variants.{AtGarbage, AtCount, AtOffsets, AtRefuse, AtChunk, AtGap, AtSize, AtTrailing}
@@ -51,10 +52,10 @@ pub pending-first : (N : Names) (o : Opened) (t b : List ℕ) → pending N o t 
 unfolding pending
 pending-first N o t b = refl
 
-pub within-first : (o : Opened) (b : List ℕ) → length b ≤ 16777216 → Within o b firstCursor
+pub within-first : (o : Opened) (b : List ℕ) → length b ≤ fileLimit → Within o b firstCursor
 within-first o b h =
     record { short = h; inside = zero-le; deep = zero-le; few = zero-le; held = record { place = refl; run = refl; depth = refl; starts = refl } }
 
 -- and so many steps suffice
-pub steps-first : (b : List ℕ) → length b ≤ 16777216 → steps b firstCursor ≤ 335544335
+pub steps-first : (b : List ℕ) → length b ≤ fileLimit → steps b firstCursor ≤ 335544335
 steps-first b h = omega arith

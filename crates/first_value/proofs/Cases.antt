@@ -3,9 +3,10 @@
 --   head          header, pool with the one string `a`, empty map
 --   two, three    two nodes, of tags `a` and `invalid-element`, with one and two attributes
 --   cases-right   each answer is that of the table
+use Rattle.records.specs.Words.{noParent, nodeWords, attributeWords}
 use Prim.Native.Nat.{ℕ}
 use mathlib.Core.Path.{_≡_, refl}
-use mathlib.Core.List.{List, [], _∷_}
+use mathlib.Core.List.{List, [], _∷_, _++_}
 use mathlib.Core.Bool.{true, false}
 use Rattle.field.specs.Le.{u16le, u32le}
 use Rattle.common.specs.Header.{headerOf}
@@ -16,13 +17,14 @@ use Rattle.res_string_pool.specs.Pool.{countOf, numbered, endOf, poolFrom, behi
 use Rattle.res_string_pool.specs.Content.{split8, split16}
 use Rattle.resource_map.specs.Map.{idsIn, idsBy, mapOf, idOf}
 use Rattle.utf.specs.Plain.{isAscii}
-use Rattle.system_types.specs.Names.{isGood, namesFrom, nameOf}
+use Rattle.system_types.specs.Names.{lends, isGood, namesFrom, nameOf}
 use Rattle.errors.specs.declared.Refusal.the-variants.{NothingFound, TablesError}
 use Rattle.errors.specs.declared.FirstAnswer.{FirstAnswer}
 use Rattle.errors.specs.declared.FirstAnswer.the-variants.{Found, Refused}
 use Rattle.text.specs.Content.{systemOf, stringAt, stringOf, contentOf}
 use Rattle.head.specs.Head.{tablesOf, openedOf}
-use Rattle.head.specs.Ask.{lengthCheck, headCheck, openOf}
+use Rattle.head.specs.Entry.{lengthCheck}
+use Rattle.head.specs.Ask.{openOf}
 use Rattle.first_value.specs.Question.{invalidElement, androidName, runsFrom, fitOf, findNode, findValue, firstAnswer}
 
 unfoldable pub head : List ℕ
@@ -31,10 +33,10 @@ head =
     32 ∷ 0 ∷ 0 ∷ 0 ∷ 0 ∷ 0 ∷ 0 ∷ 0 ∷ 0 ∷ 0 ∷ 0 ∷ 0 ∷ 1 ∷ 1 ∷ 97 ∷ 0 ∷ 128 ∷ 1 ∷ 8 ∷ 0 ∷ 8 ∷ 0 ∷ 0 ∷ 0 ∷ []
 
 unfoldable pub two : List ℕ
-two = 0 ∷ 0 ∷ 4294967295 ∷ 0 ∷ 1 ∷ 0 ∷ 1 ∷ 0 ∷ 1 ∷ 2 ∷ []
+two = nodeWords 0 0 noParent 0 1 ++ nodeWords 0 1 0 1 2
 
 unfoldable pub three : List ℕ
-three = 0 ∷ 2 ∷ 0 ∷ 3 ∷ 9 ∷ 1 ∷ 0 ∷ 0 ∷ 7 ∷ 77 ∷ 1 ∷ 1 ∷ 5 ∷ 2 ∷ 8 ∷ []
+three = attributeWords 0 2 0 3 9 ++ attributeWords 1 0 0 7 77 ++ attributeWords 1 1 5 2 8
 
 -- nodes, attributes, tag, name, the two counts, and the answer
 pub data Case : Type 0 where
@@ -56,19 +58,19 @@ cases =
     asked two three (97 ∷ []) androidName 3 0 (Refused (TablesError 3)) ∷
     asked two three (97 ∷ []) androidName 2 4 (Refused (TablesError 2)) ∷
     -- a first attribute past the count, of a node without attributes
-    asked (0 ∷ 0 ∷ 0 ∷ 4 ∷ 0 ∷ []) three (98 ∷ []) androidName 1 3 (Refused (TablesError 0)) ∷
+    asked (nodeWords 0 0 0 4 0) three (98 ∷ []) androidName 1 3 (Refused (TablesError 0)) ∷
     -- a sum that does not wrap
-    asked (0 ∷ 0 ∷ 0 ∷ 4294967295 ∷ 2 ∷ []) three (98 ∷ []) androidName 1 3 (Refused (TablesError 0)) ∷
+    asked (nodeWords 0 0 0 4294967295 2) three (98 ∷ []) androidName 1 3 (Refused (TablesError 0)) ∷
     -- a fixed word of 2 leaves the text of the name
-    asked (0 ∷ 2 ∷ 0 ∷ 0 ∷ 1 ∷ []) three (97 ∷ []) androidName 1 3 (Found 3 9 false) ∷
-    asked (0 ∷ 2 ∷ 0 ∷ 0 ∷ 1 ∷ []) three invalidElement androidName 1 3 (Refused NothingFound) ∷
+    asked (nodeWords 0 2 0 0 1) three (97 ∷ []) androidName 1 3 (Found 3 9 false) ∷
+    asked (nodeWords 0 2 0 0 1) three invalidElement androidName 1 3 (Refused NothingFound) ∷
     -- no nodes
     asked two three (97 ∷ []) androidName 0 0 (Refused NothingFound) ∷
     []
 
 abbrev pub answers : List Case → List FirstAnswer
 answers [] = []
-answers (asked ns ats tag name n a r ∷ cs) = firstAnswer head [] [] ns ats tag name n a ∷ answers cs
+answers (asked ns ats tag name n a r ∷ cs) = firstAnswer head (lends [] []) ns ats tag name n a ∷ answers cs
 
 abbrev pub results : List Case → List FirstAnswer
 results [] = []
@@ -77,6 +79,6 @@ results (asked ns ats tag name n a r ∷ cs) = r ∷ results cs
 pub cases-right : answers cases ≡ results cases
 unfolding cases head two three u16le u32le headerOf valueTypeOf valueTypeNumber isReference matched isWhole longest anyWhole spelt encode step8
     stepsAfter bytesOf allSound textOf eqBytes countOf numbered endOf poolFrom behindGarbage poolOf offsetOf split8 split16 idsIn idsBy mapOf
-    idOf isAscii isGood namesFrom nameOf systemOf stringAt stringOf contentOf tablesOf openedOf lengthCheck headCheck openOf runsFrom fitOf
+    idOf isAscii isGood namesFrom nameOf systemOf stringAt stringOf contentOf tablesOf openedOf lengthCheck openOf runsFrom fitOf
     findNode findValue firstAnswer
 cases-right = refl

@@ -1,5 +1,6 @@
 -- The first-value question: docs/FORMAT.md, Q4 to Q8.
 --
+--   FirstReads    THE PROMISE of the first-value question, by the numbers of its answer
 --   firstAnswer   the answer: the head's refusals, 13 where the tables do not fit, 12 where nothing is found, or type, data and reference
 --   fitOf         whether the lent tables fit the counts; the node count, or the first node that does not
 --   tagIs         whether a node has the tag; nameIs whether an attribute has the name
@@ -9,6 +10,7 @@
 -- The tables may be any words: nothing is asked of them. A record is read where it stands, words past the end as 0.
 -- Laws: proofs/Laws.antt, proofs/Search.antt. Computed on small tables: proofs/Cases.antt.
 use Prim.Native.Nat.{ℕ, zero, suc, _+_, _*_}
+use mathlib.Core.Path.{_≡_}
 use mathlib.Core.List.{List, [], _∷_}
 use mathlib.Core.Bool.{Bool, cond, _||_}
 use lib.ListN.{length, drop, getD}
@@ -16,6 +18,7 @@ use lib.Dec.{ltb, eqb}
 use Rattle.utf.specs.Text.{eqBytes}
 use Rattle.common.specs.ValueType.{isReference, valueTypeOf}
 use Rattle.errors.specs.declared.Refusal.the-variants.{NothingFound, TablesError}
+use Rattle.errors.specs.Refusal.{firstNumbersOf}
 use Rattle.errors.specs.declared.FirstAnswer.{FirstAnswer}
 use Rattle.errors.specs.declared.FirstAnswer.the-variants.{Found, Refused}
 use Rattle.text.specs.declared.Head.{Head}
@@ -24,6 +27,9 @@ use Rattle.head.specs.Head.{tablesIn}
 use Rattle.head.specs.Ask.{openOf}
 use Rattle.head.specs.declared.OpenRead.{OpenRead}
 use Rattle.head.specs.declared.OpenRead.the-variants.{Open, Closed}
+use Rattle.records.specs.Words.{nodeWidth, nodeName, nodeFixed, nodeFirst, nodeCount}
+use Rattle.records.specs.Words.{attributeWidth, attributePrefix, attributeName, attributeType, attributeData}
+use Rattle.system_types.specs.Names.{Lent}
 use Rattle.first_value.specs.declared.Fit.{Fit}
 use Rattle.first_value.specs.declared.Fit.the-variants.{Fitting, Unfit}
 use Rattle.first_value.specs.declared.NodeFound.{NodeFound}
@@ -43,12 +49,12 @@ androidName = 97 ∷ 110 ∷ 100 ∷ 114 ∷ 111 ∷ 105 ∷ 100 ∷ []
 
 -- the counts, by the words of both tables
 abbrev pub countsFit : List ℕ → List ℕ → ℕ → ℕ → Fit
-countsFit ns ats nodes attributes = cond (ltb (length ns) (5 * nodes) || ltb (length ats) (5 * attributes)) (Unfit nodes) Fitting
+countsFit ns ats nodes attributes = cond (ltb (length ns) (nodeWidth * nodes) || ltb (length ats) (attributeWidth * attributes)) (Unfit nodes) Fitting
 
 -- the first of n nodes, numbered from k, whose attributes pass the attribute count, also where there are none
 unfoldable pub runsFrom : ℕ → ℕ → ℕ → List ℕ → Fit
 runsFrom attributes k zero w = Fitting
-runsFrom attributes k (suc n) w = cond (ltb attributes (getD w 3 0 + getD w 4 0)) (Unfit k) (runsFrom attributes (k + 1) n (drop 5 w))
+runsFrom attributes k (suc n) w = cond (ltb attributes (getD w nodeFirst 0 + getD w nodeCount 0)) (Unfit k) (runsFrom attributes (k + 1) n (drop nodeWidth w))
 
 abbrev pub firstUnfit : Fit → Fit → Fit
 firstUnfit (Unfit k) b = Unfit k
@@ -64,10 +70,10 @@ fitOf ns ats nodes attributes = firstUnfit (countsFit ns ats nodes attributes) (
 abbrev pub foundBy : ℕ → ℕ → FirstAnswer
 foundBy kind value = Found kind value (isReference (valueTypeOf kind))
 
-module _ (h : Head) (t names area : List ℕ) where
+module _ (h : Head) (t : List ℕ) (lent : Lent) where
   -- whether the text of an index is these bytes; an index without a text is never
   abbrev pub textIs : ℕ → List ℕ → Bool
-  textIs index s = isText (contentOf h t names area index) s
+  textIs index s = isText (contentOf h t lent index) s
 
   -- Q7: a fixed word of 1 alone means `invalid-element`
   abbrev pub tagIs : List ℕ → ℕ → ℕ → Bool
@@ -80,17 +86,17 @@ module _ (h : Head) (t names area : List ℕ) where
   -- a node is name index, fixed word, parent, first attribute, number of attributes: B9
   unfoldable pub findNode : List ℕ → ℕ → List ℕ → NodeFound
   findNode tag zero w = NoNode
-  findNode tag (suc n) w = cond (tagIs tag (getD w 1 0) (getD w 0 0)) (Run (getD w 3 0) (getD w 4 0)) (findNode tag n (drop 5 w))
+  findNode tag (suc n) w = cond (tagIs tag (getD w nodeFixed 0) (getD w nodeName 0)) (Run (getD w nodeFirst 0) (getD w nodeCount 0)) (findNode tag n (drop nodeWidth w))
 
   -- an attribute is owner, prefix, name index, type, data: B11
   unfoldable pub findValue : List ℕ → ℕ → List ℕ → FirstAnswer
   findValue name zero w = Refused NothingFound
-  findValue name (suc n) w = cond (nameIs name (getD w 1 0) (getD w 2 0)) (foundBy (getD w 3 0) (getD w 4 0)) (findValue name n (drop 5 w))
+  findValue name (suc n) w = cond (nameIs name (getD w attributePrefix 0) (getD w attributeName 0)) (foundBy (getD w attributeType 0) (getD w attributeData 0)) (findValue name n (drop attributeWidth w))
 
   -- Q5: the attributes of that one node
   abbrev pub valueBy : List ℕ → List ℕ → NodeFound → FirstAnswer
   valueBy name ats NoNode = Refused NothingFound
-  valueBy name ats (Run first number) = findValue name number (drop (5 * first) ats)
+  valueBy name ats (Run first number) = findValue name number (drop (attributeWidth * first) ats)
 
   -- the tables before the search
   abbrev pub firstBy : List ℕ → List ℕ → List ℕ → List ℕ → ℕ → Fit → FirstAnswer
@@ -99,9 +105,12 @@ module _ (h : Head) (t names area : List ℕ) where
 
 -- ---- the answer: Q4
 
-abbrev pub askedBy : List ℕ → List ℕ → List ℕ → List ℕ → List ℕ → List ℕ → List ℕ → ℕ → ℕ → OpenRead → FirstAnswer
-askedBy f names area ns ats tag name nodes attributes (Closed r) = Refused r
-askedBy f names area ns ats tag name nodes attributes (Open h) = firstBy h (tablesIn f h) names area ns ats tag name nodes (fitOf ns ats nodes attributes)
+abbrev pub askedBy : List ℕ → Lent → List ℕ → List ℕ → List ℕ → List ℕ → ℕ → ℕ → OpenRead → FirstAnswer
+askedBy f lent ns ats tag name nodes attributes (Closed r) = Refused r
+askedBy f lent ns ats tag name nodes attributes (Open h) = firstBy h (tablesIn f h) lent ns ats tag name nodes (fitOf ns ats nodes attributes)
 
-unfoldable pub firstAnswer : List ℕ → List ℕ → List ℕ → List ℕ → List ℕ → List ℕ → List ℕ → ℕ → ℕ → FirstAnswer
-firstAnswer f names area ns ats tag name nodes attributes = askedBy f names area ns ats tag name nodes attributes (openOf f names area)
+unfoldable pub firstAnswer : List ℕ → Lent → List ℕ → List ℕ → List ℕ → List ℕ → ℕ → ℕ → FirstAnswer
+firstAnswer f lent ns ats tag name nodes attributes = askedBy f lent ns ats tag name nodes attributes (openOf f lent)
+
+pub record FirstReads (f : List ℕ) (lent : Lent) (ns ats tag name : List ℕ) (nodes attributes : ℕ) (r : FirstAnswer) : Type 0 where
+  pub answer : firstNumbersOf r ≡ firstNumbersOf (firstAnswer f lent ns ats tag name nodes attributes)

@@ -9,13 +9,14 @@ pub mod runs;
 use called::is_named;
 use called::is_tagged;
 use runs::fit_of;
-use runs::place_of;
 ghost use mathlib.Core.Path.{_≡_};
 ghost use Prim.Native.Nat.{_*_, _≤_};
 ghost use lib.ListN.{length};
+ghost use Rattle.records.specs.Words.{nodeWidth, attributeWidth};
+ghost use Rattle.system_types.specs.Names.{lends};
 ghost use Rattle.text.specs.Found.{Asks};
 ghost use Rattle.first_value.specs.declared.Fit.the-variants.{Fitting};
-ghost use Rattle.first_value.specs.Question.{fitOf, foundBy, findNode, findValue, valueBy, firstBy, firstAnswer};
+ghost use Rattle.first_value.specs.Question.{fitOf, foundBy, findNode, findValue, valueBy, firstBy, FirstReads};
 use common::StringIndex;
 use common::is_reference;
 use common::value_type_of;
@@ -24,6 +25,16 @@ use errors::Refusal;
 use head::OpenRead;
 use head::open_file;
 use head::tables_of;
+use records::ATTRIBUTE_DATA;
+use records::ATTRIBUTE_NAME;
+use records::ATTRIBUTE_PREFIX;
+use records::ATTRIBUTE_TYPE;
+use records::NODE_COUNT;
+use records::NODE_FIRST;
+use records::NODE_FIXED;
+use records::NODE_NAME;
+use records::attribute_place;
+use records::node_place;
 use text::Head;
 
 // Whether the lent tables fit the counts, or the first node that does not.
@@ -49,22 +60,22 @@ fn find_node(
     nodes: &[u32],
     count: u32,
 ) -> NodeFound
-    requires { ⌜ Asks (now t) (now names) (now area) h × (5 * count ≤ length (now nodes)) ⌝ }
-    ensures { λ r. ⌜ r ≡ findNode h (now (t .entry)) (now (names .entry)) (now (area .entry)) (now (tag .entry)) count (now (nodes .entry)) ⌝ }
+    requires { ⌜ Asks (now t) (lends (now names) (now area)) h × (nodeWidth * count ≤ length (now nodes)) ⌝ }
+    ensures { λ r. ⌜ r ≡ findNode h (now (t .entry)) (lends (now (names .entry)) (now (area .entry))) (now (tag .entry)) count (now (nodes .entry)) ⌝ }
 {
     let mut k = 0;
     while k < count {
-        let at = place_of(k);
+        let at = node_place(k);
         if is_tagged(
             t,
             names,
             area,
             h,
             tag,
-            nodes[at + 1],
-            StringIndex(nodes[at]),
+            nodes[at + NODE_FIXED],
+            StringIndex(nodes[at + NODE_NAME]),
         ) {
-            return NodeFound::Run(nodes[at + 3], nodes[at + 4]);
+            return NodeFound::Run(nodes[at + NODE_FIRST], nodes[at + NODE_COUNT]);
         }
         k += 1;
     }
@@ -92,22 +103,25 @@ fn find_value(
     attributes: &[u32],
     count: u32,
 ) -> FirstAnswer
-    requires { ⌜ Asks (now t) (now names) (now area) h × (5 * count ≤ length (now attributes)) ⌝ }
-    ensures { λ r. ⌜ r ≡ findValue h (now (t .entry)) (now (names .entry)) (now (area .entry)) (now (name .entry)) count (now (attributes .entry)) ⌝ }
+    requires { ⌜ Asks (now t) (lends (now names) (now area)) h × (attributeWidth * count ≤ length (now attributes)) ⌝ }
+    ensures { λ r. ⌜ r ≡ findValue h (now (t .entry)) (lends (now (names .entry)) (now (area .entry))) (now (name .entry)) count (now (attributes .entry)) ⌝ }
 {
     let mut k = 0;
     while k < count {
-        let at = place_of(k);
+        let at = attribute_place(k);
         if is_named(
             t,
             names,
             area,
             h,
             name,
-            attributes[at + 1],
-            StringIndex(attributes[at + 2]),
+            attributes[at + ATTRIBUTE_PREFIX],
+            StringIndex(attributes[at + ATTRIBUTE_NAME]),
         ) {
-            return found(attributes[at + 3], attributes[at + 4]);
+            return found(
+                attributes[at + ATTRIBUTE_TYPE],
+                attributes[at + ATTRIBUTE_DATA],
+            );
         }
         k += 1;
     }
@@ -127,9 +141,9 @@ fn value_in(
     node_count: u32,
     attribute_count: u32,
 ) -> FirstAnswer
-    requires { ⌜ Asks (now t) (now names) (now area) h × (fitOf (now nodes) (now attributes) «node_count» «attribute_count» ≡ Fitting) ⌝ }
-    ensures { λ r. ⌜ r ≡ valueBy h (now (t .entry)) (now (names .entry)) (now (area .entry)) (now (name .entry)) (now (attributes .entry))
-        (findNode h (now (t .entry)) (now (names .entry)) (now (area .entry)) (now (tag .entry)) «node_count» (now (nodes .entry))) ⌝ }
+    requires { ⌜ Asks (now t) (lends (now names) (now area)) h × (fitOf (now nodes) (now attributes) «node_count» «attribute_count» ≡ Fitting) ⌝ }
+    ensures { λ r. ⌜ r ≡ valueBy h (now (t .entry)) (lends (now (names .entry)) (now (area .entry))) (now (name .entry)) (now (attributes .entry))
+        (findNode h (now (t .entry)) (lends (now (names .entry)) (now (area .entry))) (now (tag .entry)) «node_count» (now (nodes .entry))) ⌝ }
 {
     let node = find_node(t, names, area, h, tag, nodes, node_count);
     match node {
@@ -139,7 +153,7 @@ fn value_in(
             area,
             h,
             name,
-            &attributes[place_of(first)..],
+            &attributes[attribute_place(first)..],
             number,
         ),
         NodeFound::NoNode => FirstAnswer::Refused(Refusal::NothingFound),
@@ -158,8 +172,8 @@ fn first_in(
     node_count: u32,
     attribute_count: u32,
 ) -> FirstAnswer
-    requires { ⌜ Asks (now t) (now names) (now area) h ⌝ }
-    ensures { λ r. ⌜ r ≡ firstBy h (now (t .entry)) (now (names .entry)) (now (area .entry)) (now (nodes .entry)) (now (attributes .entry))
+    requires { ⌜ Asks (now t) (lends (now names) (now area)) h ⌝ }
+    ensures { λ r. ⌜ r ≡ firstBy h (now (t .entry)) (lends (now (names .entry)) (now (area .entry))) (now (nodes .entry)) (now (attributes .entry))
         (now (tag .entry)) (now (name .entry)) «node_count» (fitOf (now (nodes .entry)) (now (attributes .entry)) «node_count» «attribute_count») ⌝ }
 {
     let fit = fit_of(nodes, attributes, node_count, attribute_count);
@@ -196,8 +210,8 @@ pub fn first_value(
     node_count: u32,
     attribute_count: u32,
 ) -> FirstAnswer
-    ensures { λ r. ⌜ r ≡ firstAnswer (now (file .entry)) (now (names .entry)) (now (area .entry)) (now (nodes .entry)) (now (attributes .entry))
-        (now (tag .entry)) (now (name .entry)) «node_count» «attribute_count» ⌝ }
+    ensures { λ r. ⌜ FirstReads (now (file .entry)) (lends (now (names .entry)) (now (area .entry))) (now (nodes .entry)) (now (attributes .entry))
+        (now (tag .entry)) (now (name .entry)) «node_count» «attribute_count» r ⌝ }
 {
     let opened = open_file(file, names, area);
     match opened {

@@ -8,6 +8,7 @@ ghost use mathlib.Core.Path.{_≡_};
 ghost use mathlib.Core.Bool.{Bool};
 ghost use Prim.Native.Nat.{_≤_};
 ghost use lib.ListN.{length};
+ghost use Rattle.records.specs.Limits.{fileLimit};
 ghost use Rattle.text.specs.Content.{rawOf, textIn, validBy, stateIn};
 ghost use Rattle.text.specs.Found.{partOf, Inside, Wrote};
 use utf::text_into;
@@ -54,7 +55,7 @@ pub fn found_state(t: &[u8], area: &[u8], wide: bool, f: Found) -> NameState
 // Writes the text of what was found as UTF-8 at the front of `out` if it holds it whole, and returns its length; the rest of `out` stays.
 // Ruled out: the content bytes as they stand for UTF-16, and a byte changed where the text does not fit.
 pub fn found_into(t: &[u8], area: &[u8], wide: bool, f: Found, out: &mut [u8]) -> usize
-    requires { ⌜ Inside (now t) (now area) f × (length (now t) ≤ 16777216) ⌝ }
+    requires { ⌜ Inside (now t) (now area) f × (length (now t) ≤ fileLimit) ⌝ }
     ensures { λ r. ⌜ Wrote (textIn (partOf wide (now (t .entry)) (now (area .entry)) f)) (now (out .entry)) (now (out .exit)) r ⌝ }
 {
     match f {

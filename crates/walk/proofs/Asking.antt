@@ -14,6 +14,8 @@ use Rattle.text.specs.Found.{Asks}
 use Rattle.head.specs.declared.Opened.{Opened}
 use Rattle.head.specs.Head.{PoolThere}
 use Rattle.xml_elements.specs.declared.XmlAttributeElement.{XmlAttributeElement}
+use Rattle.records.specs.Repeats.{Rule}
+use Rattle.system_types.specs.Names.{Lent}
 use Rattle.events.specs.declared.Cursor.{Cursor}
 use Rattle.events.specs.declared.Step.{Step}
 use Rattle.events.specs.declared.Phase.{Phase}
@@ -72,17 +74,17 @@ attribute-pool N o t b c p a AtRoot h e = absurd (refuseIf-not (eqb (c .starts) 
 attribute-pool N o t b c p a Over h e = absurd (finish-not p a e)
 
 -- what `place` asks of the event of a step
-pub asks-for : (t names area b : List ℕ) (o : Opened) (c : Cursor) (s : Step) → Ready t names area o → Within o b c
-    → s ≡ stepOf (namesIn (o .head) t names area) o t b c → AsksFor (s .event) t names area (o .head)
+pub asks-for : (t : List ℕ) (lent : Lent) (b : List ℕ) (o : Opened) (c : Cursor) (s : Step) → Ready t lent o → Within o b c
+    → s ≡ stepOf (namesIn (o .head) t lent) o t b c → AsksFor (s .event) t lent (o .head)
 unfolding stepOf
-asks-for t names area b o c s ready w q = go (s .event) refl
+asks-for t lent b o c s ready w q = go (s .event) refl
   where
-    asked : (p : ℕ) (a : XmlAttributeElement) → s .event ≡ Attribute p a → Asks t names area (o .head)
+    asked : (p : ℕ) (a : XmlAttributeElement) → s .event ≡ Attribute p a → Asks t lent (o .head)
     asked p a e =
-        let there = attribute-pool (namesIn (o .head) t names area) o t b c p a (c .phase) (w .held) (sym (ap (λ (x : Step). x .event) q) ∙ e) in
+        let there = attribute-pool (namesIn (o .head) t lent) o t b c p a (c .phase) (w .held) (sym (ap (λ (x : Step). x .event) q) ∙ e) in
         record { fits = ready .fits there; good = ready .good }
 
-    go : (e : Event) → s .event ≡ e → AsksFor e t names area (o .head)
+    go : (e : Event) → s .event ≡ e → AsksFor e t lent (o .head)
     go Nothing e = tt
     go (Open n x l) e = tt
     go (Attribute p a) e = asked p a e
@@ -116,15 +118,15 @@ not-other e e′ p h q = subst (λ (x : Event). Other x) (sym p ∙ q) h
 
 -- ---- those that leave the tables alone
 
-module _ (same : ℕ → ℕ → Bool) (ns ats : List ℕ) (t : Tree) (o : List ℕ) (e : Event) where
-  pub place-as : (p : Placed) (ns′ ats′ : List ℕ) (e′ : Event) → e ≡ e′ → PlacesBy same p ns ats t o e′ ns′ ats′ → PlacesBy same p ns ats t o e ns′ ats′
+module _ (rule : Rule) (ns ats : List ℕ) (t : Tree) (o : List ℕ) (e : Event) where
+  pub place-as : (p : Placed) (ns′ ats′ : List ℕ) (e′ : Event) → e ≡ e′ → PlacesBy rule p ns ats t o e′ ns′ ats′ → PlacesBy rule p ns ats t o e ns′ ats′
   place-as p ns′ ats′ e′ q h = rw q h
 
-  pub place-nothing : Tied ns ats t o → e ≡ Nothing → PlacesBy same (Done t) ns ats t o e ns ats
+  pub place-nothing : Tied ns ats t o → e ≡ Nothing → PlacesBy rule (Done t) ns ats t o e ns ats
   place-nothing h q = rw q (record { stack = o; tied = h; few = omega arith; pushed = λ r os cs rn ra. refl })
 
-  pub place-left : (n : StringIndex) → Tied ns ats t o → e ≡ LeftOut n → PlacesBy same (Done t) ns ats t o e ns ats
+  pub place-left : (n : StringIndex) → Tied ns ats t o → e ≡ LeftOut n → PlacesBy rule (Done t) ns ats t o e ns ats
   place-left n h q = rw q (record { stack = o; tied = h; few = omega arith; pushed = λ r os cs rn ra. refl })
 
-  pub place-refused : (x : Refusal) → e ≡ Refuse x → PlacesBy same (Full x) ns ats t o e ns ats
+  pub place-refused : (x : Refusal) → e ≡ Refuse x → PlacesBy rule (Full x) ns ats t o e ns ats
   place-refused x q = rw q (λ r os cs rn ra. refl)

@@ -20,6 +20,8 @@ use Rattle.errors.specs.declared.Refusal.{Refusal}
 use Rattle.errors.specs.declared.Refusal.the-variants.{MissingRoot, NotesFull}
 use Rattle.errors.specs.declared.ReadAnswer.{ReadAnswer}
 use Rattle.errors.specs.declared.ReadAnswer.the-variants.{Done, Refused}
+use Rattle.records.specs.Words.{nodeWidth, attributeWidth}
+use Rattle.system_types.specs.Names.{Lent}
 use Rattle.head.specs.declared.HeadEnd.the-variants.{Whole}
 use Rattle.head.specs.declared.Opened.{Opened}
 use Rattle.head.specs.Head.{unopened, tablesIn, bodyIn}
@@ -121,15 +123,15 @@ pub record Refuses (ns ats : List ℕ) (st : State) (x : Refusal) (r : State) (n
 
 -- the kept records are there, and the notes can be counted
 pub record Keepable (ns ats : List ℕ) (st : State) (t : Tree) : Type 0 where
-  pub nodes : 5 * keptNodes t ≤ length ns
-  pub attributes : 5 * keptAttributes t ≤ length ats
+  pub nodes : nodeWidth * keptNodes t ≤ length ns
+  pub attributes : attributeWidth * keptAttributes t ≤ length ats
   pub notes : st .notes .used < 4294967296
 
 -- a success: the kept records, and zeros behind
 pub record Finishes (ns ats : List ℕ) (st : State) (t : Tree) (r : State) (ns′ ats′ : List ℕ) : Type 0 where
   pub state : r ≡ clearingAt st (st .notes .used) (doneAnswer t (st .notes .used))
-  pub nodes : ns′ ≡ take (5 * keptNodes t) ns ++ replicate (length ns - 5 * keptNodes t) 0
-  pub attributes : ats′ ≡ take (5 * keptAttributes t) ats ++ replicate (length ats - 5 * keptAttributes t) 0
+  pub nodes : ns′ ≡ take (nodeWidth * keptNodes t) ns ++ replicate (length ns - nodeWidth * keptNodes t) 0
+  pub attributes : ats′ ≡ take (attributeWidth * keptAttributes t) ats ++ replicate (length ats - attributeWidth * keptAttributes t) 0
 
 -- the tables are as they were, and a note is to be written
 pub record Writes (ns ats : List ℕ) (st : State) (c : Cursor) (t : Tree) (x : ResAnomaly) (r : State) (ns′ ats′ : List ℕ) : Type 0 where
@@ -151,33 +153,33 @@ roomOf ns ats st = record { nodes = length ns; attributes = length ats; notes = 
 abbrev pub cleared : List NoteOf → ℕ → ℕ → List NoteOf
 cleared os c room = take c os ++ replicate (room - c) zeroNote
 
-abbrev pub outcomeBy : Mode → List ℕ → List ℕ → List ℕ → List ℕ → List ℕ → List NoteOf → State → List ℕ → Reading
-outcomeBy Fresh f names area ns ats os st stack = reading (roomOf ns ats st) f names area
-outcomeBy InBody f names area ns ats os st stack =
+abbrev pub outcomeBy : Mode → List ℕ → Lent → List ℕ → List ℕ → List NoteOf → State → List ℕ → Reading
+outcomeBy Fresh f lent ns ats os st stack = reading (roomOf ns ats st) f lent
+outcomeBy InBody f lent ns ats os st stack =
     let t = tablesIn f (st .opened .head) in
-    let N = namesIn (st .opened .head) t names area in
+    let N = namesIn (st .opened .head) t lent in
     finalOf (roomOf ns ats st)
     (onFrom (roomOf ns ats st) N (st .opened) t (bodyIn f (st .opened .head)) ns ats (st .cur) (st .tree) stack (take (st .notes .used) os)
     (st .notes .counts))
-outcomeBy Clearing f names area ns ats os st stack =
+outcomeBy Clearing f lent ns ats os st stack =
     record { answer = st .answer; nodes = ns; attributes = ats; notes = cleared os (st .slot + 1) (st .room) }
 
-abbrev pub outcome : List ℕ → List ℕ → List ℕ → List ℕ → List ℕ → List NoteOf → State → List ℕ → Reading
-outcome f names area ns ats os st stack = outcomeBy (st .mode) f names area ns ats os st stack
+abbrev pub outcome : List ℕ → Lent → List ℕ → List ℕ → List NoteOf → State → List ℕ → Reading
+outcome f lent ns ats os st stack = outcomeBy (st .mode) f lent ns ats os st stack
 
 -- ---- what holds at the head of the loop
 
-pub record OnWay (f names area ns ats : List ℕ) (st : State) (stack : List ℕ) : Type 0 where
-  pub ready : Ready (tablesIn f (st .opened .head)) names area (st .opened)
+pub record OnWay (f : List ℕ) (lent : Lent) (ns ats : List ℕ) (st : State) (stack : List ℕ) : Type 0 where
+  pub ready : Ready (tablesIn f (st .opened .head)) lent (st .opened)
   pub within : Within (st .opened) (bodyIn f (st .opened .head)) (st .cur)
   pub tied : Tied ns ats (st .tree) stack
   pub budget : st .tree .nodes + st .tree .attributes + steps (bodyIn f (st .opened .head)) (st .cur) ≤ 400000000
   pub few : st .notes .used + steps (bodyIn f (st .opened .head)) (st .cur) ≤ 400000000
   pub stored : st .notes .used ≤ st .room
 
-pub record Good (f names area ns ats : List ℕ) (st : State) : Type 0 where
+pub record Good (f : List ℕ) (lent : Lent) (ns ats : List ℕ) (st : State) : Type 0 where
   pub stack : List ℕ
-  pub onWay : st .mode ≡ InBody → OnWay f names area ns ats st stack
+  pub onWay : st .mode ≡ InBody → OnWay f lent ns ats st stack
 
 -- a fresh state has at most 20 steps for each byte, and 15 for the head, before it
 abbrev pub leftBy : Mode → List ℕ → State → ℕ
@@ -185,23 +187,23 @@ leftBy Fresh f st = 20 * length f + 15 + st .room + 1
 leftBy InBody f st = steps (bodyIn f (st .opened .head)) (st .cur) + st .room + 1
 leftBy Clearing f st = st .room - st .slot
 
-abbrev pub left : List ℕ → List ℕ → List ℕ → State → ℕ
-left f names area st = leftBy (st .mode) f st
+abbrev pub left : List ℕ → Lent → State → ℕ
+left f lent st = leftBy (st .mode) f st
 
-pub record Advanced (f names area ns ats : List ℕ) (st : State) (g : Good f names area ns ats st) (r : State) (ns′ ats′ : List ℕ) : Type 0 where
-  pub good : Good f names area ns′ ats′ r
+pub record Advanced (f : List ℕ) (lent : Lent) (ns ats : List ℕ) (st : State) (g : Good f lent ns ats st) (r : State) (ns′ ats′ : List ℕ) : Type 0 where
+  pub good : Good f lent ns′ ats′ r
   pub room : r .room ≡ st .room
-  pub due : r .done ≡ false → (r .slot < r .room) × (left f names area r < left f names area st)
+  pub due : r .done ≡ false → (r .slot < r .room) × (left f lent r < left f lent st)
   pub goes : r .done ≡ false → (os : List NoteOf) → length os ≡ st .room
-      → outcome f names area ns ats os st (g .stack) ≡ outcome f names area ns′ ats′ (set os (r .slot) (r .note)) r (good .stack)
+      → outcome f lent ns ats os st (g .stack) ≡ outcome f lent ns′ ats′ (set os (r .slot) (r .note)) r (good .stack)
   pub ends : r .done ≡ true → (os : List NoteOf) → length os ≡ st .room
-      → outcome f names area ns ats os st (g .stack) ≡ record { answer = r .answer; nodes = ns′; attributes = ats′; notes = os }
+      → outcome f lent ns ats os st (g .stack) ≡ record { answer = r .answer; nodes = ns′; attributes = ats′; notes = os }
 
-abbrev pub Adv : List ℕ → List ℕ → List ℕ → List ℕ → List ℕ → State → State → List ℕ → List ℕ → Type 0
-Adv f names area ns ats st r ns′ ats′ = (g : Good f names area ns ats st) → Advanced f names area ns ats st g r ns′ ats′
+abbrev pub Adv : List ℕ → Lent → List ℕ → List ℕ → State → State → List ℕ → List ℕ → Type 0
+Adv f lent ns ats st r ns′ ats′ = (g : Good f lent ns ats st) → Advanced f lent ns ats st g r ns′ ats′
 
 -- ---- the whole
 
 -- what a call of `read` leaves, as one equation
-pub record Leaves (f names area ns ats : List ℕ) (os : List NoteOf) (cap : ℕ) (r : ReadAnswer) (ns′ ats′ : List ℕ) (os′ : List NoteOf) : Type 0 where
-  pub whole : record { answer = r; nodes = ns′; attributes = ats′; notes = os′ } ≡ reading (roomIn ns ats os cap) f names area
+pub record Leaves (f : List ℕ) (lent : Lent) (ns ats : List ℕ) (os : List NoteOf) (cap : ℕ) (r : ReadAnswer) (ns′ ats′ : List ℕ) (os′ : List NoteOf) : Type 0 where
+  pub whole : record { answer = r; nodes = ns′; attributes = ats′; notes = os′ } ≡ reading (roomIn ns ats os cap) f lent

@@ -16,7 +16,9 @@ use Rattle.anomaly.specs.declared.Note.{Note as NoteOf}
 use Rattle.text.specs.Found.{Asks}
 use Rattle.text.specs.declared.Head.{Head}
 use Rattle.xml_elements.specs.declared.XmlAttributeElement.{XmlAttributeElement}
-use Rattle.tables.specs.Keep.{hasKey}
+use Rattle.records.specs.Words.{nodeWidth, nodeParent, nodeFirst, nodeCount, noParent, nodeWords, attributeWidth, attributeWords}
+use Rattle.records.specs.Repeats.{Rule, isRepeat}
+use Rattle.system_types.specs.Names.{Lent}
 use Rattle.events.specs.declared.Event.{Event}
 use Rattle.events.specs.declared.Event.the-variants.{Nothing, Open, Attribute, LeftOut, Close, Note, Refuse, Finish}
 use Rattle.walk.specs.declared.tree.Tree.{Tree}
@@ -30,7 +32,7 @@ use Rattle.walk.specs.Reading.{secondOf}
 -- ---- the numbers of a tree
 
 abbrev pub parentOf : Tree → ℕ
-parentOf t = cond (eqb (t .nodes) 0) 4294967295 (t .inner)
+parentOf t = cond (eqb (t .nodes) 0) noParent (t .inner)
 
 abbrev pub openedTree : Tree → Tree
 openedTree t =
@@ -48,8 +50,8 @@ abbrev pub keptTree : Tree → Tree
 keptTree t = record { nodes = t .nodes; attributes = t .attributes + 1; first = t .first; inner = t .inner; second = t .second; upto = t .upto }
 
 -- the words of the node that opens
-abbrev pub fiveOf : Tree → ℕ → ℕ → List ℕ
-fiveOf t name fixed = name ∷ fixed ∷ parentOf t ∷ t .attributes ∷ 0 ∷ []
+abbrev pub openedWords : Tree → ℕ → ℕ → List ℕ
+openedWords t name fixed = nodeWords name fixed (parentOf t) (t .attributes) 0
 
 abbrev pub keptNodes : Tree → ℕ
 keptNodes t = cond (eqb (t .second) 0) (t .nodes) (t .second)
@@ -60,8 +62,8 @@ keptAttributes t = cond (eqb (t .second) 0) (t .attributes) (t .upto)
 -- ---- the numbers and the tables
 
 pub record Sized (ns ats : List ℕ) (t : Tree) : Type 0 where
-  pub nodes : 5 * t .nodes ≤ length ns
-  pub attributes : 5 * t .attributes ≤ length ats
+  pub nodes : nodeWidth * t .nodes ≤ length ns
+  pub attributes : attributeWidth * t .attributes ≤ length ats
   pub first : t .first ≤ t .attributes
   pub inside : (t .inner ≡ 0 → ⊥) → t .inner < t .nodes
 
@@ -72,8 +74,8 @@ pub record Fit (ns ats : List ℕ) (t : Tree) : Type 0 where
 -- the numbers of the open elements, the innermost first, as the parent words w link them
 abbrev pub Linked : List ℕ → List ℕ → Type 0
 Linked w [] = length w ≡ 0
-Linked w (k ∷ []) = (k ≡ 0) × (5 ≤ length w)
-Linked w (k ∷ j ∷ r) = (0 < k) × (5 * k + 5 ≤ length w) × (getD w (5 * k + 2) 0 ≡ j) × Linked w (j ∷ r)
+Linked w (k ∷ []) = (k ≡ 0) × (nodeWidth ≤ length w)
+Linked w (k ∷ j ∷ r) = (0 < k) × (nodeWidth * k + nodeWidth ≤ length w) × (getD w (nodeWidth * k + nodeParent) 0 ≡ j) × Linked w (j ∷ r)
 
 abbrev pub topOf : List ℕ → ℕ
 topOf [] = 0
@@ -81,61 +83,61 @@ topOf (k ∷ r) = k
 
 pub record Tied (ns ats : List ℕ) (t : Tree) (o : List ℕ) : Type 0 where
   pub sized : Sized ns ats t
-  pub linked : Linked (take (5 * t .nodes) ns) o
+  pub linked : Linked (take (nodeWidth * t .nodes) ns) o
   pub top : topOf o ≡ t .inner
   pub second : secondOf o ≡ t .second
-  pub upto : (t .second ≡ 0 → ⊥) → getD (take (5 * t .nodes) ns) (5 * t .second + 3) 0 ≡ t .upto
+  pub upto : (t .second ≡ 0 → ⊥) → getD (take (nodeWidth * t .nodes) ns) (nodeWidth * t .second + nodeFirst) 0 ≡ t .upto
   pub below : t .upto ≤ t .attributes
 
 -- with the notes os and the counts cs
 abbrev pub tablesOf : List ℕ → List ℕ → Tree → List ℕ → List NoteOf → List ℕ → Tables
 tablesOf ns ats t o os cs =
-    record { nodes = take (5 * t .nodes) ns; attributes = take (5 * t .attributes) ats; first = 5 * t .first; stack = o; notes = os; counts = cs }
+    record { nodes = take (nodeWidth * t .nodes) ns; attributes = take (attributeWidth * t .attributes) ats; first = attributeWidth * t .first; stack = o; notes = os; counts = cs }
 
 -- ---- an attribute
 
 -- the words of the last node's attributes
 abbrev pub ownWords : Tree → List ℕ → List ℕ
-ownWords t ats = take (5 * t .attributes - 5 * t .first) (drop (5 * t .first) ats)
+ownWords t ats = take (attributeWidth * t .attributes - attributeWidth * t .first) (drop (attributeWidth * t .first) ats)
 
-abbrev pub attributeWords : Tree → ℕ → XmlAttributeElement → List ℕ
-attributeWords t p a = (t .nodes - 1) ∷ p ∷ a .name .0 ∷ a .«data_type» ∷ a .«data» ∷ []
+abbrev pub newWords : Tree → ℕ → XmlAttributeElement → List ℕ
+newWords t p a = attributeWords (t .nodes - 1) p (a .name .0) (a .«data_type») (a .«data»)
 
--- the element has one of this prefix and name text, or there is no element
-pub record Repeats (same : ℕ → ℕ → Bool) (t : Tree) (p : ℕ) (a : XmlAttributeElement) (ns ats ns′ ats′ : List ℕ) : Type 0 where
-  pub there : (t .nodes ≡ 0 → ⊥) → hasKey same p (a .name .0) (ownWords t ats) ≡ true
+-- it repeats one of its element, or there is no element
+pub record Repeats (rule : Rule) (t : Tree) (p : ℕ) (a : XmlAttributeElement) (ns ats ns′ ats′ : List ℕ) : Type 0 where
+  pub there : (t .nodes ≡ 0 → ⊥) → isRepeat rule (newWords t p a) (ownWords t ats) ≡ true
   pub nodes : ns′ ≡ ns
   pub attributes : ats′ ≡ ats
 
 -- it has no place
-pub record Lacks (same : ℕ → ℕ → Bool) (t : Tree) (p : ℕ) (a : XmlAttributeElement) (ats : List ℕ) : Type 0 where
+pub record Lacks (rule : Rule) (t : Tree) (p : ℕ) (a : XmlAttributeElement) (ats : List ℕ) : Type 0 where
   pub some : t .nodes ≡ 0 → ⊥
-  pub new : hasKey same p (a .name .0) (ownWords t ats) ≡ false
-  pub full : length ats < 5 * t .attributes + 5
+  pub new : isRepeat rule (newWords t p a) (ownWords t ats) ≡ false
+  pub full : length ats < attributeWidth * t .attributes + attributeWidth
 
 -- it is stored, and its element counts it
-pub record Stores (same : ℕ → ℕ → Bool) (u t : Tree) (p : ℕ) (a : XmlAttributeElement) (ns ats ns′ ats′ : List ℕ) : Type 0 where
+pub record Stores (rule : Rule) (u t : Tree) (p : ℕ) (a : XmlAttributeElement) (ns ats ns′ ats′ : List ℕ) : Type 0 where
   pub some : t .nodes ≡ 0 → ⊥
-  pub new : hasKey same p (a .name .0) (ownWords t ats) ≡ false
-  pub room : 5 * t .attributes + 5 ≤ length ats
+  pub new : isRepeat rule (newWords t p a) (ownWords t ats) ≡ false
+  pub room : attributeWidth * t .attributes + attributeWidth ≤ length ats
   pub tree : u ≡ keptTree t
-  pub attributes : ats′ ≡ take (5 * t .attributes) ats ++ attributeWords t p a ++ drop (5 * t .attributes + 5) ats
-  pub nodes : ns′ ≡ set ns (5 * t .nodes - 1) (t .attributes + 1 - t .first)
+  pub attributes : ats′ ≡ take (attributeWidth * t .attributes) ats ++ newWords t p a ++ drop (attributeWidth * t .attributes + attributeWidth) ats
+  pub nodes : ns′ ≡ set ns (nodeWidth * (t .nodes - 1) + nodeCount) (t .attributes + 1 - t .first)
 
-abbrev pub Keeps : (ℕ → ℕ → Bool) → Put → Tree → ℕ → XmlAttributeElement → List ℕ → List ℕ → List ℕ → List ℕ → Type 0
-Keeps same Same t p a ns ats ns′ ats′ = Repeats same t p a ns ats ns′ ats′
-Keeps same NoPlace t p a ns ats ns′ ats′ = Lacks same t p a ats
-Keeps same (Stored u) t p a ns ats ns′ ats′ = Stores same u t p a ns ats ns′ ats′
+abbrev pub Keeps : Rule → Put → Tree → ℕ → XmlAttributeElement → List ℕ → List ℕ → List ℕ → List ℕ → Type 0
+Keeps rule Same t p a ns ats ns′ ats′ = Repeats rule t p a ns ats ns′ ats′
+Keeps rule NoPlace t p a ns ats ns′ ats′ = Lacks rule t p a ats
+Keeps rule (Stored u) t p a ns ats ns′ ats′ = Stores rule u t p a ns ats ns′ ats′
 
 -- ---- an event
 
 -- it is put away, and the tree is u: one push
-pub record PutAway (same : ℕ → ℕ → Bool) (u : Tree) (ns ats : List ℕ) (t : Tree) (o : List ℕ) (e : Event) (ns′ ats′ : List ℕ) : Type 0 where
+pub record PutAway (rule : Rule) (u : Tree) (ns ats : List ℕ) (t : Tree) (o : List ℕ) (e : Event) (ns′ ats′ : List ℕ) : Type 0 where
   pub stack : List ℕ
   pub tied : Tied ns′ ats′ u stack
   pub few : u .nodes + u .attributes ≤ t .nodes + t .attributes + 1
   pub pushed : (r : Room) (os : List NoteOf) (cs : List ℕ) → r .nodes ≡ length ns → r .attributes ≡ length ats
-      → push same r (going (tablesOf ns ats t o os cs)) e ≡ going (tablesOf ns′ ats′ u stack os cs)
+      → push rule r (going (tablesOf ns ats t o os cs)) e ≡ going (tablesOf ns′ ats′ u stack os cs)
 
 -- it is e′, which is not the tables'
 pub record Passes (e e′ : Event) (ns ats ns′ ats′ : List ℕ) : Type 0 where
@@ -143,16 +145,16 @@ pub record Passes (e e′ : Event) (ns ats ns′ ats′ : List ℕ) : Type 0 whe
   pub nodes : ns′ ≡ ns
   pub attributes : ats′ ≡ ats
 
-abbrev pub PlacesBy : (ℕ → ℕ → Bool) → Placed → List ℕ → List ℕ → Tree → List ℕ → Event → List ℕ → List ℕ → Type 0
-PlacesBy same (Done u) ns ats t o e ns′ ats′ = PutAway same u ns ats t o e ns′ ats′
-PlacesBy same (Full x) ns ats t o e ns′ ats′ =
+abbrev pub PlacesBy : Rule → Placed → List ℕ → List ℕ → Tree → List ℕ → Event → List ℕ → List ℕ → Type 0
+PlacesBy rule (Done u) ns ats t o e ns′ ats′ = PutAway rule u ns ats t o e ns′ ats′
+PlacesBy rule (Full x) ns ats t o e ns′ ats′ =
     (r : Room) (os : List NoteOf) (cs : List ℕ) → r .nodes ≡ length ns → r .attributes ≡ length ats
-    → push same r (going (tablesOf ns ats t o os cs)) e ≡ refused x
-PlacesBy same (Due x) ns ats t o e ns′ ats′ = Passes e (Note x) ns ats ns′ ats′
-PlacesBy same Finished ns ats t o e ns′ ats′ = Passes e Finish ns ats ns′ ats′
+    → push rule r (going (tablesOf ns ats t o os cs)) e ≡ refused x
+PlacesBy rule (Due x) ns ats t o e ns′ ats′ = Passes e (Note x) ns ats ns′ ats′
+PlacesBy rule Finished ns ats t o e ns′ ats′ = Passes e Finish ns ats ns′ ats′
 
-abbrev pub Places : (ℕ → ℕ → Bool) → Placed → List ℕ → List ℕ → Tree → Event → List ℕ → List ℕ → Type 0
-Places same p ns ats t e ns′ ats′ = (o : List ℕ) → Tied ns ats t o → PlacesBy same p ns ats t o e ns′ ats′
+abbrev pub Places : Rule → Placed → List ℕ → List ℕ → Tree → Event → List ℕ → List ℕ → Type 0
+Places rule p ns ats t e ns′ ats′ = (o : List ℕ) → Tied ns ats t o → PlacesBy rule p ns ats t o e ns′ ats′
 
 -- what is put away is not the end
 abbrev pub NotEnd : Placed → Event → Type 0
@@ -161,12 +163,12 @@ NotEnd (Full x) e = Unit {0}
 NotEnd (Due x) e = Unit {0}
 NotEnd Finished e = Unit {0}
 
-abbrev pub AsksFor : Event → List ℕ → List ℕ → List ℕ → Head → Type 0
-AsksFor (Attribute p a) t names area h = Asks t names area h
-AsksFor Nothing t names area h = Unit {0}
-AsksFor (Open n x l) t names area h = Unit {0}
-AsksFor (LeftOut n) t names area h = Unit {0}
-AsksFor Close t names area h = Unit {0}
-AsksFor (Note x) t names area h = Unit {0}
-AsksFor (Refuse x) t names area h = Unit {0}
-AsksFor Finish t names area h = Unit {0}
+abbrev pub AsksFor : Event → List ℕ → Lent → Head → Type 0
+AsksFor (Attribute p a) t lent h = Asks t lent h
+AsksFor Nothing t lent h = Unit {0}
+AsksFor (Open n x l) t lent h = Unit {0}
+AsksFor (LeftOut n) t lent h = Unit {0}
+AsksFor Close t lent h = Unit {0}
+AsksFor (Note x) t lent h = Unit {0}
+AsksFor (Refuse x) t lent h = Unit {0}
+AsksFor Finish t lent h = Unit {0}

@@ -3,8 +3,9 @@
 // Mirrors axml.rs (apk-info 13770539b8): the body of the loop of `get_xml_tree`.
 // Definitions: specs/Tree.antt, specs/Run.antt. Differs from the Rust: a record without a place refuses.
 ghost use Prim.Native.Nat.{ℕ};
-ghost use mathlib.Core.Bool.{Bool};
-ghost use Rattle.tables.specs.Keep.{sameIn};
+ghost use Rattle.records.specs.Repeats.{Rule, byPrefix};
+ghost use Rattle.system_types.specs.Names.{lends};
+ghost use Rattle.text.specs.Content.{sameName};
 ghost use Rattle.text.specs.Found.{Asks};
 ghost use Rattle.events.specs.declared.Event.the-variants.{Open, Attribute, Close};
 ghost use Rattle.walk.specs.Tree.{Fit, Places, NotEnd, AsksFor};
@@ -23,7 +24,9 @@ use events::step_at;
 use head::Opened;
 use head::body_of;
 use head::tables_of;
-use tables::wide;
+use records::ATTRIBUTE_WORDS;
+use records::NODE_WORDS;
+use records::node_place;
 use text::Head;
 use xml_elements::XmlAttributeElement;
 
@@ -57,11 +60,11 @@ fn open_place(
     fixed: u32,
 ) -> Placed
     requires { ⌜ Fit (now nodes) (now attributes) tree ⌝ }
-    ensures { λ r. ⌜ ((same : ℕ → ℕ → Bool) (line : ℕ) → Places same r (now (nodes .entry)) (now (attributes .entry)) tree (Open name fixed line)
+    ensures { λ r. ⌜ ((rule : Rule) (line : ℕ) → Places rule r (now (nodes .entry)) (now (attributes .entry)) tree (Open name fixed line)
         (now (nodes .exit)) (now (attributes .entry))) ⌝ }
 {
-    if nodes.len() - 5 * wide(tree.nodes) < 5 {
-        return Placed::Full(Refusal::NodesFull(nodes.len() / 5));
+    if nodes.len() - node_place(tree.nodes) < NODE_WORDS {
+        return Placed::Full(Refusal::NodesFull(nodes.len() / NODE_WORDS));
     }
     Placed::Done(open_node(nodes, tree, name, fixed))
 }
@@ -69,7 +72,7 @@ fn open_place(
 // The innermost element closes.
 fn close_place(nodes: &[u32], attributes: &[u32], tree: Tree) -> Placed
     requires { ⌜ Fit (now nodes) (now attributes) tree ⌝ }
-    ensures { λ r. ⌜ ((same : ℕ → ℕ → Bool) → Places same r (now (nodes .entry)) (now (attributes .entry)) tree Close
+    ensures { λ r. ⌜ ((rule : Rule) → Places rule r (now (nodes .entry)) (now (attributes .entry)) tree Close
         (now (nodes .entry)) (now (attributes .entry))) ⌝ }
 {
     Placed::Done(close_node(nodes, tree))
@@ -87,14 +90,14 @@ fn keep_place(
     prefix: u32,
     a: XmlAttributeElement,
 ) -> Placed
-    requires { ⌜ Asks (now t) (now names) (now area) h × Fit (now nodes) (now attributes) tree ⌝ }
-    ensures { λ r. ⌜ Places (sameIn h (now (t .entry)) (now (names .entry)) (now (area .entry))) r
+    requires { ⌜ Asks (now t) (lends (now names) (now area)) h × Fit (now nodes) (now attributes) tree ⌝ }
+    ensures { λ r. ⌜ Places (byPrefix (sameName h (now (t .entry)) (lends (now (names .entry)) (now (area .entry))))) r
         (now (nodes .entry)) (now (attributes .entry)) tree (Attribute prefix a) (now (nodes .exit)) (now (attributes .exit)) ⌝ }
 {
     let p = keep(t, names, area, h, nodes, attributes, tree, prefix, a);
     match p {
         Put::Same => Placed::Done(tree),
-        Put::Full => Placed::Full(Refusal::AttributesFull(attributes.len() / 5)),
+        Put::Full => Placed::Full(Refusal::AttributesFull(attributes.len() / ATTRIBUTE_WORDS)),
         Put::Stored(u) => Placed::Done(u),
     }
 }
@@ -110,8 +113,8 @@ pub fn place(
     tree: Tree,
     e: Event,
 ) -> Placed
-    requires { ⌜ AsksFor e (now t) (now names) (now area) h × Fit (now nodes) (now attributes) tree ⌝ }
-    ensures { λ r. ⌜ Places (sameIn h (now (t .entry)) (now (names .entry)) (now (area .entry))) r
+    requires { ⌜ AsksFor e (now t) (lends (now names) (now area)) h × Fit (now nodes) (now attributes) tree ⌝ }
+    ensures { λ r. ⌜ Places (byPrefix (sameName h (now (t .entry)) (lends (now (names .entry)) (now (area .entry))))) r
         (now (nodes .entry)) (now (attributes .entry)) tree e (now (nodes .exit)) (now (attributes .exit)) × NotEnd r e ⌝ }
 {
     match e {
@@ -149,8 +152,8 @@ pub fn run(
     c: Cursor,
     tree: Tree,
 ) -> Halt
-    requires { ⌜ Running (now t) (now names) (now area) (now b) o (now nodes) (now attributes) c tree ⌝ }
-    ensures { λ r. ⌜ RanOn (now (t .entry)) (now (names .entry)) (now (area .entry)) (now (b .entry)) o (now (nodes .entry)) (now (attributes .entry)) c tree r
+    requires { ⌜ Running (now t) (lends (now names) (now area)) (now b) o (now nodes) (now attributes) c tree ⌝ }
+    ensures { λ r. ⌜ RanOn (now (t .entry)) (lends (now (names .entry)) (now (area .entry))) (now (b .entry)) o (now (nodes .entry)) (now (attributes .entry)) c tree r
         (now (nodes .exit)) (now (attributes .exit)) ⌝ }
 {
     let mut cur = c;
@@ -202,8 +205,8 @@ pub fn run_in(
     c: Cursor,
     tree: Tree,
 ) -> Halt
-    requires { ⌜ RunningIn (now file) (now names) (now area) o (now nodes) (now attributes) c tree ⌝ }
-    ensures { λ r. ⌜ RanIn (now (file .entry)) (now (names .entry)) (now (area .entry)) o (now (nodes .entry)) (now (attributes .entry)) c tree r
+    requires { ⌜ RunningIn (now file) (lends (now names) (now area)) o (now nodes) (now attributes) c tree ⌝ }
+    ensures { λ r. ⌜ RanIn (now (file .entry)) (lends (now (names .entry)) (now (area .entry))) o (now (nodes .entry)) (now (attributes .entry)) c tree r
         (now (nodes .exit)) (now (attributes .exit)) ⌝ }
 {
     let t = tables_of(file, o.head);
