@@ -15,6 +15,7 @@ use Rattle.errors.specs.declared.Refusal.{Refusal}
 use Rattle.errors.specs.declared.Refusal.the-variants.{TooSmallError, TooLargeError, HeaderSizeError, StringPoolError}
 use Rattle.errors.specs.declared.Refusal.the-variants.{ResourceMapError, MissingRoot, SystemNamesError, NodesFull}
 use Rattle.errors.specs.declared.Refusal.the-variants.{AttributesFull, NotesFull, TextShort, NothingFound, TablesError}
+use Rattle.errors.specs.declared.Refusal.the-variants.{ItemsError, NoPlainText, AnswersFull}
 use Rattle.errors.specs.declared.ReadAnswer.{ReadAnswer}
 use Rattle.errors.specs.declared.ReadAnswer.the-variants.{Done, Refused}
 use Rattle.errors.specs.declared.ReadCounts.{ReadCounts}
@@ -73,6 +74,9 @@ some-number (NotesFull places) e = omega arith
 some-number (TextShort needed) e = omega arith
 some-number NothingFound e = omega arith
 some-number (TablesError node) e = omega arith
+some-number (ItemsError item) e = omega arith
+some-number (NoPlainText kind) e = omega arith
+some-number (AnswersFull places) e = omega arith
 
 done-of : (a : ReadAnswer) → _≡_ {A = ℕ} (numbersOf a .refusal) 0 → (c : ReadCounts) × (a ≡ Done c)
 unfolding numbersOf

@@ -1,4 +1,4 @@
--- `errors::refusal_value` meets its contract: each arm knows the refusal and what it holds.
+-- `errors::refusal_value` meets its contract: each arm knows the refusal and what it carries.
 use Rattle.errors.specs.Refusal.{valueOf}
 use borrow.Author.Needs.{needs}
 use Rattle.errors.proofs.refusal_value.Statement.{statement}
@@ -48,6 +48,18 @@ enum-known-r-8 c = search needs
 
 cast-result-2 : tie.Need-cast-result-2
 cast-result-2 c = search needs
+
+enum-known-r-9 : tie.Need-enum-known-r-9
+enum-known-r-9 c = search needs
+
+enum-known-r-10 : tie.Need-enum-known-r-10
+enum-known-r-10 c = search needs
+
+cast-result-3 : tie.Need-cast-result-3
+cast-result-3 c = search needs
+
+enum-known-r-11 : tie.Need-enum-known-r-11
+enum-known-r-11 c = search needs
 
 returns : tie.Need-returns
 unfolding valueOf
@@ -101,6 +113,18 @@ returns-13 : tie.Need-returns-13
 unfolding valueOf
 returns-13 c = rw (c .before .r8 .given .1)
 
+returns-14 : tie.Need-returns-14
+unfolding valueOf
+returns-14 c = rw (c .before .r9 .given .1)
+
+returns-15 : tie.Need-returns-15
+unfolding valueOf
+returns-15 c = rw (c .before .r10 .given .1)
+
+returns-16 : tie.Need-returns-16
+unfolding valueOf
+returns-16 c = rw (c .before .r11 .given .1)
+
 pub refusal-value-spec : {M : Type 1} → statement M
 refusal-value-spec =
     tie.close
@@ -120,6 +144,10 @@ refusal-value-spec =
     enum-told-5
     enum-known-r-8
     cast-result-2
+    enum-known-r-9
+    enum-known-r-10
+    cast-result-3
+    enum-known-r-11
     returns
     returns-2
     returns-3
@@ -132,4 +160,7 @@ refusal-value-spec =
     returns-10
     returns-11
     returns-12
-    returns-13)
+    returns-13
+    returns-14
+    returns-15
+    returns-16)
