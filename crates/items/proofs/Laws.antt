@@ -158,7 +158,7 @@ module _ (area w : List ℕ) (end : ItemsRead) (n : ℕ) where
   unfolding ruleFrom itemsFrom
   rule-end k p = let e : n - k ≡ 0 = omega arith in rw e
 
-  rule-step : (k : ℕ) → k < n → saidFrom k ≡ cond (isGood area (backTo w k) (itemAt w k)) (saidFrom (k + 1)) (Bad k)
+  pub rule-step : (k : ℕ) → k < n → saidFrom k ≡ cond (isGood area (backTo w k) (itemAt w k)) (saidFrom (k + 1)) (Bad k)
   unfolding ruleFrom itemsFrom backTo
   rule-step k p = let e : n - k ≡ suc (n - suc k) = omega arith in rw (e, add-one k)
 
