@@ -1,4 +1,4 @@
--- Flags: items are taken in table order, each taken item removes its bits, and the bits that are left are counted: docs/FORMAT.md, V6, V7.
+-- Flags: items are taken in table order, each taken item removes its bits, and the bits that are left are counted: docs/FORMAT.md, V5, V6.
 --
 --   takes       an item's value is taken where it is not 0 and all its bits are left
 --   taken       the items that are taken; leftOf what they leave of the data

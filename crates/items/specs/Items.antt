@@ -1,4 +1,4 @@
--- The named values of attributes that the caller lends, six words an item over an area of bytes: docs/FORMAT.md, V3 to V7.
+-- The named values of attributes that the caller lends, six words an item over an area of bytes: docs/FORMAT.md, V3, V4.
 --
 --   itemAt       item k: attribute name (start, length), kind (0 enum, 1 flag), item name (start, length), value
 --   itemsOf      the whole items in table order; words that make no whole item are left out

@@ -1,4 +1,4 @@
--- What the items of an attribute say of a value: docs/FORMAT.md, V4 to V7.
+-- What the items of an attribute say of a value: docs/FORMAT.md, V4 to V6.
 --
 --   attrText      the text, or nothing: of an enum always one; of a flag the names taken, and nothing where none is
 --   uncoveredOf   how many set bits of a flag no name covered; 0 for an enum, and where no item has the attribute's name
