@@ -22,7 +22,9 @@ loop-holds c =
     (omega arith, first-start (now (a .item-area)) name (now (a .items)) 0)
 
 is-item-requires : tie.Need-is-item-requires Inv-loop μ-loop
-is-item-requires c κs = (c .before .before .before .before .before .before .pre .0, c .before .before .before .before .before .before .pre .1, c .before .before .before .before .before .before .pre .2, c .loop-test .taken)
+is-item-requires c κs =
+    let s = c .before .before .before .before .before .before in
+    (s .pre .0, s .pre .1, s .pre .2, c .loop-test .taken)
 
 returns : tie.Need-returns Inv-loop μ-loop
 returns c =
