@@ -19,14 +19,19 @@ pub use errors::ReadCounts;
 pub use errors::Refusal;
 pub use errors::TextAnswer;
 pub use errors::TextNumbers;
+pub use errors::ValueAnswer;
+pub use errors::ValueNumbers;
 pub use errors::first_numbers;
 pub use errors::read_numbers;
 pub use errors::text_numbers;
+pub use errors::value_numbers;
 pub use first_value::first_value;
 pub use head::content;
 pub use head::text;
 use records::LISTED_CAP;
 use records::LISTED_NOTES;
+pub use value_text::Attribute;
+pub use value_text::value_text;
 pub use xml::is_valid_name;
 
 // Reads `file` into the three tables, and answers the counts or the refusal. `names` and `area` are the lent system names, `cap` is how many

@@ -4,22 +4,29 @@ use Prim.Native.Nat.{ℕ}
 use mathlib.Core.Path.{_≡_, refl, sym, _∙_, ap}
 use mathlib.Core.Bool.{Bool, true, false, cond}
 use lib.Dec.{eqb}
-use Rattle.errors.specs.Refusal.{numberOf, valueOf, numbersOf, textNumbersOf, firstNumbersOf}
+use Rattle.errors.specs.Refusal.{numberOf, valueOf, numbersOf, textNumbersOf, firstNumbersOf, valueNumbersOf, manyNumbersOf}
 use Rattle.errors.specs.declared.Refusal.{Refusal}
 use Rattle.errors.specs.declared.Refusal.the-variants.{TooSmallError, TooLargeError, HeaderSizeError}
 use Rattle.errors.specs.declared.Refusal.the-variants.{MissingRoot, SystemNamesError, NodesFull}
 use Rattle.errors.specs.declared.Refusal.the-variants.{AttributesFull, NotesFull, TextShort, NothingFound, TablesError}
+use Rattle.errors.specs.declared.Refusal.the-variants.{ItemsError, NoPlainText, AnswersFull}
 use Rattle.errors.specs.declared.Refusal.the-variants.{StringPoolGarbage, StringPoolHeader, StringPoolOffsets, StringPoolStyles}
 use Rattle.errors.specs.declared.Refusal.the-variants.{StringPoolData, ResourceMapHeader, ResourceMapIds}
 use Rattle.errors.specs.declared.Numbers.{Numbers}
 use Rattle.errors.specs.declared.TextNumbers.{TextNumbers}
 use Rattle.errors.specs.declared.FirstNumbers.{FirstNumbers}
+use Rattle.errors.specs.declared.ValueNumbers.{ValueNumbers}
+use Rattle.errors.specs.declared.ManyNumbers.{ManyNumbers}
 use Rattle.errors.specs.declared.ReadAnswer as read
 use Rattle.errors.specs.declared.TextAnswer as text
 use Rattle.errors.specs.declared.FirstAnswer as first
+use Rattle.errors.specs.declared.ValueAnswer as value′
+use Rattle.errors.specs.declared.ManyTexts as many
 use Rattle.errors.specs.declared.ReadAnswer.the-variants as readIs
 use Rattle.errors.specs.declared.TextAnswer.the-variants as textIs
 use Rattle.errors.specs.declared.FirstAnswer.the-variants as firstIs
+use Rattle.errors.specs.declared.ValueAnswer.the-variants as valueIs
+use Rattle.errors.specs.declared.ManyTexts.the-variants as manyIs
 
 -- what leads back from its image tells two things apart
 unique : {A B : Type 0} (f : A → B) (g : B → A) → ((c : A) → g (f c) ≡ c) → (a b : A) → f a ≡ f b → a ≡ b
@@ -41,12 +48,15 @@ refusalOf n v =
     cond (eqb n 11) (TextShort v) (
     cond (eqb n 12) NothingFound (
     cond (eqb n 13) (TablesError v) (
+    cond (eqb n 14) (ItemsError v) (
+    cond (eqb n 15) (NoPlainText v) (
+    cond (eqb n 21) (AnswersFull v) (
     cond (eqb n 41) (StringPoolGarbage v) (
     cond (eqb n 42) (StringPoolHeader v) (
     cond (eqb n 43) (StringPoolOffsets v) (
     cond (eqb n 44) (StringPoolStyles v) (
     cond (eqb n 45) (StringPoolData v) (
-    cond (eqb n 51) (ResourceMapHeader v) (ResourceMapIds v)))))))))))))))))
+    cond (eqb n 51) (ResourceMapHeader v) (ResourceMapIds v))))))))))))))))))))
 
 refusalOf-back : (r : Refusal) → refusalOf (numberOf r) (valueOf r) ≡ r
 unfolding numberOf valueOf refusalOf
@@ -61,6 +71,9 @@ refusalOf-back (NotesFull v) = refl
 refusalOf-back (TextShort v) = refl
 refusalOf-back NothingFound = refl
 refusalOf-back (TablesError v) = refl
+refusalOf-back (ItemsError v) = refl
+refusalOf-back (NoPlainText v) = refl
+refusalOf-back (AnswersFull v) = refl
 refusalOf-back (StringPoolGarbage v) = refl
 refusalOf-back (StringPoolHeader v) = refl
 refusalOf-back (StringPoolOffsets v) = refl
@@ -87,6 +100,9 @@ numberOf-some (NotesFull v) = refl
 numberOf-some (TextShort v) = refl
 numberOf-some NothingFound = refl
 numberOf-some (TablesError v) = refl
+numberOf-some (ItemsError v) = refl
+numberOf-some (NoPlainText v) = refl
+numberOf-some (AnswersFull v) = refl
 numberOf-some (StringPoolGarbage v) = refl
 numberOf-some (StringPoolHeader v) = refl
 numberOf-some (StringPoolOffsets v) = refl
@@ -137,3 +153,29 @@ firstOf-back (firstIs.Refused r) = rw (numberOf-some r) (ap firstIs.Refused (ref
 
 pub firstNumbersOf-unique : (a b : first.FirstAnswer) → firstNumbersOf a ≡ firstNumbersOf b → a ≡ b
 firstNumbersOf-unique = unique firstNumbersOf firstOf firstOf-back
+
+-- ---- a value text
+
+valueTextOf : ValueNumbers → value′.ValueAnswer
+valueTextOf n = cond (eqb (n .refusal) 0) (valueIs.Value (n .length) (n .uncovered)) (valueIs.Refused (refusalOf (n .refusal) (n .value)))
+
+valueTextOf-back : (a : value′.ValueAnswer) → valueTextOf (valueNumbersOf a) ≡ a
+unfolding valueTextOf valueNumbersOf
+valueTextOf-back (valueIs.Value n u) = refl
+valueTextOf-back (valueIs.Refused r) = rw (numberOf-some r) (ap valueIs.Refused (refusalOf-back r))
+
+pub valueNumbersOf-unique : (a b : value′.ValueAnswer) → valueNumbersOf a ≡ valueNumbersOf b → a ≡ b
+valueNumbersOf-unique = unique valueNumbersOf valueTextOf valueTextOf-back
+
+-- ---- many texts
+
+manyOf : ManyNumbers → many.ManyTexts
+manyOf n = cond (eqb (n .refusal) 0) (manyIs.Answered (n .count) (n .length)) (manyIs.Refused (refusalOf (n .refusal) (n .value)))
+
+manyOf-back : (a : many.ManyTexts) → manyOf (manyNumbersOf a) ≡ a
+unfolding manyOf manyNumbersOf
+manyOf-back (manyIs.Answered n s) = refl
+manyOf-back (manyIs.Refused r) = rw (numberOf-some r) (ap manyIs.Refused (refusalOf-back r))
+
+pub manyNumbersOf-unique : (a b : many.ManyTexts) → manyNumbersOf a ≡ manyNumbersOf b → a ≡ b
+manyNumbersOf-unique = unique manyNumbersOf manyOf manyOf-back

@@ -1,10 +1,12 @@
 -- The numbers of an answer: docs/FORMAT.md, B1, B7.
 --
---   numberOf         the number of a refusal: 1 to 3, 6 to 13; of a part of pool or map that is short, 41 to 45, 51, 52 (4 and 5 are none)
+--   numberOf         the number of a refusal: 1 to 3, 6 to 15, 21; of a part of pool or map that is short, 41 to 45, 51, 52 (4 and 5 are none)
 --   valueOf          the value of a refusal; 0 where it has none; of a part that is short, the file offset at which it should begin
 --   numbersOf        the numbers of a reading's answer: refusal 0 and value 0 with the counts, or a refusal and its value with every count 0
 --   textNumbersOf    the same of a text question; its count is the length of the text
 --   firstNumbersOf   the same of a first-value question; its reference is 1 or 0
+--   valueNumbersOf   the same of a value text: the length, and how many set bits no name covers
+--   manyNumbersOf    the same of many texts at once: how many, and the bytes of all of them
 --
 -- Equal numbers are equal answers: `numbersOf-unique` and its like in proofs/Laws.antt.
 use Prim.Native.Nat.{ℕ}
@@ -13,17 +15,24 @@ use Rattle.errors.specs.declared.Refusal.{Refusal}
 use Rattle.errors.specs.declared.Refusal.the-variants.{TooSmallError, TooLargeError, HeaderSizeError}
 use Rattle.errors.specs.declared.Refusal.the-variants.{MissingRoot, SystemNamesError, NodesFull}
 use Rattle.errors.specs.declared.Refusal.the-variants.{AttributesFull, NotesFull, TextShort, NothingFound, TablesError}
+use Rattle.errors.specs.declared.Refusal.the-variants.{ItemsError, NoPlainText, AnswersFull}
 use Rattle.errors.specs.declared.Refusal.the-variants.{StringPoolGarbage, StringPoolHeader, StringPoolOffsets, StringPoolStyles}
 use Rattle.errors.specs.declared.Refusal.the-variants.{StringPoolData, ResourceMapHeader, ResourceMapIds}
 use Rattle.errors.specs.declared.Numbers.{Numbers}
 use Rattle.errors.specs.declared.TextNumbers.{TextNumbers}
 use Rattle.errors.specs.declared.FirstNumbers.{FirstNumbers}
+use Rattle.errors.specs.declared.ValueNumbers.{ValueNumbers}
+use Rattle.errors.specs.declared.ManyNumbers.{ManyNumbers}
 use Rattle.errors.specs.declared.ReadAnswer as read
 use Rattle.errors.specs.declared.TextAnswer as text
 use Rattle.errors.specs.declared.FirstAnswer as first
+use Rattle.errors.specs.declared.ValueAnswer as value′
+use Rattle.errors.specs.declared.ManyTexts as many
 use Rattle.errors.specs.declared.ReadAnswer.the-variants as readIs
 use Rattle.errors.specs.declared.TextAnswer.the-variants as textIs
 use Rattle.errors.specs.declared.FirstAnswer.the-variants as firstIs
+use Rattle.errors.specs.declared.ValueAnswer.the-variants as valueIs
+use Rattle.errors.specs.declared.ManyTexts.the-variants as manyIs
 
 unfoldable pub numberOf : Refusal → ℕ
 numberOf (TooSmallError length) = 1
@@ -37,6 +46,9 @@ numberOf (NotesFull places) = 10
 numberOf (TextShort needed) = 11
 numberOf NothingFound = 12
 numberOf (TablesError node) = 13
+numberOf (ItemsError item) = 14
+numberOf (NoPlainText kind) = 15
+numberOf (AnswersFull places) = 21
 numberOf (StringPoolGarbage at) = 41
 numberOf (StringPoolHeader at) = 42
 numberOf (StringPoolOffsets at) = 43
@@ -57,6 +69,9 @@ valueOf (NotesFull places) = places
 valueOf (TextShort needed) = needed
 valueOf NothingFound = 0
 valueOf (TablesError node) = node
+valueOf (ItemsError item) = item
+valueOf (NoPlainText kind) = kind
+valueOf (AnswersFull places) = places
 valueOf (StringPoolGarbage at) = at
 valueOf (StringPoolHeader at) = at
 valueOf (StringPoolOffsets at) = at
@@ -79,3 +94,11 @@ unfoldable pub firstNumbersOf : first.FirstAnswer → FirstNumbers
 firstNumbersOf (firstIs.Found kind «data» reference) =
     record { refusal = 0; value = 0; kind = kind; «data» = «data»; reference = cond reference 1 0 }
 firstNumbersOf (firstIs.Refused r) = record { refusal = numberOf r; value = valueOf r; kind = 0; «data» = 0; reference = 0 }
+
+unfoldable pub valueNumbersOf : value′.ValueAnswer → ValueNumbers
+valueNumbersOf (valueIs.Value n u) = record { refusal = 0; value = 0; length = n; uncovered = u }
+valueNumbersOf (valueIs.Refused r) = record { refusal = numberOf r; value = valueOf r; length = 0; uncovered = 0 }
+
+unfoldable pub manyNumbersOf : many.ManyTexts → ManyNumbers
+manyNumbersOf (manyIs.Answered n s) = record { refusal = 0; value = 0; count = n; length = s }
+manyNumbersOf (manyIs.Refused r) = record { refusal = numberOf r; value = valueOf r; count = 0; length = 0 }

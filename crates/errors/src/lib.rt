@@ -1,4 +1,4 @@
-// Why a question is refused, what the three questions answer, and the numbers of an answer.
+// Why a question is refused, what the questions answer, and the numbers of an answer.
 //
 // Mirrors errors.rs (apk-info 13770539b8), whose names are kept for the refusals that it has: `TooSmallError`, `HeaderSizeError`,
 // `MissingRoot`. Its `StringPoolError` is 41 to 45 here and its `ResourceMapError` 51 and 52, which say the part that is short and where it
@@ -6,7 +6,7 @@
 // of a question without an answer. Definitions: specs/Refusal.antt.
 ghost use mathlib.Core.Path.{_≡_};
 ghost use mathlib.Core.Bool.{cond};
-ghost use Rattle.errors.specs.Refusal.{numberOf, valueOf, numbersOf, textNumbersOf, firstNumbersOf};
+ghost use Rattle.errors.specs.Refusal.{numberOf, valueOf, numbersOf, textNumbersOf, firstNumbersOf, valueNumbersOf, manyNumbersOf};
 
 // One case for each number of a refusal.
 pub enum Refusal {
@@ -21,6 +21,9 @@ pub enum Refusal {
     TextShort(usize), // 11, with the bytes needed
     NothingFound, // 12
     TablesError(u32), // 13, with the first bad node, or the node count
+    ItemsError(usize), // 14, with the first bad item, or how many whole ones there are
+    NoPlainText(u32), // 15, with the type
+    AnswersFull(usize), // 21, with the places
     // what of the head is short, each with the file offset at which the missing piece should begin
     StringPoolGarbage(usize), // 41, a chunk in the pool's place
     StringPoolHeader(usize), // 42, a header of the pool, or its five numbers
@@ -61,6 +64,18 @@ pub enum FirstAnswer {
     Refused(Refusal),
 }
 
+// The length of a value's text and how many set bits of a flag no name covers, or why there is no text.
+pub enum ValueAnswer {
+    Value { length: usize, uncovered: u32 },
+    Refused(Refusal),
+}
+
+// How many questions were answered at once and the bytes of all their texts, or why none was.
+pub enum ManyTexts {
+    Answered { count: usize, length: usize },
+    Refused(Refusal),
+}
+
 // The numbers of a `ReadAnswer`, as a listing prints them.
 pub struct Numbers {
     pub refusal: u32,
@@ -87,6 +102,22 @@ pub struct FirstNumbers {
     pub reference: u32,
 }
 
+// The numbers of a `ValueAnswer`.
+pub struct ValueNumbers {
+    pub refusal: u32,
+    pub value: u64,
+    pub length: u64,
+    pub uncovered: u32,
+}
+
+// The numbers of a `ManyTexts`.
+pub struct ManyNumbers {
+    pub refusal: u32,
+    pub value: u64,
+    pub count: u64,
+    pub length: u64,
+}
+
 // The number of a refusal. Ruled out: 0 for any refusal, and one number for two of them.
 pub fn refusal_number(r: Refusal) -> u32
     ensures { λ n. ⌜ n ≡ numberOf r ⌝ }
@@ -103,6 +134,9 @@ pub fn refusal_number(r: Refusal) -> u32
         Refusal::TextShort(_) => 11,
         Refusal::NothingFound => 12,
         Refusal::TablesError(_) => 13,
+        Refusal::ItemsError(_) => 14,
+        Refusal::NoPlainText(_) => 15,
+        Refusal::AnswersFull(_) => 21,
         Refusal::StringPoolGarbage(_) => 41,
         Refusal::StringPoolHeader(_) => 42,
         Refusal::StringPoolOffsets(_) => 43,
@@ -129,6 +163,9 @@ pub fn refusal_value(r: Refusal) -> u64
         Refusal::TextShort(needed) => needed as u64,
         Refusal::NothingFound => 0,
         Refusal::TablesError(node) => node as u64,
+        Refusal::ItemsError(item) => item as u64,
+        Refusal::NoPlainText(kind) => kind as u64,
+        Refusal::AnswersFull(places) => places as u64,
         Refusal::StringPoolGarbage(at) => at as u64,
         Refusal::StringPoolHeader(at) => at as u64,
         Refusal::StringPoolOffsets(at) => at as u64,
@@ -210,6 +247,46 @@ pub fn first_numbers(a: FirstAnswer) -> FirstNumbers
             kind: 0,
             data: 0,
             reference: 0,
+        },
+    }
+}
+
+// The numbers of a value text's answer. Ruled out: the bytes needed as the length of a refused answer, and bits beside a refusal.
+pub fn value_numbers(a: ValueAnswer) -> ValueNumbers
+    ensures { λ r. ⌜ r ≡ valueNumbersOf a ⌝ }
+{
+    match a {
+        ValueAnswer::Value { length, uncovered } => ValueNumbers {
+            refusal: 0,
+            value: 0,
+            length: length as u64,
+            uncovered: uncovered,
+        },
+        ValueAnswer::Refused(e) => ValueNumbers {
+            refusal: refusal_number(e),
+            value: refusal_value(e),
+            length: 0,
+            uncovered: 0,
+        },
+    }
+}
+
+// The numbers of many texts' answer. Ruled out: a count beside a refusal, and count and length in each other's place.
+pub fn many_numbers(a: ManyTexts) -> ManyNumbers
+    ensures { λ r. ⌜ r ≡ manyNumbersOf a ⌝ }
+{
+    match a {
+        ManyTexts::Answered { count, length } => ManyNumbers {
+            refusal: 0,
+            value: 0,
+            count: count as u64,
+            length: length as u64,
+        },
+        ManyTexts::Refused(e) => ManyNumbers {
+            refusal: refusal_number(e),
+            value: refusal_value(e),
+            count: 0,
+            length: 0,
         },
     }
 }

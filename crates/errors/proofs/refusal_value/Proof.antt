@@ -49,6 +49,9 @@ enum-known-r-9 c = search needs
 enum-known-r-10 : tie.Need-enum-known-r-10
 enum-known-r-10 c = search needs
 
+cast-result-3 : tie.Need-cast-result-3
+cast-result-3 c = search needs
+
 enum-known-r-11 : tie.Need-enum-known-r-11
 enum-known-r-11 c = search needs
 
@@ -63,6 +66,15 @@ enum-known-r-14 c = search needs
 
 enum-known-r-15 : tie.Need-enum-known-r-15
 enum-known-r-15 c = search needs
+
+enum-known-r-16 : tie.Need-enum-known-r-16
+enum-known-r-16 c = search needs
+
+enum-known-r-17 : tie.Need-enum-known-r-17
+enum-known-r-17 c = search needs
+
+enum-known-r-18 : tie.Need-enum-known-r-18
+enum-known-r-18 c = search needs
 
 returns : tie.Need-returns
 unfolding valueOf
@@ -136,6 +148,18 @@ returns-18 : tie.Need-returns-18
 unfolding valueOf
 returns-18 c = rw (c .before .r15 .given .1)
 
+returns-19 : tie.Need-returns-19
+unfolding valueOf
+returns-19 c = rw (c .before .r16 .given .1)
+
+returns-20 : tie.Need-returns-20
+unfolding valueOf
+returns-20 c = rw (c .before .r17 .given .1)
+
+returns-21 : tie.Need-returns-21
+unfolding valueOf
+returns-21 c = rw (c .before .r18 .given .1)
+
 pub refusal-value-spec : {M : Type 1} → statement M
 refusal-value-spec =
     tie.close
@@ -155,11 +179,15 @@ refusal-value-spec =
     cast-result-2
     enum-known-r-9
     enum-known-r-10
+    cast-result-3
     enum-known-r-11
     enum-known-r-12
     enum-known-r-13
     enum-known-r-14
     enum-known-r-15
+    enum-known-r-16
+    enum-known-r-17
+    enum-known-r-18
     returns
     returns-2
     returns-3
@@ -177,4 +205,7 @@ refusal-value-spec =
     returns-15
     returns-16
     returns-17
-    returns-18)
+    returns-18
+    returns-19
+    returns-20
+    returns-21)

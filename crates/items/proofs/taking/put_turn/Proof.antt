@@ -1,0 +1,30 @@
+-- `items::taking::put_turn` meets its contract: an item that is taken (`turned-name`), and any other (`turned-none`).
+use denote.Ref.{now}
+use Rattle.items.proofs.TurnLaws.{turned-name, turned-none}
+use borrow.Author.Needs.{needs}
+use Rattle.items.proofs.taking.put_turn.Statement.{statement}
+use Rattle.items.proofs.taking.put_turn.Tie as tie
+
+is-turn-requires : tie.Need-is-turn-requires
+is-turn-requires c κs = search needs
+
+put-name-requires : tie.Need-put-name-requires
+put-name-requires c κs = search needs
+
+same-length : tie.Need-same-length
+same-length c = search needs
+
+returns : tie.Need-returns
+returns c =
+    let a = c .before .before .before .before .before .before .before .before .before .before .args in
+    turned-name (now (a .area)) (a .head) (a .i) (a .st) (now (a .out)) _ (c .before .before .before .before .before .before .before .is-turn .ensures)
+    (c .before .before .before .before .before .before .if1 .taken) (c .before .before .before .before .put-name .ensures)
+
+returns-2 : tie.Need-returns-2
+returns-2 c =
+    let a = c .before .before .before .before .args in
+    turned-none (now (a .area)) (a .head) (a .i) (a .st) (now (a .out)) (now (a .out)) (c .before .is-turn .ensures) (c .if1 .left)
+
+pub put-turn-spec : {M : Type 1} → statement M
+put-turn-spec =
+    tie.close (tie.spec is-turn-requires put-name-requires same-length returns returns-2)

@@ -1,0 +1,164 @@
+-- The text of a value, as a page shows it: docs/FORMAT.md, V1 to V12.
+--
+--   plainBy       the text of a value by its type alone, or nothing: that of a string of the pool, of the name of a resource, of a number
+--   valueOf       the text of an attribute's value: what the items of its name say, else the plain text; and how many set bits no name covers
+--   valueOpen     the head of the file, or the first refusal, in order: 2, 7 (the entry checks), 14 (the items), then the head's own
+--   valueAnswer   the answer of the question; valueBuffer what then stands in the lent buffer, whole
+--   ValueReads    THE PROMISE: the numbers of the answer and every byte of the buffer
+--
+-- Of an attribute only prefix, name, type and data are looked at. A prefix of 2 is that of the leading attribute, whose value is the
+-- Android namespace. t is the bytes behind the file's header. Laws: proofs/Opening.antt, proofs/Claimed.antt.
+use Prim.Native.Nat.{ℕ, _+_}
+use mathlib.Core.Path.{_≡_}
+use mathlib.Core.List.{List, [], _∷_, _++_}
+use mathlib.Core.Bool.{Bool, true, false, cond}
+use lib.ListN.{length, replicate}
+use lib.Dec.{eqb, leb}
+use Rattle.errors.specs.Refusal.{valueNumbersOf}
+use Rattle.errors.specs.declared.Refusal.the-variants.{NothingFound, TextShort, ItemsError, NoPlainText}
+use Rattle.errors.specs.declared.ValueAnswer.{ValueAnswer}
+use Rattle.errors.specs.declared.ValueAnswer.the-variants.{Value as Answered, Refused}
+use Rattle.digits.specs.Digits.{signedText, hexText}
+use Rattle.digits.specs.Written.{fitted}
+use Rattle.common.specs.ValueType.{valueTypeOf}
+use Rattle.common.specs.declared.value.ResourceValueType.{ResourceValueType}
+use Rattle.common.specs.declared.value.ResourceValueType.the-variants.{Null, Reference, Attribute as AttributeType, String}
+use Rattle.common.specs.declared.value.ResourceValueType.the-variants.{Float, Dimension, Fraction, DynamicReference}
+use Rattle.common.specs.declared.value.ResourceValueType.the-variants.{DynamicAttribute, Dec, Hex, Boolean}
+use Rattle.common.specs.declared.value.ResourceValueType.the-variants.{ColorArgb8, ColorRgb8, ColorArgb4, ColorRgb4, Unknown}
+use Rattle.system_types.specs.Names.{Lent, topByte, systemName}
+use Rattle.system_types.specs.declared.Lookup.{Lookup}
+use Rattle.system_types.specs.declared.Lookup.the-variants.{Name, Missing}
+use Rattle.text.specs.declared.Head.{Head}
+use Rattle.text.specs.Content.{Content, none, cut, some, contentOf, stringOf, textIn}
+use Rattle.head.specs.Head.{openedOf, tablesIn}
+use Rattle.head.specs.Entry.{Check, passes, fails, firstOf, entryChecks}
+use Rattle.head.specs.Ask.{openBy}
+use Rattle.head.specs.declared.OpenRead.{OpenRead}
+use Rattle.head.specs.declared.OpenRead.the-variants.{Open, Closed}
+use Rattle.items.specs.Items.{partIn, itemsOf, namedIn, tableOf}
+use Rattle.items.specs.Values.{Text, nothing, says, attrText, uncoveredOf}
+use Rattle.items.specs.declared.ItemsRead.{ItemsRead}
+use Rattle.items.specs.declared.ItemsRead.the-variants.{Good, Bad}
+use Rattle.value_text.specs.declared.Attribute.{Attribute}
+
+-- ---- fixed texts
+
+-- http://schemas.android.com/apk/res/android
+abbrev pub androidUri : List ℕ
+androidUri =
+    104 ∷ 116 ∷ 116 ∷ 112 ∷ 58 ∷ 47 ∷ 47 ∷ 115 ∷ 99 ∷ 104 ∷ 101 ∷ 109 ∷ 97 ∷ 115 ∷ 46 ∷ 97 ∷ 110 ∷ 100 ∷ 114 ∷ 111 ∷ 105 ∷ 100 ∷ 46 ∷ 99 ∷ 111 ∷
+    109 ∷ 47 ∷ 97 ∷ 112 ∷ 107 ∷ 47 ∷ 114 ∷ 101 ∷ 115 ∷ 47 ∷ 97 ∷ 110 ∷ 100 ∷ 114 ∷ 111 ∷ 105 ∷ 100 ∷ []
+
+-- true, false
+abbrev pub trueText : List ℕ
+trueText = 116 ∷ 114 ∷ 117 ∷ 101 ∷ []
+
+abbrev pub falseText : List ℕ
+falseText = 102 ∷ 97 ∷ 108 ∷ 115 ∷ 101 ∷ []
+
+-- ---- by the type alone
+
+abbrev pub boolText : ℕ → List ℕ
+boolText v = cond (eqb v 0) falseText trueText
+
+-- `@` and the resource's name, whole, or its id
+abbrev pub referenceBy : List ℕ → ℕ → Lookup → List ℕ
+referenceBy area v (Name start n) = 64 ∷ partIn area start n
+referenceBy area v Missing = 64 ∷ hexText v
+
+-- the attribute's name, whole; else its id behind `@` where it is the framework's, behind `?` where it is not
+abbrev pub attributeBy : List ℕ → ℕ → Lookup → List ℕ
+attributeBy area v (Name start n) = partIn area start n
+attributeBy area v Missing = cond (eqb (topByte v) 1) 64 63 ∷ hexText v
+
+-- a string is that of the pool, never a system name; past the pool it is empty
+unfoldable pub plainBy : Head → List ℕ → Lent → ℕ → ResourceValueType → Text
+plainBy h t lent v Reference = says (referenceBy (lent .area) v (systemName v (lent .names)))
+plainBy h t lent v DynamicReference = says (referenceBy (lent .area) v (systemName v (lent .names)))
+plainBy h t lent v AttributeType = says (attributeBy (lent .area) v (systemName v (lent .names)))
+plainBy h t lent v String = says (textIn (stringOf h t v))
+plainBy h t lent v Dec = says (signedText v)
+plainBy h t lent v Hex = says (48 ∷ 120 ∷ hexText v)
+plainBy h t lent v Boolean = says (boolText v)
+plainBy h t lent v ColorArgb8 = says (35 ∷ hexText v)
+plainBy h t lent v ColorRgb8 = says (35 ∷ hexText v)
+plainBy h t lent v ColorArgb4 = says (35 ∷ hexText v)
+plainBy h t lent v ColorRgb4 = says (35 ∷ hexText v)
+plainBy h t lent v Null = nothing
+plainBy h t lent v Float = nothing
+plainBy h t lent v Dimension = nothing
+plainBy h t lent v Fraction = nothing
+plainBy h t lent v DynamicAttribute = nothing
+plainBy h t lent v (Unknown n) = nothing
+
+-- ---- the text of an attribute's value
+
+-- noName: the name index has no text; noText: the type has no plain text, and no item answers; else the text, and the uncovered bits
+pub data Value : Type 0 where
+  noName : Value
+  noText : Value
+  shows : List ℕ → ℕ → Value
+
+-- what the items say comes first
+abbrev pub orPlain : ℕ → Text → Text → Value
+orPlain u (says s) plain = shows s u
+orPlain u nothing (says s) = shows s u
+orPlain u nothing nothing = noText
+
+module _ (h : Head) (t : List ℕ) (lent : Lent) (items area : List ℕ) where
+  -- of an attribute with this name
+  unfoldable pub namedValue : List ℕ → ℕ → ℕ → Value
+  namedValue name kind v =
+      orPlain (uncoveredOf v (namedIn area name (itemsOf items))) (attrText area v (namedIn area name (itemsOf items)))
+      (plainBy h t lent v (valueTypeOf kind))
+
+  abbrev pub valueBy : Content → ℕ → ℕ → Value
+  valueBy none kind v = noName
+  valueBy cut kind v = namedValue (textIn cut) kind v
+  valueBy (some w s) kind v = namedValue (textIn (some w s)) kind v
+
+  unfoldable pub valueOf : Attribute → Value
+  valueOf a = cond (eqb (a .prefix) 2) (shows androidUri 0) (valueBy (contentOf h t lent (a .name .0)) (a .kind) (a .«data»))
+
+-- ---- the checks
+
+abbrev pub itemsCheckBy : ItemsRead → Check
+itemsCheckBy Good = passes
+itemsCheckBy (Bad k) = fails (ItemsError k)
+
+unfoldable pub valueOpen : List ℕ → Lent → List ℕ → List ℕ → OpenRead
+valueOpen f lent items area = openBy (openedOf f) (firstOf (entryChecks f lent ++ (itemsCheckBy (tableOf area items) ∷ [])))
+
+-- ---- the answer
+
+-- with room for n bytes
+abbrev pub answerBy : ℕ → ℕ → Value → ValueAnswer
+answerBy n kind noName = Refused NothingFound
+answerBy n kind noText = Refused (NoPlainText kind)
+answerBy n kind (shows s u) = cond (leb (length s) n) (Answered (length s) u) (Refused (TextShort (length s)))
+
+-- the text and zeros, or zeros
+abbrev pub bufferBy : ℕ → Value → List ℕ
+bufferBy n noName = replicate n 0
+bufferBy n noText = replicate n 0
+bufferBy n (shows s u) = fitted s n
+
+abbrev pub answerIn : List ℕ → Lent → List ℕ → List ℕ → ℕ → Attribute → OpenRead → ValueAnswer
+answerIn f lent items area n a (Closed r) = Refused r
+answerIn f lent items area n a (Open h) = answerBy n (a .kind) (valueOf h (tablesIn f h) lent items area a)
+
+abbrev pub bufferIn : List ℕ → Lent → List ℕ → List ℕ → ℕ → Attribute → OpenRead → List ℕ
+bufferIn f lent items area n a (Closed r) = replicate n 0
+bufferIn f lent items area n a (Open h) = bufferBy n (valueOf h (tablesIn f h) lent items area a)
+
+unfoldable pub valueAnswer : List ℕ → Lent → List ℕ → List ℕ → ℕ → Attribute → ValueAnswer
+valueAnswer f lent items area n a = answerIn f lent items area n a (valueOpen f lent items area)
+
+unfoldable pub valueBuffer : List ℕ → Lent → List ℕ → List ℕ → ℕ → Attribute → List ℕ
+valueBuffer f lent items area n a = bufferIn f lent items area n a (valueOpen f lent items area)
+
+pub record ValueReads
+    (f : List ℕ) (lent : Lent) (items area before : List ℕ) (a : Attribute) (r : ValueAnswer) (after : List ℕ) : Type 0 where
+  pub answer : valueNumbersOf r ≡ valueNumbersOf (valueAnswer f lent items area (length before) a)
+  pub out : after ≡ valueBuffer f lent items area (length before) a
