@@ -34,10 +34,10 @@ returns-3 : tie.Need-returns-3
 returns-3 c = rw (c .before .e2 .given .1)
 
 returns-4 : tie.Need-returns-4
-returns-4 c = search needs
+returns-4 c = rw (c .before .before .e3 .given .1) (c .pool-refusal .ensures)
 
 returns-5 : tie.Need-returns-5
-returns-5 c = search needs
+returns-5 c = rw (c .before .before .e4 .given .1) (c .map-refusal .ensures)
 
 pub refusal-of-spec : {M : Type 1} → statement M
 refusal-of-spec =
