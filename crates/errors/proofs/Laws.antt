@@ -1,6 +1,7 @@
 -- Laws of specs/Refusal.antt: equal numbers are equal answers (`-unique`), each by a function that leads back from the numbers (`-back`).
 -- No contract cites this file.
-use Prim.Native.Nat.{ℕ}
+use Prim.Native.Nat.{ℕ, _≤_}
+use native.Mathlib.Omega.{arith}
 use mathlib.Core.Path.{_≡_, refl, sym, _∙_, ap}
 use mathlib.Core.Bool.{Bool, true, false, cond}
 use lib.Dec.{eqb}
@@ -9,6 +10,7 @@ use Rattle.errors.specs.declared.Refusal.{Refusal}
 use Rattle.errors.specs.declared.Refusal.the-variants.{TooSmallError, TooLargeError, HeaderSizeError, StringPoolError}
 use Rattle.errors.specs.declared.Refusal.the-variants.{ResourceMapError, MissingRoot, SystemNamesError, NodesFull}
 use Rattle.errors.specs.declared.Refusal.the-variants.{AttributesFull, NotesFull, TextShort, NothingFound, TablesError}
+use Rattle.errors.specs.declared.Refusal.the-variants.{RoundUpFull}
 use Rattle.errors.specs.declared.Numbers.{Numbers}
 use Rattle.errors.specs.declared.TextNumbers.{TextNumbers}
 use Rattle.errors.specs.declared.FirstNumbers.{FirstNumbers}
@@ -39,7 +41,8 @@ refusalOf n v =
     cond (eqb n 9) (AttributesFull v) (
     cond (eqb n 10) (NotesFull v) (
     cond (eqb n 11) (TextShort v) (
-    cond (eqb n 12) NothingFound (TablesError v))))))))))))
+    cond (eqb n 12) NothingFound (
+    cond (eqb n 13) (TablesError v) RoundUpFull))))))))))))
 
 refusalOf-back : (r : Refusal) → refusalOf (numberOf r) (valueOf r) ≡ r
 unfolding numberOf valueOf refusalOf
@@ -56,6 +59,7 @@ refusalOf-back (NotesFull v) = refl
 refusalOf-back (TextShort v) = refl
 refusalOf-back NothingFound = refl
 refusalOf-back (TablesError v) = refl
+refusalOf-back RoundUpFull = refl
 
 -- number and value tell refusals apart
 pub numberOf-unique : (a b : Refusal) → numberOf a ≡ numberOf b → valueOf a ≡ valueOf b → a ≡ b
@@ -77,6 +81,25 @@ numberOf-some (NotesFull v) = refl
 numberOf-some (TextShort v) = refl
 numberOf-some NothingFound = refl
 numberOf-some (TablesError v) = refl
+numberOf-some RoundUpFull = refl
+
+-- no number is above 52
+pub numberOf-le : (r : Refusal) → numberOf r ≤ 52
+unfolding numberOf
+numberOf-le (TooSmallError v) = omega arith
+numberOf-le TooLargeError = omega arith
+numberOf-le (HeaderSizeError v) = omega arith
+numberOf-le StringPoolError = omega arith
+numberOf-le ResourceMapError = omega arith
+numberOf-le MissingRoot = omega arith
+numberOf-le (SystemNamesError v) = omega arith
+numberOf-le (NodesFull v) = omega arith
+numberOf-le (AttributesFull v) = omega arith
+numberOf-le (NotesFull v) = omega arith
+numberOf-le (TextShort v) = omega arith
+numberOf-le NothingFound = omega arith
+numberOf-le (TablesError v) = omega arith
+numberOf-le RoundUpFull = omega arith
 
 -- ---- a reading
 

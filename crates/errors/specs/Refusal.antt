@@ -1,6 +1,6 @@
 -- The numbers of an answer: docs/FORMAT.md, B1, B7.
 --
---   numberOf         the number of a refusal, 1 to 13
+--   numberOf         the number of a refusal, 1 to 13 and 29
 --   valueOf          the value of a refusal; 0 where it has none
 --   numbersOf        the numbers of a reading's answer: refusal 0 and value 0 with the counts, or a refusal and its value with every count 0
 --   textNumbersOf    the same of a text question; its count is the length of the text
@@ -13,6 +13,7 @@ use Rattle.errors.specs.declared.Refusal.{Refusal}
 use Rattle.errors.specs.declared.Refusal.the-variants.{TooSmallError, TooLargeError, HeaderSizeError, StringPoolError}
 use Rattle.errors.specs.declared.Refusal.the-variants.{ResourceMapError, MissingRoot, SystemNamesError, NodesFull}
 use Rattle.errors.specs.declared.Refusal.the-variants.{AttributesFull, NotesFull, TextShort, NothingFound, TablesError}
+use Rattle.errors.specs.declared.Refusal.the-variants.{RoundUpFull}
 use Rattle.errors.specs.declared.Numbers.{Numbers}
 use Rattle.errors.specs.declared.TextNumbers.{TextNumbers}
 use Rattle.errors.specs.declared.FirstNumbers.{FirstNumbers}
@@ -37,6 +38,7 @@ numberOf (NotesFull places) = 10
 numberOf (TextShort needed) = 11
 numberOf NothingFound = 12
 numberOf (TablesError node) = 13
+numberOf RoundUpFull = 29
 
 unfoldable pub valueOf : Refusal → ℕ
 valueOf (TooSmallError length) = length
@@ -52,6 +54,7 @@ valueOf (NotesFull places) = places
 valueOf (TextShort needed) = needed
 valueOf NothingFound = 0
 valueOf (TablesError node) = node
+valueOf RoundUpFull = 0
 
 unfoldable pub numbersOf : read.ReadAnswer → Numbers
 numbersOf (readIs.Done c) =

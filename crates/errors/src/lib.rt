@@ -22,6 +22,7 @@ pub enum Refusal {
     TextShort(usize), // 11, with the bytes needed
     NothingFound, // 12
     TablesError(u32), // 13, with the first bad node, or the node count
+    RoundUpFull, // 29: a count of a round-up would pass 4294967295
 }
 
 // What a reading counted: the starts read whole, dropped ones too, and the records that it kept.
@@ -98,6 +99,7 @@ pub fn refusal_number(r: Refusal) -> u32
         Refusal::TextShort(_) => 11,
         Refusal::NothingFound => 12,
         Refusal::TablesError(_) => 13,
+        Refusal::RoundUpFull => 29,
     }
 }
 
@@ -119,6 +121,7 @@ pub fn refusal_value(r: Refusal) -> u64
         Refusal::TextShort(needed) => needed as u64,
         Refusal::NothingFound => 0,
         Refusal::TablesError(node) => node as u64,
+        Refusal::RoundUpFull => 0,
     }
 }
 

@@ -49,6 +49,9 @@ enum-known-r-8 c = search needs
 cast-result-2 : tie.Need-cast-result-2
 cast-result-2 c = search needs
 
+enum-told-6 : tie.Need-enum-told-6
+enum-told-6 c = search needs
+
 returns : tie.Need-returns
 unfolding valueOf
 returns c = rw (c .before .r .given .1)
@@ -101,6 +104,10 @@ returns-13 : tie.Need-returns-13
 unfolding valueOf
 returns-13 c = rw (c .before .r8 .given .1)
 
+returns-14 : tie.Need-returns-14
+unfolding valueOf
+returns-14 c = rw (c .enum-told6 .given .1)
+
 pub refusal-value-spec : {M : Type 1} → statement M
 refusal-value-spec =
     tie.close
@@ -120,6 +127,7 @@ refusal-value-spec =
     enum-told-5
     enum-known-r-8
     cast-result-2
+    enum-told-6
     returns
     returns-2
     returns-3
@@ -132,4 +140,5 @@ refusal-value-spec =
     returns-10
     returns-11
     returns-12
-    returns-13)
+    returns-13
+    returns-14)
