@@ -12,7 +12,7 @@ use borrow.Author.Tests.{ltb-true, ltb-false, lt-ltb, le-ltb, eqb-true, eqb-fals
 use lib.ListN.{length, take, getD, set, replicate, length-set, length-take}
 use lib.Seq.{take-nil, getD-set-same, getD-set-other}
 use lib.Dec.{ltb, eqb}
-use Rattle.anomaly.specs.Note.{kindIndex}
+use Rattle.anomaly.specs.Note.{kinds, kindIndex, kindNumber, kindNumbers}
 use Rattle.anomaly.specs.Kept.{isDue, counted, none, keptFrom, keptNotes, ofKind}
 use Rattle.anomaly.specs.declared.ResAnomaly.{ResAnomaly}
 use Rattle.anomaly.specs.declared.ResAnomaly.the-variants.{StringPoolGarbageChunk, StringCountMismatch, StringOffsetsOutOfBounds, NonXmlChunk}
@@ -21,7 +21,7 @@ use Rattle.anomaly.specs.declared.ResAnomaly.the-variants.{ElementTraili
 
 -- ---- places
 
-pub kindIndex-lt : (x : ResAnomaly) → kindIndex x < 13
+pub kindIndex-lt : (x : ResAnomaly) → kindIndex x < kinds
 unfolding kindIndex
 kindIndex-lt (StringPoolGarbageChunk chunk-type skipped) = omega arith
 kindIndex-lt (StringCountMismatch declared actual) = omega arith
@@ -37,7 +37,7 @@ kindIndex-lt (InvalidAttributeName name) = omega arith
 kindIndex-lt TruncatedXml = omega arith
 kindIndex-lt (UnclosedElements count) = omega arith
 
-counted-length : (counts : List ℕ) (k : ℕ) → length counts ≡ 13 → length (counted counts k) ≡ 13
+counted-length : (counts : List ℕ) (k : ℕ) → length counts ≡ kinds → length (counted counts k) ≡ kinds
 counted-length counts k l = length-set counts k (getD counts k 0 + 1) ∙ l
 
 -- ---- one by one
@@ -63,7 +63,7 @@ unfolding ofKind
 ofKind-other k x xs e = rw e
 
 -- what one anomaly does to the count of a kind: a kept one of that kind adds 1
-counted-same : (counts : List ℕ) (j k : ℕ) → length counts ≡ 13 → j < 13 → j ≡ k → getD (counted counts j) k 0 ≡ getD counts k 0 + 1
+counted-same : (counts : List ℕ) (j k : ℕ) → length counts ≡ kinds → j < kinds → j ≡ k → getD (counted counts j) k 0 ≡ getD counts k 0 + 1
 counted-same counts j k len h e = rw (← e) (getD-set-same counts j (getD counts j 0 + 1) 0 (omega arith))
 
 counted-other : (counts : List ℕ) (j k : ℕ) → (j ≡ k → ⊥) → getD (counted counts j) k 0 ≡ getD counts k 0
@@ -75,7 +75,7 @@ take-more n m x l e = rw (e, add-one)
 take-none : {A : Type 0} (n : ℕ) (l : List A) → n ≡ 0 → take n l ≡ []
 take-none n l e = rw e
 
-module _ (cap k : ℕ) (counts : List ℕ) (x : ResAnomaly) (xs : List ResAnomaly) (len : length counts ≡ 13) where
+module _ (cap k : ℕ) (counts : List ℕ) (x : ResAnomaly) (xs : List ResAnomaly) (len : length counts ≡ kinds) where
   -- one step: what is said of the rest, with the counts as they are and as they are with x kept
   of-kind-step : ofKind k (keptFrom cap counts xs) ≡ take (cap - getD counts k 0) (ofKind k xs)
       → ofKind k (keptFrom cap (counted counts (kindIndex x)) xs) ≡ take (cap - getD (counted counts (kindIndex x)) k 0) (ofKind k xs)
@@ -99,7 +99,7 @@ module _ (cap k : ℕ) (counts : List ℕ) (x : ResAnomaly) (xs : List ResAnomal
   of-kind-step past kept false false d e = rw (keptFrom-past cap counts x xs d, ofKind-other k x xs e) past
 
 -- of each kind, the first as many as its count leaves below the cap
-pub keptFrom-of-kind : (cap k : ℕ) (counts : List ℕ) (l : List ResAnomaly) → length counts ≡ 13
+pub keptFrom-of-kind : (cap k : ℕ) (counts : List ℕ) (l : List ResAnomaly) → length counts ≡ kinds
     → ofKind k (keptFrom cap counts l) ≡ take (cap - getD counts k 0) (ofKind k l)
 unfolding keptFrom ofKind
 keptFrom-of-kind cap k counts [] len = sym (take-nil (cap - getD counts k 0))
@@ -116,7 +116,7 @@ none-at (suc n) (suc k) = none-at n k
 -- of each kind, the first as many as the cap says
 pub keptNotes-of-kind : (cap k : ℕ) (l : List ResAnomaly) → ofKind k (keptNotes cap l) ≡ take cap (ofKind k l)
 keptNotes-of-kind cap k l =
-    let all : cap - getD none k 0 ≡ cap = omega (arith, none-at 13 k) in
+    let all : cap - getD none k 0 ≡ cap = omega (arith, none-at kinds k) in
     keptFrom-of-kind cap k none l refl ∙ ap (λ (n : ℕ). take n (ofKind k l)) all
 
 -- at most as many of each kind as the cap says
@@ -137,7 +137,7 @@ module _ (cap : ℕ) where
   Roomy : List ℕ → List ResAnomaly → Type 0
   Roomy counts l = (k : ℕ) → getD counts k 0 + length (ofKind k l) ≤ cap
 
-  roomy-next : (counts : List ℕ) (x : ResAnomaly) (xs : List ResAnomaly) → length counts ≡ 13 → Roomy counts (x ∷ xs)
+  roomy-next : (counts : List ℕ) (x : ResAnomaly) (xs : List ResAnomaly) → length counts ≡ kinds → Roomy counts (x ∷ xs)
       → Roomy (counted counts (kindIndex x)) xs
   unfolding Roomy
   roomy-next counts x xs len h k = go (eqb (kindIndex x) k) refl
@@ -159,7 +159,7 @@ module _ (cap : ℕ) where
       let here = rw (ofKind-same (kindIndex x) x xs same) at (h (kindIndex x)) in
       lt-ltb (getD counts (kindIndex x) 0) cap (omega arith)
 
-  keptFrom-whole : (counts : List ℕ) (l : List ResAnomaly) → length counts ≡ 13 → Roomy counts l → keptFrom cap counts l ≡ l
+  keptFrom-whole : (counts : List ℕ) (l : List ResAnomaly) → length counts ≡ kinds → Roomy counts l → keptFrom cap counts l ≡ l
   unfolding keptFrom
   keptFrom-whole counts [] len h = refl
   keptFrom-whole counts (x ∷ xs) len h =
@@ -169,7 +169,7 @@ module _ (cap : ℕ) where
 
   pub keptNotes-whole : (l : List ResAnomaly) → ((k : ℕ) → length (ofKind k l) ≤ cap) → keptNotes cap l ≡ l
   unfolding Roomy
-  keptNotes-whole l h = keptFrom-whole none l refl (λ k. omega (arith, none-at 13 k, h k))
+  keptNotes-whole l h = keptFrom-whole none l refl (λ k. omega (arith, none-at kinds k, h k))
 
 -- ---- how many in all
 
@@ -192,7 +192,7 @@ total-le cap (n ∷ l) h = omega (arith, h 0, total-le cap l (λ k. h (suc k)))
 Below : ℕ → List ℕ → Type 0
 Below cap counts = (k : ℕ) → getD counts k 0 ≤ cap
 
-below-next : (cap : ℕ) (counts : List ℕ) (j : ℕ) → length counts ≡ 13 → j < 13 → getD counts j 0 < cap → Below cap counts
+below-next : (cap : ℕ) (counts : List ℕ) (j : ℕ) → length counts ≡ kinds → j < kinds → getD counts j 0 < cap → Below cap counts
     → Below cap (counted counts j)
 unfolding Below
 below-next cap counts j len i due h k = go (eqb j k) refl
@@ -203,17 +203,17 @@ below-next cap counts j len i due h k = go (eqb j k) refl
         omega (arith, counted-same counts j k len i (eqb-true _ _ e))
     go false e = omega (arith, counted-other counts j k (eqb-false _ _ e), h k)
 
-keptFrom-total : (cap : ℕ) (counts : List ℕ) (l : List ResAnomaly) → length counts ≡ 13 → Below cap counts
-    → length (keptFrom cap counts l) + total counts ≤ 13 * cap
+keptFrom-total : (cap : ℕ) (counts : List ℕ) (l : List ResAnomaly) → length counts ≡ kinds → Below cap counts
+    → length (keptFrom cap counts l) + total counts ≤ kinds * cap
 unfolding keptFrom Below
 keptFrom-total cap counts [] len h = omega (arith, rw len at (total-le cap counts h))
 keptFrom-total cap counts (x ∷ xs) len h =
     step (keptFrom-total cap counts xs len h) (λ b. keptFrom-total cap (counted counts (kindIndex x)) xs (counted-length counts (kindIndex x) len) b)
     (isDue cap counts (kindIndex x)) refl
   where
-    step : length (keptFrom cap counts xs) + total counts ≤ 13 * cap
-        → (Below cap (counted counts (kindIndex x)) → length (keptFrom cap (counted counts (kindIndex x)) xs) + total (counted counts (kindIndex x)) ≤ 13 * cap)
-        → (due : Bool) → isDue cap counts (kindIndex x) ≡ due → length (keptFrom cap counts (x ∷ xs)) + total counts ≤ 13 * cap
+    step : length (keptFrom cap counts xs) + total counts ≤ kinds * cap
+        → (Below cap (counted counts (kindIndex x)) → length (keptFrom cap (counted counts (kindIndex x)) xs) + total (counted counts (kindIndex x)) ≤ kinds * cap)
+        → (due : Bool) → isDue cap counts (kindIndex x) ≡ due → length (keptFrom cap counts (x ∷ xs)) + total counts ≤ kinds * cap
     step past kept true d =
         let i = kindIndex-lt x in
         let more = total-set counts (kindIndex x) (omega arith) in
@@ -222,9 +222,9 @@ keptFrom-total cap counts (x ∷ xs) len h =
     step past kept false d = rw (keptFrom-past cap counts x xs d) past
 
 -- thirteen times the cap always suffices
-pub keptNotes-length-le : (cap : ℕ) (l : List ResAnomaly) → length (keptNotes cap l) ≤ 13 * cap
+pub keptNotes-length-le : (cap : ℕ) (l : List ResAnomaly) → length (keptNotes cap l) ≤ kinds * cap
 unfolding Below
-keptNotes-length-le cap l = omega (arith, keptFrom-total cap none l refl (λ k. omega (arith, none-at 13 k)))
+keptNotes-length-le cap l = omega (arith, keptFrom-total cap none l refl (λ k. omega (arith, none-at kinds k)))
 
 -- ---- nothing is made up, and the order stays
 

@@ -15,7 +15,7 @@ use mathlib.Core.List.{List, [], _∷_, _++_}
 use mathlib.Core.Bool.{Bool, cond}
 use lib.ListN.{getD, set, replicate}
 use lib.Dec.{ltb, eqb}
-use Rattle.anomaly.specs.Note.{kindIndex}
+use Rattle.anomaly.specs.Note.{kinds, kindIndex}
 use Rattle.anomaly.specs.declared.Notes.{Notes}
 use Rattle.anomaly.specs.declared.ResAnomaly.{ResAnomaly}
 
@@ -26,7 +26,7 @@ abbrev pub counted : List ℕ → ℕ → List ℕ
 counted counts k = set counts k (getD counts k 0 + 1)
 
 abbrev pub none : List ℕ
-none = replicate 13 0
+none = replicate kinds 0
 
 unfoldable pub ofKind : ℕ → List ResAnomaly → List ResAnomaly
 ofKind k [] = []

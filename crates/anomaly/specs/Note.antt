@@ -2,10 +2,13 @@
 --
 --   noteOf       the number of a kind, and its numbers a and b, 0 where the kind has none
 --   kindNumber   the printed number of a kind
---   kindIndex    the place of a kind in the counts, below 13; equal to kindNumber today, and another thing
+--   kinds        how many kinds there are
+--   kindIndex    the place of a kind in the counts, below that; another thing than its printed number
+--   kindNumbers  the printed numbers in the order of the places
 --
 -- Laws: proofs/Laws.antt.
 use Prim.Native.Nat.{ℕ}
+use mathlib.Core.List.{List, [], _∷_}
 use Rattle.anomaly.specs.declared.Note.{Note}
 use Rattle.anomaly.specs.declared.ResAnomaly.{ResAnomaly}
 use Rattle.anomaly.specs.declared.ResAnomaly.the-variants.{StringPoolGarbageChunk, StringCountMismatch, StringOffsetsOutOfBounds, NonXmlChunk}
@@ -33,6 +36,9 @@ noteOf (UnclosedElements count) = made 12 count 0
 abbrev pub kindNumber : ResAnomaly → ℕ
 kindNumber x = noteOf x .kind
 
+abbrev pub kinds : ℕ
+kinds = 13
+
 unfoldable pub kindIndex : ResAnomaly → ℕ
 kindIndex (StringPoolGarbageChunk chunk-type skipped) = 0
 kindIndex (StringCountMismatch declared actual) = 1
@@ -47,3 +53,6 @@ kindIndex (InvalidElementName name has-text) = 9
 kindIndex (InvalidAttributeName name) = 10
 kindIndex TruncatedXml = 11
 kindIndex (UnclosedElements count) = 12
+
+unfoldable pub kindNumbers : List ℕ
+kindNumbers = 0 ∷ 1 ∷ 2 ∷ 3 ∷ 4 ∷ 5 ∷ 6 ∷ 7 ∷ 8 ∷ 9 ∷ 10 ∷ 11 ∷ 12 ∷ []

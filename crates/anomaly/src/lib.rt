@@ -6,7 +6,7 @@
 ghost use mathlib.Core.Path.{_≡_};
 ghost use Prim.Native.Nat.{_<_};
 ghost use lib.ListN.{getD};
-ghost use Rattle.anomaly.specs.Note.{made, noteOf, kindIndex};
+ghost use Rattle.anomaly.specs.Note.{made, noteOf, kinds, kindIndex};
 ghost use Rattle.anomaly.specs.Kept.{isDue, noNotes, storedIn};
 
 // A note as it is lent and printed: the number of its kind, and two numbers that the kind explains.
@@ -34,8 +34,11 @@ pub enum ResAnomaly {
     UnclosedElements(u32), // how deep the end of the walk is
 }
 
+// How many kinds there are.
+pub const KINDS: usize = 13;
+
 // The place of a kind in the counts, in the order of the Rust's declaration.
-// Ruled out: one place for two kinds, and a place past the thirteen.
+// Ruled out: one place for two kinds, and a place past the last.
 pub fn kind_index(x: ResAnomaly) -> usize
     ensures { λ r. ⌜ r ≡ kindIndex x ⌝ }
 {
@@ -86,7 +89,7 @@ pub fn note_of(x: ResAnomaly) -> Note
 
 // The note state: how many notes of each kind are kept, and how many in all, which is the place of the next in the table.
 pub struct Notes {
-    pub counts: [u32; 13],
+    pub counts: [u32; KINDS],
     pub used: usize,
 }
 
@@ -96,7 +99,7 @@ impl Notes {
         ensures { λ r. ⌜ r ≡ noNotes ⌝ }
     {
         Notes {
-            counts: [0u32; 13],
+            counts: [0u32; KINDS],
             used: 0,
         }
     }
@@ -104,7 +107,7 @@ impl Notes {
     // Whether one more note of the kind with this place is kept: a note past its cap is not due.
     // Ruled out: no for the first of a kind because another kind is at its cap, and yes with cap 0.
     pub fn is_due(self, cap: u32, kind: usize) -> bool
-        requires { ⌜ kind < 13 ⌝ }
+        requires { ⌜ kind < kinds ⌝ }
         ensures { λ r. ⌜ r ≡ isDue cap (self .counts) kind ⌝ }
     {
         self.counts[kind] < cap
@@ -113,7 +116,7 @@ impl Notes {
     // The state with one more note of the kind with this place.
     // Ruled out: another kind's count moved, and the number of notes left as it was.
     pub fn stored(self, kind: usize) -> Notes
-        requires { ⌜ (kind < 13) × (getD (self .counts) kind 0 < 4294967295) × (self .used < 18446744073709551615) ⌝ }
+        requires { ⌜ (kind < kinds) × (getD (self .counts) kind 0 < 4294967295) × (self .used < 18446744073709551615) ⌝ }
         ensures { λ r. ⌜ r ≡ storedIn self kind ⌝ }
     {
         let mut counts = self.counts;

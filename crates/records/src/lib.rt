@@ -1,0 +1,135 @@
+// What the words of a record are: of a node, an attribute, a note and a lent system name, each word by its name; how long a file may be; and
+// the room of a listing. The one place that knows these numbers in code, as specs/Words.antt and specs/Limits.antt are in definitions.
+//
+// Mirrors nothing of the Rust's, whose tree has vectors and structs of its own. docs/FORMAT.md, B2, B9, B11, B12, N4, L1.
+// A further word of a record is its width, its place and its parameter here; who stores the record gives the word, and nobody else changes.
+ghost use mathlib.Core.Path.{_≡_};
+ghost use mathlib.Core.List.{_++_};
+ghost use Prim.Native.Nat.{_+_, _*_, _≤_};
+ghost use lib.ListN.{length, drop, take};
+ghost use Rattle.records.specs.Words.{nodeWidth, attributeWidth, nodeWords, attributeWords};
+use anomaly::KINDS;
+
+// ---- a node
+
+pub const NODE_WORDS: usize = 5;
+// the index of its name
+pub const NODE_NAME: usize = 0;
+// 1 for `invalid-element`, else 0
+pub const NODE_FIXED: usize = 1;
+// the number of its parent, NO_PARENT for the first
+pub const NODE_PARENT: usize = 2;
+// the number of its first attribute
+pub const NODE_FIRST: usize = 3;
+// how many attributes it has
+pub const NODE_COUNT: usize = 4;
+
+pub const NO_PARENT: u32 = 4294967295;
+
+// ---- an attribute
+
+pub const ATTRIBUTE_WORDS: usize = 5;
+// the number of its node
+pub const ATTRIBUTE_OWNER: usize = 0;
+// 0 none, 1 `android`, 2 that of the leading attribute
+pub const ATTRIBUTE_PREFIX: usize = 1;
+// the index of its name
+pub const ATTRIBUTE_NAME: usize = 2;
+
+pub const ATTRIBUTE_TYPE: usize = 3;
+
+pub const ATTRIBUTE_DATA: usize = 4;
+
+// ---- a note lent as words
+
+pub const NOTE_WORDS: usize = 3;
+
+pub const NOTE_KIND: usize = 0;
+
+pub const NOTE_A: usize = 1;
+
+pub const NOTE_B: usize = 2;
+
+// ---- a lent system name
+
+pub const NAME_WORDS: usize = 3;
+
+pub const NAME_ID: usize = 0;
+// where its text begins in the area
+pub const NAME_START: usize = 1;
+// the bytes of its text
+pub const NAME_LENGTH: usize = 2;
+
+// ---- limits
+
+// A file of more bytes is refused.
+pub const FILE_LIMIT: usize = 16777216;
+
+// ---- a listing
+
+// The longest file that is listed, and the room that suffices for each of these.
+pub const LISTED_FILE: usize = 65536;
+
+pub const LISTED_NODES: usize = 2048;
+
+pub const LISTED_ATTRIBUTES: usize = 3276;
+// How many notes of a kind are listed, and of all kinds.
+pub const LISTED_CAP: u32 = 8;
+
+pub const LISTED_NOTES: usize = (LISTED_CAP as usize) * KINDS;
+
+// The first word of a node. Ruled out: the width for the first node, and a product that wraps.
+pub fn node_place(k: u32) -> usize
+    ensures { λ r. ⌜ r ≡ nodeWidth * k ⌝ }
+{
+    NODE_WORDS * (k as usize)
+}
+
+// The first word of an attribute. Ruled out: as above.
+pub fn attribute_place(k: u32) -> usize
+    ensures { λ r. ⌜ r ≡ attributeWidth * k ⌝ }
+{
+    ATTRIBUTE_WORDS * (k as usize)
+}
+
+// The words of a node, from the place `i` on. Ruled out: two words in each other's place, and a word changed before or behind them.
+pub fn put_node(
+    words: &mut [u32],
+    i: usize,
+    name: u32,
+    fixed: u32,
+    parent: u32,
+    first: u32,
+    count: u32,
+)
+    requires { ⌜ i + nodeWidth ≤ length (now words) ⌝ }
+    ensures { λ _. ⌜ now (words .exit)
+        ≡ take i (now (words .entry)) ++ nodeWords name fixed parent first count ++ drop (i + nodeWidth) (now (words .entry)) ⌝ }
+{
+    words[i] = name;
+    words[i + NODE_FIXED] = fixed;
+    words[i + NODE_PARENT] = parent;
+    words[i + NODE_FIRST] = first;
+    words[i + NODE_COUNT] = count;
+}
+
+// The words of an attribute, from the place `i` on. Ruled out: as above.
+pub fn put_attribute(
+    words: &mut [u32],
+    i: usize,
+    owner: u32,
+    prefix: u32,
+    name: u32,
+    kind: u32,
+    data: u32,
+)
+    requires { ⌜ i + attributeWidth ≤ length (now words) ⌝ }
+    ensures { λ _. ⌜ now (words .exit)
+        ≡ take i (now (words .entry)) ++ attributeWords owner prefix name kind «data» ++ drop (i + attributeWidth) (now (words .entry)) ⌝ }
+{
+    words[i] = owner;
+    words[i + ATTRIBUTE_PREFIX] = prefix;
+    words[i + ATTRIBUTE_NAME] = name;
+    words[i + ATTRIBUTE_TYPE] = kind;
+    words[i + ATTRIBUTE_DATA] = data;
+}
