@@ -1,0 +1,4 @@
+-- The node file of the crate's proofs.
+pub mod Laws
+pub mod Shares
+pub mod Tallies

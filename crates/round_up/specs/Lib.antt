@@ -1,0 +1,4 @@
+-- The root of the crate's definitions.
+pub mod RoundUp
+pub mod Kinds
+pub mod Inner
