@@ -2,3 +2,6 @@
 pub mod Laws
 pub mod Shares
 pub mod Tallies
+pub mod Order
+pub mod Sums
+pub mod Told

@@ -11,7 +11,8 @@ use lib.Seq.{getD-drop}
 use lib.Dec.{ltb, eqb}
 use Rattle.records.specs.Words.{noteWidth}
 use Rattle.round_up.specs.RoundUp.{kinds}
-use Rattle.round_up.specs.Kinds.{kindsFrom, howMany, tally}
+use Rattle.round_up.specs.Kinds.{kindsFrom, howMany, tally, inGrid}
+use Rattle.round_up.specs.History.{total}
 use Rattle.round_up.specs.Inner.Turns.{countedIn}
 
 -- ---- the kinds of a table
@@ -97,6 +98,39 @@ tally-in (suc n) k zero x xs e h =
     rw (howMany-same k x xs (omega arith), tally-below n (suc k) x xs (omega arith))
 tally-in (suc n) k (suc j) x xs e h =
     rw (howMany-other k x xs (λ q. omega arith), tally-in n (suc k) j x xs (omega arith) (omega arith))
+
+-- ---- the sum of a tally
+
+total-below : (n k x : ℕ) (xs : List ℕ) → x < k → total (tally n k (x ∷ xs)) ≡ total (tally n k xs)
+unfolding tally howMany total
+total-below zero k x xs h = refl
+total-below (suc n) k x xs h = rw (ne-eqb x k (λ e. omega arith)) (omega (arith, total-below n (suc k) x xs (omega arith)))
+
+total-above : (n k x : ℕ) (xs : List ℕ) → k + n ≤ x → total (tally n k (x ∷ xs)) ≡ total (tally n k xs)
+unfolding tally howMany total
+total-above zero k x xs h = refl
+total-above (suc n) k x xs h = rw (ne-eqb x k (λ e. omega arith)) (omega (arith, total-above n (suc k) x xs (omega arith)))
+
+total-in : (n k j x : ℕ) (xs : List ℕ) → x ≡ k + j → j < n → total (tally n k (x ∷ xs)) ≡ total (tally n k xs) + 1
+unfolding tally howMany total
+total-in zero k j x xs e h = absurd (let z : ⊥ = omega arith in z)
+total-in (suc n) k zero x xs e h = rw (eq-eqb x k (omega arith)) (omega (arith, total-below n (suc k) x xs (omega arith)))
+total-in (suc n) k (suc j) x xs e h = rw (ne-eqb x k (λ q. omega arith)) (omega (arith, total-in n (suc k) j x xs (omega arith) (omega arith)))
+
+total-none : (n k : ℕ) → _≡_ {A = ℕ} (total (tally n k [])) 0
+unfolding tally howMany total
+total-none zero k = refl
+total-none (suc n) k = omega (arith, total-none n (suc k))
+
+-- the sum of the counts of kinds 0 to 12 is how many of the kinds are among them
+pub total-tally : (xs : List ℕ) → total (tally kinds 0 xs) ≡ inGrid xs
+unfolding inGrid
+total-tally [] = total-none kinds 0
+total-tally (x ∷ xs) = go (total-tally xs) (ltb x kinds) refl
+  where
+    go : total (tally kinds 0 xs) ≡ inGrid xs → (b : Bool) → ltb x kinds ≡ b → total (tally kinds 0 (x ∷ xs)) ≡ cond b 1 0 + inGrid xs
+    go rest true e = omega (arith, rest, total-in kinds 0 x x xs (omega arith) (ltb-true x kinds e))
+    go rest false e = omega (arith, rest, total-above kinds 0 x xs (omega (arith, ltb-false x kinds e)))
 
 -- ---- a turn of `kinds_in`
 

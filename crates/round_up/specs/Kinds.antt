@@ -5,11 +5,12 @@
 --   tally       how often each of the n numbers from k on stands in a list
 --   kindsIn     THE PROMISE of `kinds_in`: how many of the first `notes` notes, or of all if there are fewer, are of each kind from 0 to 12. A note of
 --               any other kind is not counted, and words behind the last whole note are none
+--   inGrid      how many of these kinds are 0 to 12: what the counts of `kindsIn` sum up to
 use Prim.Native.Nat.{ℕ, zero, suc, _+_, _/_, min}
 use mathlib.Core.Bool.{cond}
 use mathlib.Core.List.{List, [], _∷_}
 use lib.ListN.{length, getD, drop}
-use lib.Dec.{eqb}
+use lib.Dec.{ltb, eqb}
 use Rattle.records.specs.Words.{noteWidth, noteKind}
 use Rattle.round_up.specs.RoundUp.{kinds}
 
@@ -27,3 +28,7 @@ tally (suc n) k xs = howMany k xs ∷ tally n (suc k) xs
 
 abbrev pub kindsIn : List ℕ → ℕ → List ℕ
 kindsIn words notes = tally kinds 0 (kindsFrom (min notes (length words / noteWidth)) words)
+
+unfoldable pub inGrid : List ℕ → ℕ
+inGrid [] = 0
+inGrid (x ∷ xs) = cond (ltb x kinds) 1 0 + inGrid xs

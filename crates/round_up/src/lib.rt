@@ -2,7 +2,7 @@
 //
 // Mirrors nothing of the Rust's. A round-up goes in by value and comes back: with the file added, or as it was where a count would pass
 // 4,294,967,295 (refusal 29). It is the sum of what each file adds, so that the order of files changes nothing.
-// Definitions: specs/RoundUp.antt, specs/Kinds.antt.
+// Definitions: specs/RoundUp.antt, specs/Kinds.antt. What holds of a history of files: specs/History.antt, proofs/Sums.antt, Order.antt, Told.antt.
 ghost use mathlib.Core.Path.{_≡_};
 ghost use Prim.Native.Nat.{ℕ, _<_, min};
 ghost use mathlib.Core.Bool.{true};
