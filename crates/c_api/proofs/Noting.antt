@@ -8,18 +8,19 @@ use mathlib.Core.Path.{_≡_, refl, sym, _∙_, ap}
 use mathlib.Core.List.{List, [], _∷_, _++_, append-assoc}
 use lib.ListN.{length, take, set, replicate, length-append, replicate-append-replicate}
 use Rattle.anomaly.specs.declared.Note.{Note}
+use Rattle.records.specs.Words.{noteWidth, noteKind, noteA, noteB}
 use Rattle.walk.specs.Reading.{zeroNote}
 use Rattle.walk.specs.Outcome.{cleared}
 use Rattle.c_api.specs.Words.{wordsOf, putNote}
 
 -- ---- length
 
-length-words : (os : List Note) → length (wordsOf os) ≡ 3 * length os
+length-words : (os : List Note) → length (wordsOf os) ≡ noteWidth * length os
 unfolding wordsOf
 length-words [] = refl
 length-words (n ∷ os) = omega (arith, length-words os)
 
-pub length-of : (os : List Note) (t ws : List ℕ) → ws ≡ wordsOf os ++ t → length ws ≡ 3 * length os + length t
+pub length-of : (os : List Note) (t ws : List ℕ) → ws ≡ wordsOf os ++ t → length ws ≡ noteWidth * length os + length t
 length-of os t ws e = ap length e ∙ length-append (wordsOf os) t ∙ ap (λ (n : ℕ). n + length t) (length-words os)
 
 -- ---- words taken for notes
@@ -43,17 +44,17 @@ words-back (a ∷ []) = refl
 words-back (a ∷ b ∷ []) = refl
 words-back (a ∷ b ∷ c ∷ ws) = ap (λ (l : List ℕ). a ∷ b ∷ c ∷ l) (words-back ws)
 
-restIn-lt : (ws : List ℕ) → length (restIn ws) < 3
+restIn-lt : (ws : List ℕ) → length (restIn ws) < noteWidth
 unfolding restIn
 restIn-lt [] = omega arith
 restIn-lt (a ∷ []) = omega arith
 restIn-lt (a ∷ b ∷ []) = omega arith
 restIn-lt (a ∷ b ∷ c ∷ ws) = restIn-lt ws
 
-pub notesIn-places : (ws : List ℕ) → length (notesIn ws) ≡ length ws / 3
+pub notesIn-places : (ws : List ℕ) → length (notesIn ws) ≡ length ws / noteWidth
 notesIn-places ws =
-    let e : length ws ≡ 3 * length (notesIn ws) + length (restIn ws) = length-of (notesIn ws) (restIn ws) ws (words-back ws) in
-    sym (div-eq-of-lt-le 3 (omega (arith, e)) (omega (arith, e, restIn-lt ws)))
+    let e : length ws ≡ noteWidth * length (notesIn ws) + length (restIn ws) = length-of (notesIn ws) (restIn ws) ws (words-back ws) in
+    sym (div-eq-of-lt-le noteWidth (omega (arith, e)) (omega (arith, e, restIn-lt ws)))
 
 -- ---- a note put into the words of a list is that note set in the list
 
@@ -68,9 +69,9 @@ unfolding wordsOf
 words-put [] t k n h = absurd (let z : ⊥ = omega arith in z)
 words-put (o ∷ os) t zero n h = refl
 words-put (o ∷ os) t (suc k) n h =
-    let e : 3 * suc k ≡ suc (suc (suc (3 * k))) = omega arith in
-    let e₁ : 3 * suc k + 1 ≡ suc (suc (suc (3 * k + 1))) = omega arith in
-    let e₂ : 3 * suc k + 2 ≡ suc (suc (suc (3 * k + 2))) = omega arith in
+    let e : noteWidth * suc k + noteKind ≡ suc (suc (suc (noteWidth * k + noteKind))) = omega arith in
+    let e₁ : noteWidth * suc k + noteA ≡ suc (suc (suc (noteWidth * k + noteA))) = omega arith in
+    let e₂ : noteWidth * suc k + noteB ≡ suc (suc (suc (noteWidth * k + noteB))) = omega arith in
     puts-at (wordsOf (o ∷ os) ++ t) n e e₁ e₂ ∙ ap (λ (l : List ℕ). o .kind ∷ o .a ∷ o .b ∷ l) (words-put os t k n (omega arith))
 
 -- ---- zeros from a place on
@@ -80,31 +81,31 @@ unfolding wordsOf
 words-append [] ps = refl
 words-append (o ∷ os) ps = ap (λ (l : List ℕ). o .kind ∷ o .a ∷ o .b ∷ l) (words-append os ps)
 
-words-zeros : (n : ℕ) → wordsOf (replicate n zeroNote) ≡ replicate (3 * n) 0
+words-zeros : (n : ℕ) → wordsOf (replicate n zeroNote) ≡ replicate (noteWidth * n) 0
 unfolding wordsOf
 words-zeros zero = refl
 words-zeros (suc n) =
-    let e : 3 * suc n ≡ suc (suc (suc (3 * n))) = omega arith in
+    let e : noteWidth * suc n ≡ suc (suc (suc (noteWidth * n))) = omega arith in
     ap (λ (l : List ℕ). 0 ∷ 0 ∷ 0 ∷ l) (words-zeros n) ∙ ap (λ (m : ℕ). replicate m 0) (sym e)
 
-words-take : (os : List Note) (t : List ℕ) (k : ℕ) → k ≤ length os → take (3 * k) (wordsOf os ++ t) ≡ wordsOf (take k os)
+words-take : (os : List Note) (t : List ℕ) (k : ℕ) → k ≤ length os → take (noteWidth * k) (wordsOf os ++ t) ≡ wordsOf (take k os)
 unfolding wordsOf
 words-take os t zero h = refl
 words-take [] t (suc k) h = absurd (let z : ⊥ = omega arith in z)
 words-take (o ∷ os) t (suc k) h =
-    let e : 3 * suc k ≡ suc (suc (suc (3 * k))) = omega arith in
+    let e : noteWidth * suc k ≡ suc (suc (suc (noteWidth * k))) = omega arith in
     ap (λ (m : ℕ). take m (wordsOf (o ∷ os) ++ t)) e ∙ ap (λ (l : List ℕ). o .kind ∷ o .a ∷ o .b ∷ l) (words-take os t k (omega arith))
 
-words-behind : (os : List Note) (m n : ℕ) → wordsOf os ++ replicate (3 * m + n) 0 ≡ wordsOf (os ++ replicate m zeroNote) ++ replicate n 0
+words-behind : (os : List Note) (m n : ℕ) → wordsOf os ++ replicate (noteWidth * m + n) 0 ≡ wordsOf (os ++ replicate m zeroNote) ++ replicate n 0
 words-behind os m n =
-    ap (λ (l : List ℕ). wordsOf os ++ l) (sym (replicate-append-replicate (3 * m) n 0))
-    ∙ sym (append-assoc (wordsOf os) (replicate (3 * m) 0) (replicate n 0))
+    ap (λ (l : List ℕ). wordsOf os ++ l) (sym (replicate-append-replicate (noteWidth * m) n 0))
+    ∙ sym (append-assoc (wordsOf os) (replicate (noteWidth * m) 0) (replicate n 0))
     ∙ ap (λ (l : List ℕ). wordsOf os ++ l ++ replicate n 0) (sym (words-zeros m))
     ∙ ap (λ (l : List ℕ). l ++ replicate n 0) (sym (words-append os (replicate m zeroNote)))
 
-pub words-cleared : (os : List Note) (t ws : List ℕ) (k i : ℕ) → k ≤ length os → i ≡ 3 * k → ws ≡ wordsOf os ++ t
+pub words-cleared : (os : List Note) (t ws : List ℕ) (k i : ℕ) → k ≤ length os → i ≡ noteWidth * k → ws ≡ wordsOf os ++ t
     → take i ws ++ replicate (length ws - i) 0 ≡ wordsOf (cleared os k (length os)) ++ replicate (length t) 0
 words-cleared os t ws k i h ei ew =
     let front : take i ws ≡ wordsOf (take k os) = rw (ei, ew) (words-take os t k h) in
-    let many : length ws - i ≡ 3 * (length os - k) + length t = omega (arith, length-of os t ws ew, ei, h) in
+    let many : length ws - i ≡ noteWidth * (length os - k) + length t = omega (arith, length-of os t ws ew, ei, h) in
     rw (front, many) (words-behind (take k os) (length os - k) (length t))

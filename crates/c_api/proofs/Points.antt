@@ -19,6 +19,7 @@ use Rattle.anomaly.specs.declared.Note.{Note}
 use Rattle.errors.specs.declared.Numbers.{Numbers}
 use Rattle.errors.specs.declared.ReadAnswer.{ReadAnswer}
 use Rattle.errors.specs.Refusal.{numbersOf}
+use Rattle.records.specs.Words.{noteWidth}
 use Rattle.walk.specs.declared.Mode.{Mode}
 use Rattle.walk.specs.declared.Mode.the-variants.{Fresh, Reading as InBody, Clearing}
 use Rattle.walk.specs.declared.State.{State}
@@ -40,15 +41,15 @@ module _ (f names area ns₀ ats₀ ws₀ : List ℕ) (cap : ℕ) where
     pub notes : List Note
     pub tail : List ℕ
     pub words : ws ≡ wordsOf notes ++ tail
-    pub places : length notes ≡ length ws₀ / 3
-    pub room : st .room ≡ length ws₀ / 3
+    pub places : length notes ≡ length ws₀ / noteWidth
+    pub room : st .room ≡ length ws₀ / noteWidth
     pub long-nodes : length ns ≡ length ns₀
     pub long-attributes : length ats ≡ length ats₀
     pub long-words : length ws ≡ length ws₀
     pub good : Good f names area ns ats st
     pub same : outcome f names area ns ats notes st (good .stack) ≡ reading (wordRoom ns₀ ats₀ ws₀ cap) f names area
 
-  pub point-first : (st : State) → st ≡ first (length ws₀ / 3) cap → Point ns₀ ats₀ ws₀ st
+  pub point-first : (st : State) → st ≡ first (length ws₀ / noteWidth) cap → Point ns₀ ats₀ ws₀ st
   point-first st e =
       rw e
       (record {
@@ -60,7 +61,7 @@ module _ (f names area ns₀ ats₀ ws₀ : List ℕ) (cap : ℕ) where
         long-nodes = refl;
         long-attributes = refl;
         long-words = refl;
-        good = first-good f names area ns₀ ats₀ (length ws₀ / 3) cap;
+        good = first-good f names area ns₀ ats₀ (length ws₀ / noteWidth) cap;
         same = refl;
       })
 
@@ -70,28 +71,28 @@ module _ (f names area ns₀ ats₀ ws₀ : List ℕ) (cap : ℕ) where
   gives a ns ats os = record { answer = a; nodes = ns; attributes = ats; notes = os }
 
   reads-of : (x : Reading) → x ≡ reading (wordRoom ns₀ ats₀ ws₀ cap) f names area → (ws′ : List ℕ)
-      → ws′ ≡ wordsOf (x .notes) ++ replicate (length ws₀ % 3) 0
+      → ws′ ≡ wordsOf (x .notes) ++ replicate (length ws₀ % noteWidth) 0
       → ReadsWords f names area ns₀ ats₀ ws₀ cap (answerOf (numbersOf (x .answer))) (x .nodes) (x .attributes) ws′
   reads-of x e ws′ w = record {
     answer = ap (λ (y : Reading). answerOf (numbersOf (y .answer))) e;
     nodes = ap (λ (y : Reading). y .nodes) e;
     attributes = ap (λ (y : Reading). y .attributes) e;
-    notes = w ∙ ap (λ (y : Reading). wordsOf (y .notes) ++ replicate (length ws₀ % 3) 0) e;
+    notes = w ∙ ap (λ (y : Reading). wordsOf (y .notes) ++ replicate (length ws₀ % noteWidth) 0) e;
   }
 
-  odd : (ns ats ws : List ℕ) (st : State) (p : Point ns ats ws st) → length (p .tail) ≡ length ws₀ % 3
-  odd ns ats ws st p = omega (arith, length-of (p .notes) (p .tail) ws (p .words), p .places, p .long-words, div-add-mod (length ws₀) 3)
+  odd : (ns ats ws : List ℕ) (st : State) (p : Point ns ats ws st) → length (p .tail) ≡ length ws₀ % noteWidth
+  odd ns ats ws st p = omega (arith, length-of (p .notes) (p .tail) ws (p .words), p .places, p .long-words, div-add-mod (length ws₀) noteWidth)
 
   -- the answer is known, the note is written, and zeros are from the next place on
   pub point-cleared : (ns ats ws : List ℕ) (st : State) → Point ns ats ws st → isClearing (st .mode) ≡ true → st .slot < st .room
-      → (ws′ : List ℕ) → ws′ ≡ take (3 * st .slot + 3) ws ++ replicate (length ws - (3 * st .slot + 3)) 0
+      → (ws′ : List ℕ) → ws′ ≡ take (noteWidth * st .slot + noteWidth) ws ++ replicate (length ws - (noteWidth * st .slot + noteWidth)) 0
       → ReadsWords f names area ns₀ ats₀ ws₀ cap (answerOf (numbersOf (st .answer))) ns ats ws′
   point-cleared ns ats ws st p m h ws′ z =
       let mode : st .mode ≡ Clearing = clearing-of (st .mode) m in
       let all : length (p .notes) ≡ st .room = p .places ∙ sym (p .room) in
       let here : outcome f names area ns ats (p .notes) st (p .good .stack) ≡ gives (st .answer) ns ats (cleared (p .notes) (st .slot + 1) (st .room)) =
       rw mode in
-      let next : 3 * st .slot + 3 ≡ 3 * (st .slot + 1) = omega arith in
+      let next : noteWidth * st .slot + noteWidth ≡ noteWidth * (st .slot + 1) = omega arith in
       reads-of (gives (st .answer) ns ats (cleared (p .notes) (st .slot + 1) (st .room))) (sym here ∙ p .same) ws′
       (z ∙ words-cleared (p .notes) (p .tail) ws (st .slot + 1) _ (omega (arith, h, all)) next (p .words)
       ∙ ap (λ (n : ℕ). wordsOf (cleared (p .notes) (st .slot + 1) n) ++ replicate (length (p .tail)) 0) all
@@ -109,7 +110,7 @@ module _ (f names area ns₀ ats₀ ws₀ : List ℕ) (cap : ℕ) where
     slot-lt : r .done ≡ false → r .slot < length (p .notes)
     slot-lt d = omega (arith, advanced .due d .0, advanced .room, all-places)
 
-    pub point-fits : r .done ≡ false → 3 * r .slot + 3 ≤ length ws
+    pub point-fits : r .done ≡ false → noteWidth * r .slot + noteWidth ≤ length ws
     point-fits d = omega (arith, slot-lt d, length-of (p .notes) (p .tail) ws (p .words))
 
     pub point-slot : r .done ≡ false → r .slot < r .room
@@ -134,10 +135,10 @@ module _ (f names area ns₀ ats₀ ws₀ : List ℕ) (cap : ℕ) where
     }
 
     -- all places are written, and zeros are behind the last
-    pub point-last : r .done ≡ true → (ws′ : List ℕ) → ws′ ≡ take (3 * (length ws / 3)) ws ++ replicate (length ws - 3 * (length ws / 3)) 0
+    pub point-last : r .done ≡ true → (ws′ : List ℕ) → ws′ ≡ take (noteWidth * (length ws / noteWidth)) ws ++ replicate (length ws - noteWidth * (length ws / noteWidth)) 0
         → ReadsWords f names area ns₀ ats₀ ws₀ cap (answerOf (numbersOf (r .answer))) ns′ ats′ ws′
     point-last d ws′ z =
-        let all : 3 * (length ws / 3) ≡ 3 * length (p .notes) = rw (p .long-words, p .places) in
+        let all : noteWidth * (length ws / noteWidth) ≡ noteWidth * length (p .notes) = rw (p .long-words, p .places) in
         let none : length (p .notes) - length (p .notes) ≡ 0 = omega arith in
         let kept : cleared (p .notes) (length (p .notes)) (length (p .notes)) ≡ p .notes =
         rw (none, take-length (p .notes)) (append-nil (p .notes)) in

@@ -10,6 +10,7 @@ use Rattle.errors.specs.declared.TextAnswer.{TextAnswer}
 use Rattle.errors.specs.declared.TextNumbers.{TextNumbers}
 use Rattle.errors.specs.Refusal.{numbersOf, textNumbersOf}
 use Rattle.head.specs.Ask.{TextReads}
+use Rattle.records.specs.Words.{noteWidth}
 use Rattle.walk.specs.Settle.{Room}
 use Rattle.walk.specs.Reading.{Reading, Reads, reading, roomIn}
 use Rattle.c_api.specs.declared.AxmlAnswer.{AxmlAnswer}
@@ -22,10 +23,10 @@ pub record OneReading (a : ReadAnswer) (ns₁ ats₁ : List ℕ) (os₁ : List N
   pub answer : r ≡ answerOf (numbersOf a)
   pub nodes : ns₂ ≡ ns₁
   pub attributes : ats₂ ≡ ats₁
-  pub notes : ws₂ ≡ wordsOf os₁ ++ replicate (length ws % 3) 0
+  pub notes : ws₂ ≡ wordsOf os₁ ++ replicate (length ws % noteWidth) 0
 
 -- with as many places as the words have whole threes
-pub same-reading : (f names area ns ats : List ℕ) (os : List Note) (ws : List ℕ) (cap : ℕ) → length os ≡ length ws / 3
+pub same-reading : (f names area ns ats : List ℕ) (os : List Note) (ws : List ℕ) (cap : ℕ) → length os ≡ length ws / noteWidth
     → (a : ReadAnswer) (ns₁ ats₁ : List ℕ) (os₁ : List Note) → Reads f names area ns ats os cap a ns₁ ats₁ os₁
     → (r : AxmlAnswer) (ns₂ ats₂ ws₂ : List ℕ) → ReadsWords f names area ns ats ws cap r ns₂ ats₂ ws₂
     → OneReading a ns₁ ats₁ os₁ ws r ns₂ ats₂ ws₂
@@ -38,8 +39,8 @@ same-reading f names area ns ats os ws cap places a ns₁ ats₁ os₁ h r ns₂
       nodes = k .nodes ∙ ap (λ (x : Reading). x .nodes) e ∙ sym (h .nodes);
       attributes = k .attributes ∙ ap (λ (x : Reading). x .attributes) e ∙ sym (h .attributes);
       notes = k .notes
-          ∙ ap (λ (x : Reading). wordsOf (x .notes) ++ replicate (length ws % 3) 0) e
-          ∙ ap (λ (o : List Note). wordsOf o ++ replicate (length ws % 3) 0) (sym (h .notes));
+          ∙ ap (λ (x : Reading). wordsOf (x .notes) ++ replicate (length ws % noteWidth) 0) e
+          ∙ ap (λ (o : List Note). wordsOf o ++ replicate (length ws % noteWidth) 0) (sym (h .notes));
     }
 
 pub asks-of-reads : (f names area before : List ℕ) (i : ℕ) (a : TextAnswer) (after : List ℕ) → TextReads f names area before i a after

@@ -1,7 +1,7 @@
 -- A reading whose notes are lent as words, and its answer as a struct of numbers: docs/FORMAT.md, B1, B6, B7, B8, B12.
 --
---   wordsOf      the words of notes, three to a note: kind, a, b
---   wordRoom     the room of tables with these contents before the call: a place for each whole three words of the note table
+--   wordsOf      the words of notes
+--   wordRoom     the room of tables with these contents before the call: a place for the words of each whole note in the note table
 --   answerOf     the numbers of an answer as the struct that C has
 --   ReadsWords   THE PROMISE of `axml_read`: the numbers and the tables of `reading` at that room, and zeros behind the last place
 --   putNote, isClearing   what the code does on its way, not to be believed
@@ -13,6 +13,7 @@ use lib.ListN.{length, set, replicate}
 use Rattle.anomaly.specs.declared.Note.{Note}
 use Rattle.errors.specs.declared.Numbers.{Numbers}
 use Rattle.errors.specs.Refusal.{numbersOf}
+use Rattle.records.specs.Words.{noteWidth, noteKind, noteA, noteB, noteWords}
 use Rattle.walk.specs.declared.Mode.{Mode}
 use Rattle.walk.specs.declared.Mode.the-variants.{Fresh, Reading as InBody, Clearing}
 use Rattle.walk.specs.Settle.{Room}
@@ -21,10 +22,10 @@ use Rattle.c_api.specs.declared.AxmlAnswer.{AxmlAnswer}
 
 unfoldable pub wordsOf : List Note → List ℕ
 wordsOf [] = []
-wordsOf (n ∷ os) = n .kind ∷ n .a ∷ n .b ∷ wordsOf os
+wordsOf (n ∷ os) = noteWords (n .kind) (n .a) (n .b) ++ wordsOf os
 
 abbrev pub wordRoom : List ℕ → List ℕ → List ℕ → ℕ → Room
-wordRoom ns ats ws cap = record { nodes = length ns; attributes = length ats; notes = length ws / 3; cap = cap }
+wordRoom ns ats ws cap = record { nodes = length ns; attributes = length ats; notes = length ws / noteWidth; cap = cap }
 
 abbrev pub answerOf : Numbers → AxmlAnswer
 answerOf n = record {
@@ -40,13 +41,13 @@ pub record ReadsWords (f names area ns ats ws : List ℕ) (cap : ℕ) (r : AxmlA
   pub answer : r ≡ answerOf (numbersOf (reading (wordRoom ns ats ws cap) f names area .answer))
   pub nodes : ns′ ≡ reading (wordRoom ns ats ws cap) f names area .nodes
   pub attributes : ats′ ≡ reading (wordRoom ns ats ws cap) f names area .attributes
-  pub notes : ws′ ≡ wordsOf (reading (wordRoom ns ats ws cap) f names area .notes) ++ replicate (length ws % 3) 0
+  pub notes : ws′ ≡ wordsOf (reading (wordRoom ns ats ws cap) f names area .notes) ++ replicate (length ws % noteWidth) 0
 
 -- ---- on the way
 
 -- the words of a note at its place
 abbrev pub putNote : List ℕ → ℕ → Note → List ℕ
-putNote ws k n = set (set (set ws (3 * k) (n .kind)) (3 * k + 1) (n .a)) (3 * k + 2) (n .b)
+putNote ws k n = set (set (set ws (noteWidth * k + noteKind) (n .kind)) (noteWidth * k + noteA) (n .a)) (noteWidth * k + noteB) (n .b)
 
 -- the answer is known, and the note table is cleared
 abbrev pub isClearing : Mode → Bool

@@ -1,7 +1,7 @@
 // The C interface: functions that C and Rust call by their plain names. include/axml.h declares them.
 //
 // A slice is lent as two C parameters, a pointer and a number of elements. The answers are structs of numbers, since C has no enums that
-// hold values. Notes are lent as words, three to a note, in the layout of C's `struct axml_note`; `axml::read` has them as records, and
+// hold values. Notes are lent as words (crate records), in the layout of C's `struct axml_note`; `axml::read` has them as records, and
 // `same-reading` (proofs/Same.antt) says that both are one reading. Definitions: specs/Words.antt, specs/Answers.antt.
 ghost use mathlib.Core.Path.{_≡_};
 ghost use mathlib.Core.Bool.{false};
@@ -10,6 +10,7 @@ ghost use lib.ListN.{length};
 ghost use Rattle.common.specs.Complex.{Complex};
 ghost use Rattle.errors.specs.Refusal.{numbersOf, firstNumbersOf};
 ghost use Rattle.first_value.specs.Question.{firstAnswer};
+ghost use Rattle.records.specs.Words.{noteWidth};
 ghost use Rattle.xml.specs.NCName.{validName};
 ghost use Rattle.c_api.specs.Words.{putNote, isClearing, answerOf, ReadsWords};
 ghost use Rattle.c_api.specs.Answers.{textAnswerOf, firstAnswerOf, AsksText};
@@ -22,6 +23,10 @@ use errors::TextNumbers;
 use errors::first_numbers;
 use errors::read_numbers;
 use errors::text_numbers;
+use records::NOTE_A;
+use records::NOTE_B;
+use records::NOTE_KIND;
+use records::NOTE_WORDS;
 use tables::zero_from;
 use walk::Mode;
 
@@ -38,15 +43,15 @@ pub struct AxmlAnswer {
     pub notes: u32,
 }
 
-// The three words of a note at its place.
+// The words of a note at its place.
 fn put_note(words: &mut [u32], place: usize, note: Note)
-    requires { ⌜ 3 * place + 3 ≤ length (now words) ⌝ }
+    requires { ⌜ noteWidth * place + noteWidth ≤ length (now words) ⌝ }
     ensures { λ _. ⌜ now (words .exit) ≡ putNote (now (words .entry)) place note ⌝ }
 {
-    let i = 3 * place;
-    words[i] = note.kind;
-    words[i + 1] = note.a;
-    words[i + 2] = note.b;
+    let i = NOTE_WORDS * place;
+    words[i + NOTE_KIND] = note.kind;
+    words[i + NOTE_A] = note.a;
+    words[i + NOTE_B] = note.b;
 }
 
 // Whether the answer is known, and zeros alone are left to write.
@@ -73,12 +78,12 @@ fn read_words(
     ensures { λ r. ⌜ ReadsWords (now (file .entry)) (now (names .entry)) (now (area .entry)) (now (nodes .entry)) (now (attributes .entry))
         (now (notes .entry)) cap (answerOf (numbersOf r)) (now (nodes .exit)) (now (attributes .exit)) (now (notes .exit)) ⌝ }
 {
-    let mut st = walk::begin(notes.len() / 3, cap);
+    let mut st = walk::begin(notes.len() / NOTE_WORDS, cap);
     loop {
         st = walk::advance(file, names, area, nodes, attributes, st);
         let answer = st.answer;
         if st.done {
-            zero_from(notes, 3 * (notes.len() / 3));
+            zero_from(notes, NOTE_WORDS * (notes.len() / NOTE_WORDS));
             return answer;
         }
         let at = st.slot;
@@ -86,7 +91,7 @@ fn read_words(
         let mode = st.mode;
         put_note(notes, at, note);
         if is_clearing(mode) {
-            zero_from(notes, 3 * at + 3);
+            zero_from(notes, NOTE_WORDS * at + NOTE_WORDS);
             return answer;
         }
     }
@@ -105,7 +110,7 @@ fn answer_of(n: Numbers) -> AxmlAnswer
     }
 }
 
-// Reads `file` into the three tables, and answers in numbers: the reading of `axml::read` with a place for each three words of `notes`.
+// Reads `file` into the three tables, and answers in numbers: the reading of `axml::read` with a place for the words of each whole note in `notes`.
 // Ruled out: a note of two words, and words behind the last place that are not zeroed.
 #[no_mangle]
 pub extern "C" fn axml_read(

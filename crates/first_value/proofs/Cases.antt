@@ -3,9 +3,10 @@
 --   head          header, pool with the one string `a`, empty map
 --   two, three    two nodes, of tags `a` and `invalid-element`, with one and two attributes
 --   cases-right   each answer is that of the table
+use Rattle.records.specs.Words.{noParent, nodeWords, attributeWords}
 use Prim.Native.Nat.{ℕ}
 use mathlib.Core.Path.{_≡_, refl}
-use mathlib.Core.List.{List, [], _∷_}
+use mathlib.Core.List.{List, [], _∷_, _++_}
 use mathlib.Core.Bool.{true, false}
 use Rattle.field.specs.Le.{u16le, u32le}
 use Rattle.common.specs.Header.{headerOf}
@@ -31,10 +32,10 @@ head =
     32 ∷ 0 ∷ 0 ∷ 0 ∷ 0 ∷ 0 ∷ 0 ∷ 0 ∷ 0 ∷ 0 ∷ 0 ∷ 0 ∷ 1 ∷ 1 ∷ 97 ∷ 0 ∷ 128 ∷ 1 ∷ 8 ∷ 0 ∷ 8 ∷ 0 ∷ 0 ∷ 0 ∷ []
 
 unfoldable pub two : List ℕ
-two = 0 ∷ 0 ∷ 4294967295 ∷ 0 ∷ 1 ∷ 0 ∷ 1 ∷ 0 ∷ 1 ∷ 2 ∷ []
+two = nodeWords 0 0 noParent 0 1 ++ nodeWords 0 1 0 1 2
 
 unfoldable pub three : List ℕ
-three = 0 ∷ 2 ∷ 0 ∷ 3 ∷ 9 ∷ 1 ∷ 0 ∷ 0 ∷ 7 ∷ 77 ∷ 1 ∷ 1 ∷ 5 ∷ 2 ∷ 8 ∷ []
+three = attributeWords 0 2 0 3 9 ++ attributeWords 1 0 0 7 77 ++ attributeWords 1 1 5 2 8
 
 -- nodes, attributes, tag, name, the two counts, and the answer
 pub data Case : Type 0 where
@@ -56,12 +57,12 @@ cases =
     asked two three (97 ∷ []) androidName 3 0 (Refused (TablesError 3)) ∷
     asked two three (97 ∷ []) androidName 2 4 (Refused (TablesError 2)) ∷
     -- a first attribute past the count, of a node without attributes
-    asked (0 ∷ 0 ∷ 0 ∷ 4 ∷ 0 ∷ []) three (98 ∷ []) androidName 1 3 (Refused (TablesError 0)) ∷
+    asked (nodeWords 0 0 0 4 0) three (98 ∷ []) androidName 1 3 (Refused (TablesError 0)) ∷
     -- a sum that does not wrap
-    asked (0 ∷ 0 ∷ 0 ∷ 4294967295 ∷ 2 ∷ []) three (98 ∷ []) androidName 1 3 (Refused (TablesError 0)) ∷
+    asked (nodeWords 0 0 0 4294967295 2) three (98 ∷ []) androidName 1 3 (Refused (TablesError 0)) ∷
     -- a fixed word of 2 leaves the text of the name
-    asked (0 ∷ 2 ∷ 0 ∷ 0 ∷ 1 ∷ []) three (97 ∷ []) androidName 1 3 (Found 3 9 false) ∷
-    asked (0 ∷ 2 ∷ 0 ∷ 0 ∷ 1 ∷ []) three invalidElement androidName 1 3 (Refused NothingFound) ∷
+    asked (nodeWords 0 2 0 0 1) three (97 ∷ []) androidName 1 3 (Found 3 9 false) ∷
+    asked (nodeWords 0 2 0 0 1) three invalidElement androidName 1 3 (Refused NothingFound) ∷
     -- no nodes
     asked two three (97 ∷ []) androidName 0 0 (Refused NothingFound) ∷
     []

@@ -21,72 +21,74 @@ use Rattle.head.specs.Head.{tablesIn}
 use Rattle.head.specs.Ask.{openOf}
 use Rattle.head.specs.declared.OpenRead.the-variants.{Open, Closed}
 use Rattle.head.proofs.Cases.{rest-all}
+use Rattle.records.specs.Words.{nodeWidth, nodeName, nodeFixed, nodeFirst, nodeCount}
+use Rattle.records.specs.Words.{attributeWidth, attributePrefix, attributeName, attributeType, attributeData}
+use Rattle.records.proofs.Places.{drop-record}
 use Rattle.first_value.specs.Question.{runsFrom, fitOf, tagIs, nameIs, foundBy, findNode, findValue}
 use Rattle.first_value.specs.Question.{valueBy, firstBy, firstAnswer}
 use Rattle.first_value.specs.declared.Fit.the-variants.{Fitting, Unfit}
 use Rattle.first_value.specs.declared.NodeFound.{NodeFound}
 use Rattle.first_value.specs.declared.NodeFound.the-variants.{Run, NoNode}
-use Rattle.first_value.proofs.Laws.{five, fitOf-fits}
+use Rattle.first_value.proofs.Laws.{fitOf-fits}
 
 -- ---- record by record
 
 module _ (h : Head) (t names area s : List ℕ) (n : ℕ) (w : List ℕ) (k : ℕ) where
-  pub findNode-end : n ≤ k → findNode h t names area s (n - k) (drop (5 * k) w) ≡ NoNode
+  pub findNode-end : n ≤ k → findNode h t names area s (n - k) (drop (nodeWidth * k) w) ≡ NoNode
   unfolding findNode
   findNode-end p = let e : n - k ≡ 0 = omega arith in rw e
 
   findNode-step
       : k < n
-      → findNode h t names area s (n - k) (drop (5 * k) w)
-      ≡ cond (tagIs h t names area s (getD w (5 * k + 1) 0) (getD w (5 * k) 0)) (Run (getD w (5 * k + 3) 0) (getD w (5 * k + 4) 0))
-      (findNode h t names area s (n - (k + 1)) (drop (5 * (k + 1)) w))
+      → findNode h t names area s (n - k) (drop (nodeWidth * k) w)
+      ≡ cond (tagIs h t names area s (getD w (nodeWidth * k + nodeFixed) 0) (getD w (nodeWidth * k + nodeName) 0)) (Run (getD w (nodeWidth * k + nodeFirst) 0) (getD w (nodeWidth * k + nodeCount) 0))
+      (findNode h t names area s (n - (k + 1)) (drop (nodeWidth * (k + 1)) w))
   unfolding findNode
   findNode-step p =
       let e : n - k ≡ suc (n - (k + 1)) = omega arith in
-      let z : getD (drop (5 * k) w) 0 0 ≡ getD w (5 * k) 0 = getD-drop (5 * k) w 0 0 ∙ rw add-zero in
-      rw (e, five k w, z, getD-drop (5 * k) w 1 0, getD-drop (5 * k) w 3 0, getD-drop (5 * k) w 4 0)
+      rw (e, drop-record nodeWidth k w, getD-drop (nodeWidth * k) w nodeName 0, getD-drop (nodeWidth * k) w nodeFixed 0, getD-drop (nodeWidth * k) w nodeFirst 0, getD-drop (nodeWidth * k) w nodeCount 0)
 
   pub findNode-found
       : {j : ℕ} {b : Bool}
       → k < n
-      → j ≡ 5 * k
-      → b ≡ tagIs h t names area s (getD w (j + 1) 0) (getD w j 0)
+      → j ≡ nodeWidth * k
+      → b ≡ tagIs h t names area s (getD w (j + nodeFixed) 0) (getD w (j + nodeName) 0)
       → b ≡ true
-      → findNode h t names area s (n - k) (drop (5 * k) w) ≡ Run (getD w (j + 3) 0) (getD w (j + 4) 0)
+      → findNode h t names area s (n - k) (drop (nodeWidth * k) w) ≡ Run (getD w (j + nodeFirst) 0) (getD w (j + nodeCount) 0)
   findNode-found p i e q = let e′ = rw i at e in rw i (findNode-step p ∙ rw (← e′, q))
 
   pub findNode-next
       : {j : ℕ} {b : Bool}
       → k < n
-      → j ≡ 5 * k
-      → b ≡ tagIs h t names area s (getD w (j + 1) 0) (getD w j 0)
+      → j ≡ nodeWidth * k
+      → b ≡ tagIs h t names area s (getD w (j + nodeFixed) 0) (getD w (j + nodeName) 0)
       → b ≡ false
-      → findNode h t names area s (n - k) (drop (5 * k) w) ≡ findNode h t names area s (n - (k + 1)) (drop (5 * (k + 1)) w)
+      → findNode h t names area s (n - k) (drop (nodeWidth * k) w) ≡ findNode h t names area s (n - (k + 1)) (drop (nodeWidth * (k + 1)) w)
   findNode-next p i e q = let e′ = rw i at e in findNode-step p ∙ rw (← e′, q)
 
 module _ (h : Head) (t names area s : List ℕ) (n : ℕ) (w : List ℕ) (k : ℕ) where
-  pub findValue-end : n ≤ k → findValue h t names area s (n - k) (drop (5 * k) w) ≡ Refused NothingFound
+  pub findValue-end : n ≤ k → findValue h t names area s (n - k) (drop (attributeWidth * k) w) ≡ Refused NothingFound
   unfolding findValue
   findValue-end p = let e : n - k ≡ 0 = omega arith in rw e
 
   findValue-step
       : k < n
-      → findValue h t names area s (n - k) (drop (5 * k) w)
-      ≡ cond (nameIs h t names area s (getD w (5 * k + 1) 0) (getD w (5 * k + 2) 0)) (foundBy (getD w (5 * k + 3) 0) (getD w (5 * k + 4) 0))
-      (findValue h t names area s (n - (k + 1)) (drop (5 * (k + 1)) w))
+      → findValue h t names area s (n - k) (drop (attributeWidth * k) w)
+      ≡ cond (nameIs h t names area s (getD w (attributeWidth * k + attributePrefix) 0) (getD w (attributeWidth * k + attributeName) 0)) (foundBy (getD w (attributeWidth * k + attributeType) 0) (getD w (attributeWidth * k + attributeData) 0))
+      (findValue h t names area s (n - (k + 1)) (drop (attributeWidth * (k + 1)) w))
   unfolding findValue
   findValue-step p =
       let e : n - k ≡ suc (n - (k + 1)) = omega arith in
-      rw (e, five k w, getD-drop (5 * k) w 1 0, getD-drop (5 * k) w 2 0, getD-drop (5 * k) w 3 0, getD-drop (5 * k) w 4 0)
+      rw (e, drop-record attributeWidth k w, getD-drop (attributeWidth * k) w attributePrefix 0, getD-drop (attributeWidth * k) w attributeName 0, getD-drop (attributeWidth * k) w attributeType 0, getD-drop (attributeWidth * k) w attributeData 0)
 
   pub findValue-found
       : {j : ℕ} {b : Bool} {r : FirstAnswer}
       → k < n
-      → j ≡ 5 * k
-      → b ≡ nameIs h t names area s (getD w (j + 1) 0) (getD w (j + 2) 0)
+      → j ≡ attributeWidth * k
+      → b ≡ nameIs h t names area s (getD w (j + attributePrefix) 0) (getD w (j + attributeName) 0)
       → b ≡ true
-      → r ≡ foundBy (getD w (j + 3) 0) (getD w (j + 4) 0)
-      → findValue h t names area s (n - k) (drop (5 * k) w) ≡ r
+      → r ≡ foundBy (getD w (j + attributeType) 0) (getD w (j + attributeData) 0)
+      → findValue h t names area s (n - k) (drop (attributeWidth * k) w) ≡ r
   findValue-found p i e q f =
       let e′ = rw i at e in
       let f′ = rw i at f in
@@ -95,10 +97,10 @@ module _ (h : Head) (t names area s : List ℕ) (n : ℕ) (w : List ℕ) (k : �
   pub findValue-next
       : {j : ℕ} {b : Bool}
       → k < n
-      → j ≡ 5 * k
-      → b ≡ nameIs h t names area s (getD w (j + 1) 0) (getD w (j + 2) 0)
+      → j ≡ attributeWidth * k
+      → b ≡ nameIs h t names area s (getD w (j + attributePrefix) 0) (getD w (j + attributeName) 0)
       → b ≡ false
-      → findValue h t names area s (n - k) (drop (5 * k) w) ≡ findValue h t names area s (n - (k + 1)) (drop (5 * (k + 1)) w)
+      → findValue h t names area s (n - k) (drop (attributeWidth * k) w) ≡ findValue h t names area s (n - (k + 1)) (drop (attributeWidth * (k + 1)) w)
   findValue-next p i e q = let e′ = rw i at e in findValue-step p ∙ rw (← e′, q)
 
 -- the attributes of a node that is found do not pass the count
@@ -110,22 +112,22 @@ pub run-inside
 unfolding runsFrom findNode
 run-inside h t names area tag attributes k zero w f e = let z : _≡_ {A = ℕ} 0 1 = cc in absurd (let y : ⊥ = omega arith in y)
 run-inside h t names area tag attributes k (suc n) w {first} {number} f e =
-    go (ltb attributes (getD w 3 0 + getD w 4 0)) refl f (tagIs h t names area tag (getD w 1 0) (getD w 0 0)) e
-    (run-inside h t names area tag attributes (k + 1) n (drop 5 w))
+    go (ltb attributes (getD w nodeFirst 0 + getD w nodeCount 0)) refl f (tagIs h t names area tag (getD w nodeFixed 0) (getD w nodeName 0)) e
+    (run-inside h t names area tag attributes (k + 1) n (drop nodeWidth w))
   where
     go
         : (b : Bool)
-        → ltb attributes (getD w 3 0 + getD w 4 0) ≡ b
-        → cond b (Unfit k) (runsFrom attributes (k + 1) n (drop 5 w)) ≡ Fitting
+        → ltb attributes (getD w nodeFirst 0 + getD w nodeCount 0) ≡ b
+        → cond b (Unfit k) (runsFrom attributes (k + 1) n (drop nodeWidth w)) ≡ Fitting
         → (c : Bool)
-        → cond c (Run (getD w 3 0) (getD w 4 0)) (findNode h t names area tag n (drop 5 w)) ≡ Run first number
-        → (runsFrom attributes (k + 1) n (drop 5 w) ≡ Fitting → findNode h t names area tag n (drop 5 w) ≡ Run first number → first + number ≤ attributes)
+        → cond c (Run (getD w nodeFirst 0) (getD w nodeCount 0)) (findNode h t names area tag n (drop nodeWidth w)) ≡ Run first number
+        → (runsFrom attributes (k + 1) n (drop nodeWidth w) ≡ Fitting → findNode h t names area tag n (drop nodeWidth w) ≡ Run first number → first + number ≤ attributes)
         → first + number ≤ attributes
     go true p f′ c e′ ind = let z : _≡_ {A = ℕ} 0 1 = cc in absurd (let y : ⊥ = omega arith in y)
     go false p f′ true e′ ind =
-        let a : getD w 3 0 ≡ first = cc in
-        let b : getD w 4 0 ≡ number = cc in
-        let q = ltb-false attributes (getD w 3 0 + getD w 4 0) p in
+        let a : getD w nodeFirst 0 ≡ first = cc in
+        let b : getD w nodeCount 0 ≡ number = cc in
+        let q = ltb-false attributes (getD w nodeFirst 0 + getD w nodeCount 0) p in
         omega arith
     go false p f′ false e′ ind = ind f′ e′
 
@@ -135,8 +137,8 @@ pub run-words
     → fitOf ns ats n a ≡ Fitting
     → r ≡ findNode h t names area tag n ns
     → r ≡ Run first number
-    → j ≡ 5 * first
-    → j + 5 * number ≤ length ats
+    → j ≡ attributeWidth * first
+    → j + attributeWidth * number ≤ length ats
 run-words h t names area tag ns ats n a f e q i =
     let g = fitOf-fits ns ats n a f in
     let p = run-inside h t names area tag a 0 n ns (g .runs) (sym e ∙ q) in
@@ -147,7 +149,7 @@ pub value-run
     : (h : Head) (t names area tag ns name ats : List ℕ) (n : ℕ) {f : NodeFound} {r : FirstAnswer} {first number j : ℕ}
     → f ≡ findNode h t names area tag n ns
     → f ≡ Run first number
-    → j ≡ 5 * first
+    → j ≡ attributeWidth * first
     → r ≡ findValue h t names area name number (take (length ats - j) (drop j ats))
     → r ≡ valueBy h t names area name ats (findNode h t names area tag n ns)
 value-run h t names area tag ns name ats n {j = j} e q i g = let g′ = rw (rest-all j ats, i) at g in rw (← e, q) g′

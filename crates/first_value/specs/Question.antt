@@ -24,6 +24,8 @@ use Rattle.head.specs.Head.{tablesIn}
 use Rattle.head.specs.Ask.{openOf}
 use Rattle.head.specs.declared.OpenRead.{OpenRead}
 use Rattle.head.specs.declared.OpenRead.the-variants.{Open, Closed}
+use Rattle.records.specs.Words.{nodeWidth, nodeName, nodeFixed, nodeFirst, nodeCount}
+use Rattle.records.specs.Words.{attributeWidth, attributePrefix, attributeName, attributeType, attributeData}
 use Rattle.first_value.specs.declared.Fit.{Fit}
 use Rattle.first_value.specs.declared.Fit.the-variants.{Fitting, Unfit}
 use Rattle.first_value.specs.declared.NodeFound.{NodeFound}
@@ -43,12 +45,12 @@ androidName = 97 ∷ 110 ∷ 100 ∷ 114 ∷ 111 ∷ 105 ∷ 100 ∷ []
 
 -- the counts, by the words of both tables
 abbrev pub countsFit : List ℕ → List ℕ → ℕ → ℕ → Fit
-countsFit ns ats nodes attributes = cond (ltb (length ns) (5 * nodes) || ltb (length ats) (5 * attributes)) (Unfit nodes) Fitting
+countsFit ns ats nodes attributes = cond (ltb (length ns) (nodeWidth * nodes) || ltb (length ats) (attributeWidth * attributes)) (Unfit nodes) Fitting
 
 -- the first of n nodes, numbered from k, whose attributes pass the attribute count, also where there are none
 unfoldable pub runsFrom : ℕ → ℕ → ℕ → List ℕ → Fit
 runsFrom attributes k zero w = Fitting
-runsFrom attributes k (suc n) w = cond (ltb attributes (getD w 3 0 + getD w 4 0)) (Unfit k) (runsFrom attributes (k + 1) n (drop 5 w))
+runsFrom attributes k (suc n) w = cond (ltb attributes (getD w nodeFirst 0 + getD w nodeCount 0)) (Unfit k) (runsFrom attributes (k + 1) n (drop nodeWidth w))
 
 abbrev pub firstUnfit : Fit → Fit → Fit
 firstUnfit (Unfit k) b = Unfit k
@@ -80,17 +82,17 @@ module _ (h : Head) (t names area : List ℕ) where
   -- a node is name index, fixed word, parent, first attribute, number of attributes: B9
   unfoldable pub findNode : List ℕ → ℕ → List ℕ → NodeFound
   findNode tag zero w = NoNode
-  findNode tag (suc n) w = cond (tagIs tag (getD w 1 0) (getD w 0 0)) (Run (getD w 3 0) (getD w 4 0)) (findNode tag n (drop 5 w))
+  findNode tag (suc n) w = cond (tagIs tag (getD w nodeFixed 0) (getD w nodeName 0)) (Run (getD w nodeFirst 0) (getD w nodeCount 0)) (findNode tag n (drop nodeWidth w))
 
   -- an attribute is owner, prefix, name index, type, data: B11
   unfoldable pub findValue : List ℕ → ℕ → List ℕ → FirstAnswer
   findValue name zero w = Refused NothingFound
-  findValue name (suc n) w = cond (nameIs name (getD w 1 0) (getD w 2 0)) (foundBy (getD w 3 0) (getD w 4 0)) (findValue name n (drop 5 w))
+  findValue name (suc n) w = cond (nameIs name (getD w attributePrefix 0) (getD w attributeName 0)) (foundBy (getD w attributeType 0) (getD w attributeData 0)) (findValue name n (drop attributeWidth w))
 
   -- Q5: the attributes of that one node
   abbrev pub valueBy : List ℕ → List ℕ → NodeFound → FirstAnswer
   valueBy name ats NoNode = Refused NothingFound
-  valueBy name ats (Run first number) = findValue name number (drop (5 * first) ats)
+  valueBy name ats (Run first number) = findValue name number (drop (attributeWidth * first) ats)
 
   -- the tables before the search
   abbrev pub firstBy : List ℕ → List ℕ → List ℕ → List ℕ → ℕ → Fit → FirstAnswer

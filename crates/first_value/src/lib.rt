@@ -9,10 +9,10 @@ pub mod runs;
 use called::is_named;
 use called::is_tagged;
 use runs::fit_of;
-use runs::place_of;
 ghost use mathlib.Core.Path.{_≡_};
 ghost use Prim.Native.Nat.{_*_, _≤_};
 ghost use lib.ListN.{length};
+ghost use Rattle.records.specs.Words.{nodeWidth, attributeWidth};
 ghost use Rattle.text.specs.Found.{Asks};
 ghost use Rattle.first_value.specs.declared.Fit.the-variants.{Fitting};
 ghost use Rattle.first_value.specs.Question.{fitOf, foundBy, findNode, findValue, valueBy, firstBy, firstAnswer};
@@ -24,6 +24,16 @@ use errors::Refusal;
 use head::OpenRead;
 use head::open_file;
 use head::tables_of;
+use records::ATTRIBUTE_DATA;
+use records::ATTRIBUTE_NAME;
+use records::ATTRIBUTE_PREFIX;
+use records::ATTRIBUTE_TYPE;
+use records::NODE_COUNT;
+use records::NODE_FIRST;
+use records::NODE_FIXED;
+use records::NODE_NAME;
+use records::attribute_place;
+use records::node_place;
 use text::Head;
 
 // Whether the lent tables fit the counts, or the first node that does not.
@@ -49,22 +59,22 @@ fn find_node(
     nodes: &[u32],
     count: u32,
 ) -> NodeFound
-    requires { ⌜ Asks (now t) (now names) (now area) h × (5 * count ≤ length (now nodes)) ⌝ }
+    requires { ⌜ Asks (now t) (now names) (now area) h × (nodeWidth * count ≤ length (now nodes)) ⌝ }
     ensures { λ r. ⌜ r ≡ findNode h (now (t .entry)) (now (names .entry)) (now (area .entry)) (now (tag .entry)) count (now (nodes .entry)) ⌝ }
 {
     let mut k = 0;
     while k < count {
-        let at = place_of(k);
+        let at = node_place(k);
         if is_tagged(
             t,
             names,
             area,
             h,
             tag,
-            nodes[at + 1],
-            StringIndex(nodes[at]),
+            nodes[at + NODE_FIXED],
+            StringIndex(nodes[at + NODE_NAME]),
         ) {
-            return NodeFound::Run(nodes[at + 3], nodes[at + 4]);
+            return NodeFound::Run(nodes[at + NODE_FIRST], nodes[at + NODE_COUNT]);
         }
         k += 1;
     }
@@ -92,22 +102,25 @@ fn find_value(
     attributes: &[u32],
     count: u32,
 ) -> FirstAnswer
-    requires { ⌜ Asks (now t) (now names) (now area) h × (5 * count ≤ length (now attributes)) ⌝ }
+    requires { ⌜ Asks (now t) (now names) (now area) h × (attributeWidth * count ≤ length (now attributes)) ⌝ }
     ensures { λ r. ⌜ r ≡ findValue h (now (t .entry)) (now (names .entry)) (now (area .entry)) (now (name .entry)) count (now (attributes .entry)) ⌝ }
 {
     let mut k = 0;
     while k < count {
-        let at = place_of(k);
+        let at = attribute_place(k);
         if is_named(
             t,
             names,
             area,
             h,
             name,
-            attributes[at + 1],
-            StringIndex(attributes[at + 2]),
+            attributes[at + ATTRIBUTE_PREFIX],
+            StringIndex(attributes[at + ATTRIBUTE_NAME]),
         ) {
-            return found(attributes[at + 3], attributes[at + 4]);
+            return found(
+                attributes[at + ATTRIBUTE_TYPE],
+                attributes[at + ATTRIBUTE_DATA],
+            );
         }
         k += 1;
     }
@@ -139,7 +152,7 @@ fn value_in(
             area,
             h,
             name,
-            &attributes[place_of(first)..],
+            &attributes[attribute_place(first)..],
             number,
         ),
         NodeFound::NoNode => FirstAnswer::Refused(Refusal::NothingFound),

@@ -2,19 +2,16 @@
 //
 // Mirrors nothing of the Rust's, whose tree is its own. Answers: `Fit`. Definitions: specs/Question.antt, docs/FORMAT.md, Q6.
 use super::Fit;
+use records::NODE_COUNT;
+use records::NODE_FIRST;
+use records::attribute_place;
+use records::node_place;
 ghost use mathlib.Core.Path.{_≡_};
 ghost use Prim.Native.Nat.{_+_, _*_, _≤_};
 ghost use lib.Dec.{ltb};
+ghost use Rattle.records.specs.Words.{nodeWidth};
 ghost use lib.ListN.{length};
 ghost use Rattle.first_value.specs.Question.{runsFrom, fitOf};
-
-// The first word of a record, and how many words stand before it.
-// Ruled out: 5 for the first record, and a product that wraps.
-pub fn place_of(k: u32) -> usize
-    ensures { λ r. ⌜ r ≡ 5 * k ⌝ }
-{
-    5 * (k as usize)
-}
 
 // Whether a node's attributes pass the count. The sum is made as usize, where it does not wrap.
 fn passes(attributes: u32, first: u32, number: u32) -> bool
@@ -25,13 +22,17 @@ fn passes(attributes: u32, first: u32, number: u32) -> bool
 
 // In tables of so many nodes: the first node whose attributes pass the count.
 fn runs_fit(nodes: &[u32], node_count: u32, attribute_count: u32) -> Fit
-    requires { ⌜ 5 * «node_count» ≤ length (now nodes) ⌝ }
+    requires { ⌜ nodeWidth * «node_count» ≤ length (now nodes) ⌝ }
     ensures { λ r. ⌜ r ≡ runsFrom «attribute_count» 0 «node_count» (now (nodes .entry)) ⌝ }
 {
     let mut k = 0;
     while k < node_count {
-        let at = place_of(k);
-        if passes(attribute_count, nodes[at + 3], nodes[at + 4]) {
+        let at = node_place(k);
+        if passes(
+            attribute_count,
+            nodes[at + NODE_FIRST],
+            nodes[at + NODE_COUNT],
+        ) {
             return Fit::Unfit(k);
         }
         k += 1;
@@ -44,10 +45,10 @@ fn runs_fit(nodes: &[u32], node_count: u32, attribute_count: u32) -> Fit
 pub fn fit_of(nodes: &[u32], attributes: &[u32], node_count: u32, attribute_count: u32) -> Fit
     ensures { λ r. ⌜ r ≡ fitOf (now (nodes .entry)) (now (attributes .entry)) «node_count» «attribute_count» ⌝ }
 {
-    if nodes.len() < place_of(node_count) {
+    if nodes.len() < node_place(node_count) {
         return Fit::Unfit(node_count);
     }
-    if attributes.len() < place_of(attribute_count) {
+    if attributes.len() < attribute_place(attribute_count) {
         return Fit::Unfit(node_count);
     }
     runs_fit(nodes, node_count, attribute_count)

@@ -10,6 +10,7 @@ use lib.Seq.{getD-drop, drop-drop}
 use lib.Dec.{eqb}
 use Rattle.chunk.specs.Walk.{walk}
 use Rattle.chunk.proofs.Walk.{walk-stop, walk-step}
+use Rattle.records.specs.Words.{attributeWidth, attributePrefix, attributeName}
 use Rattle.text.specs.Content.{contentOf, sameText}
 use Rattle.text.specs.Found.{partOf, Finds}
 use Rattle.text.specs.declared.Head.{Head}
@@ -17,27 +18,27 @@ use Rattle.text.specs.declared.Found.{Found}
 use Rattle.tables.specs.Keep.{keyUsed, keyNext, hasKey, sameIn}
 
 module _ (same : ℕ → ℕ → Bool) (p n : ℕ) (l : List ℕ) (i : ℕ) where
-  pub hasKey-end : length l - i < 5 → hasKey same p n (drop i l) ≡ false
+  pub hasKey-end : length l - i < attributeWidth → hasKey same p n (drop i l) ≡ false
   unfolding hasKey
   hasKey-end h =
-      let short : length (drop i l) < 5 = rw length-drop h in
+      let short : length (drop i l) < attributeWidth = rw length-drop h in
       walk-stop keyUsed (keyNext same p n) (drop i l) false (rw (lt-ltb _ _ short))
 
-  hasKey-step : 5 ≤ length l - i
-      → hasKey same p n (drop i l) ≡ walk keyUsed (keyNext same p n) (drop (i + 5) l) (eqb (getD l (i + 1) 0) p && same (getD l (i + 2) 0) n)
+  hasKey-step : attributeWidth ≤ length l - i
+      → hasKey same p n (drop i l) ≡ walk keyUsed (keyNext same p n) (drop (i + attributeWidth) l) (eqb (getD l (i + attributePrefix) 0) p && same (getD l (i + attributeName) 0) n)
   unfolding hasKey
   hasKey-step h =
-      let long : 5 ≤ length (drop i l) = rw length-drop h in
-      walk-step keyUsed (keyNext same p n) (drop i l) false 4 (rw (le-ltb _ _ long)) long ∙ rw (drop-drop, getD-drop i l 1 0, getD-drop i l 2 0)
+      let long : attributeWidth ≤ length (drop i l) = rw length-drop h in
+      walk-step keyUsed (keyNext same p n) (drop i l) false (attributeWidth - 1) (rw (le-ltb _ _ long)) long ∙ rw (drop-drop, getD-drop i l attributePrefix 0, getD-drop i l attributeName 0)
 
-  pub hasKey-found : 5 ≤ length l - i → getD l (i + 1) 0 ≡ p → same (getD l (i + 2) 0) n ≡ true → hasKey same p n (drop i l) ≡ true
-  hasKey-found h e f = hasKey-step h ∙ rw (eq-eqb _ _ e, f) (walk-stop keyUsed (keyNext same p n) (drop (i + 5) l) true refl)
+  pub hasKey-found : attributeWidth ≤ length l - i → getD l (i + attributePrefix) 0 ≡ p → same (getD l (i + attributeName) 0) n ≡ true → hasKey same p n (drop i l) ≡ true
+  hasKey-found h e f = hasKey-step h ∙ rw (eq-eqb _ _ e, f) (walk-stop keyUsed (keyNext same p n) (drop (i + attributeWidth) l) true refl)
 
-  pub hasKey-prefix : 5 ≤ length l - i → (getD l (i + 1) 0 ≡ p → ⊥) → hasKey same p n (drop i l) ≡ hasKey same p n (drop (i + 5) l)
+  pub hasKey-prefix : attributeWidth ≤ length l - i → (getD l (i + attributePrefix) 0 ≡ p → ⊥) → hasKey same p n (drop i l) ≡ hasKey same p n (drop (i + attributeWidth) l)
   unfolding hasKey
   hasKey-prefix h e = hasKey-step h ∙ rw (ne-eqb _ _ e)
 
-  pub hasKey-name : 5 ≤ length l - i → getD l (i + 1) 0 ≡ p → same (getD l (i + 2) 0) n ≡ false → hasKey same p n (drop i l) ≡ hasKey same p n (drop (i + 5) l)
+  pub hasKey-name : attributeWidth ≤ length l - i → getD l (i + attributePrefix) 0 ≡ p → same (getD l (i + attributeName) 0) n ≡ false → hasKey same p n (drop i l) ≡ hasKey same p n (drop (i + attributeWidth) l)
   unfolding hasKey
   hasKey-name h e f = hasKey-step h ∙ rw (eq-eqb _ _ e, f)
 

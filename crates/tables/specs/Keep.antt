@@ -1,6 +1,5 @@
--- Records of five words in a lent table, and whether one of them has a prefix and a name: docs/FORMAT.md, W23, B9, B11.
+-- Whether one of the attributes in a lent table has a prefix and a name: docs/FORMAT.md, W23.
 --
---   nodeWidth, attributeWidth   the words of a record
 --   hasKey       whether an attribute of this prefix is there whose name has the same text; words left over at the end are no record
 --   sameIn       whether two string indices of a file have equal texts; an index without a text equals nothing, not even itself
 --
@@ -11,22 +10,17 @@ use mathlib.Core.Bool.{Bool, true, false, cond, _&&_}
 use lib.ListN.{length, getD}
 use lib.Dec.{ltb, eqb}
 use Rattle.chunk.specs.Walk.{walk}
+use Rattle.records.specs.Words.{attributeWidth, attributePrefix, attributeName}
 use Rattle.text.specs.Content.{contentOf, sameText}
 use Rattle.text.specs.declared.Head.{Head}
 
-abbrev pub nodeWidth : ℕ
-nodeWidth = 5
-
-abbrev pub attributeWidth : ℕ
-attributeWidth = 5
-
--- a walk over the records until one is found: the prefix is the second word, the name the third
+-- a walk over the records until one is found
 abbrev pub keyUsed : List ℕ → Bool → ℕ
 keyUsed l true = 0
 keyUsed l false = cond (ltb (length l) attributeWidth) 0 attributeWidth
 
 abbrev pub keyNext : (ℕ → ℕ → Bool) → ℕ → ℕ → List ℕ → Bool → Bool
-keyNext same p n l b = eqb (getD l 1 0) p && same (getD l 2 0) n
+keyNext same p n l b = eqb (getD l attributePrefix 0) p && same (getD l attributeName 0) n
 
 unfoldable pub hasKey : (ℕ → ℕ → Bool) → ℕ → ℕ → List ℕ → Bool
 hasKey same p n l = walk keyUsed (keyNext same p n) l false

@@ -1,38 +1,22 @@
-// Records of five words in lent tables: they are stored, zeroed, and asked for a prefix and a name.
+// Records in lent tables: a word is stored, words are zeroed, and attributes are asked for a prefix and a name.
 //
 // Stands for the vectors of axml.rs (apk-info 13770539b8), and `has` for its `HashSet` of attribute names.
 // Definitions: specs/Keep.antt. Differs from the Rust: names are compared where they lie, by text, and nothing is copied.
 ghost use mathlib.Core.Path.{_≡_};
-ghost use mathlib.Core.List.{_++_, [], _∷_};
-ghost use Prim.Native.Nat.{_+_, _-_, _≤_, _<_};
-ghost use lib.ListN.{length, drop, take, replicate, set};
+ghost use mathlib.Core.List.{_++_};
+ghost use Prim.Native.Nat.{_-_, _≤_, _<_};
+ghost use lib.ListN.{length, take, replicate, set};
 ghost use Rattle.text.specs.Found.{Asks};
 ghost use Rattle.tables.specs.Keep.{hasKey, sameIn};
 use common::StringIndex;
+use records::ATTRIBUTE_NAME;
+use records::ATTRIBUTE_PREFIX;
+use records::ATTRIBUTE_WORDS;
 use text::Head;
 use text::find;
 use text::is_plain_found;
 use text::marks_of;
 use text::same_as_known;
-
-// A number of the file as a place. Ruled out: another number, and one that wraps.
-pub fn wide(x: u32) -> usize
-    ensures { λ r. ⌜ r ≡ x ⌝ }
-{
-    x as usize
-}
-
-// Five words from the place `i` on. Ruled out: the words in another order, and a word changed before or behind them.
-pub fn put_five(words: &mut [u32], i: usize, a: u32, b: u32, c: u32, d: u32, e: u32)
-    requires { ⌜ i + 5 ≤ length (now words) ⌝ }
-    ensures { λ _. ⌜ now (words .exit) ≡ take i (now (words .entry)) ++ (a ∷ b ∷ c ∷ d ∷ e ∷ []) ++ drop (i + 5) (now (words .entry)) ⌝ }
-{
-    words[i] = a;
-    words[i + 1] = b;
-    words[i + 2] = c;
-    words[i + 3] = d;
-    words[i + 4] = e;
-}
 
 // One word. Ruled out: another word changed, and the word left as it was.
 pub fn put_one(words: &mut [u32], i: usize, a: u32)
@@ -76,21 +60,21 @@ pub fn has(
     requires { ⌜ Asks (now t) (now names) (now area) h ⌝ }
     ensures { λ r. ⌜ r ≡ hasKey (sameIn h (now (t .entry)) (now (names .entry)) (now (area .entry))) prefix (name .0) (now (words .entry)) ⌝ }
 {
-    if words.len() < 5 {
+    if words.len() < ATTRIBUTE_WORDS {
         return false;
     }
     let wanted = find(t, names, area, h, name);
     let plain = is_plain_found(t, area, h.wide, wanted);
     let marks = marks_of(t, names, area, h, plain, wanted);
     let mut i = 0;
-    while 5 <= words.len() - i {
-        if words[i + 1] == prefix {
-            let other = StringIndex(words[i + 2]);
+    while ATTRIBUTE_WORDS <= words.len() - i {
+        if words[i + ATTRIBUTE_PREFIX] == prefix {
+            let other = StringIndex(words[i + ATTRIBUTE_NAME]);
             if same_as_known(t, names, area, h, plain, marks, other, wanted) {
                 return true;
             }
         }
-        i += 5;
+        i += ATTRIBUTE_WORDS;
     }
     false
 }

@@ -12,13 +12,14 @@ use lib.Seq.{drop-at, take-add, length-take-le, getD-set-other, take-set-lt}
 use lib.Dec.{eqb}
 use Rattle.errors.specs.declared.Refusal.the-variants.{AttributesFull}
 use Rattle.xml_elements.specs.declared.XmlAttributeElement.{XmlAttributeElement}
+use Rattle.records.specs.Words.{nodeWidth, nodeFirst, nodeCount, attributeWidth}
 use Rattle.tables.specs.Keep.{hasKey}
 use Rattle.events.specs.declared.Event.the-variants.{Attribute}
 use Rattle.walk.specs.declared.tree.Tree.{Tree}
 use Rattle.walk.specs.declared.tree.Put.{Put}
 use Rattle.walk.specs.declared.tree.Put.the-variants.{Same, Full as NoPlace, Stored}
 use Rattle.walk.specs.declared.placing.Placed.the-variants.{Done, Full}
-use Rattle.walk.specs.Tree.{keptTree, ownWords, attributeWords, Tied, PlacesBy, Keeps}
+use Rattle.walk.specs.Tree.{keptTree, ownWords, newWords, Tied, PlacesBy, Keeps}
 use Rattle.walk.proofs.Trees.{take-put, linked-set}
 
 -- the words of the last node's attributes, from the table and from its front
@@ -30,35 +31,35 @@ own l a b h k =
     ∙ drop-at (take a l) (take (b - a) (drop a l)) a (length-take-le a l (omega arith)))
 
 module _ (same : ℕ → ℕ → Bool) (ns ats : List ℕ) (t : Tree) (o : List ℕ) (h : Tied ns ats t o) (p : ℕ) (a : XmlAttributeElement) where
-  lu : length (take (5 * t .nodes) ns) ≡ 5 * t .nodes
-  lu = length-take-le (5 * t .nodes) ns (h .sized .nodes)
+  lu : length (take (nodeWidth * t .nodes) ns) ≡ nodeWidth * t .nodes
+  lu = length-take-le (nodeWidth * t .nodes) ns (h .sized .nodes)
 
-  la : length (take (5 * t .attributes) ats) ≡ 5 * t .attributes
-  la = length-take-le (5 * t .attributes) ats (h .sized .attributes)
+  la : length (take (attributeWidth * t .attributes) ats) ≡ attributeWidth * t .attributes
+  la = length-take-le (attributeWidth * t .attributes) ats (h .sized .attributes)
 
-  owned : ownWords t ats ≡ drop (5 * t .first) (take (5 * t .attributes) ats)
-  owned = own ats (5 * t .first) (5 * t .attributes) (omega (arith, h .sized .first)) (h .sized .attributes)
+  owned : ownWords t ats ≡ drop (attributeWidth * t .first) (take (attributeWidth * t .attributes) ats)
+  owned = own ats (attributeWidth * t .first) (attributeWidth * t .attributes) (omega (arith, h .sized .first)) (h .sized .attributes)
 
-  some : (t .nodes ≡ 0 → ⊥) → length (take (5 * t .nodes) ns) ≡ 0 → ⊥
+  some : (t .nodes ≡ 0 → ⊥) → length (take (nodeWidth * t .nodes) ns) ≡ 0 → ⊥
   some z e = z (omega (arith, lu))
 
   pub attribute-none : t .nodes ≡ 0 → PlacesBy same (Done t) ns ats t o (Attribute p a) ns ats
   attribute-none z =
-      let y : length (take (5 * t .nodes) ns) ≡ 0 = omega (arith, lu) in
+      let y : length (take (nodeWidth * t .nodes) ns) ≡ 0 = omega (arith, lu) in
       record { stack = o; tied = h; few = omega arith; pushed = λ r os cs rn ra. rw (eq-eqb _ 0 y) }
 
   pub attribute-same : (t .nodes ≡ 0 → ⊥) → hasKey same p (a .name .0) (ownWords t ats) ≡ true → PlacesBy same (Done t) ns ats t o (Attribute p a) ns ats
   attribute-same z e = record { stack = o; tied = h; few = omega arith; pushed = λ r os cs rn ra. rw (ne-eqb _ 0 (some z), ← owned, e) }
 
   pub attribute-full : (ns′ ats′ : List ℕ) (m : ℕ) → m ≡ length ats → (t .nodes ≡ 0 → ⊥) → hasKey same p (a .name .0) (ownWords t ats) ≡ false
-      → length ats < 5 * t .attributes + 5 → PlacesBy same (Full (AttributesFull (m / 5))) ns ats t o (Attribute p a) ns′ ats′
+      → length ats < attributeWidth * t .attributes + attributeWidth → PlacesBy same (Full (AttributesFull (m / attributeWidth))) ns ats t o (Attribute p a) ns′ ats′
   attribute-full ns′ ats′ m em z e none r os cs rn ra =
-      let over : r .attributes < length (take (5 * t .attributes) ats) + 5 = omega (arith, la) in
+      let over : r .attributes < length (take (attributeWidth * t .attributes) ats) + attributeWidth = omega (arith, la) in
       rw (ne-eqb _ 0 (some z), ← owned, e, lt-leb _ _ over, em, ra)
 
-  pub attribute-kept : (ns′ ats′ : List ℕ) → (t .nodes ≡ 0 → ⊥) → hasKey same p (a .name .0) (ownWords t ats) ≡ false → 5 * t .attributes + 5 ≤ length ats
-      → length ns′ ≡ length ns → length ats′ ≡ length ats → ats′ ≡ take (5 * t .attributes) ats ++ attributeWords t p a ++ drop (5 * t .attributes + 5) ats
-      → ns′ ≡ set ns (5 * t .nodes - 1) (t .attributes + 1 - t .first) → PlacesBy same (Done (keptTree t)) ns ats t o (Attribute p a) ns′ ats′
+  pub attribute-kept : (ns′ ats′ : List ℕ) → (t .nodes ≡ 0 → ⊥) → hasKey same p (a .name .0) (ownWords t ats) ≡ false → attributeWidth * t .attributes + attributeWidth ≤ length ats
+      → length ns′ ≡ length ns → length ats′ ≡ length ats → ats′ ≡ take (attributeWidth * t .attributes) ats ++ newWords t p a ++ drop (attributeWidth * t .attributes + attributeWidth) ats
+      → ns′ ≡ set ns (nodeWidth * (t .nodes - 1) + nodeCount) (t .attributes + 1 - t .first) → PlacesBy same (Done (keptTree t)) ns ats t o (Attribute p a) ns′ ats′
   attribute-kept ns′ ats′ z e room ln lats put one = record {
     stack = o;
     tied = record {
@@ -68,42 +69,39 @@ module _ (same : ℕ → ℕ → Bool) (ns ats : List ℕ) (t : Tree) (o : List 
         first = omega (arith, h .sized .first);
         inside = h .sized .inside;
       };
-      linked = rw words (linked-set (take (5 * t .nodes) ns) (5 * t .nodes - 1) (t .attributes + 1 - t .first) (t .nodes) o at-end (h .linked));
+      linked = rw words (linked-set (take (nodeWidth * t .nodes) ns) (nodeWidth * (t .nodes - 1) + nodeCount) (t .attributes + 1 - t .first) (t .nodes - 1) o refl (h .linked));
       top = h .top;
       second = h .second;
       upto = λ q.
           rw words
-          (getD-set-other (take (5 * t .nodes) ns) (5 * t .nodes - 1) (5 * t .second + 3) (t .attributes + 1 - t .first) 0 (λ y. omega (arith, at-end))
+          (getD-set-other (take (nodeWidth * t .nodes) ns) (nodeWidth * (t .nodes - 1) + nodeCount) (nodeWidth * t .second + nodeFirst) (t .attributes + 1 - t .first) 0 (λ y. omega arith)
           ∙ h .upto q);
       below = omega (arith, h .below);
     };
     few = omega arith;
     pushed = λ r os cs rn ra. (
-        let fit : length (take (5 * t .attributes) ats) + 5 ≤ r .attributes = omega (arith, la) in
-        let count : (5 * t .attributes + 5 - 5 * t .first) / 5 ≡ t .attributes + 1 - t .first = omega (arith, h .sized .first) in
-        let dn : 5 * t .nodes / 5 ≡ t .nodes = omega arith in
+        let fit : length (take (attributeWidth * t .attributes) ats) + attributeWidth ≤ r .attributes = omega (arith, la) in
+        let count : (attributeWidth * t .attributes + attributeWidth - attributeWidth * t .first) / attributeWidth ≡ t .attributes + 1 - t .first = omega (arith, h .sized .first) in
+        let dn : nodeWidth * t .nodes / nodeWidth ≡ t .nodes = omega arith in
         rw (ne-eqb _ 0 (some z), ← owned, e, le-leb _ _ fit, words, more, la, lu, count, dn));
   }
     where
       pos : 0 < t .nodes
       pos = pos-of-ne-zero z
 
-      at-end : 5 * t .nodes - 1 + 1 ≡ 5 * t .nodes
-      at-end = omega (arith, pos)
+      words : take (nodeWidth * t .nodes) ns′ ≡ set (take (nodeWidth * t .nodes) ns) (nodeWidth * (t .nodes - 1) + nodeCount) (t .attributes + 1 - t .first)
+      words = rw one (take-set-lt (nodeWidth * t .nodes) ns (nodeWidth * (t .nodes - 1) + nodeCount) (t .attributes + 1 - t .first) (omega (arith, pos)))
 
-      words : take (5 * t .nodes) ns′ ≡ set (take (5 * t .nodes) ns) (5 * t .nodes - 1) (t .attributes + 1 - t .first)
-      words = rw one (take-set-lt (5 * t .nodes) ns (5 * t .nodes - 1) (t .attributes + 1 - t .first) (omega (arith, pos)))
-
-      more : take (5 * (t .attributes + 1)) ats′ ≡ take (5 * t .attributes) ats ++ attributeWords t p a
+      more : take (attributeWidth * (t .attributes + 1)) ats′ ≡ take (attributeWidth * t .attributes) ats ++ newWords t p a
       more =
-          let q : 5 * t .attributes + 5 ≡ 5 * (t .attributes + 1) = omega arith in
-          take-put ats ats′ (attributeWords t p a) (5 * t .attributes) (5 * (t .attributes + 1)) (omega arith) q (rw q at put)
+          let q : attributeWidth * t .attributes + attributeWidth ≡ attributeWidth * (t .attributes + 1) = omega arith in
+          take-put ats ats′ (newWords t p a) (attributeWidth * t .attributes) (attributeWidth * (t .attributes + 1)) (omega arith) q (rw q at put)
 
 -- ---- as `keep` says it
 
 -- what `has` answers for the words between the code's places f and u
-pub own-key : (same : ℕ → ℕ → Bool) (p n : ℕ) (ats : List ℕ) (t : Tree) (f u : ℕ) (r b : Bool) → f ≡ t .first → u ≡ t .attributes
-    → r ≡ hasKey same p n (take (5 * u - 5 * f) (drop (5 * f) ats)) → r ≡ b → hasKey same p n (ownWords t ats) ≡ b
+pub own-key : (same : ℕ → ℕ → Bool) (p n : ℕ) (ats : List ℕ) (t : Tree) (f u : ℕ) (r b : Bool) → f ≡ attributeWidth * t .first
+    → u ≡ attributeWidth * t .attributes → r ≡ hasKey same p n (take (u - f) (drop f ats)) → r ≡ b → hasKey same p n (ownWords t ats) ≡ b
 own-key same p n ats t f u r b ef eu e q = sym (rw (ef, eu) at e) ∙ q
 
 module _ (same : ℕ → ℕ → Bool) (ns ats ns′ ats′ : List ℕ) (t : Tree) (o : List ℕ) (h : Tied ns ats t o) (p : ℕ) (a : XmlAttributeElement) where
@@ -116,7 +114,7 @@ module _ (same : ℕ → ℕ → Bool) (ns ats ns′ ats′ : List ℕ) (t : Tre
       go false z q = attribute-same same ns ats t o h p a (eqb-false _ _ z) (q (eqb-false _ _ z))
 
   pub keep-full : {r : Put} (m : ℕ) → r ≡ NoPlace → Keeps same r t p a ns ats ns′ ats′ → m ≡ length ats
-      → PlacesBy same (Full (AttributesFull (m / 5))) ns ats t o (Attribute p a) ns′ ats′
+      → PlacesBy same (Full (AttributesFull (m / attributeWidth))) ns ats t o (Attribute p a) ns′ ats′
   keep-full m e q₀ em = let q = rw e at q₀ in attribute-full same ns ats t o h p a ns′ ats′ m em (q .some) (q .new) (q .full)
 
   pub keep-stored : {r : Put} (u : Tree) → r ≡ Stored u → Keeps same r t p a ns ats ns′ ats′ → length ns′ ≡ length ns → length ats′ ≡ length ats

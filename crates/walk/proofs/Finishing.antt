@@ -11,6 +11,7 @@ use lib.Seq.{take-take, length-take-le}
 use lib.Dec.{eqb}
 use Rattle.anomaly.specs.declared.Note.{Note as NoteOf}
 use Rattle.errors.specs.declared.ReadAnswer.the-variants.{Done}
+use Rattle.records.specs.Words.{nodeWidth, nodeFirst, attributeWidth}
 use Rattle.events.specs.declared.Cursor.{Cursor}
 use Rattle.walk.specs.declared.tree.Tree.{Tree}
 use Rattle.walk.specs.declared.State.{State}
@@ -30,14 +31,14 @@ use Rattle.walk.proofs.Advancing.{tables, body, ReadHead}
 pub kept-nodes-le : (ns ats : List ℕ) (t : Tree) (o : List ℕ) → Tied ns ats t o → keptNodes t ≤ t .nodes
 kept-nodes-le ns ats t o h = go (eqb (t .second) 0) refl
   where
-    lw : length (take (5 * t .nodes) ns) ≡ 5 * t .nodes
-    lw = length-take-le (5 * t .nodes) ns (h .sized .nodes)
+    lw : length (take (nodeWidth * t .nodes) ns) ≡ nodeWidth * t .nodes
+    lw = length-take-le (nodeWidth * t .nodes) ns (h .sized .nodes)
 
     go : (b : Bool) → eqb (t .second) 0 ≡ b → cond b (t .nodes) (t .second) ≤ t .nodes
     go true e = omega arith
     go false e =
         let n : (secondOf o ≡ 0 → ⊥) = λ z. eqb-false _ _ e (sym (h .second) ∙ z) in
-        omega (arith, second-in (take (5 * t .nodes) ns) o (h .linked) n, h .second, lw)
+        omega (arith, second-in (take (nodeWidth * t .nodes) ns) o (h .linked) n, h .second, lw)
 
 pub kept-attributes-le : (ns ats : List ℕ) (t : Tree) (o : List ℕ) → Tied ns ats t o → keptAttributes t ≤ t .attributes
 kept-attributes-le ns ats t o h = go (eqb (t .second) 0)
@@ -81,31 +82,31 @@ module _ (f names area ns₀ ats₀ : List ℕ) (st : State) (g : Good f names a
   ended : (os : List NoteOf) → length os ≡ st .room → outcome f names area ns₀ ats₀ os st (g .stack) ≡ finalOf R (going (F os))
   ended os l = hd .same os l ∙ ap (finalOf R) (fin .goes R (os-of os) (st .notes .counts) (sym (hd .ln)) (sym (hd .la)))
 
-  lw : length (take (5 * h .tree .nodes) ns′) ≡ 5 * h .tree .nodes
-  lw = length-take-le (5 * h .tree .nodes) ns′ (fin .tied .sized .nodes)
+  lw : length (take (nodeWidth * h .tree .nodes) ns′) ≡ nodeWidth * h .tree .nodes
+  lw = length-take-le (nodeWidth * h .tree .nodes) ns′ (fin .tied .sized .nodes)
 
-  lv : length (take (5 * h .tree .attributes) ats′) ≡ 5 * h .tree .attributes
-  lv = length-take-le (5 * h .tree .attributes) ats′ (fin .tied .sized .attributes)
+  lv : length (take (attributeWidth * h .tree .attributes) ats′) ≡ attributeWidth * h .tree .attributes
+  lv = length-take-le (attributeWidth * h .tree .attributes) ats′ (fin .tied .sized .attributes)
 
   nodes-kept : (os : List NoteOf) → nodesKept (F os) ≡ keptNodes (h .tree)
-  nodes-kept os = let d : 5 * h .tree .nodes / 5 ≡ h .tree .nodes = omega arith in rw (lw, d, fin .tied .second)
+  nodes-kept os = let d : nodeWidth * h .tree .nodes / nodeWidth ≡ h .tree .nodes = omega arith in rw (lw, d, fin .tied .second)
 
   attributes-kept : (os : List NoteOf) → attributesKept (F os) ≡ keptAttributes (h .tree)
   attributes-kept os = rw (lv, d, fin .tied .second) (go (eqb (h .tree .second) 0) refl)
     where
-      d : 5 * h .tree .attributes / 5 ≡ h .tree .attributes
+      d : attributeWidth * h .tree .attributes / attributeWidth ≡ h .tree .attributes
       d = omega arith
 
       go : (b : Bool) → eqb (h .tree .second) 0 ≡ b
-          → cond b (h .tree .attributes) (getD (take (5 * h .tree .nodes) ns′) (5 * h .tree .second + 3) 0) ≡ cond b (h .tree .attributes) (h .tree .upto)
+          → cond b (h .tree .attributes) (getD (take (nodeWidth * h .tree .nodes) ns′) (nodeWidth * h .tree .second + nodeFirst) 0) ≡ cond b (h .tree .attributes) (h .tree .upto)
       go true q = refl
       go false q = fin .tied .upto (eqb-false _ _ q)
 
   unfoldable shape : List NoteOf → ℕ → ℕ → ℕ → ℕ → Reading
   shape os n k a m = record {
     answer = Done (record { starts = n; nodes = k; attributes = a; notes = m });
-    nodes = take (5 * k) (take (5 * h .tree .nodes) ns′) ++ replicate (length ns₀ - 5 * k) 0;
-    attributes = take (5 * a) (take (5 * h .tree .attributes) ats′) ++ replicate (length ats₀ - 5 * a) 0;
+    nodes = take (nodeWidth * k) (take (nodeWidth * h .tree .nodes) ns′) ++ replicate (length ns₀ - nodeWidth * k) 0;
+    attributes = take (attributeWidth * a) (take (attributeWidth * h .tree .attributes) ats′) ++ replicate (length ats₀ - attributeWidth * a) 0;
     notes = os-of os ++ replicate (st .room - m) zeroNote;
   }
 
@@ -122,7 +123,7 @@ module _ (f names area ns₀ ats₀ : List ℕ) (st : State) (g : Good f names a
         notes = cleared os (st .notes .used) (st .room);
       }
       out os l =
-          let d : length (take (5 * h .tree .nodes) ns′) / 5 ≡ h .tree .nodes = omega (arith, lw) in
+          let d : length (take (nodeWidth * h .tree .nodes) ns′) / nodeWidth ≡ h .tree .nodes = omega (arith, lw) in
           let m : length (os-of os) ≡ st .notes .used = stored-len os l in
           let nk = nodes-kept os in
           let ak = attributes-kept os in
@@ -131,8 +132,8 @@ module _ (f names area ns₀ ats₀ : List ℕ) (st : State) (g : Good f names a
           ∙ rw (
             w .nodes,
             w .attributes,
-            take-take (5 * keptNodes (h .tree)) (5 * h .tree .nodes) ns′ (omega (arith, kn)),
-            take-take (5 * keptAttributes (h .tree)) (5 * h .tree .attributes) ats′ (omega (arith, ka)),
+            take-take (nodeWidth * keptNodes (h .tree)) (nodeWidth * h .tree .nodes) ns′ (omega (arith, kn)),
+            take-take (attributeWidth * keptAttributes (h .tree)) (attributeWidth * h .tree .attributes) ats′ (omega (arith, ka)),
             ln,
             la,
             hd .ln,

@@ -1,15 +1,16 @@
 -- Foreign chunks whose notes are past their cap: what is settled from them on is what is settled behind them. No contract cites this file.
--- In order: a note past its cap (`settle-when`), one chunk of a sort (`reaches-0`, `reaches-1`), the cursor (`on-here`, `on-chunk`), and the loop's
+-- In order: a note past its cap (`settle-when`, `past-cap`), one chunk of a sort (`reaches-0`, `reaches-1`), the cursor (`on-here`, `on-chunk`), and the loop's
 -- head of `read_on` behind them (`read-passed`).
 use Prim.Native.Nat.{ℕ, _+_, _≤_, _<_}
 use native.Mathlib.Omega.{arith}
 use mathlib.Core.Path.{_≡_, refl, sym, _∙_, ap}
 use mathlib.Core.List.{List, _++_}
 use mathlib.Core.Bool.{Bool, true, false, not}
-use borrow.Author.Tests.{le-ltb}
+use borrow.Author.Tests.{le-ltb, ltb-false}
 use lib.ListN.{length, drop, getD}
 use lib.Dec.{eqb}
 use Rattle.anomaly.specs.Note.{kindIndex}
+use Rattle.anomaly.specs.Kept.{isDue}
 use Rattle.anomaly.specs.declared.ResAnomaly.{ResAnomaly}
 use Rattle.anomaly.specs.declared.ResAnomaly.the-variants.{NonXmlChunk, XmlNodeHeaderSize}
 use Rattle.common.proofs.Laws.{headerHere}
@@ -32,7 +33,7 @@ use Rattle.walk.specs.Settle.{Room, Tables, going, settle}
 use Rattle.walk.specs.Reading.{finalOf}
 use Rattle.walk.specs.Tree.{tablesOf}
 use Rattle.walk.specs.Outcome.{Good, roomOf}
-use Rattle.walk.specs.Pass.{spotAt, Reaches, PassesOn}
+use Rattle.walk.specs.Pass.{spotAt, NoneDue, Reaches, PassesOn}
 use Rattle.walk.proofs.Advancing.{ReadHead, body, tables, N}
 
 -- ---- a note past its cap
@@ -43,10 +44,14 @@ unfolding settle
 settle-when same r T x true es h = rw (le-ltb (getD (T .counts) (kindIndex x) 0) (r .cap) h)
 settle-when same r T x false es h = refl
 
+-- what the code knows of the place k where it found no note due
+pub past-cap : (cap : ℕ) (counts : List ℕ) {k k′ : ℕ} {b : Bool} → k ≡ k′ → b ≡ isDue cap counts k → b ≡ false → cap ≤ getD counts k′ 0
+past-cap cap counts {k} e d q = rw e at (ltb-false (getD counts k 0) cap (sym d ∙ q))
+
 -- ---- from place to place
 
 pub reaches-here : (b : List ℕ) (at run : ℕ) → at ≤ length b → Reaches b at run at run
-reaches-here b at run h = record { more = omega arith; fits = h; quiet = λ M d s r T p q. refl }
+reaches-here b at run h = record { more = omega arith; fits = h; quiet = λ M d s r T none. refl }
 
 module _ (b : List ℕ) (at run n : ℕ) (some : 0 < n) (f : at + n ≤ length b) where
   pub reaches-0 : n ≡ runUsed 0 (drop at b) → Reaches b at run (at + n) 0
@@ -58,9 +63,9 @@ module _ (b : List ℕ) (at run n : ℕ) (some : 0 < n) (f : at + n ≤ length b
       record {
         more = omega arith;
         fits = f;
-        quiet = λ M d s r T p q.
+        quiet = λ M d s r T none.
             (ap (λ (es : List Event). settle (M .same) r (going T) es) (eventsOn-turn M b at (spotAt run d s) n t refl some)
-            ∙ settle-when (M .same) r T (NonXmlChunk a) (not (eqb 0 run)) (eventsOn M (drop (at + n) b) (spotAt 0 d s)) p);
+            ∙ settle-when (M .same) r T (NonXmlChunk a) (not (eqb 0 run)) (eventsOn M (drop (at + n) b) (spotAt 0 d s)) (none .0));
       }
 
   pub reaches-1 : n ≡ runUsed 1 (drop at b) → Reaches b at run (at + n) 1
@@ -72,16 +77,16 @@ module _ (b : List ℕ) (at run n : ℕ) (some : 0 < n) (f : at + n ≤ length b
       record {
         more = omega arith;
         fits = f;
-        quiet = λ M d s r T p q.
+        quiet = λ M d s r T none.
             (ap (λ (es : List Event). settle (M .same) r (going T) es) (eventsOn-turn M b at (spotAt run d s) n t refl some)
-            ∙ settle-when (M .same) r T (XmlNodeHeaderSize a) (not (eqb 1 run)) (eventsOn M (drop (at + n) b) (spotAt 1 d s)) q);
+            ∙ settle-when (M .same) r T (XmlNodeHeaderSize a) (not (eqb 1 run)) (eventsOn M (drop (at + n) b) (spotAt 1 d s)) (none .1));
       }
 
 pub reaches-on : (b : List ℕ) (at run at′ run′ at″ run″ : ℕ) → Reaches b at run at′ run′ → Reaches b at′ run′ at″ run″ → Reaches b at run at″ run″
 reaches-on b at run at′ run′ at″ run″ g h = record {
   more = omega (arith, g .more, h .more);
   fits = h .fits;
-  quiet = λ M d s r T p q. (g .quiet M d s r T p q ∙ h .quiet M d s r T p q);
+  quiet = λ M d s r T none. (g .quiet M d s r T none ∙ h .quiet M d s r T none);
 }
 
 -- ---- the cursor
@@ -97,13 +102,13 @@ module _ (b : List ℕ) (cap : ℕ) (cs : List ℕ) (c : Cursor) (at run : ℕ) 
   chunk-low : steps b (passedTo c at run) ≤ steps b c
   chunk-low = rw e (omega (arith, g .more))
 
-  chunk-quiet : cap ≤ getD cs 3 0 → cap ≤ getD cs 4 0 → (M : Names) (o : Opened) (t : List ℕ) (r : Room) (T : Tables) → r .cap ≡ cap → T .counts ≡ cs
+  chunk-quiet : NoneDue cap cs → (M : Names) (o : Opened) (t : List ℕ) (r : Room) (T : Tables) → r .cap ≡ cap → T .counts ≡ cs
       → settle (M .same) r (going T) (pending M o t b c) ≡ settle (M .same) r (going T) (pending M o t b (passedTo c at run))
   unfolding pending
-  chunk-quiet three four M o t r T p q = rw e (g .quiet M (c .depth) (c .starts) r T (rw (p, q) three) (rw (p, q) four))
+  chunk-quiet none M o t r T p q = rw e (g .quiet M (c .depth) (c .starts) r T (rw (p, q) none))
 
-  pub on-chunk : cap ≤ getD cs 3 0 → cap ≤ getD cs 4 0 → PassesOn b cap cs c (passedTo c at run)
-  on-chunk three four = record { within = chunk-within; low = chunk-low; quiet = chunk-quiet three four }
+  pub on-chunk : NoneDue cap cs → PassesOn b cap cs c (passedTo c at run)
+  on-chunk none = record { within = chunk-within; low = chunk-low; quiet = chunk-quiet none }
 
 -- ---- the loop's head of `read_on`
 

@@ -13,12 +13,13 @@ use lib.Dec.{eqb}
 use Rattle.common.specs.declared.StringIndex.{StringIndex}
 use Rattle.anomaly.specs.declared.Note.{Note as NoteOf}
 use Rattle.errors.specs.declared.Refusal.the-variants.{NodesFull}
+use Rattle.records.specs.Words.{nodeWidth, nodeParent, nodeFirst, nodeCount, attributeWidth}
 use Rattle.events.specs.declared.Event.the-variants.{Open, Close}
 use Rattle.walk.specs.declared.tree.Tree.{Tree}
 use Rattle.walk.specs.declared.placing.Placed.the-variants.{Done, Full}
 use Rattle.walk.specs.Settle.{Room, going, push, parentIn, closedIn}
 use Rattle.walk.specs.Reading.{secondOf}
-use Rattle.walk.specs.Tree.{parentOf, openedTree, closedTree, fiveOf, Linked, Tied, tablesOf, PlacesBy}
+use Rattle.walk.specs.Tree.{parentOf, openedTree, closedTree, openedWords, Linked, Tied, tablesOf, PlacesBy}
 
 pub take-put : (l l′ w : List ℕ) (i j : ℕ) → i ≤ length l → i + length w ≡ j → l′ ≡ take i l ++ w ++ drop j l → take j l′ ≡ take i l ++ w
 take-put l l′ w i j h e q = rw (q, take-at (take i l ++ w) (drop j l) j (length-append (take i l) w ∙ rw (length-take-le i l h) e))
@@ -28,7 +29,7 @@ getD-behind w v n m e = ap (λ (i : ℕ). getD (w ++ v) (i + m) 0) (sym e) ∙ g
 
 -- ---- the list of open elements
 
-linked-some : (w : List ℕ) (k : ℕ) (r : List ℕ) → Linked w (k ∷ r) → 5 ≤ length w
+linked-some : (w : List ℕ) (k : ℕ) (r : List ℕ) → Linked w (k ∷ r) → nodeWidth ≤ length w
 linked-some w k [] h = h .1
 linked-some w k (j ∷ r) h = omega (arith, h .1)
 
@@ -37,22 +38,22 @@ linked-append w v k [] h = (h .0, rw length-append (omega (arith, h .1)))
 linked-append w v k (j ∷ r) h = (
   h .0,
   rw length-append (omega (arith, h .1)),
-  List·getD-append w v 0 (5 * k + 2) (omega (arith, h .1)) ∙ h .2,
+  List·getD-append w v 0 (nodeWidth * k + nodeParent) (omega (arith, h .1)) ∙ h .2,
   linked-append w v j r (h .3),
 )
 
 -- a count of attributes is no parent
-pub linked-set : (w : List ℕ) (i x n : ℕ) (o : List ℕ) → i + 1 ≡ 5 * n → Linked w o → Linked (set w i x) o
+pub linked-set : (w : List ℕ) (i x n : ℕ) (o : List ℕ) → i ≡ nodeWidth * n + nodeCount → Linked w o → Linked (set w i x) o
 linked-set w i x n [] e h = rw length-set h
 linked-set w i x n (k ∷ []) e h = (h .0, rw length-set (h .1))
 linked-set w i x n (k ∷ j ∷ r) e h = (
   h .0,
   rw length-set (h .1),
-  getD-set-other w i (5 * k + 2) x 0 (λ z. omega arith) ∙ h .2,
+  getD-set-other w i (nodeWidth * k + nodeParent) x 0 (λ z. omega arith) ∙ h .2,
   linked-set w i x n (j ∷ r) e (h .3),
 )
 
-pub second-in : (w o : List ℕ) → Linked w o → (secondOf o ≡ 0 → ⊥) → 5 * secondOf o + 5 ≤ length w
+pub second-in : (w o : List ℕ) → Linked w o → (secondOf o ≡ 0 → ⊥) → nodeWidth * secondOf o + nodeWidth ≤ length w
 second-in w [] h n = absurd (n refl)
 second-in w (k ∷ []) h n = absurd (n refl)
 second-in w (k ∷ j ∷ []) h n = h .1
@@ -60,46 +61,46 @@ second-in w (k ∷ j ∷ i ∷ r) h n = second-in w (j ∷ i ∷ r) (h .3) n
 
 -- ---- a node opens
 
-module _ (same : ℕ → ℕ → Bool) (ns ats ns′ : List ℕ) (t : Tree) (name : StringIndex) (fixed line : ℕ) (room : 5 * t .nodes + 5 ≤ length ns)
-    (len : length ns′ ≡ length ns) (put : ns′ ≡ take (5 * t .nodes) ns ++ fiveOf t (name .0) fixed ++ drop (5 * t .nodes + 5) ns) where
+module _ (same : ℕ → ℕ → Bool) (ns ats ns′ : List ℕ) (t : Tree) (name : StringIndex) (fixed line : ℕ) (room : nodeWidth * t .nodes + nodeWidth ≤ length ns)
+    (len : length ns′ ≡ length ns) (put : ns′ ≡ take (nodeWidth * t .nodes) ns ++ openedWords t (name .0) fixed ++ drop (nodeWidth * t .nodes + nodeWidth) ns) where
   abbrev w : List ℕ
-  w = take (5 * t .nodes) ns
+  w = take (nodeWidth * t .nodes) ns
 
-  abbrev five : List ℕ
-  five = fiveOf t (name .0) fixed
+  abbrev opening : List ℕ
+  opening = openedWords t (name .0) fixed
 
-  lw : length w ≡ 5 * t .nodes
-  lw = length-take-le (5 * t .nodes) ns (omega arith)
+  lw : length w ≡ nodeWidth * t .nodes
+  lw = length-take-le (nodeWidth * t .nodes) ns (omega arith)
 
-  words : take (5 * (t .nodes + 1)) ns′ ≡ w ++ five
+  words : take (nodeWidth * (t .nodes + 1)) ns′ ≡ w ++ opening
   words =
-      let e : 5 * t .nodes + 5 ≡ 5 * (t .nodes + 1) = omega arith in
-      take-put ns ns′ five (5 * t .nodes) (5 * (t .nodes + 1)) (omega arith) e (rw e at put)
+      let e : nodeWidth * t .nodes + nodeWidth ≡ nodeWidth * (t .nodes + 1) = omega arith in
+      take-put ns ns′ opening (nodeWidth * t .nodes) (nodeWidth * (t .nodes + 1)) (omega arith) e (rw e at put)
 
   parent : (o : List ℕ) → Tied ns ats t o → parentOf t ≡ parentIn o
   parent [] h = let z : t .nodes ≡ 0 = omega (arith, h .linked, lw) in rw (eq-eqb (t .nodes) 0 z)
   parent (k ∷ r) h = let q = linked-some w k r (h .linked) in rw (ne-eqb (t .nodes) 0 (λ z. omega (arith, lw))) (sym (h .top))
 
-  linked : (o : List ℕ) → Tied ns ats t o → Linked (w ++ five) (t .nodes ∷ o)
+  linked : (o : List ℕ) → Tied ns ats t o → Linked (w ++ opening) (t .nodes ∷ o)
   linked [] h = (omega (arith, h .linked, lw), rw length-append (omega (arith, lw)))
   linked (k ∷ r) h =
       let q = linked-some w k r (h .linked) in (
         omega (arith, lw),
         rw length-append (omega (arith, lw)),
-        getD-behind w five (5 * t .nodes) 2 lw ∙ parent (k ∷ r) h,
-        linked-append w five k r (h .linked),
+        getD-behind w opening (nodeWidth * t .nodes) nodeParent lw ∙ parent (k ∷ r) h,
+        linked-append w opening k r (h .linked),
       )
 
   module _ (o : List ℕ) (h : Tied ns ats t o) (u : Tree) (un : u .nodes ≡ t .nodes + 1) (ua : u .attributes ≡ t .attributes)
       (uf : u .first ≡ t .attributes) (ui : u .inner ≡ t .nodes) (us : secondOf (t .nodes ∷ o) ≡ u .second)
-      (uu : (u .second ≡ 0 → ⊥) → getD (w ++ five) (5 * u .second + 3) 0 ≡ u .upto) (ub : u .upto ≤ t .attributes) where
+      (uu : (u .second ≡ 0 → ⊥) → getD (w ++ opening) (nodeWidth * u .second + nodeFirst) 0 ≡ u .upto) (ub : u .upto ≤ t .attributes) where
     pushed : (r : Room) (os : List NoteOf) (cs : List ℕ) → r .nodes ≡ length ns → r .attributes ≡ length ats
         → push same r (going (tablesOf ns ats t o os cs)) (Open name fixed line) ≡ going (tablesOf ns′ ats u (t .nodes ∷ o) os cs)
     pushed r os cs rn ra =
-        let la : length (take (5 * t .attributes) ats) ≡ 5 * t .attributes = length-take-le (5 * t .attributes) ats (h .sized .attributes) in
-        let fit : length w + 5 ≤ r .nodes = omega (arith, lw) in
-        let da : 5 * t .attributes / 5 ≡ t .attributes = omega arith in
-        let dn : 5 * t .nodes / 5 ≡ t .nodes = omega arith in
+        let la : length (take (attributeWidth * t .attributes) ats) ≡ attributeWidth * t .attributes = length-take-le (attributeWidth * t .attributes) ats (h .sized .attributes) in
+        let fit : length w + nodeWidth ≤ r .nodes = omega (arith, lw) in
+        let da : attributeWidth * t .attributes / attributeWidth ≡ t .attributes = omega arith in
+        let dn : nodeWidth * t .nodes / nodeWidth ≡ t .nodes = omega arith in
         rw (le-leb _ _ fit, un, ua, uf, words, ← parent o h, la, lw, da, dn)
 
     tied : Tied ns′ ats u (t .nodes ∷ o)
@@ -132,42 +133,42 @@ module _ (same : ℕ → ℕ → Bool) (ns ats ns′ : List ℕ) (t : Tree) (nam
       rw (ne-eqb (t .nodes) 0 (λ z. omega (arith, lw)), eq-eqb (t .inner) 0 e)
       (done (k ∷ []) h
       (record { nodes = t .nodes + 1; attributes = t .attributes; first = t .attributes; inner = t .nodes; second = t .nodes; upto = t .attributes })
-      refl refl refl refl refl (λ _. getD-behind w five (5 * t .nodes) 3 lw) (omega arith))
+      refl refl refl refl refl (λ _. getD-behind w opening (nodeWidth * t .nodes) nodeFirst lw) (omega arith))
   node-opens (k ∷ j ∷ r) h =
       let q = linked-some w k (j ∷ r) (h .linked) in
       let e : (t .inner ≡ 0 → ⊥) = λ z. omega (arith, h .top, h .linked .0) in
-      let b : (t .second ≡ 0 → ⊥) → 5 * t .second + 5 ≤ length w =
+      let b : (t .second ≡ 0 → ⊥) → nodeWidth * t .second + nodeWidth ≤ length w =
       λ n. rw (h .second) at (second-in w (k ∷ j ∷ r) (h .linked) (rw (h .second) n)) in
       rw (ne-eqb (t .nodes) 0 (λ z. omega (arith, lw)), ne-eqb (t .inner) 0 e)
       (done (k ∷ j ∷ r) h
       (record { nodes = t .nodes + 1; attributes = t .attributes; first = t .attributes; inner = t .nodes; second = t .second; upto = t .upto })
-      refl refl refl refl (h .second) (λ n. List·getD-append w five 0 (5 * t .second + 3) (omega (arith, b n)) ∙ h .upto n) (h .below))
+      refl refl refl refl (h .second) (λ n. List·getD-append w opening 0 (nodeWidth * t .second + nodeFirst) (omega (arith, b n)) ∙ h .upto n) (h .below))
 
 -- no place for it
 pub node-full : (same : ℕ → ℕ → Bool) (ns ats ns′ : List ℕ) (t : Tree) (name : StringIndex) (fixed line : ℕ) (o : List ℕ) → Tied ns ats t o
-    → length ns < 5 * t .nodes + 5 → PlacesBy same (Full (NodesFull (length ns / 5))) ns ats t o (Open name fixed line) ns′ ats
+    → length ns < nodeWidth * t .nodes + nodeWidth → PlacesBy same (Full (NodesFull (length ns / nodeWidth))) ns ats t o (Open name fixed line) ns′ ats
 node-full same ns ats ns′ t name fixed line o h none r os cs rn ra =
-    let lw : length (take (5 * t .nodes) ns) ≡ 5 * t .nodes = length-take-le (5 * t .nodes) ns (h .sized .nodes) in
-    let over : r .nodes < length (take (5 * t .nodes) ns) + 5 = omega (arith, lw) in
+    let lw : length (take (nodeWidth * t .nodes) ns) ≡ nodeWidth * t .nodes = length-take-le (nodeWidth * t .nodes) ns (h .sized .nodes) in
+    let over : r .nodes < length (take (nodeWidth * t .nodes) ns) + nodeWidth = omega (arith, lw) in
     rw (lt-leb _ _ over, rn)
 
 -- ---- an element closes
 
 module _ (same : ℕ → ℕ → Bool) (ns ats : List ℕ) (t : Tree) where
   abbrev u : List ℕ
-  u = take (5 * t .nodes) ns
+  u = take (nodeWidth * t .nodes) ns
 
   stays : (o : List ℕ) → Tied ns ats t o → closedIn o ≡ o → PlacesBy same (Done t) ns ats t o Close ns ats
   stays o h e = record { stack = o; tied = h; few = omega arith; pushed = λ r os cs rn ra. rw e }
 
   -- the parent word of the innermost is the next of the open elements
-  parent-word : (k j : ℕ) (r : List ℕ) → Tied ns ats t (k ∷ j ∷ r) → getD ns (5 * t .inner + 2) 0 ≡ j
+  parent-word : (k j : ℕ) (r : List ℕ) → Tied ns ats t (k ∷ j ∷ r) → getD ns (nodeWidth * t .inner + nodeParent) 0 ≡ j
   parent-word k j r h =
-      let lu : length u ≡ 5 * t .nodes = length-take-le (5 * t .nodes) ns (h .sized .nodes) in
-      rw (← h .top) (sym (getD-take (5 * t .nodes) ns (5 * k + 2) 0 (omega (arith, h .linked .1, lu))) ∙ h .linked .2)
+      let lu : length u ≡ nodeWidth * t .nodes = length-take-le (nodeWidth * t .nodes) ns (h .sized .nodes) in
+      rw (← h .top) (sym (getD-take (nodeWidth * t .nodes) ns (nodeWidth * k + nodeParent) 0 (omega (arith, h .linked .1, lu))) ∙ h .linked .2)
 
   pub node-closes : (o : List ℕ) → Tied ns ats t o
-      → PlacesBy same (Done (cond (eqb (t .inner) 0) t (closedTree t (getD ns (5 * t .inner + 2) 0)))) ns ats t o Close ns ats
+      → PlacesBy same (Done (cond (eqb (t .inner) 0) t (closedTree t (getD ns (nodeWidth * t .inner + nodeParent) 0)))) ns ats t o Close ns ats
   node-closes [] h = rw (eq-eqb (t .inner) 0 (sym (h .top))) (stays [] h refl)
   node-closes (k ∷ []) h = rw (eq-eqb (t .inner) 0 (sym (h .top) ∙ h .linked .0)) (stays (k ∷ []) h refl)
   node-closes (k ∷ j ∷ []) h =
@@ -187,7 +188,7 @@ module _ (same : ℕ → ℕ → Bool) (ns ats : List ℕ) (t : Tree) where
         pushed = λ r os cs rn ra. refl;
       })
   node-closes (k ∷ j ∷ i ∷ r) h =
-      let lu : length u ≡ 5 * t .nodes = length-take-le (5 * t .nodes) ns (h .sized .nodes) in
+      let lu : length u ≡ nodeWidth * t .nodes = length-take-le (nodeWidth * t .nodes) ns (h .sized .nodes) in
       let e : (t .inner ≡ 0 → ⊥) = λ z. omega (arith, h .top, h .linked .0) in
       let p : (j ≡ 0 → ⊥) = λ z. omega (arith, h .linked .3 .0) in
       let in-tree : j < t .nodes = omega (arith, h .linked .3 .1, lu) in

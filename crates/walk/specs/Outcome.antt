@@ -20,6 +20,7 @@ use Rattle.errors.specs.declared.Refusal.{Refusal}
 use Rattle.errors.specs.declared.Refusal.the-variants.{MissingRoot, NotesFull}
 use Rattle.errors.specs.declared.ReadAnswer.{ReadAnswer}
 use Rattle.errors.specs.declared.ReadAnswer.the-variants.{Done, Refused}
+use Rattle.records.specs.Words.{nodeWidth, attributeWidth}
 use Rattle.head.specs.declared.HeadEnd.the-variants.{Whole}
 use Rattle.head.specs.declared.Opened.{Opened}
 use Rattle.head.specs.Head.{unopened, tablesIn, bodyIn}
@@ -121,15 +122,15 @@ pub record Refuses (ns ats : List ℕ) (st : State) (x : Refusal) (r : State) (n
 
 -- the kept records are there, and the notes can be counted
 pub record Keepable (ns ats : List ℕ) (st : State) (t : Tree) : Type 0 where
-  pub nodes : 5 * keptNodes t ≤ length ns
-  pub attributes : 5 * keptAttributes t ≤ length ats
+  pub nodes : nodeWidth * keptNodes t ≤ length ns
+  pub attributes : attributeWidth * keptAttributes t ≤ length ats
   pub notes : st .notes .used < 4294967296
 
 -- a success: the kept records, and zeros behind
 pub record Finishes (ns ats : List ℕ) (st : State) (t : Tree) (r : State) (ns′ ats′ : List ℕ) : Type 0 where
   pub state : r ≡ clearingAt st (st .notes .used) (doneAnswer t (st .notes .used))
-  pub nodes : ns′ ≡ take (5 * keptNodes t) ns ++ replicate (length ns - 5 * keptNodes t) 0
-  pub attributes : ats′ ≡ take (5 * keptAttributes t) ats ++ replicate (length ats - 5 * keptAttributes t) 0
+  pub nodes : ns′ ≡ take (nodeWidth * keptNodes t) ns ++ replicate (length ns - nodeWidth * keptNodes t) 0
+  pub attributes : ats′ ≡ take (attributeWidth * keptAttributes t) ats ++ replicate (length ats - attributeWidth * keptAttributes t) 0
 
 -- the tables are as they were, and a note is to be written
 pub record Writes (ns ats : List ℕ) (st : State) (c : Cursor) (t : Tree) (x : ResAnomaly) (r : State) (ns′ ats′ : List ℕ) : Type 0 where

@@ -1,12 +1,15 @@
 -- What `pass_in` does: where the notes of both sorts of foreign chunks are past their cap, such chunks change nothing. Not part of what a
 -- reader must believe.
 --
+--   NoneDue    no note of a foreign chunk falls due
 --   Reaches    what is settled from the place `at`, behind a chunk of the sort `run`, is what is settled from a later place
 --   PassesOn   the same of two cursors, with the cap and the counts of a reading
 use Prim.Native.Nat.{ℕ, _≤_}
 use mathlib.Core.Path.{_≡_}
 use mathlib.Core.List.{List}
 use lib.ListN.{length, drop, getD}
+use Rattle.anomaly.specs.Note.{kindIndex}
+use Rattle.anomaly.specs.declared.ResAnomaly.the-variants.{NonXmlChunk, XmlNodeHeaderSize}
 use Rattle.head.specs.declared.Opened.{Opened}
 use Rattle.events.specs.declared.Cursor.{Cursor}
 use Rattle.events.specs.Events.{Names, Spot, eventsOn}
@@ -16,11 +19,14 @@ use Rattle.walk.specs.Settle.{Room, Tables, going, settle}
 abbrev pub spotAt : ℕ → ℕ → ℕ → Spot
 spotAt run depth starts = record { run = run; depth = depth; starts = starts }
 
--- 3 and 4 are the places of the two kinds in the counts
+-- the notes of both sorts of foreign chunks are past their cap
+abbrev pub NoneDue : ℕ → List ℕ → Type 0
+NoneDue cap counts = (cap ≤ getD counts (kindIndex (NonXmlChunk 0)) 0) × (cap ≤ getD counts (kindIndex (XmlNodeHeaderSize 0)) 0)
+
 pub record Reaches (b : List ℕ) (at run at′ run′ : ℕ) : Type 0 where
   pub more : at ≤ at′
   pub fits : at′ ≤ length b
-  pub quiet : (N : Names) (d s : ℕ) (r : Room) (T : Tables) → r .cap ≤ getD (T .counts) 3 0 → r .cap ≤ getD (T .counts) 4 0
+  pub quiet : (N : Names) (d s : ℕ) (r : Room) (T : Tables) → NoneDue (r .cap) (T .counts)
       → settle (N .same) r (going T) (eventsOn N (drop at b) (spotAt run d s))
       ≡ settle (N .same) r (going T) (eventsOn N (drop at′ b) (spotAt run′ d s))
 

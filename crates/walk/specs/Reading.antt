@@ -20,7 +20,7 @@ use Rattle.head.specs.declared.Opened.{Opened}
 use Rattle.head.specs.Head.{openedOf, tablesIn, bodyIn}
 use Rattle.head.specs.Ask.{Check, passes, fails, firstOf, lengthCheck, namesCheck}
 use Rattle.events.specs.Events.{namesIn, fileEvents}
-use Rattle.tables.specs.Keep.{nodeWidth, attributeWidth}
+use Rattle.records.specs.Words.{nodeWidth, nodeFirst, attributeWidth}
 use Rattle.walk.specs.Settle.{Room, Tables, Out, going, refused, settle, nothingYet}
 
 pub record Reading : Type 0 where
@@ -51,7 +51,7 @@ nodesKept t = cond (eqb (secondOf (t .stack)) 0) (length (t .nodes) / nodeWidth)
 
 -- those that stood there before the second element's
 abbrev pub attributesKept : Tables → ℕ
-attributesKept t = cond (eqb (secondOf (t .stack)) 0) (length (t .attributes) / attributeWidth) (getD (t .nodes) (nodeWidth * secondOf (t .stack) + 3) 0)
+attributesKept t = cond (eqb (secondOf (t .stack)) 0) (length (t .attributes) / attributeWidth) (getD (t .nodes) (nodeWidth * secondOf (t .stack) + nodeFirst) 0)
 
 abbrev pub succeeds : Room → Tables → Reading
 succeeds r t = record {

@@ -4,22 +4,23 @@
 --   push      one event; settle all of them
 --   opened    an element opens: its node, and it is the innermost open one
 --   closed    the innermost closes and becomes a child of the one below; the first stays open for ever
---   kept      an attribute of the last node, whose last word counts them
+--   kept      an attribute of the last node, which counts it
 --   noted     a note, counted by its kind
 --
 -- An attribute of the same prefix and name text as one of its element is passed over, and has no place due; a note past its cap too.
-use Prim.Native.Nat.{ℕ, _+_, _-_, _/_}
+use Prim.Native.Nat.{ℕ, _+_, _-_, _*_, _/_}
 use mathlib.Core.List.{List, [], _∷_, _++_}
 use mathlib.Core.Bool.{Bool, cond}
 use lib.ListN.{length, drop, set, getD, replicate}
 use lib.Dec.{ltb, leb, eqb}
-use Rattle.anomaly.specs.Note.{kindIndex, noteOf}
+use Rattle.anomaly.specs.Note.{kinds, kindIndex, noteOf}
 use Rattle.anomaly.specs.declared.Note.{Note as NoteOf}
 use Rattle.anomaly.specs.declared.ResAnomaly.{ResAnomaly}
 use Rattle.errors.specs.declared.Refusal.{Refusal}
 use Rattle.errors.specs.declared.Refusal.the-variants.{NodesFull, AttributesFull, NotesFull}
 use Rattle.xml_elements.specs.declared.XmlAttributeElement.{XmlAttributeElement}
-use Rattle.tables.specs.Keep.{nodeWidth, attributeWidth, hasKey}
+use Rattle.records.specs.Words.{nodeWidth, nodeCount, noParent, nodeWords, attributeWidth, attributeWords}
+use Rattle.tables.specs.Keep.{hasKey}
 use Rattle.events.specs.declared.Event.{Event}
 use Rattle.events.specs.declared.Event.the-variants.{Nothing, Open, Attribute, LeftOut, Close, Note, Refuse, Finish}
 
@@ -46,9 +47,9 @@ pub data Out : Type 0 where
 
 -- ---- the stack of open elements
 
--- 4294967295 for the first
+-- the number of the innermost
 abbrev pub parentIn : List ℕ → ℕ
-parentIn [] = 4294967295
+parentIn [] = noParent
 parentIn (k ∷ r) = k
 
 abbrev pub closedIn : List ℕ → List ℕ
@@ -58,13 +59,10 @@ closedIn (k ∷ j ∷ r) = j ∷ r
 
 -- ---- one event
 
--- the words of a node that opens: name, fixed, parent, first attribute, and no attributes yet
-abbrev pub nodeWords : Tables → ℕ → ℕ → List ℕ
-nodeWords t name fixed = name ∷ fixed ∷ parentIn (t .stack) ∷ length (t .attributes) / attributeWidth ∷ 0 ∷ []
-
+-- its node has no attributes yet
 abbrev pub opened : Tables → ℕ → ℕ → Tables
 opened t name fixed = record {
-  nodes = t .nodes ++ nodeWords t name fixed;
+  nodes = t .nodes ++ nodeWords name fixed (parentIn (t .stack)) (length (t .attributes) / attributeWidth) 0;
   attributes = t .attributes;
   first = length (t .attributes);
   stack = length (t .nodes) / nodeWidth ∷ t .stack;
@@ -75,11 +73,14 @@ opened t name fixed = record {
 abbrev pub closed : Tables → Tables
 closed t = record { nodes = t .nodes; attributes = t .attributes; first = t .first; stack = closedIn (t .stack); notes = t .notes; counts = t .counts }
 
--- owner, prefix, name, type, data
+-- the number of the last node
+abbrev pub lastNode : Tables → ℕ
+lastNode t = length (t .nodes) / nodeWidth - 1
+
 abbrev pub kept : Tables → ℕ → XmlAttributeElement → Tables
 kept t p a = record {
-  nodes = set (t .nodes) (length (t .nodes) - 1) ((length (t .attributes) + attributeWidth - t .first) / attributeWidth);
-  attributes = t .attributes ++ ((length (t .nodes) / nodeWidth - 1) ∷ p ∷ a .name .0 ∷ a .«data_type» ∷ a .«data» ∷ []);
+  nodes = set (t .nodes) (nodeWidth * lastNode t + nodeCount) ((length (t .attributes) + attributeWidth - t .first) / attributeWidth);
+  attributes = t .attributes ++ attributeWords (lastNode t) p (a .name .0) (a .«data_type») (a .«data»);
   first = t .first;
   stack = t .stack;
   notes = t .notes;
@@ -121,4 +122,4 @@ settle same r o [] = o
 settle same r o (e ∷ es) = settle same r (push same r o e) es
 
 abbrev pub nothingYet : Out
-nothingYet = going (record { nodes = []; attributes = []; first = 0; stack = []; notes = []; counts = replicate 13 0 })
+nothingYet = going (record { nodes = []; attributes = []; first = 0; stack = []; notes = []; counts = replicate kinds 0 })

@@ -16,6 +16,7 @@ use Rattle.anomaly.specs.declared.Note.{Note as NoteOf}
 use Rattle.text.specs.Found.{Asks}
 use Rattle.text.specs.declared.Head.{Head}
 use Rattle.xml_elements.specs.declared.XmlAttributeElement.{XmlAttributeElement}
+use Rattle.records.specs.Words.{nodeWidth, nodeParent, nodeFirst, nodeCount, noParent, nodeWords, attributeWidth, attributeWords}
 use Rattle.tables.specs.Keep.{hasKey}
 use Rattle.events.specs.declared.Event.{Event}
 use Rattle.events.specs.declared.Event.the-variants.{Nothing, Open, Attribute, LeftOut, Close, Note, Refuse, Finish}
@@ -30,7 +31,7 @@ use Rattle.walk.specs.Reading.{secondOf}
 -- ---- the numbers of a tree
 
 abbrev pub parentOf : Tree → ℕ
-parentOf t = cond (eqb (t .nodes) 0) 4294967295 (t .inner)
+parentOf t = cond (eqb (t .nodes) 0) noParent (t .inner)
 
 abbrev pub openedTree : Tree → Tree
 openedTree t =
@@ -48,8 +49,8 @@ abbrev pub keptTree : Tree → Tree
 keptTree t = record { nodes = t .nodes; attributes = t .attributes + 1; first = t .first; inner = t .inner; second = t .second; upto = t .upto }
 
 -- the words of the node that opens
-abbrev pub fiveOf : Tree → ℕ → ℕ → List ℕ
-fiveOf t name fixed = name ∷ fixed ∷ parentOf t ∷ t .attributes ∷ 0 ∷ []
+abbrev pub openedWords : Tree → ℕ → ℕ → List ℕ
+openedWords t name fixed = nodeWords name fixed (parentOf t) (t .attributes) 0
 
 abbrev pub keptNodes : Tree → ℕ
 keptNodes t = cond (eqb (t .second) 0) (t .nodes) (t .second)
@@ -60,8 +61,8 @@ keptAttributes t = cond (eqb (t .second) 0) (t .attributes) (t .upto)
 -- ---- the numbers and the tables
 
 pub record Sized (ns ats : List ℕ) (t : Tree) : Type 0 where
-  pub nodes : 5 * t .nodes ≤ length ns
-  pub attributes : 5 * t .attributes ≤ length ats
+  pub nodes : nodeWidth * t .nodes ≤ length ns
+  pub attributes : attributeWidth * t .attributes ≤ length ats
   pub first : t .first ≤ t .attributes
   pub inside : (t .inner ≡ 0 → ⊥) → t .inner < t .nodes
 
@@ -72,8 +73,8 @@ pub record Fit (ns ats : List ℕ) (t : Tree) : Type 0 where
 -- the numbers of the open elements, the innermost first, as the parent words w link them
 abbrev pub Linked : List ℕ → List ℕ → Type 0
 Linked w [] = length w ≡ 0
-Linked w (k ∷ []) = (k ≡ 0) × (5 ≤ length w)
-Linked w (k ∷ j ∷ r) = (0 < k) × (5 * k + 5 ≤ length w) × (getD w (5 * k + 2) 0 ≡ j) × Linked w (j ∷ r)
+Linked w (k ∷ []) = (k ≡ 0) × (nodeWidth ≤ length w)
+Linked w (k ∷ j ∷ r) = (0 < k) × (nodeWidth * k + nodeWidth ≤ length w) × (getD w (nodeWidth * k + nodeParent) 0 ≡ j) × Linked w (j ∷ r)
 
 abbrev pub topOf : List ℕ → ℕ
 topOf [] = 0
@@ -81,25 +82,25 @@ topOf (k ∷ r) = k
 
 pub record Tied (ns ats : List ℕ) (t : Tree) (o : List ℕ) : Type 0 where
   pub sized : Sized ns ats t
-  pub linked : Linked (take (5 * t .nodes) ns) o
+  pub linked : Linked (take (nodeWidth * t .nodes) ns) o
   pub top : topOf o ≡ t .inner
   pub second : secondOf o ≡ t .second
-  pub upto : (t .second ≡ 0 → ⊥) → getD (take (5 * t .nodes) ns) (5 * t .second + 3) 0 ≡ t .upto
+  pub upto : (t .second ≡ 0 → ⊥) → getD (take (nodeWidth * t .nodes) ns) (nodeWidth * t .second + nodeFirst) 0 ≡ t .upto
   pub below : t .upto ≤ t .attributes
 
 -- with the notes os and the counts cs
 abbrev pub tablesOf : List ℕ → List ℕ → Tree → List ℕ → List NoteOf → List ℕ → Tables
 tablesOf ns ats t o os cs =
-    record { nodes = take (5 * t .nodes) ns; attributes = take (5 * t .attributes) ats; first = 5 * t .first; stack = o; notes = os; counts = cs }
+    record { nodes = take (nodeWidth * t .nodes) ns; attributes = take (attributeWidth * t .attributes) ats; first = attributeWidth * t .first; stack = o; notes = os; counts = cs }
 
 -- ---- an attribute
 
 -- the words of the last node's attributes
 abbrev pub ownWords : Tree → List ℕ → List ℕ
-ownWords t ats = take (5 * t .attributes - 5 * t .first) (drop (5 * t .first) ats)
+ownWords t ats = take (attributeWidth * t .attributes - attributeWidth * t .first) (drop (attributeWidth * t .first) ats)
 
-abbrev pub attributeWords : Tree → ℕ → XmlAttributeElement → List ℕ
-attributeWords t p a = (t .nodes - 1) ∷ p ∷ a .name .0 ∷ a .«data_type» ∷ a .«data» ∷ []
+abbrev pub newWords : Tree → ℕ → XmlAttributeElement → List ℕ
+newWords t p a = attributeWords (t .nodes - 1) p (a .name .0) (a .«data_type») (a .«data»)
 
 -- the element has one of this prefix and name text, or there is no element
 pub record Repeats (same : ℕ → ℕ → Bool) (t : Tree) (p : ℕ) (a : XmlAttributeElement) (ns ats ns′ ats′ : List ℕ) : Type 0 where
@@ -111,16 +112,16 @@ pub record Repeats (same : ℕ → ℕ → Bool) (t : Tree) (p : ℕ) (a : XmlAt
 pub record Lacks (same : ℕ → ℕ → Bool) (t : Tree) (p : ℕ) (a : XmlAttributeElement) (ats : List ℕ) : Type 0 where
   pub some : t .nodes ≡ 0 → ⊥
   pub new : hasKey same p (a .name .0) (ownWords t ats) ≡ false
-  pub full : length ats < 5 * t .attributes + 5
+  pub full : length ats < attributeWidth * t .attributes + attributeWidth
 
 -- it is stored, and its element counts it
 pub record Stores (same : ℕ → ℕ → Bool) (u t : Tree) (p : ℕ) (a : XmlAttributeElement) (ns ats ns′ ats′ : List ℕ) : Type 0 where
   pub some : t .nodes ≡ 0 → ⊥
   pub new : hasKey same p (a .name .0) (ownWords t ats) ≡ false
-  pub room : 5 * t .attributes + 5 ≤ length ats
+  pub room : attributeWidth * t .attributes + attributeWidth ≤ length ats
   pub tree : u ≡ keptTree t
-  pub attributes : ats′ ≡ take (5 * t .attributes) ats ++ attributeWords t p a ++ drop (5 * t .attributes + 5) ats
-  pub nodes : ns′ ≡ set ns (5 * t .nodes - 1) (t .attributes + 1 - t .first)
+  pub attributes : ats′ ≡ take (attributeWidth * t .attributes) ats ++ newWords t p a ++ drop (attributeWidth * t .attributes + attributeWidth) ats
+  pub nodes : ns′ ≡ set ns (nodeWidth * (t .nodes - 1) + nodeCount) (t .attributes + 1 - t .first)
 
 abbrev pub Keeps : (ℕ → ℕ → Bool) → Put → Tree → ℕ → XmlAttributeElement → List ℕ → List ℕ → List ℕ → List ℕ → Type 0
 Keeps same Same t p a ns ats ns′ ats′ = Repeats same t p a ns ats ns′ ats′

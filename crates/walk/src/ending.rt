@@ -19,7 +19,8 @@ use errors::ReadAnswer;
 use errors::ReadCounts;
 use errors::Refusal;
 use events::Cursor;
-use tables::wide;
+use records::attribute_place;
+use records::node_place;
 use tables::zero_all;
 use tables::zero_from;
 
@@ -98,8 +99,8 @@ pub fn finish(nodes: &mut [u32], attributes: &mut [u32], st: State, tree: Tree) 
 {
     let k = kept_nodes(tree);
     let a = kept_attributes(tree);
-    zero_from(nodes, 5 * wide(k));
-    zero_from(attributes, 5 * wide(a));
+    zero_from(nodes, node_place(k));
+    zero_from(attributes, attribute_place(a));
     let notes = st.notes;
     let used = notes.used;
     let counts = ReadCounts {

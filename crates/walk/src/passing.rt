@@ -10,6 +10,8 @@ ghost use Rattle.events.specs.Steps.{passedTo};
 ghost use Rattle.events.specs.Pending.{Within};
 ghost use Rattle.walk.specs.Pass.{Reaches, PassesOn};
 use anomaly::Notes;
+use anomaly::ResAnomaly;
+use anomaly::kind_index;
 use chunk::run_used;
 use events::Cursor;
 use events::Phase;
@@ -78,10 +80,10 @@ pub fn pass_in(file: &[u8], o: Opened, notes: Notes, cap: u32, c: Cursor) -> Cur
     requires { ⌜ Within o (bodyIn (now file) (o .head)) c ⌝ }
     ensures { λ r. ⌜ PassesOn (bodyIn (now (file .entry)) (o .head)) cap (notes .counts) c r ⌝ }
 {
-    if notes.is_due(cap, 3) {
+    if notes.is_due(cap, kind_index(ResAnomaly::NonXmlChunk(0))) {
         return c;
     }
-    if notes.is_due(cap, 4) {
+    if notes.is_due(cap, kind_index(ResAnomaly::XmlNodeHeaderSize(0))) {
         return c;
     }
     let b = body_of(file, o.head);

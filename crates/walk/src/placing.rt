@@ -23,7 +23,9 @@ use events::step_at;
 use head::Opened;
 use head::body_of;
 use head::tables_of;
-use tables::wide;
+use records::ATTRIBUTE_WORDS;
+use records::NODE_WORDS;
+use records::node_place;
 use text::Head;
 use xml_elements::XmlAttributeElement;
 
@@ -60,8 +62,8 @@ fn open_place(
     ensures { λ r. ⌜ ((same : ℕ → ℕ → Bool) (line : ℕ) → Places same r (now (nodes .entry)) (now (attributes .entry)) tree (Open name fixed line)
         (now (nodes .exit)) (now (attributes .entry))) ⌝ }
 {
-    if nodes.len() - 5 * wide(tree.nodes) < 5 {
-        return Placed::Full(Refusal::NodesFull(nodes.len() / 5));
+    if nodes.len() - node_place(tree.nodes) < NODE_WORDS {
+        return Placed::Full(Refusal::NodesFull(nodes.len() / NODE_WORDS));
     }
     Placed::Done(open_node(nodes, tree, name, fixed))
 }
@@ -94,7 +96,7 @@ fn keep_place(
     let p = keep(t, names, area, h, nodes, attributes, tree, prefix, a);
     match p {
         Put::Same => Placed::Done(tree),
-        Put::Full => Placed::Full(Refusal::AttributesFull(attributes.len() / 5)),
+        Put::Full => Placed::Full(Refusal::AttributesFull(attributes.len() / ATTRIBUTE_WORDS)),
         Put::Stored(u) => Placed::Done(u),
     }
 }

@@ -9,14 +9,21 @@ ghost use mathlib.Core.Bool.{cond};
 ghost use Prim.Native.Nat.{_+_, _*_, _≤_, _<_};
 ghost use lib.ListN.{length, drop, take, getD};
 ghost use lib.Dec.{eqb};
+ghost use Rattle.records.specs.Words.{nodeWidth, nodeParent};
 ghost use Rattle.text.specs.Found.{Asks};
 ghost use Rattle.tables.specs.Keep.{sameIn};
-ghost use Rattle.walk.specs.Tree.{parentOf, openedTree, closedTree, keptTree, fiveOf, keptNodes, keptAttributes, Fit, Keeps};
+ghost use Rattle.walk.specs.Tree.{parentOf, openedTree, closedTree, keptTree, openedWords, keptNodes, keptAttributes, Fit, Keeps};
 use common::StringIndex;
+use records::ATTRIBUTE_WORDS;
+use records::NO_PARENT;
+use records::NODE_COUNT;
+use records::NODE_PARENT;
+use records::attribute_place;
+use records::node_place;
+use records::put_attribute;
+use records::put_node;
 use tables::has;
-use tables::put_five;
 use tables::put_one;
-use tables::wide;
 use text::Head;
 use xml_elements::XmlAttributeElement;
 
@@ -119,7 +126,7 @@ fn parent_of(tree: Tree) -> u32
     ensures { λ r. ⌜ r ≡ parentOf tree ⌝ }
 {
     if tree.nodes == 0 {
-        return 4294967295;
+        return NO_PARENT;
     }
     tree.inner
 }
@@ -127,14 +134,14 @@ fn parent_of(tree: Tree) -> u32
 // An element opens: its node is stored behind the others.
 // Ruled out: a parent that is not the innermost open element, and a count of attributes that is not 0.
 pub fn open_node(nodes: &mut [u32], tree: Tree, name: StringIndex, fixed: u32) -> Tree
-    requires { ⌜ (5 * tree .nodes + 5 ≤ length (now nodes)) × (tree .nodes < 4294967295) ⌝ }
+    requires { ⌜ (nodeWidth * tree .nodes + nodeWidth ≤ length (now nodes)) × (tree .nodes < 4294967295) ⌝ }
     ensures { λ r. ⌜ (r ≡ openedTree tree)
         × (now (nodes .exit)
-        ≡ take (5 * tree .nodes) (now (nodes .entry)) ++ fiveOf tree (name .0) fixed ++ drop (5 * tree .nodes + 5) (now (nodes .entry))) ⌝ }
+        ≡ take (nodeWidth * tree .nodes) (now (nodes .entry)) ++ openedWords tree (name .0) fixed ++ drop (nodeWidth * tree .nodes + nodeWidth) (now (nodes .entry))) ⌝ }
 {
-    put_five(
+    put_node(
         nodes,
-        5 * wide(tree.nodes),
+        node_place(tree.nodes),
         name.0,
         fixed,
         parent_of(tree),
@@ -147,14 +154,14 @@ pub fn open_node(nodes: &mut [u32], tree: Tree, name: StringIndex, fixed: u32) -
 // The innermost element closes and becomes a child of the one below; the first stays open for ever.
 // Ruled out: the first closed, and an element open above the first after it was closed.
 pub fn close_node(nodes: &[u32], tree: Tree) -> Tree
-    requires { ⌜ ((tree .inner ≡ 0 → ⊥) → 5 * tree .inner + 5 ≤ length (now nodes)) ⌝ }
-    ensures { λ r. ⌜ r ≡ cond (eqb (tree .inner) 0) tree (closedTree tree (getD (now (nodes .entry)) (5 * tree .inner + 2) 0)) ⌝ }
+    requires { ⌜ ((tree .inner ≡ 0 → ⊥) → nodeWidth * tree .inner + nodeWidth ≤ length (now nodes)) ⌝ }
+    ensures { λ r. ⌜ r ≡ cond (eqb (tree .inner) 0) tree (closedTree tree (getD (now (nodes .entry)) (nodeWidth * tree .inner + nodeParent) 0)) ⌝ }
 {
     let open = tree.inner;
     if open == 0 {
         return tree;
     }
-    let i = 5 * wide(open) + 2;
+    let i = node_place(open) + NODE_PARENT;
     tree.closed(nodes[i])
 }
 
@@ -179,17 +186,22 @@ pub fn keep(
     if n == 0 {
         return Put::Same;
     }
-    let from = 5 * wide(tree.first);
-    let used = 5 * wide(tree.attributes);
+    let from = attribute_place(tree.first);
+    let used = attribute_place(tree.attributes);
     let name = a.name;
     if has(t, names, area, h, &attributes[from..used], prefix, name) {
         return Put::Same;
     }
-    if attributes.len() - used < 5 {
+    if attributes.len() - used < ATTRIBUTE_WORDS {
         return Put::Full;
     }
-    put_five(attributes, used, n - 1, prefix, name.0, a.data_type, a.data);
-    put_one(nodes, 5 * wide(n) - 1, tree.attributes + 1 - tree.first);
+    let last = n - 1;
+    put_attribute(attributes, used, last, prefix, name.0, a.data_type, a.data);
+    put_one(
+        nodes,
+        node_place(last) + NODE_COUNT,
+        tree.attributes + 1 - tree.first,
+    );
     Put::Stored(tree.kept())
 }
 

@@ -8,14 +8,17 @@ use Rattle.c_api.proofs.put_note.Tie as tie
 mul-i : tie.Need-mul-i
 mul-i c = search needs
 
+add-words : tie.Need-add-words
+add-words c = search needs
+
 mul-words : tie.Need-mul-words
 mul-words c = search needs
 
 slice-write-words : tie.Need-slice-write-words
 slice-write-words c = search needs
 
-add-words : tie.Need-add-words
-add-words c = search needs
+add-words-2 : tie.Need-add-words-2
+add-words-2 c = search needs
 
 mul-words-2 : tie.Need-mul-words-2
 mul-words-2 c = search needs
@@ -23,8 +26,8 @@ mul-words-2 c = search needs
 slice-write-words-2 : tie.Need-slice-write-words-2
 slice-write-words-2 c = simp length-set (omega arith)
 
-add-words-2 : tie.Need-add-words-2
-add-words-2 c = search needs
+add-words-3 : tie.Need-add-words-3
+add-words-3 c = search needs
 
 mul-words-3 : tie.Need-mul-words-3
 mul-words-3 c = search needs
@@ -43,12 +46,13 @@ put-note-spec =
     tie.close
     (tie.spec
     mul-i
+    add-words
     mul-words
     slice-write-words
-    add-words
+    add-words-2
     mul-words-2
     slice-write-words-2
-    add-words-2
+    add-words-3
     mul-words-3
     slice-write-words-3
     same-length

@@ -6,6 +6,7 @@ use mathlib.Core.Path.{_≡_, sym, _∙_}
 use borrow.Author.Needs.{needs}
 use lib.ListN.{drop}
 use denote.Ref.{now}
+use Rattle.records.specs.Words.{nodeWidth}
 use Rattle.first_value.specs.Question.{findNode}
 use Rattle.first_value.proofs.Search.{findNode-end, findNode-found, findNode-next}
 use Rattle.first_value.proofs.find_node.Statement.{statement}
@@ -13,7 +14,7 @@ use Rattle.first_value.proofs.find_node.Tie as tie
 
 abbrev Inv-loop : tie.InvT-loop
 Inv-loop t names area h tag nodes count k₀ k =
-    (k ≤ count) × (findNode h t names area tag count nodes ≡ findNode h t names area tag (count - k) (drop (5 * k) nodes))
+    (k ≤ count) × (findNode h t names area tag count nodes ≡ findNode h t names area tag (count - k) (drop (nodeWidth * k) nodes))
 
 abbrev μ-loop : tie.MeasureT-loop
 μ-loop t names area h tag nodes count k₀ k = count - k
@@ -21,8 +22,8 @@ abbrev μ-loop : tie.MeasureT-loop
 loop-holds : tie.Need-loop-holds Inv-loop μ-loop
 loop-holds c = (search needs, sym (rw sub-zero))
 
-place-of-requires : tie.Need-place-of-requires Inv-loop μ-loop
-place-of-requires c κs = search needs
+node-place-requires : tie.Need-node-place-requires Inv-loop μ-loop
+node-place-requires c κs = search needs
 
 add-is-tagged : tie.Need-add-is-tagged Inv-loop μ-loop
 add-is-tagged c = search needs
@@ -33,32 +34,35 @@ mul-is-tagged c = search needs
 shared-slice-read-is-tagged : tie.Need-shared-slice-read-is-tagged Inv-loop μ-loop
 shared-slice-read-is-tagged c = search needs
 
-mul-t16 : tie.Need-mul-t16 Inv-loop μ-loop
-mul-t16 c = search needs
+add-t16 : tie.Need-add-t16 Inv-loop μ-loop
+add-t16 c = search needs
 
-shared-slice-read-t18 : tie.Need-shared-slice-read-t18 Inv-loop μ-loop
-shared-slice-read-t18 c = search needs
+mul-t17 : tie.Need-mul-t17 Inv-loop μ-loop
+mul-t17 c = search needs
+
+shared-slice-read-t19 : tie.Need-shared-slice-read-t19 Inv-loop μ-loop
+shared-slice-read-t19 c = search needs
 
 is-tagged-requires : tie.Need-is-tagged-requires Inv-loop μ-loop
 is-tagged-requires c κs = search needs
 
-add-t20 : tie.Need-add-t20 Inv-loop μ-loop
-add-t20 c = search needs
+add-t21 : tie.Need-add-t21 Inv-loop μ-loop
+add-t21 c = search needs
 
-mul-t21 : tie.Need-mul-t21 Inv-loop μ-loop
-mul-t21 c = search needs
+mul-t22 : tie.Need-mul-t22 Inv-loop μ-loop
+mul-t22 c = search needs
 
-shared-slice-read-t23 : tie.Need-shared-slice-read-t23 Inv-loop μ-loop
-shared-slice-read-t23 c = search needs
+shared-slice-read-t24 : tie.Need-shared-slice-read-t24 Inv-loop μ-loop
+shared-slice-read-t24 c = search needs
 
-add-t24 : tie.Need-add-t24 Inv-loop μ-loop
-add-t24 c = search needs
+add-t25 : tie.Need-add-t25 Inv-loop μ-loop
+add-t25 c = search needs
 
-mul-t25 : tie.Need-mul-t25 Inv-loop μ-loop
-mul-t25 c = search needs
+mul-t26 : tie.Need-mul-t26 Inv-loop μ-loop
+mul-t26 c = search needs
 
-shared-slice-read-t27 : tie.Need-shared-slice-read-t27 Inv-loop μ-loop
-shared-slice-read-t27 c = search needs
+shared-slice-read-t28 : tie.Need-shared-slice-read-t28 Inv-loop μ-loop
+shared-slice-read-t28 c = search needs
 
 returns : tie.Need-returns Inv-loop μ-loop
 returns c =
@@ -69,7 +73,7 @@ returns c =
     let l = at-loop .loop in
     sym
     (l .inv .1 ∙ findNode-found (a .h) (now (a .t)) (now (a .names)) (now (a .area)) (now (a .tag)) (a .count) (now (a .nodes)) (l .k)
-    (at-place .before .loop-test .taken) (at-place .place-of .ensures) (at-if .before .is-tagged .ensures) (at-if .if1 .taken))
+    (at-place .before .loop-test .taken) (at-place .node-place .ensures) (at-if .before .is-tagged .ensures) (at-if .if1 .taken))
 
 add-k : tie.Need-add-k Inv-loop μ-loop
 add-k c = search needs
@@ -85,7 +89,7 @@ loop-again c =
     let l = at-loop .loop in
     let e =
     findNode-next (a .h) (now (a .t)) (now (a .names)) (now (a .area)) (now (a .tag)) (a .count) (now (a .nodes)) (l .k)
-    (at-place .before .loop-test .taken) (at-place .place-of .ensures) (c .before .is-tagged .ensures) (c .if1 .left) in
+    (at-place .before .loop-test .taken) (at-place .node-place .ensures) (c .before .is-tagged .ensures) (c .if1 .left) in
     (search needs, l .inv .1 ∙ e)
 
 returns-2 : tie.Need-returns-2 Inv-loop μ-loop
@@ -104,19 +108,20 @@ find-node-spec =
     Inv-loop
     μ-loop
     loop-holds
-    place-of-requires
+    node-place-requires
     add-is-tagged
     mul-is-tagged
     shared-slice-read-is-tagged
-    mul-t16
-    shared-slice-read-t18
+    add-t16
+    mul-t17
+    shared-slice-read-t19
     is-tagged-requires
-    add-t20
-    mul-t21
-    shared-slice-read-t23
-    add-t24
-    mul-t25
-    shared-slice-read-t27
+    add-t21
+    mul-t22
+    shared-slice-read-t24
+    add-t25
+    mul-t26
+    shared-slice-read-t28
     returns
     add-k
     loop-less

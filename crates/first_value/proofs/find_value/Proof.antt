@@ -6,6 +6,7 @@ use mathlib.Core.Path.{_≡_, sym, _∙_}
 use borrow.Author.Needs.{needs}
 use lib.ListN.{drop}
 use denote.Ref.{now}
+use Rattle.records.specs.Words.{attributeWidth}
 use Rattle.first_value.specs.Question.{findValue}
 use Rattle.first_value.proofs.Search.{findValue-end, findValue-found, findValue-next}
 use Rattle.first_value.proofs.find_value.Statement.{statement}
@@ -13,7 +14,7 @@ use Rattle.first_value.proofs.find_value.Tie as tie
 
 abbrev Inv-loop : tie.InvT-loop
 Inv-loop t names area h name attributes count k₀ k =
-    (k ≤ count) × (findValue h t names area name count attributes ≡ findValue h t names area name (count - k) (drop (5 * k) attributes))
+    (k ≤ count) × (findValue h t names area name count attributes ≡ findValue h t names area name (count - k) (drop (attributeWidth * k) attributes))
 
 abbrev μ-loop : tie.MeasureT-loop
 μ-loop t names area h name attributes count k₀ k = count - k
@@ -21,8 +22,8 @@ abbrev μ-loop : tie.MeasureT-loop
 loop-holds : tie.Need-loop-holds Inv-loop μ-loop
 loop-holds c = (search needs, sym (rw sub-zero))
 
-place-of-requires : tie.Need-place-of-requires Inv-loop μ-loop
-place-of-requires c κs = search needs
+attribute-place-requires : tie.Need-attribute-place-requires Inv-loop μ-loop
+attribute-place-requires c κs = search needs
 
 add-is-named : tie.Need-add-is-named Inv-loop μ-loop
 add-is-named c = search needs
@@ -75,7 +76,7 @@ returns c =
     let l = at-loop .loop in
     sym
     (l .inv .1 ∙ findValue-found (a .h) (now (a .t)) (now (a .names)) (now (a .area)) (now (a .name)) (a .count) (now (a .attributes)) (l .k)
-    (at-place .before .loop-test .taken) (at-place .place-of .ensures) (at-if .before .is-named .ensures) (at-if .if1 .taken) (c .found .ensures))
+    (at-place .before .loop-test .taken) (at-place .attribute-place .ensures) (at-if .before .is-named .ensures) (at-if .if1 .taken) (c .found .ensures))
 
 add-k : tie.Need-add-k Inv-loop μ-loop
 add-k c = search needs
@@ -91,7 +92,7 @@ loop-again c =
     let l = at-loop .loop in
     let e =
     findValue-next (a .h) (now (a .t)) (now (a .names)) (now (a .area)) (now (a .name)) (a .count) (now (a .attributes)) (l .k)
-    (at-place .before .loop-test .taken) (at-place .place-of .ensures) (c .before .is-named .ensures) (c .if1 .left) in
+    (at-place .before .loop-test .taken) (at-place .attribute-place .ensures) (c .before .is-named .ensures) (c .if1 .left) in
     (search needs, l .inv .1 ∙ e)
 
 returns-2 : tie.Need-returns-2 Inv-loop μ-loop
@@ -110,7 +111,7 @@ find-value-spec =
     Inv-loop
     μ-loop
     loop-holds
-    place-of-requires
+    attribute-place-requires
     add-is-named
     mul-is-named
     shared-slice-read-is-named

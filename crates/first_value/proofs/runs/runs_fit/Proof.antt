@@ -6,6 +6,7 @@ use mathlib.Core.Path.{_≡_, sym, _∙_}
 use borrow.Author.Needs.{needs}
 use lib.ListN.{drop}
 use denote.Ref.{now}
+use Rattle.records.specs.Words.{nodeWidth}
 use Rattle.first_value.specs.Question.{runsFrom}
 use Rattle.first_value.proofs.Laws.{runsFrom-end, runsFrom-unfit, runsFrom-next}
 use Rattle.first_value.proofs.runs.runs_fit.Statement.{statement}
@@ -13,7 +14,7 @@ use Rattle.first_value.proofs.runs.runs_fit.Tie as tie
 
 abbrev Inv-loop : tie.InvT-loop
 Inv-loop nodes node-count attribute-count k₀ k =
-    (k ≤ node-count) × (runsFrom attribute-count 0 node-count nodes ≡ runsFrom attribute-count k (node-count - k) (drop (5 * k) nodes))
+    (k ≤ node-count) × (runsFrom attribute-count 0 node-count nodes ≡ runsFrom attribute-count k (node-count - k) (drop (nodeWidth * k) nodes))
 
 abbrev μ-loop : tie.MeasureT-loop
 μ-loop nodes node-count attribute-count k₀ k = node-count - k
@@ -21,8 +22,8 @@ abbrev μ-loop : tie.MeasureT-loop
 loop-holds : tie.Need-loop-holds Inv-loop μ-loop
 loop-holds c = (search needs, sym (rw sub-zero))
 
-place-of-requires : tie.Need-place-of-requires Inv-loop μ-loop
-place-of-requires c κs = search needs
+node-place-requires : tie.Need-node-place-requires Inv-loop μ-loop
+node-place-requires c κs = search needs
 
 add-passes : tie.Need-add-passes Inv-loop μ-loop
 add-passes c = search needs
@@ -53,7 +54,7 @@ returns c =
     let l = at-loop .loop in
     sym
     (l .inv .1 ∙ runsFrom-unfit (a .attribute-count) (a .node-count) (now (a .nodes)) (l .k) (at-place .before .loop-test .taken)
-    (at-place .place-of .ensures) (c .before .passes .ensures) (c .if1 .taken))
+    (at-place .node-place .ensures) (c .before .passes .ensures) (c .if1 .taken))
 
 add-k : tie.Need-add-k Inv-loop μ-loop
 add-k c = search needs
@@ -69,7 +70,7 @@ loop-again c =
     let l = at-loop .loop in
     let e =
     runsFrom-next (a .attribute-count) (a .node-count) (now (a .nodes)) (l .k) (at-place .before .loop-test .taken)
-    (at-place .place-of .ensures) (c .before .passes .ensures) (c .if1 .left) in
+    (at-place .node-place .ensures) (c .before .passes .ensures) (c .if1 .left) in
     (search needs, l .inv .1 ∙ e)
 
 returns-2 : tie.Need-returns-2 Inv-loop μ-loop
@@ -85,7 +86,7 @@ runs-fit-spec =
     Inv-loop
     μ-loop
     loop-holds
-    place-of-requires
+    node-place-requires
     add-passes
     mul-passes
     shared-slice-read-passes

@@ -10,26 +10,20 @@ kept-nodes-requires c κs = search needs
 kept-attributes-requires : tie.Need-kept-attributes-requires
 kept-attributes-requires c κs = search needs
 
-wide-requires : tie.Need-wide-requires
-wide-requires c κs = search needs
-
-mul-zero-from : tie.Need-mul-zero-from
-mul-zero-from c = search needs
+node-place-requires : tie.Need-node-place-requires
+node-place-requires c κs = search needs
 
 zero-from-requires : tie.Need-zero-from-requires
 zero-from-requires c κs = search needs
 
-wide-requires-2 : tie.Need-wide-requires-2
-wide-requires-2 c κs = search needs
-
-mul-zero-from-2 : tie.Need-mul-zero-from-2
-mul-zero-from-2 c = search needs
+attribute-place-requires : tie.Need-attribute-place-requires
+attribute-place-requires c κs = search needs
 
 zero-from-requires-2 : tie.Need-zero-from-requires-2
 zero-from-requires-2 c κs = search needs
 
-cast-t17 : tie.Need-cast-t17
-cast-t17 c = search needs
+cast-t16 : tie.Need-cast-t16
+cast-t16 c = search needs
 
 to-clear-requires : tie.Need-to-clear-requires
 to-clear-requires c κs = search needs
@@ -48,8 +42,8 @@ returns c =
     let a = at-kept .kept-attributes .ensures in
     record {
       state = c .to-clear .ensures ∙ rw (k, a);
-      nodes = rw (at-zero .before .wide .ensures, k) at (at-zero .zero-from .ensures);
-      attributes = rw (c .before .before .before .before .before .wide2 .ensures, a) at (c .before .before .before .before .zero-from2 .ensures);
+      nodes = rw (at-zero .before .node-place .ensures, k) at (at-zero .zero-from .ensures);
+      attributes = rw (c .before .before .before .before .before .attribute-place .ensures, a) at (c .before .before .before .before .zero-from2 .ensures);
     }
 
 pub finish-spec : {M : Type 1} → statement M
@@ -58,13 +52,11 @@ finish-spec =
     (tie.spec
     kept-nodes-requires
     kept-attributes-requires
-    wide-requires
-    mul-zero-from
+    node-place-requires
     zero-from-requires
-    wide-requires-2
-    mul-zero-from-2
+    attribute-place-requires
     zero-from-requires-2
-    cast-t17
+    cast-t16
     to-clear-requires
     same-length
     same-length-2

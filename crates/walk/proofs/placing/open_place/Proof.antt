@@ -5,11 +5,8 @@ use borrow.Author.Needs.{needs}
 use Rattle.walk.proofs.placing.open_place.Statement.{statement}
 use Rattle.walk.proofs.placing.open_place.Tie as tie
 
-wide-requires : tie.Need-wide-requires
-wide-requires c κs = search needs
-
-mul-if1 : tie.Need-mul-if1
-mul-if1 c = search needs
+node-place-requires : tie.Need-node-place-requires
+node-place-requires c κs = search needs
 
 sub-if1 : tie.Need-sub-if1
 sub-if1 c = search needs
@@ -20,7 +17,7 @@ returns c =
     let a = at-start .args in
     λ same line o h.
     node-full same (a .nodes .now) (a .attributes .now) (a .nodes .now) (a .tree) (a .name) (a .fixed) line o h
-    (omega (arith, c .if1 .taken, c .before .wide .ensures))
+    (omega (arith, c .if1 .taken, c .before .node-place .ensures))
 
 open-node-requires : tie.Need-open-node-requires
 open-node-requires c κs = search needs
@@ -31,16 +28,16 @@ same-length c = search needs
 returns-2 : tie.Need-returns-2
 returns-2 c =
     let at-if1 = c .before .before .before .before in
-    let at-wide = at-if1 .before in
-    let at-start = at-wide .before .before .before in
+    let at-place = at-if1 .before in
+    let at-start = at-place .before .before .before in
     let a = at-start .args in
     let q = c .before .before .open-node in
     λ same line o h.
     rw (q .ensures .0)
     (node-opens same (a .nodes .now) (a .attributes .now) (q .last .0) (a .tree) (a .name) (a .fixed) line
-    (omega (arith, at-if1 .if1 .left, at-wide .wide .ensures)) (q .kept .0) (q .ensures .1) o h)
+    (omega (arith, at-if1 .if1 .left, at-place .node-place .ensures)) (q .kept .0) (q .ensures .1) o h)
 
 pub open-place-spec : {M : Type 1} → statement M
 open-place-spec =
     tie.close
-    (tie.spec wide-requires mul-if1 sub-if1 returns open-node-requires same-length returns-2)
+    (tie.spec node-place-requires sub-if1 returns open-node-requires same-length returns-2)

@@ -9,11 +9,8 @@ use Rattle.walk.proofs.tree.close_node.Tie as tie
 returns : tie.Need-returns
 returns c = rw (eq-eqb _ _ (c .if1 .taken))
 
-wide-requires : tie.Need-wide-requires
-wide-requires c κs = search needs
-
-mul-i : tie.Need-mul-i
-mul-i c = search needs
+node-place-requires : tie.Need-node-place-requires
+node-place-requires c κs = search needs
 
 add-i : tie.Need-add-i
 add-i c = search needs
@@ -24,7 +21,7 @@ mul-closed c = search needs
 shared-slice-read-closed : tie.Need-shared-slice-read-closed
 shared-slice-read-closed c =
     let at-start = c .before .before .before .before in
-    omega (arith, at-start .pre (c .before .before .if1 .left), c .before .wide .ensures)
+    omega (arith, at-start .pre (c .before .before .if1 .left), c .before .node-place .ensures)
 
 closed-requires : tie.Need-closed-requires
 closed-requires c κs = search needs
@@ -32,15 +29,14 @@ closed-requires c κs = search needs
 returns-2 : tie.Need-returns-2
 returns-2 c =
     let at-if1 = c .before .before .before in
-    c .closed .ensures ∙ rw (ne-eqb _ _ (at-if1 .if1 .left), c .before .before .wide .ensures)
+    c .closed .ensures ∙ rw (ne-eqb _ _ (at-if1 .if1 .left), c .before .before .node-place .ensures)
 
 pub close-node-spec : {M : Type 1} → statement M
 close-node-spec =
     tie.close
     (tie.spec
     returns
-    wide-requires
-    mul-i
+    node-place-requires
     add-i
     mul-closed
     shared-slice-read-closed
