@@ -1,25 +1,31 @@
 -- Readers that break the promise: docs/FORMAT.md, P5. Each theorem is of every reader of its sort (specs/Readers.antt).
 --
---   meets-some               the promise can be met: by the definition itself
+--   meets-some               the promise can be met: by the definition itself; refuser-sorts, inventor-sorts, blurred-kinds: there are readers of each sort
 --   refuses-all-broken       a reader that refuses every file
 --   constant-broken          one that gives the same result to every file, with any names, tables and cap fixed
---   leaves-nodes-broken, leaves-attributes-broken, leaves-notes-broken   one that leaves a table as it was
---   stores-nothing-broken    one that leaves all three; clears-nodes-broken: one that leaves zeros
+--   constant-on-read-broken  one that gives the same result to every file that can be read
+--   leaves-nodes-broken, leaves-attributes-broken, leaves-notes-broken   one that leaves a table as it was; clears-..-broken: one that leaves zeros in it
 --   first-start-broken       one that gives the same to two files that agree up to the end of the first start
 --   invents-starts-broken    one that gives some file more starts than elements open in it
---   invents-notes-broken     one that gives some file more notes than are due in it
+--   invents-notes-broken     one that gives some file more notes than its cap keeps
+--   wrong-kinds-broken       one that gives some file notes of other kinds, be they as many
 -- The witnesses are file S and its relatives (proofs/Cases.antt).
-use Prim.Native.Nat.{ℕ, _≤_, _<_}
+use Prim.Native.Nat.{ℕ, zero, suc, _≤_, _<_}
 use native.Mathlib.Omega.{arith}
 use mathlib.Core.Path.{_≡_, refl, sym, _∙_, ap}
-use mathlib.Core.List.{List, [], _∷_, _++_}
+use mathlib.Core.List.{List, [], _∷_, _++_, map}
+use mathlib.Core.Bool.{true}
 use borrow.Author.Tests.{lt-ltb}
 use lib.ListN.{length, take, getD, replicate, length-replicate}
+use Rattle.anomaly.specs.Note.{noteOf}
+use Rattle.anomaly.specs.Kept.{keptNotes}
 use Rattle.anomaly.specs.declared.Note.{Note}
 use Rattle.errors.specs.Refusal.{numbersOf, numberOf}
 use Rattle.errors.specs.declared.Numbers.{Numbers}
+use Rattle.errors.specs.declared.Refusal.the-variants.{TooLargeError}
 use Rattle.errors.specs.declared.ReadAnswer.{ReadAnswer}
 use Rattle.errors.specs.declared.ReadAnswer.the-variants.{Done, Refused}
+use Rattle.errors.specs.declared.ReadCounts.{ReadCounts}
 use Rattle.system_types.specs.Names.{namesOf}
 use Rattle.system_types.specs.declared.NamesRead.{NamesRead}
 use Rattle.system_types.specs.declared.NamesRead.the-variants.{Good, Bad}
@@ -27,22 +33,25 @@ use Rattle.head.specs.Head.{openedOf}
 use Rattle.head.specs.Ask.{firstOf, lengthCheck, namesCheckBy}
 use Rattle.events.specs.Events.{fileEvents}
 use Rattle.walk.specs.Settle.{Room, Out, settle}
-use Rattle.walk.specs.Reading.{Reading, reading, readingBy, settledIn, zeroNote, roomIn, Reads}
-use Rattle.claims.specs.Readers.{Reader, Meets, eventsOf, RefusesAll, Constant, LeavesNodes, LeavesAttributes, LeavesNotes, ClearsNodes}
-use Rattle.claims.specs.Readers.{StopsAtStart}
+use Rattle.walk.specs.Reading.{Reading, refuses, reading, readingBy, settledIn, zeroNote, roomIn, Reads}
+use Rattle.claims.specs.Insertion.{left}
+use Rattle.claims.specs.Readers.{allBelow, Call, Reader, Meets, eventsOf, kindsOf, RefusesAll, Constant, ConstantOnRead, StopsAtStart}
+use Rattle.claims.specs.Readers.{LeavesNodes, LeavesAttributes, LeavesNotes, ClearsNodes, ClearsAttributes, ClearsNotes}
 use Rattle.claims.specs.Counts.{opensIn, notesIn}
-use Rattle.claims.proofs.Cases.{fileS, headS, startS, endS, zeros, none, note, firstNode, lead}
-use Rattle.claims.proofs.Structure.{starts-right, notes-most}
+use Rattle.claims.proofs.Cases.{fileS, headS, startS, endS, zeros, none, note, oneNode, firstNode, lead}
+use Rattle.claims.proofs.Calls.{left-reading}
+use Rattle.claims.proofs.Structure.{starts-right, notes-many, notes-kept}
+use Rattle.claims.proofs.BrokenSample.{words, call-S, call-88, call-with-end, call-without}
 use Rattle.claims.proofs.BrokenSample.{read-S, read-88, ends-S, read-with-end, read-without}
 
 pub meets-some : Meets (λ f names area ns ats os cap. reading (roomIn ns ats os cap) f names area)
-meets-some f names area ns ats os cap = record { answer = refl; nodes = refl; attributes = refl; notes = refl }
+meets-some f names area ns ats os cap call = record { answer = refl; nodes = refl; attributes = refl; notes = refl }
 
 -- ---- the witnesses
 
--- three tables of zeros, with the room of the cases
-abbrev words : List ℕ
-words = zeros ++ (zeros ++ zeros)
+zeros-below : (n : ℕ) → allBelow 256 (replicate n 0) ≡ true
+zeros-below zero = refl
+zeros-below (suc n) = zeros-below n
 
 -- a file past the limit, and the empty one, have different answers, whatever is lent
 long-number : (r : Room) (f names area : List ℕ) → 16777216 < length f → _≡_ {A = ℕ} (numbersOf (reading r f names area .answer) .refusal) 2
@@ -70,76 +79,149 @@ module _ (f names area ns ats : List ℕ) (os : List Note) (cap : ℕ) where
   starts-le (Done c) ns′ ats′ os′ m = omega (arith, starts-right f names area ns ats os cap c ns′ ats′ os′ m)
 
   notes-le : (a : ReadAnswer) (ns′ ats′ : List ℕ) (os′ : List Note) → Reads f names area ns ats os cap a ns′ ats′ os′
-      → numbersOf a .notes ≤ notesIn (eventsOf f names area)
+      → numbersOf a .notes ≤ length (keptNotes cap (notesIn (eventsOf f names area)))
   unfolding numbersOf
   notes-le (Refused x) ns′ ats′ os′ m = omega arith
-  notes-le (Done c) ns′ ats′ os′ m = notes-most f names area ns ats os cap c ns′ ats′ os′ m
+  notes-le (Done c) ns′ ats′ os′ m = omega (arith, notes-many f names area ns ats os cap c ns′ ats′ os′ m)
 
 -- ---- the readers
 
 module _ (R : Reader) (meets : Meets R) where
+  -- of S, and of S without its end
+  of-S : R fileS [] [] words words none 8 ≡ oneNode 1 0 none
+  of-S = left-reading fileS [] [] words words none 8 _ _ _ _ (meets fileS [] [] words words none 8 call-S) ∙ read-S
+
+  of-88 : R (take 88 fileS) [] [] words words none 8 ≡ oneNode 1 1 (note 12 1 ∷ zeroNote ∷ zeroNote ∷ zeroNote ∷ [])
+  of-88 = left-reading (take 88 fileS) [] [] words words none 8 _ _ _ _ (meets (take 88 fileS) [] [] words words none 8 call-88) ∙ read-88
+
   pub refuses-all-broken : RefusesAll R → ⊥
   unfolding numbersOf
-  refuses-all-broken h =
-      h fileS [] [] words words none 8
-      (ap (λ (n : Numbers). n .refusal) (meets fileS [] [] words words none 8 .answer ∙ ap (λ (x : Reading). numbersOf (x .answer)) read-S))
+  refuses-all-broken h = h fileS [] [] words words none 8 call-S (ap (λ (x : Reading). numbersOf (x .answer) .refusal) of-S)
+
+  -- none of the witnesses' tables holds zeros alone afterwards, as it did before
+  nodes-stored : R fileS [] [] words words none 8 .nodes ≡ words → ⊥
+  nodes-stored h = let z = ap (λ (l : List ℕ). getD l 2 0) (sym h ∙ ap (λ (x : Reading). x .nodes) of-S) in omega arith
+
+  attributes-stored : R fileS [] [] words words none 8 .attributes ≡ words → ⊥
+  attributes-stored h = let z = ap (λ (l : List ℕ). getD l 1 0) (sym h ∙ ap (λ (x : Reading). x .attributes) of-S) in omega arith
+
+  notes-stored : R (take 88 fileS) [] [] words words none 8 .notes ≡ none → ⊥
+  notes-stored h = let z = ap (λ (l : List Note). getD l 0 zeroNote .kind) (sym h ∙ ap (λ (x : Reading). x .notes) of-88) in omega arith
 
   pub leaves-nodes-broken : LeavesNodes R → ⊥
-  leaves-nodes-broken h =
-      let e : words ≡ firstNode ++ (zeros ++ zeros) =
-      sym (h fileS [] [] words words none 8) ∙ meets fileS [] [] words words none 8 .nodes ∙ ap (λ (x : Reading). x .nodes) read-S in
-      let z = ap (λ (l : List ℕ). getD l 2 0) e in
-      omega arith
+  leaves-nodes-broken h = nodes-stored (h fileS [] [] words words none 8 call-S)
 
   pub leaves-attributes-broken : LeavesAttributes R → ⊥
-  leaves-attributes-broken h =
-      let e : words ≡ lead ++ (zeros ++ zeros) =
-      sym (h fileS [] [] words words none 8) ∙ meets fileS [] [] words words none 8 .attributes ∙ ap (λ (x : Reading). x .attributes) read-S in
-      let z = ap (λ (l : List ℕ). getD l 1 0) e in
-      omega arith
+  leaves-attributes-broken h = attributes-stored (h fileS [] [] words words none 8 call-S)
 
   pub leaves-notes-broken : LeavesNotes R → ⊥
-  leaves-notes-broken h =
-      let e : none ≡ note 12 1 ∷ zeroNote ∷ zeroNote ∷ zeroNote ∷ [] =
-      sym (h (take 88 fileS) [] [] words words none 8) ∙ meets (take 88 fileS) [] [] words words none 8 .notes ∙ ap (λ (x : Reading). x .notes) read-88 in
-      let z = ap (λ (l : List Note). getD l 0 zeroNote .kind) e in
-      omega arith
-
-  pub stores-nothing-broken : LeavesNodes R → LeavesAttributes R → LeavesNotes R → ⊥
-  stores-nothing-broken n a o = leaves-nodes-broken n
+  leaves-notes-broken h = notes-stored (h (take 88 fileS) [] [] words words none 8 call-88)
 
   pub clears-nodes-broken : ClearsNodes R → ⊥
-  clears-nodes-broken h =
-      let e : words ≡ firstNode ++ (zeros ++ zeros) =
-      sym (h fileS [] [] words words none 8) ∙ meets fileS [] [] words words none 8 .nodes ∙ ap (λ (x : Reading). x .nodes) read-S in
-      let z = ap (λ (l : List ℕ). getD l 2 0) e in
-      omega arith
+  clears-nodes-broken h = nodes-stored (h fileS [] [] words words none 8 call-S)
 
-  pub constant-broken : (names area ns ats : List ℕ) (os : List Note) (cap : ℕ) → Constant R names area ns ats os cap → ⊥
-  constant-broken names area ns ats os cap h = go (16777217) refl
+  pub clears-attributes-broken : ClearsAttributes R → ⊥
+  clears-attributes-broken h = attributes-stored (h fileS [] [] words words none 8 call-S)
+
+  pub clears-notes-broken : ClearsNotes R → ⊥
+  clears-notes-broken h = notes-stored (h (take 88 fileS) [] [] words words none 8 call-88)
+
+  pub constant-broken : (names area ns ats : List ℕ) (os : List Note) (cap : ℕ) → Call [] names area ns ats os cap → Constant R names area ns ats os cap → ⊥
+  constant-broken names area ns ats os cap lent h = go (16777217) refl
     where
       go : (n : ℕ) → n ≡ 16777217 → ⊥
       go n e =
-          let long : 16777216 < length {A = ℕ} (replicate n 0) = rw (length-replicate {A = ℕ} n 0) (omega arith) in
+          let many : length {A = ℕ} (replicate n 0) ≡ n = length-replicate {A = ℕ} n 0 in
+          let long : Call (replicate n 0) names area ns ats os cap = record {
+            file = record { below = zeros-below n; short = omega (arith, many) };
+            nameWords = lent .nameWords;
+            areaBytes = lent .areaBytes;
+            nodeWords = lent .nodeWords;
+            attributeWords = lent .attributeWords;
+            kinds = lent .kinds;
+            firsts = lent .firsts;
+            seconds = lent .seconds;
+            capWord = lent .capWord;
+          } in
           let r = roomIn ns ats os cap in
-          let same = ap (λ (x : Reading). numbersOf (x .answer) .refusal) (h [] (replicate n 0)) in
-          let a = ap (λ (x : Numbers). x .refusal) (meets [] names area ns ats os cap .answer) in
-          let b = ap (λ (x : Numbers). x .refusal) (meets (replicate n 0) names area ns ats os cap .answer) in
-          empty-number r names area (sym a ∙ same ∙ b ∙ long-number r (replicate n 0) names area long)
+          let same = ap (λ (x : Reading). numbersOf (x .answer) .refusal) (h [] (replicate n 0) lent long) in
+          let a = ap (λ (x : Numbers). x .refusal) (meets [] names area ns ats os cap lent .answer) in
+          let b = ap (λ (x : Numbers). x .refusal) (meets (replicate n 0) names area ns ats os cap long .answer) in
+          empty-number r names area (sym a ∙ same ∙ b ∙ long-number r (replicate n 0) names area (omega (arith, many)))
+
+  pub constant-on-read-broken : ConstantOnRead R → ⊥
+  unfolding numbersOf
+  constant-on-read-broken h =
+      let read : Reading → ℕ = λ x. numbersOf (x .answer) .refusal in
+      let same = h fileS (take 88 fileS) [] [] words words none 8 call-S call-88 (ap read read-S) (ap read read-88) in
+      let e = ap (λ (x : Reading). numbersOf (x .answer) .notes) (sym of-S ∙ same ∙ of-88) in
+      omega arith
 
   pub first-start-broken : StopsAtStart R → ⊥
   unfolding numbersOf
   first-start-broken h =
-      let same = h (headS ++ startS) endS [] [] [] words words none 8 ends-S in
-      let a = meets ((headS ++ startS) ++ endS) [] [] words words none 8 .answer ∙ ap (λ (x : Reading). numbersOf (x .answer)) read-with-end in
-      let b = meets ((headS ++ startS) ++ []) [] [] words words none 8 .answer ∙ ap (λ (x : Reading). numbersOf (x .answer)) read-without in
+      let same = h (headS ++ startS) endS [] [] [] words words none 8 call-with-end call-without ends-S in
+      let a = meets ((headS ++ startS) ++ endS) [] [] words words none 8 call-with-end .answer ∙ ap (λ (x : Reading). numbersOf (x .answer)) read-with-end in
+      let b = meets ((headS ++ startS) ++ []) [] [] words words none 8 call-without .answer ∙ ap (λ (x : Reading). numbersOf (x .answer)) read-without in
       let e = ap (λ (x : Numbers). x .notes) (sym a ∙ ap (λ (x : Reading). numbersOf (x .answer)) same ∙ b) in
       omega arith
 
-  -- some file: one that has fewer than it is given
-  module _ (f names area ns ats : List ℕ) (os : List Note) (cap : ℕ) where
+  -- some file: one that has fewer than it is given, or notes of other kinds
+  module _ (f names area ns ats : List ℕ) (os : List Note) (cap : ℕ) (lent : Call f names area ns ats os cap) where
     pub invents-starts-broken : opensIn (eventsOf f names area) < numbersOf (R f names area ns ats os cap .answer) .starts → ⊥
-    invents-starts-broken h = omega (arith, starts-le f names area ns ats os cap _ _ _ _ (meets f names area ns ats os cap))
+    invents-starts-broken h = omega (arith, starts-le f names area ns ats os cap _ _ _ _ (meets f names area ns ats os cap lent))
 
-    pub invents-notes-broken : notesIn (eventsOf f names area) < numbersOf (R f names area ns ats os cap .answer) .notes → ⊥
-    invents-notes-broken h = omega (arith, notes-le f names area ns ats os cap _ _ _ _ (meets f names area ns ats os cap))
+    pub invents-notes-broken : length (keptNotes cap (notesIn (eventsOf f names area))) < numbersOf (R f names area ns ats os cap .answer) .notes → ⊥
+    invents-notes-broken h = omega (arith, notes-le f names area ns ats os cap _ _ _ _ (meets f names area ns ats os cap lent))
+
+    pub wrong-kinds-broken : (c : ReadCounts) → R f names area ns ats os cap .answer ≡ Done c
+        → (kindsOf (take (c .notes) (R f names area ns ats os cap .notes)) ≡ kindsOf (map noteOf (keptNotes cap (notesIn (eventsOf f names area)))) → ⊥) → ⊥
+    wrong-kinds-broken c e h =
+        h (ap kindsOf (notes-kept f names area ns ats os cap c _ _ _ (rw e at (meets f names area ns ats os cap lent))))
+
+-- ---- there are readers of each sort
+
+-- refuses all
+abbrev refuser : Reader
+refuser f names area ns ats os cap = refuses (roomIn ns ats os cap) TooLargeError
+
+pub refuser-sorts : RefusesAll refuser × Constant refuser [] [] [] [] [] 0 × ConstantOnRead refuser × StopsAtStart refuser
+    × ClearsNodes refuser × ClearsAttributes refuser × ClearsNotes refuser
+unfolding numbersOf numberOf
+refuser-sorts = (
+  λ f names area ns ats os cap lent e. (let z : _≡_ {A = ℕ} 2 0 = e in omega arith),
+  λ f f′ lent lent′. refl,
+  λ f f′ names area ns ats os cap lent lent′ r r′. refl,
+  λ p x y names area ns ats os cap lent lent′ first. refl,
+  λ f names area ns ats os cap lent. refl,
+  λ f names area ns ats os cap lent. refl,
+  λ f names area ns ats os cap lent. refl,
+)
+
+-- leaves all as it was, and counts more than there is
+abbrev inventor : Reader
+inventor f names area ns ats os cap =
+    let es = eventsOf f names area in
+    left (Done (record { starts = suc (opensIn es); nodes = 0; attributes = 0; notes = suc (length (keptNotes cap (notesIn es))) })) ns ats os
+
+module _ (f names area ns ats : List ℕ) (os : List Note) (cap : ℕ) where
+  pub inventor-sorts : LeavesNodes inventor × LeavesAttributes inventor × LeavesNotes inventor
+      × (opensIn (eventsOf f names area) < numbersOf (inventor f names area ns ats os cap .answer) .starts)
+      × (length (keptNotes cap (notesIn (eventsOf f names area))) < numbersOf (inventor f names area ns ats os cap .answer) .notes)
+  unfolding numbersOf
+  inventor-sorts = (
+    λ f names area ns ats os cap lent. refl,
+    λ f names area ns ats os cap lent. refl,
+    λ f names area ns ats os cap lent. refl,
+    omega arith,
+    omega arith,
+  )
+
+-- the right numbers, and 0 for the kind of each note
+abbrev blurred : Reader
+blurred f names area ns ats os cap =
+    let r = reading (roomIn ns ats os cap) f names area in
+    left (r .answer) (r .nodes) (r .attributes) (map (λ (x : Note). record { kind = 0; a = x .a; b = x .b }) (r .notes))
+
+pub blurred-kinds : kindsOf (take 1 (blurred (take 88 fileS) [] [] words words none 8 .notes)) ≡ 0 ∷ []
+blurred-kinds = ap (λ (x : Reading). kindsOf (take 1 (map (λ (x : Note). record { kind = 0; a = x .a; b = x .b }) (x .notes)))) read-88

@@ -3,7 +3,9 @@
 --   read-S, read-88            the readings of S and of its first 88 bytes, from the table
 --   ends-S                     head and start of S end with its first start
 --   read-with-end, read-without   the two files that go on differently behind it
+--   words, call-S ..           tables of zeros, with the room of the cases, and the calls with them: all bytes and words
 use Prim.Native.Nat.{ℕ}
+use native.Mathlib.Omega.{arith}
 use mathlib.Core.Path.{_≡_, refl, sym, _∙_, ap}
 use mathlib.Core.List.{List, [], _∷_, _++_}
 use lib.ListN.{take, getD}
@@ -28,9 +30,9 @@ use Rattle.events.specs.Events.{attributeEvent, attributesOf, fromLead, fromOpe
 use Rattle.tables.specs.Keep.{hasKey}
 use Rattle.walk.specs.Settle.{settle}
 use Rattle.walk.specs.Reading.{Reading, reading, zeroNote}
-use Rattle.claims.specs.Readers.{FirstStart, eventsOf}
+use Rattle.claims.specs.Readers.{Bytes, Call, FirstStart, eventsOf}
 use Rattle.claims.specs.Counts.{opensIn}
-use Rattle.claims.proofs.Cases.{fileS, headS, startS, endS, room, none, note, oneNode, cases, cases-right}
+use Rattle.claims.proofs.Cases.{fileS, headS, startS, endS, room, zeros, none, note, oneNode, cases, cases-right}
 
 pub read-S : reading room fileS [] [] ≡ oneNode 1 0 none
 unfolding cases
@@ -80,3 +82,39 @@ read-with-end = ap (λ (f : List ℕ). reading room f [] []) (sym with-end) ∙ 
 
 pub read-without : reading room ((headS ++ startS) ++ []) [] [] ≡ oneNode 1 1 (note 12 1 ∷ zeroNote ∷ zeroNote ∷ zeroNote ∷ [])
 read-without = ap (λ (f : List ℕ). reading room f [] []) (sym without) ∙ read-88
+
+-- ---- calls
+
+-- three tables of zeros, with the room of the cases
+abbrev pub words : List ℕ
+words = zeros ++ (zeros ++ zeros)
+
+-- a call with them
+call : (f : List ℕ) → Bytes f → Call f [] [] words words none 8
+call f b = record {
+  file = b;
+  nameWords = record { below = refl; short = omega arith };
+  areaBytes = record { below = refl; short = omega arith };
+  nodeWords = record { below = refl; short = omega arith };
+  attributeWords = record { below = refl; short = omega arith };
+  kinds = record { below = refl; short = omega arith };
+  firsts = record { below = refl; short = omega arith };
+  seconds = record { below = refl; short = omega arith };
+  capWord = omega arith;
+}
+
+pub call-S : Call fileS [] [] words words none 8
+unfolding fileS headS startS endS
+call-S = call fileS (record { below = refl; short = omega arith })
+
+pub call-88 : Call (take 88 fileS) [] [] words words none 8
+unfolding fileS headS startS endS
+call-88 = call (take 88 fileS) (record { below = refl; short = omega arith })
+
+pub call-with-end : Call ((headS ++ startS) ++ endS) [] [] words words none 8
+unfolding fileS headS startS endS
+call-with-end = call ((headS ++ startS) ++ endS) (record { below = refl; short = omega arith })
+
+pub call-without : Call ((headS ++ startS) ++ []) [] [] words words none 8
+unfolding fileS headS startS endS
+call-without = call ((headS ++ startS) ++ []) (record { below = refl; short = omega arith })

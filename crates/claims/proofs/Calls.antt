@@ -13,7 +13,8 @@ use Rattle.errors.specs.declared.ReadCounts.{ReadCounts}
 use Rattle.errors.proofs.Laws.{numbersOf-unique}
 use Rattle.tables.specs.Keep.{nodeWidth, attributeWidth}
 use Rattle.walk.specs.Reading.{Reading, reading, roomIn, Reads}
-use Rattle.claims.specs.Insertion.{ForeignChunk, placesIn, insertedFile, placeNotes, HasRoom, withNotes, left}
+use Rattle.claims.specs.Insertion.{ForeignChunk, placesIn, insertedFile, placeNotes, withNotes, left}
+use Rattle.claims.specs.Room.{HasRoom}
 use Rattle.claims.proofs.Foreign.{placeNotes-room}
 use Rattle.claims.proofs.Insertion.{insertion, insertion-room, insertion-same}
 

@@ -9,13 +9,16 @@
 --   numbers-unique   equal numbers are equal answers: of a reading; text-numbers-unique, first-numbers-unique of the two questions
 -- Insertion (P3): a file without a note, and the file with complete foreign chunks at some of its places.
 --   insertion        of the promise; insertion-read of two calls. What the hypotheses and the notes mean: insertion-head to insertion-cap
--- Room (L1): suffices, read-listed-suffices. Zeros (P1, B7, B8): refused-zeros, done-zeros, text-refused-zeros, text-done-zeros. Structure: structured.
--- Readers that break the promise (P5): refuses-all-broken to invents-notes-broken, each of every reader of its sort (specs/Readers.antt).
+--   insertion-text, insertion-content, insertion-first   the three questions answer as before
+-- Room (L1): suffices of a file of any length, read-suffices of a call; listing-suffices, read-listed-suffices of a listing.
+-- Zeros (P1, B7, B8): refused-zeros, done-zeros, text-refused-zeros, text-done-zeros. Every success: structured, notes-kept.
+-- Readers that break the promise (P5): refuses-all-broken to wrong-kinds-broken, each of every reader of its sort (specs/Readers.antt); meets-some.
+-- The C interface: c-read-unique to c-first-refused-zeros, the same of its words: one answer, insertion, zeros.
 -- The marked cases (L5): `cases-right` of proofs/Cases.antt, one table and one theorem; `cases-read` of proofs/Given.antt: `read` gives them.
 -- Texts and names (P2): what ties them to Unicode's tables and to XML's ranges is named in ARCHITECTURE.md.
 use Prim.Native.Nat.{ℕ, _+_, _*_, _≤_, _<_}
 use mathlib.Core.Path.{_≡_, sym, _∙_}
-use mathlib.Core.List.{List, [], _∷_, _++_}
+use mathlib.Core.List.{List, [], _∷_, _++_, map}
 use lib.Ieee.{Float}
 use mathlib.Core.Bool.{Bool, false}
 use lib.ListN.{length, take, replicate}
@@ -25,7 +28,7 @@ use Rattle.common.specs.declared.ResChunkHeader.{ResChunkHeader}
 use Rattle.common.specs.declared.HeaderRead.the-variants.{Whole}
 use Rattle.common.proofs.Product.{Complex-unique}
 use Rattle.chunk.specs.Sort.{sortOf}
-use Rattle.errors.specs.Refusal.{numberOf, numbersOf, textNumbersOf, firstNumbersOf}
+use Rattle.errors.specs.Refusal.{numbersOf, textNumbersOf, firstNumbersOf}
 use Rattle.errors.specs.declared.ReadAnswer.{ReadAnswer}
 use Rattle.errors.specs.declared.ReadAnswer.the-variants.{Done, Refused}
 use Rattle.errors.specs.declared.Refusal.{Refusal}
@@ -34,6 +37,7 @@ use Rattle.errors.specs.declared.TextAnswer.{TextAnswer}
 use Rattle.errors.specs.declared.TextAnswer.the-variants as textIs
 use Rattle.errors.specs.declared.FirstAnswer.{FirstAnswer}
 use Rattle.errors.proofs.Laws.{numbersOf-unique, textNumbersOf-unique, firstNumbersOf-unique}
+use Rattle.anomaly.specs.Note.{noteOf}
 use Rattle.anomaly.specs.declared.Note.{Note}
 use Rattle.anomaly.specs.Kept.{ofKind, keptNotes}
 use Rattle.anomaly.proofs.Laws.{keptNotes-of-kind}
@@ -45,20 +49,29 @@ use Rattle.first_value.specs.Question.{firstAnswer}
 use Rattle.tables.specs.Keep.{nodeWidth, attributeWidth}
 use Rattle.walk.specs.Settle.{Room}
 use Rattle.walk.specs.Reading.{reading, roomIn, zeroNote, Reads}
-use Rattle.claims.specs.Insertion.{ForeignChunk, noteFor, stretchNotes, placesIn, insertedFile, placeNotes, AllOf, BeginsOther, HasRoom, withNotes, left}
+use Rattle.claims.specs.Insertion.{ForeignChunk, noteFor, stretchNotes, placesIn, insertedFile, placeNotes, AllOf, BeginsOther, withNotes, left}
 use Rattle.claims.specs.Counts.{opensIn, notesIn}
-use Rattle.claims.specs.ListingRoom.{listingLimit, listingRoom, placesFor}
+use Rattle.c_api.specs.Words.{ReadsWords}
+use Rattle.c_api.specs.Answers.{firstAnswerOf, AsksText}
+use Rattle.c_api.specs.declared.AxmlAnswer.{AxmlAnswer}
+use Rattle.c_api.specs.declared.AxmlTextAnswer.{AxmlTextAnswer}
+use Rattle.c_api.specs.declared.AxmlFirstAnswer.{AxmlFirstAnswer}
+use Rattle.claims.specs.InC.{noteWidth, leftInC, withNotesInC, RefusedInC, DoneInC, TextRefusedInC, TextDoneInC, FirstRefusedInC}
+use Rattle.claims.specs.Room.{isFullNumber, HasRoom, nodesFor, attributesFor, placesFor, listingLimit, listingRoom}
 use Rattle.claims.specs.Cleared.{RefusedZero, DoneZero, TextRefusedZero, TextDoneZero}
 use Rattle.claims.specs.Shape.{Structured}
-use Rattle.claims.specs.Readers.{Reader, Meets, eventsOf, RefusesAll, Constant, LeavesNodes, LeavesAttributes, LeavesNotes, StopsAtStart}
+use Rattle.claims.specs.Readers.{Call, Reader, Meets, eventsOf, kindsOf, RefusesAll, Constant, ConstantOnRead, StopsAtStart}
+use Rattle.claims.specs.Readers.{LeavesNodes, LeavesAttributes, LeavesNotes, ClearsNodes, ClearsAttributes, ClearsNotes}
 use Rattle.claims.proofs.Longer.{insertedFile-none}
 use Rattle.claims.proofs.Foreign.{foreign-of, foreign-bytes, stretch-one, placeNotes-room}
 use Rattle.claims.proofs.Insertion as proved
 use Rattle.claims.proofs.Calls as calls
+use Rattle.claims.proofs.Values as values
 use Rattle.claims.proofs.Suffices as room
 use Rattle.claims.proofs.Zeros as zeros
 use Rattle.claims.proofs.Structure as tree
 use Rattle.claims.proofs.Broken as broken
+use Rattle.claims.proofs.InC as inC
 
 module _ (f names area ns ats : List ℕ) (os : List Note) (cap : ℕ) where
   pub read-unique : (r r′ : ReadAnswer) (ns₁ ns₂ ats₁ ats₂ : List ℕ) (os₁ os₂ : List Note) → Reads f names area ns ats os cap r ns₁ ats₁ os₁
@@ -147,6 +160,21 @@ module _ (f names area ns ats : List ℕ) (os : List Note) (cap : ℕ) (c : Read
   insertion-read-room n m k =
       calls.insertion-read-room f names area ns ats os cap c ns₁ ats₁ os₁ one first none places few limit ns′ ats′ os′ cap′ a ns₂ ats₂ os₂ second n m k
 
+-- Text, content and first value, asked of the longer file, are those of the file: of any two results that the promises allow.
+module _ (r : Room) (f names area : List ℕ) (c : ReadCounts) (one : 1 ≤ r .cap) (done : reading r f names area .answer ≡ Done c) (none : c .notes ≡ 0)
+    (places : List (List ForeignChunk)) (limit : length (insertedFile places f) ≤ 16777216) where
+  pub insertion-text : (before : List ℕ) (i : ℕ) (a a′ : TextAnswer) (after after′ : List ℕ) → TextReads f names area before i a after
+      → TextReads (insertedFile places f) names area before i a′ after′ → (a′ ≡ a) × (after′ ≡ after)
+  insertion-text = values.insertion-text r f names area c one done none places limit
+
+  pub insertion-content : (i : ℕ) (s s′ : List ℕ) → s ≡ contentAnswer f names area i → s′ ≡ contentAnswer (insertedFile places f) names area i → s′ ≡ s
+  insertion-content = values.insertion-content r f names area c one done none places limit
+
+  pub insertion-first : (ns ats tag name : List ℕ) (nodes attributes : ℕ) (a a′ : FirstAnswer)
+      → a ≡ firstAnswer f names area ns ats tag name nodes attributes
+      → a′ ≡ firstAnswer (insertedFile places f) names area ns ats tag name nodes attributes → a′ ≡ a
+  insertion-first = values.insertion-first r f names area c one done none places limit
+
 -- with nothing put in it is the same file
 pub insertion-none : (f : List ℕ) → insertedFile [] f ≡ f
 insertion-none f = insertedFile-none f
@@ -166,16 +194,28 @@ pub insertion-cap : (cap k : ℕ) (places : List (List ForeignChunk))
     → (ofKind k (keptNotes cap (placeNotes places)) ≡ take cap (ofKind k (placeNotes places))) × (length (keptNotes cap (placeNotes places)) ≤ 2 * cap)
 insertion-cap cap k places = (keptNotes-of-kind cap k (placeNotes places), placeNotes-room cap places)
 
--- ---- room that always suffices (L1)
+-- ---- room that always suffices (L1): none is refused with 8, 9 or 10
 
-pub suffices : (r : Room) (f names area : List ℕ) → length f ≤ listingLimit → 10240 ≤ r .nodes → 16380 ≤ r .attributes → placesFor (r .cap) ≤ r .notes
-    → (x : Refusal) → reading r f names area .answer ≡ Refused x → numberOf x < 8
-suffices r f names area short n a o x e = room.suffices r f names area short n a o x e
+-- a file of any length, with any names and any cap
+pub suffices : (r : Room) (f names area : List ℕ) → nodesFor (length f) ≤ r .nodes → attributesFor (length f) ≤ r .attributes → placesFor (r .cap) ≤ r .notes
+    → HasRoom (reading r f names area .answer)
+suffices = room.suffices
 
-pub read-listed-suffices : (f ns ats : List ℕ) (x : Refusal) (ns′ ats′ : List ℕ) (os′ : List Note) → length f ≤ listingLimit
+-- the same of a call
+pub read-suffices : (f names area ns ats : List ℕ) (os : List Note) (cap : ℕ) (a : ReadAnswer) (ns′ ats′ : List ℕ) (os′ : List Note)
+    → nodesFor (length f) ≤ length ns → attributesFor (length f) ≤ length ats → placesFor cap ≤ length os
+    → Reads f names area ns ats os cap a ns′ ats′ os′ → HasRoom a
+read-suffices = room.read-suffices
+
+-- the room of a listing is such for all the lengths that it reads
+pub listing-suffices : (n : ℕ) → n ≤ listingLimit
+    → (nodesFor n ≤ listingRoom .nodes) × (attributesFor n ≤ listingRoom .attributes) × (placesFor (listingRoom .cap) ≤ listingRoom .notes)
+listing-suffices = room.listing-suffices
+
+pub read-listed-suffices : (f ns ats : List ℕ) (a : ReadAnswer) (ns′ ats′ : List ℕ) (os′ : List Note) → length f ≤ listingLimit
     → length ns ≡ listingRoom .nodes → length ats ≡ listingRoom .attributes
-    → Reads f [] [] ns ats (replicate (listingRoom .notes) zeroNote) (listingRoom .cap) (Refused x) ns′ ats′ os′ → numberOf x < 8
-read-listed-suffices f ns ats x ns′ ats′ os′ short n a h = room.read-listed-suffices f ns ats x ns′ ats′ os′ short n a h
+    → Reads f [] [] ns ats (replicate (listingRoom .notes) zeroNote) (listingRoom .cap) a ns′ ats′ os′ → HasRoom a
+read-listed-suffices = room.read-listed-suffices
 
 -- ---- zeros (B7, B8), and the structure of a success (W25 to W29, B9 to B15)
 
@@ -189,6 +229,11 @@ module _ (f names area ns ats : List ℕ) (os : List Note) (cap : ℕ) (ns′ at
   pub structured : (c : ReadCounts) → Reads f names area ns ats os cap (Done c) ns′ ats′ os′ → Structured (eventsOf f names area) cap c ns′ ats′ os′
   structured c h = tree.structured f names area ns ats os cap c ns′ ats′ os′ h
 
+  -- its notes are exactly the file's, of each kind the first `cap` (B13, B14)
+  pub notes-kept : (c : ReadCounts) → Reads f names area ns ats os cap (Done c) ns′ ats′ os′
+      → take (c .notes) os′ ≡ map noteOf (keptNotes cap (notesIn (eventsOf f names area)))
+  notes-kept c h = tree.notes-kept f names area ns ats os cap c ns′ ats′ os′ h
+
 module _ (f names area before : List ℕ) (i : ℕ) (after : List ℕ) where
   pub text-refused-zeros : (x : Refusal) → TextReads f names area before i (textIs.Refused x) after
       → TextRefusedZero (textNumbersOf (textIs.Refused x)) before after
@@ -197,24 +242,108 @@ module _ (f names area before : List ℕ) (i : ℕ) (after : List ℕ) where
   pub text-done-zeros : (k : ℕ) → TextReads f names area before i (textIs.Text k) after → TextDoneZero (textNumbersOf (textIs.Text k)) before after
   text-done-zeros k h = zeros.text-done-zeros f names area before i k after h
 
+-- ---- the C interface: the same of its words and of its structs of numbers
+
+-- one answer
+module _ (f names area ns ats ws : List ℕ) (cap : ℕ) (a a′ : AxmlAnswer) (ns₁ ns₂ ats₁ ats₂ ws₁ ws₂ : List ℕ) where
+  pub c-read-unique : ReadsWords f names area ns ats ws cap a ns₁ ats₁ ws₁ → ReadsWords f names area ns ats ws cap a′ ns₂ ats₂ ws₂
+      → (a ≡ a′) × (ns₁ ≡ ns₂) × (ats₁ ≡ ats₂) × (ws₁ ≡ ws₂)
+  c-read-unique p q =
+      (p .answer ∙ sym (q .answer), p .nodes ∙ sym (q .nodes), p .attributes ∙ sym (q .attributes), p .notes ∙ sym (q .notes))
+
+pub c-text-unique : (f names area before : List ℕ) (i : ℕ) (a a′ : AxmlTextAnswer) (after after′ : List ℕ) → AsksText f names area before i a after
+    → AsksText f names area before i a′ after′ → (a ≡ a′) × (after ≡ after′)
+c-text-unique f names area before i a a′ after after′ p q = (p .answer ∙ sym (q .answer), p .out ∙ sym (q .out))
+
+module _ (f names area ns ats tag name : List ℕ) (nodes attributes : ℕ) (a a′ : AxmlFirstAnswer) where
+  pub c-first-unique : a ≡ firstAnswerOf (firstNumbersOf (firstAnswer f names area ns ats tag name nodes attributes))
+      → a′ ≡ firstAnswerOf (firstNumbersOf (firstAnswer f names area ns ats tag name nodes attributes)) → a ≡ a′
+  c-first-unique p q = p ∙ sym q
+
+-- insertion, of two calls of `axml_read`
+module _ (f names area ns ats ws : List ℕ) (cap : ℕ) (a : AxmlAnswer) (ns₁ ats₁ ws₁ : List ℕ) (one : 1 ≤ cap)
+    (first : ReadsWords f names area ns ats ws cap a ns₁ ats₁ ws₁) (done : a .refusal ≡ 0) (none : a .notes ≡ 0) (places : List (List ForeignChunk))
+    (few : length places ≤ placesIn f) (limit : length (insertedFile places f) ≤ 16777216) (ns′ ats′ ws′ : List ℕ) (cap′ : ℕ) (a′ : AxmlAnswer)
+    (ns₂ ats₂ ws₂ : List ℕ) (second : ReadsWords (insertedFile places f) names area ns′ ats′ ws′ cap′ a′ ns₂ ats₂ ws₂) where
+  pub c-insertion : isFullNumber (a′ .refusal) ≡ false
+      → leftInC a′ ns₂ ats₂ ws₂ ≡ withNotesInC (length ns′) (length ats′) (length ws′) (leftInC a ns₁ ats₁ ws₁) (keptNotes cap′ (placeNotes places))
+  c-insertion =
+      inC.insertion f names area ns ats ws cap a ns₁ ats₁ ws₁ one first done none places few limit ns′ ats′ ws′ cap′ a′ ns₂ ats₂ ws₂ second
+
+  pub c-insertion-same : length ns′ ≡ length ns → length ats′ ≡ length ats → isFullNumber (a′ .refusal) ≡ false → (ns₂ ≡ ns₁) × (ats₂ ≡ ats₁)
+  c-insertion-same =
+      inC.insertion-same f names area ns ats ws cap a ns₁ ats₁ ws₁ one first done none places few limit ns′ ats′ ws′ cap′ a′ ns₂ ats₂ ws₂ second
+
+  pub c-insertion-room : nodeWidth * a .nodes ≤ length ns′ → attributeWidth * a .attributes ≤ length ats′ → noteWidth * (2 * cap′) ≤ length ws′
+      → isFullNumber (a′ .refusal) ≡ false
+  c-insertion-room =
+      inC.insertion-room f names area ns ats ws cap a ns₁ ats₁ ws₁ one first done none places few limit ns′ ats′ ws′ cap′ a′ ns₂ ats₂ ws₂ second
+
+-- zeros
+module _ (f names area ns ats ws : List ℕ) (cap : ℕ) (a : AxmlAnswer) (ns′ ats′ ws′ : List ℕ) where
+  pub c-refused-zeros : ReadsWords f names area ns ats ws cap a ns′ ats′ ws′ → (a .refusal ≡ 0 → ⊥) → RefusedInC a ns ats ws ns′ ats′ ws′
+  c-refused-zeros = inC.refused-zeros f names area ns ats ws cap a ns′ ats′ ws′
+
+  pub c-done-zeros : ReadsWords f names area ns ats ws cap a ns′ ats′ ws′ → a .refusal ≡ 0 → DoneInC a ns ats ws ns′ ats′ ws′
+  c-done-zeros = inC.done-zeros f names area ns ats ws cap a ns′ ats′ ws′
+
+module _ (f names area before : List ℕ) (i : ℕ) (a : AxmlTextAnswer) (after : List ℕ) where
+  pub c-text-refused-zeros : AsksText f names area before i a after → (a .refusal ≡ 0 → ⊥) → TextRefusedInC a before after
+  c-text-refused-zeros = inC.text-refused-zeros f names area before i a after
+
+  pub c-text-done-zeros : AsksText f names area before i a after → a .refusal ≡ 0 → TextDoneInC a before after
+  c-text-done-zeros = inC.text-done-zeros f names area before i a after
+
+pub c-first-refused-zeros : (b : FirstAnswer) (a : AxmlFirstAnswer) → a ≡ firstAnswerOf (firstNumbersOf b) → (a .refusal ≡ 0 → ⊥) → FirstRefusedInC a
+c-first-refused-zeros = inC.first-refused-zeros
+
 -- ---- readers that break the promise (P5)
 
+-- The promise is asked of what a program can be called with, bytes and words (`Call`).
 module _ (R : Reader) (meets : Meets R) where
   pub refuses-all-broken : RefusesAll R → ⊥
-  refuses-all-broken h = broken.refuses-all-broken R meets h
+  refuses-all-broken = broken.refuses-all-broken R meets
 
-  pub constant-broken : (names area ns ats : List ℕ) (os : List Note) (cap : ℕ) → Constant R names area ns ats os cap → ⊥
-  constant-broken names area ns ats os cap h = broken.constant-broken R meets names area ns ats os cap h
+  pub constant-broken : (names area ns ats : List ℕ) (os : List Note) (cap : ℕ) → Call [] names area ns ats os cap → Constant R names area ns ats os cap → ⊥
+  constant-broken = broken.constant-broken R meets
 
-  pub stores-nothing-broken : LeavesNodes R → LeavesAttributes R → LeavesNotes R → ⊥
-  stores-nothing-broken n a o = broken.stores-nothing-broken R meets n a o
+  pub constant-on-read-broken : ConstantOnRead R → ⊥
+  constant-on-read-broken = broken.constant-on-read-broken R meets
+
+  -- one that leaves a table as it was, or zeros in it: each table by itself
+  pub leaves-nodes-broken : LeavesNodes R → ⊥
+  leaves-nodes-broken = broken.leaves-nodes-broken R meets
+
+  pub leaves-attributes-broken : LeavesAttributes R → ⊥
+  leaves-attributes-broken = broken.leaves-attributes-broken R meets
+
+  pub leaves-notes-broken : LeavesNotes R → ⊥
+  leaves-notes-broken = broken.leaves-notes-broken R meets
+
+  pub clears-nodes-broken : ClearsNodes R → ⊥
+  clears-nodes-broken = broken.clears-nodes-broken R meets
+
+  pub clears-attributes-broken : ClearsAttributes R → ⊥
+  clears-attributes-broken = broken.clears-attributes-broken R meets
+
+  pub clears-notes-broken : ClearsNotes R → ⊥
+  clears-notes-broken = broken.clears-notes-broken R meets
 
   pub first-start-broken : StopsAtStart R → ⊥
-  first-start-broken h = broken.first-start-broken R meets h
+  first-start-broken = broken.first-start-broken R meets
 
-  module _ (f names area ns ats : List ℕ) (os : List Note) (cap : ℕ) where
+  -- one that gives a file, be it one alone, more starts than open in it, more notes than its cap keeps, or notes of other kinds
+  module _ (f names area ns ats : List ℕ) (os : List Note) (cap : ℕ) (lent : Call f names area ns ats os cap) where
     pub invents-starts-broken : opensIn (eventsOf f names area) < numbersOf (R f names area ns ats os cap .answer) .starts → ⊥
-    invents-starts-broken h = broken.invents-starts-broken R meets f names area ns ats os cap h
+    invents-starts-broken = broken.invents-starts-broken R meets f names area ns ats os cap lent
 
-    pub invents-notes-broken : notesIn (eventsOf f names area) < numbersOf (R f names area ns ats os cap .answer) .notes → ⊥
-    invents-notes-broken h = broken.invents-notes-broken R meets f names area ns ats os cap h
+    pub invents-notes-broken : length (keptNotes cap (notesIn (eventsOf f names area))) < numbersOf (R f names area ns ats os cap .answer) .notes → ⊥
+    invents-notes-broken = broken.invents-notes-broken R meets f names area ns ats os cap lent
+
+    pub wrong-kinds-broken : (c : ReadCounts) → R f names area ns ats os cap .answer ≡ Done c
+        → (kindsOf (take (c .notes) (R f names area ns ats os cap .notes)) ≡ kindsOf (map noteOf (keptNotes cap (notesIn (eventsOf f names area)))) → ⊥) → ⊥
+    wrong-kinds-broken = broken.wrong-kinds-broken R meets f names area ns ats os cap lent
+
+-- and the promise can be met: by the definition itself
+pub meets-some : Meets (λ f names area ns ats os cap. reading (roomIn ns ats os cap) f names area)
+meets-some = broken.meets-some

@@ -33,7 +33,8 @@ use Rattle.tables.specs.Keep.{hasKey}
 use Rattle.walk.specs.Settle.{Tables, closedIn}
 use Rattle.walk.specs.Reading.{secondOf}
 use Rattle.claims.proofs.Places.{fits, stop-of}
-use Rattle.claims.proofs.Erased.{notesIn, notesIn-append, nil-left, nil-right}
+use Rattle.claims.specs.Counts.{notesIn}
+use Rattle.claims.proofs.Erased.{notesIn-append, nil-left, nil-right}
 use Rattle.claims.proofs.Grown.{grow, grown}
 
 -- the depth behind an event, and behind all of them

@@ -1,4 +1,4 @@
--- Events taken apart: the notes among them (`notesIn`), and the others (`othersIn`). No contract cites this file.
+-- Events taken apart: the notes among them (`notesIn`, specs/Counts.antt), and the others (`othersIn`). No contract cites this file.
 -- In order: both of lists that are joined, of a list of notes alone (`-notes`); lists that join to nothing.
 use mathlib.Core.Path.{_≡_, refl, sym, ap}
 use mathlib.Core.List.{List, [], _∷_, _++_, append-assoc, cons≢nil}
@@ -6,6 +6,7 @@ use Rattle.anomaly.specs.declared.ResAnomaly.{ResAnomaly}
 use Rattle.events.specs.declared.Event.{Event}
 use Rattle.events.specs.declared.Event.the-variants.{Nothing, Open, Attribute, LeftOut, Close, Note, Refuse, Finish}
 use Rattle.events.specs.Events.{notesOf}
+use Rattle.claims.specs.Counts.{noted, notesIn}
 
 abbrev pub other : Event → List Event
 other Nothing = Nothing ∷ []
@@ -17,23 +18,9 @@ other (Note x) = []
 other (Refuse x) = Refuse x ∷ []
 other Finish = Finish ∷ []
 
-abbrev pub noted : Event → List ResAnomaly
-noted Nothing = []
-noted (Open n x l) = []
-noted (Attribute p a) = []
-noted (LeftOut n) = []
-noted Close = []
-noted (Note x) = x ∷ []
-noted (Refuse x) = []
-noted Finish = []
-
 abbrev pub othersIn : List Event → List Event
 othersIn [] = []
 othersIn (e ∷ es) = other e ++ othersIn es
-
-abbrev pub notesIn : List Event → List ResAnomaly
-notesIn [] = []
-notesIn (e ∷ es) = noted e ++ notesIn es
 
 pub othersIn-append : (ds es : List Event) → othersIn (ds ++ es) ≡ othersIn ds ++ othersIn es
 othersIn-append [] es = refl

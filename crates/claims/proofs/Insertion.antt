@@ -21,8 +21,10 @@ use Rattle.events.specs.Events.{Names, namesIn, fileEvents}
 use Rattle.walk.specs.Settle.{Room, Tables, Out, going, refused, settle, nothingYet}
 use Rattle.tables.specs.Keep.{nodeWidth, attributeWidth}
 use Rattle.walk.specs.Reading.{Reading, secondOf, nodesKept, attributesKept, succeeds, finalOf, settledIn, reading}
-use Rattle.claims.specs.Insertion.{ForeignChunk, placesIn, inserted, insertedFile, placeNotes, HasRoom, withNotes}
-use Rattle.claims.proofs.Erased.{othersIn, notesIn}
+use Rattle.claims.specs.Insertion.{ForeignChunk, placesIn, inserted, insertedFile, placeNotes, withNotes}
+use Rattle.claims.specs.Room.{HasRoom}
+use Rattle.claims.specs.Counts.{notesIn}
+use Rattle.claims.proofs.Erased.{othersIn}
 use Rattle.claims.proofs.Grown.{bare, grown, Sound}
 use Rattle.claims.proofs.Depth.{deep, grown-stack, second-none}
 use Rattle.claims.proofs.Pushed.{Going}
@@ -61,7 +63,7 @@ module _ (r : Room) (f names area : List ℕ) (c : ReadCounts) (one : 1 ≤ r .c
       let len : length (s .tables .notes) ≡ 0 = ap (λ (d : ReadCounts). d .notes) (s .counts) ∙ none in
       none-kept (r .cap) one (notesIn es) (sym (length-map (keptNotes (r .cap) (notesIn es)) noteOf) ∙ sym (ap length (told .notes)) ∙ len)
 
-  head-whole : o .end ≡ Whole
+  pub head-whole : o .end ≡ Whole
   head-whole = whole-of N o t l (told .stay)
 
   -- the longer file has the same head, byte for byte, and so the same names

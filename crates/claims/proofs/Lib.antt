@@ -14,18 +14,19 @@ pub mod Longer
 pub mod Success
 pub mod Foreign
 pub mod Insertion
+pub mod Values
 pub mod Calls
 pub mod Sample
+pub mod PushBy
+pub mod Noted
 pub mod SufficesStart
 pub mod SufficesBytes
-pub mod SufficesNotes
 pub mod Suffices
 pub mod StructurePush
 pub mod StructureShape
 pub mod StructureTables
 pub mod StructureDone
 pub mod StructureCounts
-pub mod StructureNotes
 pub mod StructureOrder
 pub mod StructureDepth
 pub mod StructureWalk
@@ -35,4 +36,5 @@ pub mod Structure
 pub mod Zeros
 pub mod BrokenSample
 pub mod Broken
+pub mod InC
 pub mod Claims

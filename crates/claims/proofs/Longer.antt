@@ -23,7 +23,8 @@ use Rattle.events.specs.declared.Event.the-variants.{Refuse}
 use Rattle.events.specs.Events.{Names, Spot, bodyEvents, notesOf, afterPool, fileEvents}
 use Rattle.claims.specs.Insertion.{ForeignChunk, placesOf, inserted, insertedFile, placeNotes}
 use Rattle.claims.proofs.Places.{inserted-none}
-use Rattle.claims.proofs.Erased.{othersIn, notesIn, othersIn-append, notesIn-append, nil-left, nil-right}
+use Rattle.claims.specs.Counts.{notesIn}
+use Rattle.claims.proofs.Erased.{othersIn, othersIn-append, notesIn-append, nil-left, nil-right}
 use Rattle.claims.proofs.Woven.{woven-all}
 use Rattle.claims.proofs.Depth.{deep, deep-append, deep-end}
 use Rattle.claims.proofs.Pushed.{AllStay, stay-right}

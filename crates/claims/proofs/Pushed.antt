@@ -5,7 +5,7 @@ use Prim.Native.Nat.{ℕ, _+_, _-_, _≤_}
 use native.Mathlib.Omega.{arith}
 use mathlib.Core.Path.{_≡_, refl, sym, _∙_}
 use mathlib.Core.List.{List, [], _∷_, _++_, append-nil, map}
-use mathlib.Core.Bool.{Bool, true, false, _&&_}
+use mathlib.Core.Bool.{Bool, true, false}
 use borrow.Author.Tests.{lt-ltb, leb-true, le-leb}
 use lib.ListN.{length, drop, getD, length-append, length-set}
 use lib.Dec.{ltb, leb, eqb}
@@ -20,12 +20,14 @@ use Rattle.events.specs.declared.Event.{Event}
 use Rattle.events.specs.declared.Event.the-variants.{Nothing, Open, Attribute, LeftOut, Close, Note, Refuse, Finish}
 use Rattle.tables.specs.Keep.{nodeWidth, attributeWidth, hasKey}
 use Rattle.walk.specs.Settle.{Room, Tables, Out, going, refused, opened, kept, push}
-use Rattle.claims.proofs.Erased.{noted, othersIn}
+use Rattle.claims.specs.Room.{isFull}
+use Rattle.claims.specs.Counts.{noted}
+use Rattle.claims.proofs.Erased.{othersIn}
 use Rattle.claims.proofs.Grown.{bare, grow}
 
 -- refusals 8, 9, 10
 abbrev pub Full : Refusal → Type 0
-Full x = leb 8 (numberOf x) && leb (numberOf x) 10 ≡ true
+Full x = isFull x ≡ true
 
 -- no event refuses
 abbrev pub Stays : Event → Type 0

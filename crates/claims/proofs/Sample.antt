@@ -1,18 +1,25 @@
--- The insertion theorem at file S (docs/FORMAT.md, L4), beside what the promise computes. No contract cites this file.
+-- The theorems of insertion and of room at file S (docs/FORMAT.md, L4), beside what the promise computes. No contract cites this file.
 --
 --   s-by-theorem    the reading of S with seven foreign chunks (Body.antt), at a cap of 2, by the theorem
 --   s-by-computing  the same by the promise
+--   s-asked         what the three questions answer of S with these chunks: its string `a`, and the value of its one attribute
+--   s-full          with a word less than a node has S is refused with 8, which room that suffices excludes
 --   swallowed       why there is no place behind a chunk that is cut: a foreign chunk there makes no note
 use Prim.Native.Nat.{_≤_}
 use native.Mathlib.Omega.{arith}
 use mathlib.Core.Path.{_≡_, refl, _∙_, ap}
 use mathlib.Core.List.{[], _∷_, _++_}
+use mathlib.Core.Bool.{false}
 use lib.ListN.{length, take}
 use Rattle.anomaly.specs.Note.{noteOf, kindIndex}
-use Rattle.errors.specs.declared.ReadAnswer.the-variants.{Done}
+use Rattle.errors.specs.declared.Refusal.the-variants.{NodesFull}
+use Rattle.errors.specs.declared.ReadAnswer.the-variants.{Done, Refused}
+use Rattle.errors.specs.declared.TextAnswer.the-variants.{Text}
+use Rattle.errors.specs.declared.FirstAnswer.the-variants.{Found}
 use Rattle.errors.specs.declared.ReadCounts.{ReadCounts}
 use Rattle.field.specs.Le.{u16le, u32le}
 use Rattle.common.specs.Header.{headerOf}
+use Rattle.common.specs.ValueType.{isReference, valueTypeNumber, valueTypeOf}
 use Rattle.chunk.specs.Sort.{isXml, sortOf, contentOf as contentLen, foreignLen}
 use Rattle.chunk.specs.Walk.{walk, walkFrom, trace, traceFrom}
 use Rattle.utf.specs.Utf8.{matched, isWhole, longest, anyWhole, spelt, encode, step8}
@@ -25,14 +32,15 @@ use Rattle.utf.specs.Plain.{isAscii}
 use Rattle.system_types.specs.Names.{isGood, namesFrom, nameOf}
 use Rattle.text.specs.Content.{systemOf, stringAt, stringOf, contentOf}
 use Rattle.head.specs.Head.{tablesOf, openedOf, outsideIn}
-use Rattle.head.specs.Ask.{lengthCheck}
+use Rattle.head.specs.Ask.{lengthCheck, headCheck, openOf, textAnswer, textBuffer, contentAnswer}
+use Rattle.first_value.specs.Question.{androidName, runsFrom, fitOf, findNode, findValue, firstAnswer}
 use Rattle.xml_elements.specs.Chunk.{startOf, attributeAt, startTurn, xmlTurn, numberOf, turnOf}
 use Rattle.events.specs.Events.{attributeEvent, attributesOf, fromLead, fromOpen, fromName, fromTrailing, fromSize, fromGap, eventsOn, bodyEvents, fileEvents}
 use Rattle.tables.specs.Keep.{hasKey}
 use Rattle.walk.specs.Settle.{Room, settle}
 use Rattle.walk.specs.Reading.{Reading, reading}
 use Rattle.claims.specs.Insertion.{chunksOf, restOf, placesIn, inserted, insertedFile}
-use Rattle.claims.proofs.Cases.{fileS, headS, startS, endS, note, none, oneNode}
+use Rattle.claims.proofs.Cases.{fileS, headS, startS, endS, note, none, oneNode, firstNode, lead}
 use Rattle.claims.proofs.Body.{f105, f102, some, s-places, s-limit, s-kept}
 use Rattle.claims.proofs.Insertion.{insertion, insertion-room}
 
@@ -75,6 +83,28 @@ unfolding fileS headS startS endS insertedFile inserted chunksOf restOf reading 
     kindIndex noteOf matched isWhole longest anyWhole spelt encode step8 stepsAfter bytesOf allSound textOf eqBytes inRanges isStart isChar
     nameSort allChar isNameOf validName f105 f102
 s-by-computing = refl
+
+-- the questions of the longer file: the text and the content of index 0, and the first value of `android` on `a`
+pub s-asked : (textAnswer (insertedFile some fileS) [] [] 2 0 ≡ Text 1) × (textBuffer (insertedFile some fileS) [] [] 2 0 ≡ 0x61 ∷ 0 ∷ [])
+    × (contentAnswer (insertedFile some fileS) [] [] 0 ≡ 0x61 ∷ [])
+    × (firstAnswer (insertedFile some fileS) [] [] firstNode lead (0x61 ∷ []) androidName 1 1 ≡ Found 3 0 false)
+unfolding fileS headS startS endS insertedFile inserted chunksOf restOf u16le u32le headerOf isXml sortOf contentLen foreignLen walk walkFrom
+    countOf numbered endOf poolFrom behindGarbage poolOf offsetOf split8 split16 idsIn idsBy mapOf idOf isAscii isGood namesFrom nameOf systemOf
+    stringAt stringOf contentOf tablesOf openedOf lengthCheck headCheck openOf textAnswer textBuffer contentAnswer firstAnswer fitOf runsFrom
+    findNode findValue startOf startTurn xmlTurn numberOf turnOf matched isWhole longest anyWhole spelt encode step8 stepsAfter bytesOf
+    allSound textOf eqBytes f105 f102 isReference valueTypeNumber valueTypeOf
+s-asked = (refl, refl, refl, refl)
+
+-- ---- room
+
+pub s-full : reading (record { nodes = 4; attributes = 15; notes = 4; cap = 2 }) fileS [] [] .answer ≡ Refused (NodesFull 0)
+unfolding fileS headS startS endS reading settle u16le u32le headerOf isXml sortOf contentLen foreignLen walk walkFrom trace traceFrom
+    countOf numbered endOf poolFrom behindGarbage poolOf offsetOf outsideOf split8 split16 idsIn idsBy mapOf idOf isAscii isGood namesFrom
+    nameOf systemOf stringAt stringOf contentOf tablesOf openedOf outsideIn lengthCheck startOf attributeAt startTurn xmlTurn numberOf
+    turnOf attributeEvent attributesOf fromLead fromOpen fromName fromTrailing fromSize fromGap eventsOn bodyEvents fileEvents hasKey
+    kindIndex noteOf matched isWhole longest anyWhole spelt encode step8 stepsAfter bytesOf allSound textOf eqBytes inRanges isStart isChar
+    nameSort allChar isNameOf validName
+s-full = refl
 
 -- ---- behind a chunk that is cut
 

@@ -17,7 +17,8 @@ use Rattle.events.specs.declared.Event.{Event}
 use Rattle.events.specs.declared.Event.the-variants.{Nothing, Open, Attribute, LeftOut, Close, Note, Refuse, Finish}
 use Rattle.walk.specs.Settle.{Room, Tables, Out, going, refused, push, settle, nothingYet}
 use Rattle.walk.proofs.Settle.{settle-refused}
-use Rattle.claims.proofs.Erased.{noted, othersIn, notesIn}
+use Rattle.claims.specs.Counts.{noted, notesIn}
+use Rattle.claims.proofs.Erased.{othersIn}
 use Rattle.claims.proofs.Grown.{bare, grow, grown, grown-others, Sound, grown-more}
 use Rattle.claims.proofs.Pushed.{Full, Stays, AllStay, stay-to, stay-from, keptOf, Pushed, Tells, push-tells, Going, push-roomy}
 

@@ -1,19 +1,22 @@
 -- The structure of every successful reading: docs/FORMAT.md, W25 to W29, B9 to B15. Of every result of success that the promise allows.
 --
 --   structured     its nodes are the first of the elements that open, in order; a parent is an earlier node; the runs cover the attributes in turn;
---                  each attribute has the node of its run for its owner; no kind has more notes than the cap; note 12 says the depth, and is there
+--                  each attribute has the node of its run for its owner; the notes are those that the cap keeps; note 12 says the depth, and is there
 --                  exactly where that is not 0; with depth 0 no element is dropped, and from depth 2 on some are (specs/Shape.antt, `Structured`)
---   starts-right   it counts the elements that open; notes-most: and no more notes than are due
+--   starts-right   it counts the elements that open; notes-many, notes-kept: its notes are exactly the file's, of each kind the first `cap`
 use Prim.Native.Nat.{ℕ, _+_, _-_, _*_, _/_, _≤_, _<_}
 use native.Mathlib.Omega.{arith}
-use mathlib.Core.Path.{_≡_, refl, _∙_, ap}
-use mathlib.Core.List.{List, _++_}
+use mathlib.Core.Path.{_≡_, refl, sym, _∙_, ap}
+use mathlib.Core.List.{List, _++_, map}
 use mathlib.Core.Bool.{Bool, true, false, cond}
 use borrow.Author.Tests.{eq-eqb, ne-eqb, eqb-false}
-use lib.ListN.{length, take, List·getD-append}
+use lib.ListN.{length, take, length-map, List·getD-append}
 use lib.Seq.{getD-take, length-take-le, take-at}
 use lib.Dec.{eqb}
+use Rattle.anomaly.specs.Note.{noteOf}
+use Rattle.anomaly.specs.Kept.{keptNotes}
 use Rattle.anomaly.specs.declared.Note.{Note}
+use Rattle.anomaly.specs.declared.ResAnomaly.{ResAnomaly}
 use Rattle.errors.specs.declared.ReadAnswer.the-variants.{Done}
 use Rattle.errors.specs.declared.ReadCounts.{ReadCounts}
 use Rattle.head.specs.Head.{openedOf, tablesIn, bodyIn}
@@ -26,12 +29,12 @@ use Rattle.claims.specs.Shape.{word, Descends, Runs, Owns, Structured}
 use Rattle.claims.proofs.StructureShape.{second-lt, run-le, covered}
 use Rattle.claims.proofs.StructureTables.{Shaped, kept-in, pos}
 use Rattle.claims.proofs.StructureDone.{DoneBy, done-by, done-shaped}
-use Rattle.claims.proofs.StructureCounts.{settled-starts, settled-notes}
-use Rattle.claims.proofs.StructureNotes.{settled-kinds}
+use Rattle.claims.proofs.StructureCounts.{settled-starts}
+use Rattle.claims.proofs.Noted.{settled-notes, kept-number}
 use Rattle.claims.proofs.StructureOrder.{settled-names, settled-fixed}
 use Rattle.claims.proofs.StructureWalk.{WalkedFile, walked-some, file-ends}
 use Rattle.claims.proofs.StructureOpen.{Near, near-none, near-second, settled-near, settled-walked}
-use Rattle.claims.proofs.StructureSaid.{settled-said, settled-twelve, settled-none}
+use Rattle.claims.proofs.StructureSaid.{walked-said, walked-twelve, walked-none}
 
 -- ---- the kept records, and zeros behind them
 
@@ -115,8 +118,19 @@ module _ (f names area ns ats : List ℕ) (os : List Note) (cap : ℕ) (c : Read
   pub starts-right : c .starts ≡ opensIn es
   starts-right = omega (arith, d .starts, settled-starts same r es t (d .out))
 
-  pub notes-most : c .notes ≤ notesIn es
-  notes-most = omega (arith, d .notes, settled-notes same r es t (d .out))
+  abbrev ks : List ResAnomaly
+  ks = keptNotes cap (notesIn es)
+
+  told : t .notes ≡ map noteOf ks
+  told = settled-notes same r es t (d .out)
+
+  pub notes-many : c .notes ≡ length ks
+  notes-many = d .notes ∙ ap length told ∙ length-map ks noteOf
+
+  pub notes-kept : take (c .notes) os′ ≡ map noteOf ks
+  notes-kept =
+      ap (λ (n : ℕ). take n os′) (d .notes)
+      ∙ ap (take (length (t .notes))) (reads .notes ∙ ap (λ (x : Reading). x .notes) (d .whole)) ∙ take-at (t .notes) _ (length (t .notes)) refl ∙ told
 
   walk : WalkedFile es
   walk = settled-walked same r es t (file-ends (namesFor f names area) (openedOf f) (tablesIn f (openedOf f .head)) (bodyIn f (openedOf f .head))) (d .out)
@@ -135,8 +149,7 @@ module _ (f names area ns ats : List ℕ) (os : List Note) (cap : ℕ) (c : Read
       (reads .attributes ∙ ap (λ (x : Reading). x .attributes) (d .whole)) in
       let runs = runs-same (t .nodes) ns′ (nodesKept t) (attributesKept t) sn (k .runs) in
       let owns = owns-same (t .nodes) ns′ (t .attributes) ats′ (nodesKept t) (h .n) (attributesKept t) sn sa (k .nodes) (k .runs) (h .owns) in
-      let notes : take (length (t .notes)) os′ ≡ t .notes =
-      ap (take (length (t .notes))) (reads .notes ∙ ap (λ (x : Reading). x .notes) (d .whole)) ∙ take-at (t .notes) _ (length (t .notes)) refl in
+      let told : take (length (t .notes)) os′ ≡ map noteOf ks = sym (ap (λ (n : ℕ). take n os′) (d .notes)) ∙ notes-kept in
       rw (d .counts) (record {
         starts = omega (arith, n);
         some = kept-some r t h (omega (arith, some-start, h .nodes, n));
@@ -147,11 +160,12 @@ module _ (f names area ns ats : List ℕ) (os : List Note) (cap : ℕ) (c : Read
         runs = runs;
         owns = owns;
         owners = owners-in ns′ ats′ (nodesKept t) (attributesKept t) runs owns;
-        notes = settled-notes same r es t (d .out);
-        kinds = λ i. rw notes (settled-kinds r same es t (d .out) i);
-        depth = rw notes (settled-said same r es t walk (d .out));
-        twelve = λ x y. rw notes (settled-twelve same r es t walk (d .out) x y);
-        untold = λ z. rw notes (settled-none same r es t walk (d .out) z);
+        many = sym (d .notes) ∙ notes-many;
+        notes = told;
+        kinds = λ i. rw told (kept-number cap i (notesIn es));
+        depth = rw told (walked-said es walk cap);
+        twelve = λ x y. rw told (walked-twelve es walk cap x y);
+        untold = λ z. rw told (walked-none es walk cap z);
         closed = λ z. kept-all r t h (depthFrom 0 es) near z;
         dropped = λ z. kept-fewer r t h (depthFrom 0 es) near z;
       })

@@ -22,28 +22,22 @@ use Rattle.events.specs.declared.Event.{Event}
 use Rattle.events.specs.declared.Event.the-variants.{Nothing, Open, Attribute, LeftOut, Close, Note, Refuse, Finish}
 use Rattle.events.specs.Events.{Names, when, isValid, hasOne, leading, attributeBy, attributesOf, attributeEvent, fromLead, fromOpen, fromName}
 use Rattle.events.specs.Events.{fromTrailing, fromSize, fromGap}
-use Rattle.claims.specs.Counts.{opensIn, stepped, depthFrom}
+use Rattle.claims.specs.Counts.{opensIn, stepped, depthFrom, notesIn}
+use Rattle.claims.proofs.Erased.{notesIn-append}
+use Rattle.claims.proofs.Noted.{All, all-append}
 
 -- ---- lists of events
 
 -- it is no note 12
-abbrev pub PlainOf : Event → Type 0
-PlainOf (Note x) = noteOf x .kind ≡ 12 → ⊥
-PlainOf Nothing = Unit {0}
-PlainOf (Open name fixed line) = Unit {0}
-PlainOf (Attribute p a) = Unit {0}
-PlainOf (LeftOut n) = Unit {0}
-PlainOf Close = Unit {0}
-PlainOf (Refuse x) = Unit {0}
-PlainOf Finish = Unit {0}
+abbrev pub NotTwelve : ResAnomaly → Type 0
+NotTwelve x = noteOf x .kind ≡ 12 → ⊥
 
+-- there is none among these
 abbrev pub Plain : List Event → Type 0
-Plain [] = Unit {0}
-Plain (e ∷ es) = PlainOf e × Plain es
+Plain es = All NotTwelve (notesIn es)
 
 pub plain-append : (a b : List Event) → Plain a → Plain b → Plain (a ++ b)
-plain-append [] b p q = q
-plain-append (e ∷ a) b p q = (p .0, plain-append a b (p .1) q)
+plain-append a b p q = rw (notesIn-append a b) (all-append NotTwelve (notesIn a) (notesIn b) p q)
 
 pub opens-append : (a b : List Event) → opensIn (a ++ b) ≡ opensIn a + opensIn b
 opens-append [] b = omega arith
@@ -80,9 +74,9 @@ noted-moved false x es n p h = h
 
 attribute-moved : (N : Names) (a : XmlAttributeElement) (s : NameState) → Moved (attributeBy N a s ∷ []) 0
 unfolding noteOf
-attribute-moved N a NoText = record { opens = omega arith; depth = λ d. omega arith; plain = (tt, tt) }
+attribute-moved N a NoText = record { opens = omega arith; depth = λ d. omega arith; plain = tt }
 attribute-moved N a Invalid = moved-note (InvalidAttributeName (a .name .0)) (λ e. omega arith)
-attribute-moved N a Valid = record { opens = omega arith; depth = λ d. omega arith; plain = (tt, tt) }
+attribute-moved N a Valid = record { opens = omega arith; depth = λ d. omega arith; plain = tt }
 
 attributes-moved : (N : Names) (n stride : ℕ) (l : List ℕ) → Moved (attributesOf N n stride l) 0
 unfolding attributesOf attributeEvent
@@ -93,7 +87,7 @@ attributes-moved N (suc n) stride l =
     (attributes-moved N n stride (drop stride l))
 
 leading-moved : (b : Bool) → Moved (when b leading) 0
-leading-moved true = record { opens = omega arith; depth = λ d. omega arith; plain = (tt, tt) }
+leading-moved true = record { opens = omega arith; depth = λ d. omega arith; plain = tt }
 leading-moved false = moved-none
 
 module _ (N : Names) (s : XmlStartElement) (k : ℕ) (l : List ℕ) where
@@ -105,7 +99,7 @@ module _ (N : Names) (s : XmlStartElement) (k : ℕ) (l : List ℕ) where
 
   open-moved : Moved (fromOpen N s k l) 1
   unfolding fromOpen
-  open-moved = record { opens = omega (arith, lead-moved .opens); depth = λ d. omega (arith, lead-moved .depth (d + 1)); plain = (tt, lead-moved .plain) }
+  open-moved = record { opens = omega (arith, lead-moved .opens); depth = λ d. omega (arith, lead-moved .depth (d + 1)); plain = lead-moved .plain }
 
   name-moved : Moved (fromName N s k l) 1
   unfolding fromName noteOf

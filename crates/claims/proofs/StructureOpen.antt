@@ -3,24 +3,20 @@
 --   settled-near     as many elements are open as the depth says, or one more
 --   near-second      so with depth 0 there is no second open element, and from depth 2 on there is one
 --   settled-walked   where events leave tables, they are those of a whole walk: none of them refuses
-use Prim.Native.Nat.{ℕ, _+_, _-_, _/_, _≤_, _<_}
+use Prim.Native.Nat.{ℕ, _+_, _-_, _≤_, _<_}
 use native.Mathlib.Omega.{arith}
 use mathlib.Core.Path.{_≡_, refl, sym, _∙_, ap}
 use mathlib.Core.List.{List, [], _∷_, _++_}
-use mathlib.Core.Bool.{Bool, cond}
-use lib.ListN.{length, drop, getD}
-use lib.Dec.{ltb, leb, eqb}
-use Rattle.anomaly.specs.Note.{kindIndex}
+use mathlib.Core.Bool.{Bool}
+use lib.ListN.{length}
 use Rattle.errors.specs.declared.Refusal.{Refusal}
-use Rattle.errors.specs.declared.Refusal.the-variants.{AttributesFull, NotesFull}
-use Rattle.xml_elements.proofs.Laws.{cond-by}
 use Rattle.events.specs.declared.Event.{Event}
-use Rattle.events.specs.declared.Event.the-variants.{Nothing, Open, Attribute, LeftOut, Close, Note, Refuse, Finish}
-use Rattle.tables.specs.Keep.{hasKey}
-use Rattle.walk.specs.Settle.{Room, Tables, Out, going, refused, push, settle, nothingYet, closedIn, kept, noted}
+use Rattle.events.specs.declared.Event.the-variants.{Refuse}
+use Rattle.walk.specs.Settle.{Room, Tables, Out, going, refused, push, settle, nothingYet, closedIn}
 use Rattle.walk.specs.Reading.{secondOf}
-use Rattle.claims.specs.Counts.{stepped, depthFrom}
-use Rattle.claims.proofs.StructurePush.{InTables}
+use Rattle.claims.specs.Counts.{depthFrom}
+use Rattle.claims.proofs.Settled.{empty}
+use Rattle.claims.proofs.PushBy.{idle-still, Goes, settle-in}
 use Rattle.claims.proofs.StructureShape.{Falls}
 use Rattle.claims.proofs.StructureWalk.{WalkedFile, Ending, refusedAt, walkedTo}
 
@@ -49,38 +45,36 @@ near-second d n [] h g f = absurd (let y : ⊥ = omega (arith, h .low) in y)
 near-second d n (k ∷ []) h g f = absurd (let y : ⊥ = omega (arith, h .low) in y)
 near-second d n (k ∷ j ∷ s) h g f = second-some n k j s f
 
+-- the depth so far, which the events to come take to the last one
+record NearBy (last : ℕ) (es : List Event) (t : Tables) : Type 0 where
+  now : ℕ
+  then : depthFrom now es ≡ last
+  near : Near now (t .stack)
+
 module _ (same : ℕ → ℕ → Bool) (r : Room) where
-  abbrev NearIn : ℕ → Tables → Type 0
-  NearIn d t = Near d (t .stack)
-
-  push-near : (t : Tables) (e : Event) (d : ℕ) → NearIn d t → InTables (NearIn (stepped d e)) (push same r (going t) e)
-  push-near t Nothing d h = h
-  push-near t Finish d h = h
-  push-near t (LeftOut n) d h = h
-  push-near t (Refuse x) d h = tt
-  push-near t Close d h = near-closed d (t .stack) h
-  push-near t (Open name fixed line) d h =
-      cond-by (InTables (NearIn (d + 1))) (leb (length (t .nodes) + 5) (r .nodes))
-      (λ e. record { low = omega (arith, h .low); high = omega (arith, h .high) }) (λ e. tt)
-  push-near t (Attribute p a) d h =
-      cond-by (InTables (NearIn d)) (eqb (length (t .nodes)) 0) (λ e. h)
-      (λ n. cond-by (InTables (NearIn d)) (hasKey same p (a .name .0) (drop (t .first) (t .attributes))) {x = going t}
-      {y = cond (leb (length (t .attributes) + 5) (r .attributes)) (going (kept t p a)) (refused (AttributesFull (r .attributes / 5)))} (λ e. h)
-      (λ k. cond-by (InTables (NearIn d)) (leb (length (t .attributes) + 5) (r .attributes)) {x = going (kept t p a)}
-      {y = refused (AttributesFull (r .attributes / 5))} (λ e. h) (λ e. tt)))
-  push-near t (Note x) d h =
-      cond-by (InTables (NearIn d)) (ltb (getD (t .counts) (kindIndex x) 0) (r .cap))
-      (λ e. cond-by (InTables (NearIn d)) (ltb (length (t .notes)) (r .notes)) {x = going (noted t x)} {y = refused (NotesFull (r .notes))} (λ e. h) (λ e. tt))
-      (λ e. h)
-
-  settle-near : (o : Out) (es : List Event) (d : ℕ) → InTables (NearIn d) o → InTables (NearIn (depthFrom d es)) (settle same r o es)
-  unfolding settle
-  settle-near o [] d h = h
-  settle-near (refused x) (e ∷ es) d h = settle-near (refused x) es (stepped d e) tt
-  settle-near (going t) (e ∷ es) d h = settle-near (push same r (going t) e) es (stepped d e) (push-near t e d h)
+  goes : (last : ℕ) → Goes r (NearBy last)
+  goes last = record {
+    idles = λ t e es i h. record {
+      now = h .now;
+      then = ap (λ (d : ℕ). depthFrom d es) (sym (idle-still e i .depth (h .now))) ∙ h .then;
+      near = h .near;
+    };
+    closes = λ t es h. record { now = h .now - 1; then = h .then; near = near-closed (h .now) (t .stack) (h .near) };
+    opens = λ t es n f l g h. record {
+      now = h .now + 1;
+      then = h .then;
+      near = record { low = omega (arith, h .near .low); high = omega (arith, h .near .high) };
+    };
+    keeps = λ t es p a some g h. record { now = h .now; then = h .then; near = h .near };
+    notes = λ t es x d g h. record { now = h .now; then = h .then; near = h .near };
+    past = λ t es x d h. record { now = h .now; then = h .then; near = h .near };
+  }
 
   pub settled-near : (es : List Event) (t : Tables) → settle same r nothingYet es ≡ going t → Near (depthFrom 0 es) (t .stack)
-  settled-near es t e = rw e at (settle-near nothingYet es 0 (record { low = omega arith; high = omega arith }))
+  settled-near es t e =
+      let start : NearBy (depthFrom 0 es) es empty = record { now = 0; then = refl; near = record { low = omega arith; high = omega arith } } in
+      let h = rw e at (settle-in same r (NearBy (depthFrom 0 es)) (goes (depthFrom 0 es)) nothingYet es start) in
+      rw (← h .then) (h .near)
 
   -- ---- events that leave tables
 

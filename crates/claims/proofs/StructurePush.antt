@@ -2,62 +2,39 @@
 --
 --   settle-keeps   what an element, an end, a kept attribute and a kept note keep, all events keep
 --   word-old, word-new, word-other, word-same   the words of records behind new ones, and where one word is written
-use Prim.Native.Nat.{ℕ, _+_, _-_, _*_, _/_, _≤_, _<_}
+use Prim.Native.Nat.{ℕ, _+_, _-_, _*_, _≤_, _<_}
 use native.Mathlib.Omega.{arith}
 use mathlib.Core.Path.{_≡_, sym, _∙_, ap}
-use mathlib.Core.List.{List, [], _∷_, _++_}
-use mathlib.Core.Bool.{Bool, cond}
-use borrow.Author.Tests.{ltb-true, leb-true, eqb-false}
-use lib.ListN.{length, drop, set, getD, List·getD-append}
+use mathlib.Core.List.{List, _++_}
+use mathlib.Core.Bool.{Bool}
+use lib.ListN.{length, set, getD, List·getD-append}
 use lib.Seq.{getD-append-add, getD-set-same, getD-set-other}
-use lib.Dec.{ltb, leb, eqb}
-use Rattle.anomaly.specs.Note.{kindIndex}
 use Rattle.anomaly.specs.declared.ResAnomaly.{ResAnomaly}
-use Rattle.errors.specs.declared.Refusal.the-variants.{AttributesFull, NotesFull}
 use Rattle.xml_elements.specs.declared.XmlAttributeElement.{XmlAttributeElement}
-use Rattle.xml_elements.proofs.Laws.{cond-by}
 use Rattle.events.specs.declared.Event.{Event}
-use Rattle.events.specs.declared.Event.the-variants.{Nothing, Open, Attribute, LeftOut, Close, Note, Refuse, Finish}
-use Rattle.tables.specs.Keep.{hasKey}
+use Rattle.tables.specs.Keep.{nodeWidth, attributeWidth}
+use Rattle.walk.specs.Settle.{Room, Tables, Out, settle, opened, closed, kept, noted}
 use Rattle.claims.specs.Shape.{word}
-use Rattle.walk.specs.Settle.{Room, Tables, Out, going, refused, push, settle, opened, closed, kept, noted}
+use Rattle.claims.proofs.PushBy.{InTables, settle-in}
 
 -- ---- events put away
 
--- of the tables, where there are some
-abbrev pub InTables : (Tables → Type 0) → Out → Type 0
-InTables P (going t) = P t
-InTables P (refused x) = Unit {0}
-
 module _ (same : ℕ → ℕ → Bool) (r : Room) (P : Tables → Type 0)
-    (opens : (t : Tables) (name fixed : ℕ) → length (t .nodes) + 5 ≤ r .nodes → P t → P (opened t name fixed))
+    (opens : (t : Tables) (name fixed : ℕ) → length (t .nodes) + nodeWidth ≤ r .nodes → P t → P (opened t name fixed))
     (closes : (t : Tables) → P t → P (closed t))
-    (keeps : (t : Tables) (p : ℕ) (a : XmlAttributeElement) → (length (t .nodes) ≡ 0 → ⊥) → length (t .attributes) + 5 ≤ r .attributes → P t → P (kept t p a))
-    (notes : (t : Tables) (x : ResAnomaly) → getD (t .counts) (kindIndex x) 0 < r .cap → length (t .notes) < r .notes → P t → P (noted t x)) where
-  push-keeps : (t : Tables) (e : Event) → P t → InTables P (push same r (going t) e)
-  push-keeps t Nothing h = h
-  push-keeps t Finish h = h
-  push-keeps t (LeftOut n) h = h
-  push-keeps t (Refuse x) h = tt
-  push-keeps t Close h = closes t h
-  push-keeps t (Open name fixed line) h =
-      cond-by (InTables P) (leb (length (t .nodes) + 5) (r .nodes)) (λ e. opens t (name .0) fixed (leb-true _ _ e) h) (λ e. tt)
-  push-keeps t (Attribute p a) h =
-      cond-by (InTables P) (eqb (length (t .nodes)) 0) (λ e. h)
-      (λ n. cond-by (InTables P) (hasKey same p (a .name .0) (drop (t .first) (t .attributes))) {x = going t}
-      {y = cond (leb (length (t .attributes) + 5) (r .attributes)) (going (kept t p a)) (refused (AttributesFull (r .attributes / 5)))} (λ e. h)
-      (λ k. cond-by (InTables P) (leb (length (t .attributes) + 5) (r .attributes)) {x = going (kept t p a)} {y = refused (AttributesFull (r .attributes / 5))}
-      (λ e. keeps t p a (eqb-false _ _ n) (leb-true _ _ e) h) (λ e. tt)))
-  push-keeps t (Note x) h =
-      cond-by (InTables P) (ltb (getD (t .counts) (kindIndex x) 0) (r .cap))
-      (λ d. cond-by (InTables P) (ltb (length (t .notes)) (r .notes)) {x = going (noted t x)} {y = refused (NotesFull (r .notes))}
-      (λ e. notes t x (ltb-true _ _ d) (ltb-true _ _ e) h) (λ e. tt)) (λ d. h)
-
+    (keeps : (t : Tables) (p : ℕ) (a : XmlAttributeElement) → (length (t .nodes) ≡ 0 → ⊥) → length (t .attributes) + attributeWidth ≤ r .attributes → P t
+    → P (kept t p a))
+    (notes : (t : Tables) (x : ResAnomaly) → length (t .notes) < r .notes → P t → P (noted t x)) where
   pub settle-keeps : (o : Out) (es : List Event) → InTables P o → InTables P (settle same r o es)
-  unfolding settle
-  settle-keeps o [] h = h
-  settle-keeps (refused x) (e ∷ es) h = settle-keeps (refused x) es tt
-  settle-keeps (going t) (e ∷ es) h = settle-keeps (push same r (going t) e) es (push-keeps t e h)
+  settle-keeps =
+      settle-in same r (λ es t. P t) (record {
+        idles = λ t e es i h. h;
+        closes = λ t es h. closes t h;
+        opens = λ t es n f l g h. opens t (n .0) f g h;
+        keeps = λ t es p a some g h. keeps t p a some g h;
+        notes = λ t es x d g h. notes t x g h;
+        past = λ t es x d h. h;
+      })
 
 -- ---- words
 

@@ -18,7 +18,8 @@ use Rattle.events.specs.declared.Event.{Event}
 use Rattle.walk.specs.Settle.{Room, Tables, settle, nothingYet, opened, closed, kept, noted, parentIn}
 use Rattle.walk.specs.Reading.{secondOf, nodesKept, attributesKept}
 use Rattle.claims.specs.Shape.{Descends, begin, end, Runs, Owns}
-use Rattle.claims.proofs.StructurePush.{InTables, settle-keeps, word-new}
+use Rattle.claims.proofs.PushBy.{InTables}
+use Rattle.claims.proofs.StructurePush.{settle-keeps, word-new}
 use Rattle.claims.proofs.StructureShape.{Falls, second-lt, falls-opened, falls-closed, run-le, runs-cut}
 use Rattle.claims.proofs.StructureShape.{opens-parents, opens-runs, opens-owns, kept-parents, kept-begin, kept-runs, kept-owns}
 
@@ -145,7 +146,7 @@ module _ (r : Room) where
 
   pub settled-shaped : (same : ℕ → ℕ → Bool) (es : List Event) → InTables (Shaped r) (settle same r nothingYet es)
   settled-shaped same es =
-      settle-keeps same r (Shaped r) shaped-opened shaped-closed shaped-kept (λ t x due room h. shaped-noted t x room h) nothingYet es shaped-none
+      settle-keeps same r (Shaped r) shaped-opened shaped-closed shaped-kept shaped-noted nothingYet es shaped-none
 
 -- ---- what is kept
 

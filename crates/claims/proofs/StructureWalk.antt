@@ -57,7 +57,7 @@ turned-still : (es : List Event) (p : Spot) (k : ℕ) → Moved es 0 → Turned 
 turned-still es p k h = turned-by es 0 p _ h (omega arith) (omega arith)
 
 closed-turned : (p : Spot) → Turned (Close ∷ []) p (ended p)
-closed-turned p = record { starts = omega arith; depth = refl; plain = (tt, tt) }
+closed-turned p = record { starts = omega arith; depth = refl; plain = tt }
 
 module _ (N : Names) (l : List ℕ) (p : Spot) where
   short-moved : Moved (Note TruncatedXml ∷ []) 0

@@ -4,7 +4,7 @@
 --   file-few   the same of a file; and none of its refusals is for want of a place
 use Prim.Native.Nat.{ℕ, zero, suc, _+_, _-_, _*_, _≤_}
 use native.Mathlib.Omega.{arith}
-use mathlib.Core.Path.{_≡_}
+use mathlib.Core.Path.{_≡_, refl}
 use mathlib.Core.List.{List, [], _∷_, _++_}
 use mathlib.Core.Bool.{Bool, true, false, not}
 use lib.ListN.{length, drop, length-drop}
@@ -93,7 +93,7 @@ unfolding numberOf
 last-paid p n = paid-none _ n (few-noted (not (eqb (p .depth) 0)) (UnclosedElements (p .depth)) (fromRoot p) 0 0 (root (eqb (p .starts) 0)))
   where
     root : (b : Bool) → Few (when b (Refuse MissingRoot)) 0 0
-    root true = record { opens = omega arith; attributes = omega arith; fine = (omega arith, tt) }
+    root true = record { opens = omega arith; attributes = omega arith; fine = (refl, tt) }
     root false = few-none
 
 module _ (N : Names) where
@@ -127,11 +127,11 @@ behind-notes xs es n h = paid-append (notesOf xs) es 0 n n (paid-none _ 0 (notes
 module _ (N : Names) (o : Opened) (t b : List ℕ) where
   refusal-few : (e : HeadEnd) → Paid (Refuse (refusalOf e) ∷ []) (length b)
   unfolding numberOf
-  refusal-few Whole = paid-none _ _ (record { opens = omega arith; attributes = omega arith; fine = (omega arith, tt) })
-  refusal-few (MapShort m) = paid-none _ _ (record { opens = omega arith; attributes = omega arith; fine = (omega arith, tt) })
-  refusal-few (PoolShort e) = paid-none _ _ (record { opens = omega arith; attributes = omega arith; fine = (omega arith, tt) })
-  refusal-few (TooSmall n) = paid-none _ _ (record { opens = omega arith; attributes = omega arith; fine = (omega arith, tt) })
-  refusal-few (HeaderSize n) = paid-none _ _ (record { opens = omega arith; attributes = omega arith; fine = (omega arith, tt) })
+  refusal-few Whole = paid-none _ _ (record { opens = omega arith; attributes = omega arith; fine = (refl, tt) })
+  refusal-few (MapShort m) = paid-none _ _ (record { opens = omega arith; attributes = omega arith; fine = (refl, tt) })
+  refusal-few (PoolShort e) = paid-none _ _ (record { opens = omega arith; attributes = omega arith; fine = (refl, tt) })
+  refusal-few (TooSmall n) = paid-none _ _ (record { opens = omega arith; attributes = omega arith; fine = (refl, tt) })
+  refusal-few (HeaderSize n) = paid-none _ _ (record { opens = omega arith; attributes = omega arith; fine = (refl, tt) })
 
   pool-few : (e : HeadEnd) → Paid (afterPool N o t b e) (length b)
   unfolding bodyEvents

@@ -13,7 +13,6 @@ use lib.Dec.{ltb, eqb}
 use Rattle.anomaly.specs.declared.ResAnomaly.{ResAnomaly}
 use Rattle.anomaly.specs.declared.ResAnomaly.the-variants.{AttributeStartShifted, AttributeSizeMismatch, ElementTrailingBytes}
 use Rattle.anomaly.specs.declared.ResAnomaly.the-variants.{InvalidElementName, TruncatedXml}
-use Rattle.errors.specs.Refusal.{numberOf}
 use Rattle.text.specs.declared.NameState.{NameState}
 use Rattle.text.specs.declared.NameState.the-variants.{NoText, Invalid, Valid}
 use Rattle.xml_elements.specs.declared.XmlStartElement.{XmlStartElement}
@@ -23,6 +22,7 @@ use Rattle.events.specs.declared.Event.{Event}
 use Rattle.events.specs.declared.Event.the-variants.{Nothing, Open, Attribute, LeftOut, Close, Note, Refuse, Finish}
 use Rattle.events.specs.Events.{Names, isValid, hasOne, when, leading, attributeBy, attributeEvent, attributesOf, fromLead, fromOpen, fromName, fromTrailing}
 use Rattle.events.specs.Events.{fromSize, fromGap}
+use Rattle.claims.specs.Room.{isFull}
 use Rattle.claims.specs.Counts.{sumOf, isOpen, isAttribute, opensIn, attributesIn}
 
 -- ---- how many
@@ -33,7 +33,7 @@ sum-append w (e ∷ a) b = omega (arith, sum-append w a b)
 
 -- it is no refusal for want of a place
 abbrev pub FineOf : Event → Type 0
-FineOf (Refuse x) = numberOf x < 8
+FineOf (Refuse x) = isFull x ≡ false
 FineOf Nothing = Unit {0}
 FineOf (Open name fixed line) = Unit {0}
 FineOf (Attribute p a) = Unit {0}

@@ -24,7 +24,8 @@ use Rattle.events.proofs.Model.{eventsOn-step}
 use Rattle.events.proofs.Local.{chunkYield-append}
 use Rattle.claims.specs.Insertion.{ForeignChunk, bytesOf, stretchNotes, chunksOf, restOf, placesOf, inserted, placeNotes}
 use Rattle.claims.proofs.Places.{fits, nil-stop, stop-of, chunksOf-stop, restOf-stop, chunksOf-front}
-use Rattle.claims.proofs.Erased.{othersIn, notesIn, othersIn-append, notesIn-append, othersIn-notes, notesIn-notes, nil-left, nil-right}
+use Rattle.claims.specs.Counts.{notesIn}
+use Rattle.claims.proofs.Erased.{othersIn, othersIn-append, notesIn-append, othersIn-notes, notesIn-notes, nil-left, nil-right}
 use Rattle.claims.proofs.Rows.{Ordinary, eventsOn-front, eventsOn-place}
 
 chunkNext-run : (p : Spot) (x : Chunk) → chunkNext p x .run ≡ 2

@@ -3,11 +3,12 @@
 --   sumOf         the sum of a number over all events
 --   opensIn       how many elements open: the starts that were read whole
 --   attributesIn  how many attributes are due, the leading one included
---   notesIn       how many notes are due, before any cap
+--   notesIn       the anomalies among them, in order: the notes that are due, before any cap
 --   openNames     the name indices of the elements that open, in order; openFixed their fixed words
 --   depthFrom     the depth behind these events: an element adds one, an end takes one away, not below 0
 use Prim.Native.Nat.{ℕ, _+_, _-_}
-use mathlib.Core.List.{List, [], _∷_}
+use mathlib.Core.List.{List, [], _∷_, _++_}
+use Rattle.anomaly.specs.declared.ResAnomaly.{ResAnomaly}
 use Rattle.events.specs.declared.Event.{Event}
 use Rattle.events.specs.declared.Event.the-variants.{Nothing, Open, Attribute, LeftOut, Close, Note, Refuse, Finish}
 
@@ -35,24 +36,25 @@ isAttribute (Note x) = 0
 isAttribute (Refuse x) = 0
 isAttribute Finish = 0
 
-abbrev pub isNote : Event → ℕ
-isNote (Note x) = 1
-isNote Nothing = 0
-isNote (Open name fixed line) = 0
-isNote (Attribute p a) = 0
-isNote (LeftOut n) = 0
-isNote Close = 0
-isNote (Refuse x) = 0
-isNote Finish = 0
-
 abbrev pub opensIn : List Event → ℕ
 opensIn es = sumOf isOpen es
 
 abbrev pub attributesIn : List Event → ℕ
 attributesIn es = sumOf isAttribute es
 
-abbrev pub notesIn : List Event → ℕ
-notesIn es = sumOf isNote es
+abbrev pub noted : Event → List ResAnomaly
+noted (Note x) = x ∷ []
+noted Nothing = []
+noted (Open name fixed line) = []
+noted (Attribute p a) = []
+noted (LeftOut n) = []
+noted Close = []
+noted (Refuse x) = []
+noted Finish = []
+
+abbrev pub notesIn : List Event → List ResAnomaly
+notesIn [] = []
+notesIn (e ∷ es) = noted e ++ notesIn es
 
 -- what an element that opens is put down with, of all of them in order
 abbrev pub opensAs : (ℕ → ℕ → ℕ) → List Event → List ℕ

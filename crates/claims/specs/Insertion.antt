@@ -6,7 +6,7 @@
 --   inserted       a body with a list of foreign chunks at each place; insertedFile the same of a file, behind its head
 --   stretchNotes   of chunks in a row, one anomaly for each stretch of one sort, with its first chunk's number; placeNotes of all places
 --   AllOf          chunks of one sort; BeginsOther of chunks with which no stretch of that sort goes on
---   HasRoom        no record was without a place; left an answer and what stands in the three tables, as a reading
+--   left           an answer and what stands in the three tables, as a reading
 --   withNotes      the reading s with the counts c, in tables of other room, with these notes and no other: all that it kept, word for word
 --
 -- A place is said by the walk itself: `usedOf` of `turnOf`, the bytes that it takes. The theorem: `insertion` of proofs/Claims.antt.
@@ -15,15 +15,14 @@ use mathlib.Core.Path.{_≡_}
 use mathlib.Core.List.{List, [], _∷_, _++_, map}
 use mathlib.Core.Bool.{Bool, true, false, cond, _&&_}
 use lib.ListN.{length, take, drop, replicate}
-use lib.Dec.{leb, eqb}
+use lib.Dec.{eqb}
 use Rattle.common.specs.Header.{headerOf}
 use Rattle.common.specs.declared.ResChunkHeader.{ResChunkHeader}
 use Rattle.common.specs.declared.HeaderRead.the-variants.{Whole}
 use Rattle.chunk.specs.Sort.{sortOf}
 use Rattle.chunk.specs.Walk.{walk}
-use Rattle.errors.specs.Refusal.{numberOf as refusalNumber}
 use Rattle.errors.specs.declared.ReadAnswer.{ReadAnswer}
-use Rattle.errors.specs.declared.ReadAnswer.the-variants.{Done, Refused}
+use Rattle.errors.specs.declared.ReadAnswer.the-variants.{Done}
 use Rattle.errors.specs.declared.ReadCounts.{ReadCounts}
 use Rattle.anomaly.specs.Note.{noteOf}
 use Rattle.anomaly.specs.declared.Note.{Note}
@@ -126,11 +125,6 @@ abbrev pub placesIn : List ℕ → ℕ
 placesIn f = placesOf (bodyIn f (openedOf f .head))
 
 -- ---- its reading
-
--- it is not refused with 8, 9 or 10, the refusals of a record that is due and has no place
-abbrev pub HasRoom : ReadAnswer → Type 0
-HasRoom (Done c) = Unit {0}
-HasRoom (Refused x) = leb 8 (refusalNumber x) && leb (refusalNumber x) 10 ≡ false
 
 abbrev pub withNotes : Room → Reading → ReadCounts → List ResAnomaly → Reading
 withNotes r s c ns = record {

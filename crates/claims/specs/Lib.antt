@@ -1,7 +1,8 @@
 -- The root of the crate's definitions.
 pub mod Insertion
 pub mod Counts
-pub mod ListingRoom
+pub mod Room
+pub mod InC
 pub mod Shape
 pub mod Cleared
 pub mod Readers

@@ -1,14 +1,19 @@
 -- Readers in general, and sorts of readers that the promise must rule out: docs/FORMAT.md, P5.
 --
---   Reader        takes what a call of `read` is lent, and gives an answer and the three tables afterwards
---   Meets         the promise holds of all its results
 --   namesFor, eventsOf   the names of a file's head, and what the file makes with them
+--   Slice         a list that can be lent: every entry below a limit, and fewer than 2^32 of them
+--   Call          what a program can be called with: bytes and words
+--   Reader        takes what a call of `read` is lent, and gives an answer and the three tables afterwards
+--   Meets         the promise holds of all its results, asked of calls alone, so that a program is a reader
+--   IsRead        the promise is that the file is read
+--   RefusesAll, Constant, ConstantOnRead, Leaves.., Clears.., StopsAtStart   the sorts: each says it of all the reader's results
 --   FirstStart    bytes that end with the first start: what is before it has none, it is one start chunk, and it is read whole
---   RefusesAll, Constant, Leaves, Clears, StopsAtStart   the sorts: each says it of all the reader's results
-use Prim.Native.Nat.{ℕ}
+use Prim.Native.Nat.{ℕ, _<_}
 use mathlib.Core.Path.{_≡_}
-use mathlib.Core.List.{List, _++_}
+use mathlib.Core.Bool.{Bool, true, _&&_}
+use mathlib.Core.List.{List, [], _∷_, _++_, map}
 use lib.ListN.{length, replicate}
+use lib.Dec.{ltb}
 use Rattle.anomaly.specs.declared.Note.{Note}
 use Rattle.errors.specs.Refusal.{numbersOf}
 use Rattle.xml_elements.specs.declared.XmlStartElement.{XmlStartElement}
@@ -18,7 +23,7 @@ use Rattle.xml_elements.specs.Chunk.{turnOf, startLen}
 use Rattle.head.specs.Head.{openedOf, tablesIn, bodyIn}
 use Rattle.events.specs.declared.Event.{Event}
 use Rattle.events.specs.Events.{Names, namesIn, fileEvents}
-use Rattle.walk.specs.Reading.{Reading, zeroNote, Reads}
+use Rattle.walk.specs.Reading.{Reading, zeroNote, reading, roomIn, Reads}
 use Rattle.claims.specs.Counts.{opensIn}
 
 -- ---- what a file makes
@@ -29,6 +34,37 @@ namesFor f names area = namesIn (openedOf f .head) (tablesIn f (openedOf f .head
 abbrev pub eventsOf : List ℕ → List ℕ → List ℕ → List Event
 eventsOf f names area = fileEvents (namesFor f names area) (openedOf f) (tablesIn f (openedOf f .head)) (bodyIn f (openedOf f .head))
 
+-- ---- what can be lent
+
+abbrev pub allBelow : ℕ → List ℕ → Bool
+allBelow n [] = true
+allBelow n (x ∷ l) = ltb x n && allBelow n l
+
+pub record Slice (limit : ℕ) (l : List ℕ) : Type 0 where
+  pub below : allBelow limit l ≡ true
+  pub short : length l < 4294967296
+
+abbrev pub Bytes : List ℕ → Type 0
+Bytes l = Slice 256 l
+
+abbrev pub Words : List ℕ → Type 0
+Words l = Slice 4294967296 l
+
+-- the kinds of notes
+abbrev pub kindsOf : List Note → List ℕ
+kindsOf os = map (λ (x : Note). x .kind) os
+
+pub record Call (f names area ns ats : List ℕ) (os : List Note) (cap : ℕ) : Type 0 where
+  pub file : Bytes f
+  pub nameWords : Words names
+  pub areaBytes : Bytes area
+  pub nodeWords : Words ns
+  pub attributeWords : Words ats
+  pub kinds : Words (kindsOf os)
+  pub firsts : Words (map (λ (x : Note). x .a) os)
+  pub seconds : Words (map (λ (x : Note). x .b) os)
+  pub capWord : cap < 4294967296
+
 -- ---- readers
 
 -- from file, names and their area, the tables of nodes, attributes and notes, and the cap
@@ -37,7 +73,7 @@ Reader = List ℕ → List ℕ → List ℕ → List ℕ → List ℕ → List N
 
 abbrev pub Meets : Reader → Type 0
 Meets R =
-    (f names area ns ats : List ℕ) (os : List Note) (cap : ℕ)
+    (f names area ns ats : List ℕ) (os : List Note) (cap : ℕ) → Call f names area ns ats os cap
     → Reads f names area ns ats os cap (R f names area ns ats os cap .answer) (R f names area ns ats os cap .nodes) (R f names area ns ats os cap .attributes)
     (R f names area ns ats os cap .notes)
 
@@ -45,25 +81,49 @@ Meets R =
 
 abbrev pub RefusesAll : Reader → Type 0
 RefusesAll R =
-    (f names area ns ats : List ℕ) (os : List Note) (cap : ℕ) → _≡_ {A = ℕ} (numbersOf (R f names area ns ats os cap .answer) .refusal) 0 → ⊥
+    (f names area ns ats : List ℕ) (os : List Note) (cap : ℕ) → Call f names area ns ats os cap
+    → _≡_ {A = ℕ} (numbersOf (R f names area ns ats os cap .answer) .refusal) 0 → ⊥
 
 -- the same result for every file
 abbrev pub Constant : Reader → List ℕ → List ℕ → List ℕ → List ℕ → List Note → ℕ → Type 0
-Constant R names area ns ats os cap = (f f′ : List ℕ) → R f names area ns ats os cap ≡ R f′ names area ns ats os cap
+Constant R names area ns ats os cap =
+    (f f′ : List ℕ) → Call f names area ns ats os cap → Call f′ names area ns ats os cap → R f names area ns ats os cap ≡ R f′ names area ns ats os cap
 
--- the tables as they were
+abbrev pub IsRead : List ℕ → List ℕ → List ℕ → List ℕ → List ℕ → List Note → ℕ → Type 0
+IsRead f names area ns ats os cap = _≡_ {A = ℕ} (numbersOf (reading (roomIn ns ats os cap) f names area .answer) .refusal) 0
+
+-- the same result for every file that can be read
+abbrev pub ConstantOnRead : Reader → Type 0
+ConstantOnRead R =
+    (f f′ names area ns ats : List ℕ) (os : List Note) (cap : ℕ) → Call f names area ns ats os cap → Call f′ names area ns ats os cap
+    → IsRead f names area ns ats os cap → IsRead f′ names area ns ats os cap → R f names area ns ats os cap ≡ R f′ names area ns ats os cap
+
+-- a table as it was
 abbrev pub LeavesNodes : Reader → Type 0
-LeavesNodes R = (f names area ns ats : List ℕ) (os : List Note) (cap : ℕ) → R f names area ns ats os cap .nodes ≡ ns
+LeavesNodes R = (f names area ns ats : List ℕ) (os : List Note) (cap : ℕ) → Call f names area ns ats os cap → R f names area ns ats os cap .nodes ≡ ns
 
 abbrev pub LeavesAttributes : Reader → Type 0
-LeavesAttributes R = (f names area ns ats : List ℕ) (os : List Note) (cap : ℕ) → R f names area ns ats os cap .attributes ≡ ats
+LeavesAttributes R =
+    (f names area ns ats : List ℕ) (os : List Note) (cap : ℕ) → Call f names area ns ats os cap → R f names area ns ats os cap .attributes ≡ ats
 
 abbrev pub LeavesNotes : Reader → Type 0
-LeavesNotes R = (f names area ns ats : List ℕ) (os : List Note) (cap : ℕ) → R f names area ns ats os cap .notes ≡ os
+LeavesNotes R = (f names area ns ats : List ℕ) (os : List Note) (cap : ℕ) → Call f names area ns ats os cap → R f names area ns ats os cap .notes ≡ os
 
--- or zeros in them
+-- or zeros in it
 abbrev pub ClearsNodes : Reader → Type 0
-ClearsNodes R = (f names area ns ats : List ℕ) (os : List Note) (cap : ℕ) → R f names area ns ats os cap .nodes ≡ replicate (length ns) 0
+ClearsNodes R =
+    (f names area ns ats : List ℕ) (os : List Note) (cap : ℕ) → Call f names area ns ats os cap
+    → R f names area ns ats os cap .nodes ≡ replicate (length ns) 0
+
+abbrev pub ClearsAttributes : Reader → Type 0
+ClearsAttributes R =
+    (f names area ns ats : List ℕ) (os : List Note) (cap : ℕ) → Call f names area ns ats os cap
+    → R f names area ns ats os cap .attributes ≡ replicate (length ats) 0
+
+abbrev pub ClearsNotes : Reader → Type 0
+ClearsNotes R =
+    (f names area ns ats : List ℕ) (os : List Note) (cap : ℕ) → Call f names area ns ats os cap
+    → R f names area ns ats os cap .notes ≡ replicate (length os) zeroNote
 
 pub record FirstStart (names area p : List ℕ) : Type 0 where
   pub before : List ℕ
@@ -78,5 +138,5 @@ pub record FirstStart (names area p : List ℕ) : Type 0 where
 -- the same result for two files that agree up to the end of the first start
 abbrev pub StopsAtStart : Reader → Type 0
 StopsAtStart R =
-    (p x y names area ns ats : List ℕ) (os : List Note) (cap : ℕ) → FirstStart names area p
-    → R (p ++ x) names area ns ats os cap ≡ R (p ++ y) names area ns ats os cap
+    (p x y names area ns ats : List ℕ) (os : List Note) (cap : ℕ) → Call (p ++ x) names area ns ats os cap → Call (p ++ y) names area ns ats os cap
+    → FirstStart names area p → R (p ++ x) names area ns ats os cap ≡ R (p ++ y) names area ns ats os cap

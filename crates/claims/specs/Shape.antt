@@ -7,15 +7,17 @@
 --   Owns         an attribute within a node's run has that node for its owner
 --   ofKind       how many notes of a list are of the kind k
 --   DepthSaid    a note 12 of a list says the depth
---   Structured   what holds of every successful reading: its nodes are the first of the elements, in order; parents, runs and owners; no kind has
---                more notes than the cap; note 12 says the depth, and is there exactly where that is not 0; with depth 0 no element is dropped, from
+--   Structured   what holds of every successful reading: its nodes are the first of the elements, in order; parents, runs and owners; its notes are
+--                exactly the anomalies that the cap keeps, so no kind has more than the cap; note 12 says the depth, and is there exactly where that is not 0; with depth 0 no element is dropped, from
 --                depth 2 on some are
 use Prim.Native.Nat.{ℕ, _+_, _*_, _≤_, _<_}
 use mathlib.Core.Path.{_≡_}
-use mathlib.Core.List.{List, [], _∷_}
+use mathlib.Core.List.{List, [], _∷_, map}
 use mathlib.Core.Bool.{cond}
-use lib.ListN.{getD, take}
+use lib.ListN.{length, getD, take}
 use lib.Dec.{eqb}
+use Rattle.anomaly.specs.Note.{noteOf}
+use Rattle.anomaly.specs.Kept.{keptNotes}
 use Rattle.anomaly.specs.declared.Note.{Note}
 use Rattle.errors.specs.declared.ReadCounts.{ReadCounts}
 use Rattle.events.specs.declared.Event.{Event}
@@ -66,7 +68,8 @@ pub record Structured (es : List Event) (cap : ℕ) (c : ReadCounts) (ns ats : L
   pub runs : Runs ns (c .nodes) (c .attributes)
   pub owns : Owns ns ats (c .nodes)
   pub owners : (j : ℕ) → j < c .attributes → word ats j 0 < c .nodes
-  pub notes : c .notes ≤ notesIn es
+  pub many : c .notes ≡ length (keptNotes cap (notesIn es))
+  pub notes : take (c .notes) os ≡ map noteOf (keptNotes cap (notesIn es))
   pub kinds : (k : ℕ) → ofKind k (take (c .notes) os) ≤ cap
   pub depth : DepthSaid (depthFrom 0 es) (take (c .notes) os)
   pub twelve : 0 < cap → (depthFrom 0 es ≡ 0 → ⊥) → ofKind 12 (take (c .notes) os) ≡ 1

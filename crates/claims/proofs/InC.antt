@@ -1,0 +1,296 @@
+-- The claims of the C interface: docs/FORMAT.md, P1, P3, P4. Each is that of the promise, its notes as words. No contract cites this file.
+-- In order: words of notes; what the numbers of an answer say of it; a reading as a call of `read` (`as-reads`); zeros; insertion; the questions.
+use Prim.Native.Nat.{ℕ, zero, suc, _+_, _-_, _*_, _/_, _%_, _≤_}
+use native.Mathlib.Omega.{arith}
+use mathlib.Core.Path.{_≡_, refl, sym, _∙_, ap, subst}
+use mathlib.Core.List.{List, [], _∷_, _++_, append-assoc, map}
+use mathlib.Core.Bool.{false}
+use lib.ListN.{length, take, drop, replicate, length-append, length-replicate, length-map, replicate-append-replicate}
+use Rattle.anomaly.specs.Note.{noteOf}
+use Rattle.anomaly.specs.Kept.{keptNotes}
+use Rattle.anomaly.specs.declared.Note.{Note}
+use Rattle.anomaly.specs.declared.ResAnomaly.{ResAnomaly}
+use Rattle.errors.specs.Refusal.{numberOf, numbersOf, textNumbersOf, firstNumbersOf}
+use Rattle.errors.specs.declared.Refusal.{Refusal}
+use Rattle.errors.specs.declared.Refusal.the-variants.{TooSmallError, TooLargeError, HeaderSizeError, StringPoolError}
+use Rattle.errors.specs.declared.Refusal.the-variants.{ResourceMapError, MissingRoot, SystemNamesError, NodesFull}
+use Rattle.errors.specs.declared.Refusal.the-variants.{AttributesFull, NotesFull, TextShort, NothingFound, TablesError}
+use Rattle.errors.specs.declared.ReadAnswer.{ReadAnswer}
+use Rattle.errors.specs.declared.ReadAnswer.the-variants.{Done, Refused}
+use Rattle.errors.specs.declared.ReadCounts.{ReadCounts}
+use Rattle.errors.specs.declared.TextAnswer.{TextAnswer}
+use Rattle.errors.specs.declared.TextAnswer.the-variants as textIs
+use Rattle.errors.specs.declared.FirstAnswer.{FirstAnswer}
+use Rattle.errors.specs.declared.FirstAnswer.the-variants as firstIs
+use Rattle.head.specs.Ask.{TextReads, textAnswer}
+use Rattle.tables.specs.Keep.{nodeWidth, attributeWidth}
+use Rattle.walk.specs.Settle.{Room}
+use Rattle.walk.specs.Reading.{Reading, reading, roomIn, zeroNote, Reads}
+use Rattle.c_api.specs.Words.{wordsOf, wordRoom, answerOf, ReadsWords}
+use Rattle.c_api.specs.Answers.{textAnswerOf, firstAnswerOf, AsksText}
+use Rattle.c_api.specs.declared.AxmlAnswer.{AxmlAnswer}
+use Rattle.c_api.specs.declared.AxmlTextAnswer.{AxmlTextAnswer}
+use Rattle.c_api.specs.declared.AxmlFirstAnswer.{AxmlFirstAnswer}
+use Rattle.claims.specs.Cleared.{ZeroBehind}
+use Rattle.claims.specs.Insertion.{ForeignChunk, placesIn, insertedFile, placeNotes, withNotes}
+use Rattle.claims.specs.Room.{isFullNumber, HasRoom}
+use Rattle.claims.specs.InC.{noteWidth, LeftInC, leftInC, withNotesInC, RefusedInC, DoneInC, TextRefusedInC, TextDoneInC, FirstRefusedInC}
+use Rattle.claims.proofs.Foreign.{placeNotes-room}
+use Rattle.claims.proofs.Insertion as proved
+use Rattle.claims.proofs.Zeros as zeros
+
+-- ---- words of notes
+
+words-append : (os ps : List Note) → wordsOf (os ++ ps) ≡ wordsOf os ++ wordsOf ps
+unfolding wordsOf
+words-append [] ps = refl
+words-append (o ∷ os) ps = ap (λ (l : List ℕ). o .kind ∷ o .a ∷ o .b ∷ l) (words-append os ps)
+
+words-zeros : (n : ℕ) → wordsOf (replicate n zeroNote) ≡ replicate (noteWidth * n) 0
+unfolding wordsOf
+words-zeros zero = refl
+words-zeros (suc n) =
+    let e : noteWidth * suc n ≡ suc (suc (suc (noteWidth * n))) = omega arith in
+    ap (λ (l : List ℕ). 0 ∷ 0 ∷ 0 ∷ l) (words-zeros n) ∙ ap (λ (m : ℕ). replicate m 0) (sym e)
+
+words-length : (os : List Note) → length (wordsOf os) ≡ noteWidth * length os
+unfolding wordsOf
+words-length [] = refl
+words-length (o ∷ os) = omega (arith, words-length os)
+
+words-drop : (os : List Note) (t : List ℕ) (k : ℕ) → k ≤ length os → drop (noteWidth * k) (wordsOf os ++ t) ≡ wordsOf (drop k os) ++ t
+unfolding wordsOf
+words-drop os t zero h = refl
+words-drop [] t (suc k) h = absurd (let z : ⊥ = omega arith in z)
+words-drop (o ∷ os) t (suc k) h =
+    let e : noteWidth * suc k ≡ suc (suc (suc (noteWidth * k))) = omega arith in
+    ap (λ (m : ℕ). drop m (wordsOf (o ∷ os) ++ t)) e ∙ words-drop os t k (omega arith)
+
+-- notes of zeros, and zeros behind them
+words-behind : (os : List Note) (m n k : ℕ) → noteWidth * m + n ≡ k → wordsOf (os ++ replicate m zeroNote) ++ replicate n 0 ≡ wordsOf os ++ replicate k 0
+words-behind os m n k e =
+    ap (λ (l : List ℕ). l ++ replicate n 0) (words-append os (replicate m zeroNote))
+    ∙ append-assoc (wordsOf os) (wordsOf (replicate m zeroNote)) (replicate n 0)
+    ∙ ap (λ (l : List ℕ). wordsOf os ++ (l ++ replicate n 0)) (words-zeros m)
+    ∙ ap (λ (l : List ℕ). wordsOf os ++ l) (replicate-append-replicate (noteWidth * m) n 0)
+    ∙ ap (λ (j : ℕ). wordsOf os ++ replicate j 0) e
+
+-- ---- an answer by its numbers
+
+some-number : (x : Refusal) → _≡_ {A = ℕ} (numberOf x) 0 → ⊥
+unfolding numberOf
+some-number (TooSmallError length) e = omega arith
+some-number TooLargeError e = omega arith
+some-number (HeaderSizeError size) e = omega arith
+some-number StringPoolError e = omega arith
+some-number ResourceMapError e = omega arith
+some-number MissingRoot e = omega arith
+some-number (SystemNamesError entry) e = omega arith
+some-number (NodesFull places) e = omega arith
+some-number (AttributesFull places) e = omega arith
+some-number (NotesFull places) e = omega arith
+some-number (TextShort needed) e = omega arith
+some-number NothingFound e = omega arith
+some-number (TablesError node) e = omega arith
+
+done-of : (a : ReadAnswer) → _≡_ {A = ℕ} (numbersOf a .refusal) 0 → (c : ReadCounts) × (a ≡ Done c)
+unfolding numbersOf
+done-of (Done c) e = (c, refl)
+done-of (Refused x) e = absurd (some-number x e)
+
+room-of : (a : ReadAnswer) → isFullNumber (numbersOf a .refusal) ≡ false → HasRoom a
+unfolding numbersOf
+room-of (Done c) h = tt
+room-of (Refused x) h = h
+
+room-in : (a : ReadAnswer) → HasRoom a → isFullNumber (numbersOf a .refusal) ≡ false
+unfolding numbersOf
+room-in (Done c) h = refl
+room-in (Refused x) h = h
+
+-- ---- a call of `axml_read` as one of `read`
+
+module _ (f names area ns ats ws : List ℕ) (cap : ℕ) where
+  abbrev room : Room
+  room = wordRoom ns ats ws cap
+
+  abbrev places : List Note
+  places = replicate (length ws / noteWidth) zeroNote
+
+  as-reads : (a : ReadAnswer) → reading room f names area .answer ≡ a
+      → Reads f names area ns ats places cap a (reading room f names area .nodes) (reading room f names area .attributes) (reading room f names area .notes)
+  as-reads a e =
+      let same : reading (roomIn ns ats places cap) f names area ≡ reading room f names area =
+      ap (λ (n : ℕ). reading (record { nodes = length ns; attributes = length ats; notes = n; cap = cap }) f names area)
+      (length-replicate (length ws / noteWidth) zeroNote) in
+      record {
+        answer = sym (ap (λ (x : Reading). numbersOf (x .answer)) same ∙ ap numbersOf e);
+        nodes = sym (ap (λ (x : Reading). x .nodes) same);
+        attributes = sym (ap (λ (x : Reading). x .attributes) same);
+        notes = sym (ap (λ (x : Reading). x .notes) same);
+      }
+
+  many : length places ≡ length ws / noteWidth
+  many = length-replicate (length ws / noteWidth) zeroNote
+
+  module _ (a : AxmlAnswer) (ns′ ats′ ws′ : List ℕ) (h : ReadsWords f names area ns ats ws cap a ns′ ats′ ws′) where
+    pub refused-zeros : (a .refusal ≡ 0 → ⊥) → RefusedInC a ns ats ws ns′ ats′ ws′
+    unfolding numbersOf wordsOf
+    refused-zeros some = go (reading room f names area .answer) refl
+      where
+        go : (b : ReadAnswer) → reading room f names area .answer ≡ b → RefusedInC a ns ats ws ns′ ats′ ws′
+        go (Done c) e = absurd (some (ap (λ (x : AxmlAnswer). x .refusal) (h .answer ∙ ap (λ (b : ReadAnswer). answerOf (numbersOf b)) e)))
+        go (Refused x) e =
+            let z = zeros.refused-zeros f names area ns ats places cap x _ _ _ (as-reads (Refused x) e) in
+            let q = h .answer ∙ ap (λ (b : ReadAnswer). answerOf (numbersOf b)) e in
+            record {
+              starts = ap (λ (x : AxmlAnswer). x .starts) q;
+              nodes = ap (λ (x : AxmlAnswer). x .nodes) q;
+              attributes = ap (λ (x : AxmlAnswer). x .attributes) q;
+              notes = ap (λ (x : AxmlAnswer). x .notes) q;
+              nodeWords = h .nodes ∙ z .nodeWords;
+              attributeWords = h .attributes ∙ z .attributeWords;
+              noteWords = h .notes ∙ ap (λ (o : List Note). wordsOf o ++ replicate (length ws % noteWidth) 0) (z .noteRecords)
+                  ∙ words-behind [] (length places) (length ws % noteWidth) (length ws) (omega (arith, many));
+            }
+
+    pub done-zeros : a .refusal ≡ 0 → DoneInC a ns ats ws ns′ ats′ ws′
+    unfolding numbersOf wordsOf
+    done-zeros none =
+        let d = done-of (reading room f names area .answer) (sym (ap (λ (x : AxmlAnswer). x .refusal) (h .answer)) ∙ none) in
+        let c = d .0 in
+        let q = h .answer ∙ ap (λ (b : ReadAnswer). answerOf (numbersOf b)) (d .1) in
+        let z = zeros.done-zeros f names area ns ats places cap c _ _ _ (as-reads (Done c) (d .1)) in
+        let os = reading room f names area .notes in
+        let k : a .notes ≡ c .notes = ap (λ (x : AxmlAnswer). x .notes) q in
+        let t : List ℕ = replicate (length ws % noteWidth) 0 in
+        record {
+          value = ap (λ (x : AxmlAnswer). x .value) q;
+          nodeWords = rw (h .nodes, ap (λ (x : AxmlAnswer). x .nodes) q) (z .nodeWords);
+          attributeWords = rw (h .attributes, ap (λ (x : AxmlAnswer). x .attributes) q) (z .attributeWords);
+          noteWords = record {
+            long = ap length (h .notes) ∙ length-append (wordsOf os) t
+                ∙ omega (arith, words-length os, z .noteRecords .long, many, length-replicate {A = ℕ} (length ws % noteWidth) 0);
+            there = omega (arith, k, z .noteRecords .there, many);
+            zeros = ap (drop (noteWidth * a .notes)) (h .notes) ∙ ap (λ (n : ℕ). drop (noteWidth * n) (wordsOf os ++ t)) k
+                ∙ words-drop os t (c .notes) (omega (arith, z .noteRecords .there, z .noteRecords .long))
+                ∙ ap (λ (o : List Note). wordsOf o ++ t) (z .noteRecords .zeros)
+                ∙ words-behind [] (length places - c .notes) (length ws % noteWidth) (length ws - noteWidth * a .notes)
+                (omega (arith, k, many, z .noteRecords .there));
+          };
+        }
+
+-- ---- insertion
+
+module _ (f names area ns ats ws : List ℕ) (cap : ℕ) (a : AxmlAnswer) (ns₁ ats₁ ws₁ : List ℕ) (one : 1 ≤ cap)
+    (first : ReadsWords f names area ns ats ws cap a ns₁ ats₁ ws₁) (done : a .refusal ≡ 0) (none : a .notes ≡ 0) where
+  abbrev shorter : Reading
+  shorter = reading (wordRoom ns ats ws cap) f names area
+
+  counted : (c : ReadCounts) × (shorter .answer ≡ Done c)
+  counted = done-of (shorter .answer) (sym (ap (λ (x : AxmlAnswer). x .refusal) (first .answer)) ∙ done)
+
+  abbrev c : ReadCounts
+  c = counted .0
+
+  told : a ≡ answerOf (numbersOf (Done c))
+  told = first .answer ∙ ap (λ (b : ReadAnswer). answerOf (numbersOf b)) (counted .1)
+
+  no-notes : c .notes ≡ 0
+  unfolding numbersOf
+  no-notes = sym (ap (λ (x : AxmlAnswer). x .notes) told) ∙ none
+
+  module _ (places : List (List ForeignChunk)) (few : length places ≤ placesIn f) (limit : length (insertedFile places f) ≤ 16777216)
+      (ns′ ats′ ws′ : List ℕ) (cap′ : ℕ) (a′ : AxmlAnswer) (ns₂ ats₂ ws₂ : List ℕ)
+      (second : ReadsWords (insertedFile places f) names area ns′ ats′ ws′ cap′ a′ ns₂ ats₂ ws₂) where
+    abbrev longer : Reading
+    longer = reading (wordRoom ns′ ats′ ws′ cap′) (insertedFile places f) names area
+
+    abbrev ks : List ResAnomaly
+    ks = keptNotes cap′ (placeNotes places)
+
+    has : isFullNumber (a′ .refusal) ≡ false → HasRoom (longer .answer)
+    has h = room-of (longer .answer) (sym (ap (λ (x : AxmlAnswer). isFullNumber (x .refusal)) (second .answer)) ∙ h)
+
+    is : isFullNumber (a′ .refusal) ≡ false → longer ≡ withNotes (wordRoom ns′ ats′ ws′ cap′) shorter c ks
+    is h = proved.insertion (wordRoom ns ats ws cap) f names area c one (counted .1) no-notes places few limit (wordRoom ns′ ats′ ws′ cap′) (has h)
+
+    pub insertion : isFullNumber (a′ .refusal) ≡ false
+        → leftInC a′ ns₂ ats₂ ws₂ ≡ withNotesInC (length ns′) (length ats′) (length ws′) (leftInC a ns₁ ats₁ ws₁) ks
+    unfolding numbersOf
+    insertion h =
+        let e = is h in
+        let done′ = ap (λ (x : Reading). x .answer) e in
+        let z = zeros.done-zeros (insertedFile places f) names area ns′ ats′ _ cap′ _ _ _ _ (as-reads (insertedFile places f) names area ns′ ats′ ws′ cap′ _ done′) in
+        let fits : length ks ≤ length ws′ / noteWidth =
+        omega (arith, z .noteRecords .there, many (insertedFile places f) names area ns′ ats′ ws′ cap′) in
+        let q : a′ ≡ _ = second .answer ∙ ap (λ (b : ReadAnswer). answerOf (numbersOf b)) done′ in
+        let n : ns₂ ≡ _ = second .nodes ∙ ap (λ (x : Reading). x .nodes) e in
+        let m : ats₂ ≡ _ = second .attributes ∙ ap (λ (x : Reading). x .attributes) e in
+        let o : ws₂ ≡ _ = second .notes ∙ ap (λ (x : Reading). wordsOf (x .notes) ++ replicate (length ws′ % noteWidth) 0) e
+        ∙ words-behind (map noteOf ks) (length ws′ / noteWidth - length ks) (length ws′ % noteWidth) (length ws′ - noteWidth * length ks)
+        (omega (arith, fits)) in
+        let left : leftInC a′ ns₂ ats₂ ws₂ ≡ with (answerOf (numbersOf (Done c))) (shorter .nodes) (shorter .attributes) = rw (q, n, m, o) in
+        left ∙ ap (λ (x : AxmlAnswer). with x (shorter .nodes) (shorter .attributes)) (sym told)
+        ∙ ap (λ (l : List ℕ). with a l (shorter .attributes)) (sym (first .nodes)) ∙ ap (λ (l : List ℕ). with a ns₁ l) (sym (first .attributes))
+      where
+        with : AxmlAnswer → List ℕ → List ℕ → LeftInC
+        with x n m = withNotesInC (length ns′) (length ats′) (length ws′) (leftInC x n m ws₁) ks
+
+    pub insertion-same : length ns′ ≡ length ns → length ats′ ≡ length ats → isFullNumber (a′ .refusal) ≡ false → (ns₂ ≡ ns₁) × (ats₂ ≡ ats₁)
+    insertion-same n m h =
+        let e = proved.insertion-same (wordRoom ns ats ws cap) f names area c one (counted .1) no-notes places few limit (wordRoom ns′ ats′ ws′ cap′) n m
+        (has h) in
+        (second .nodes ∙ e .0 ∙ sym (first .nodes), second .attributes ∙ e .1 ∙ sym (first .attributes))
+
+    pub insertion-room : nodeWidth * a .nodes ≤ length ns′ → attributeWidth * a .attributes ≤ length ats′ → noteWidth * (2 * cap′) ≤ length ws′
+        → isFullNumber (a′ .refusal) ≡ false
+    unfolding numbersOf
+    insertion-room n m k =
+        let rn : nodeWidth * c .nodes ≤ length ns′ = rw (ap (λ (x : AxmlAnswer). x .nodes) told) at n in
+        let rm : attributeWidth * c .attributes ≤ length ats′ = rw (ap (λ (x : AxmlAnswer). x .attributes) told) at m in
+        let h = proved.insertion-room (wordRoom ns ats ws cap) f names area c one (counted .1) no-notes places few limit (wordRoom ns′ ats′ ws′ cap′) rn rm
+        (omega (arith, placeNotes-room cap′ places, k)) in
+        ap (λ (x : AxmlAnswer). isFullNumber (x .refusal)) (second .answer) ∙ room-in (longer .answer) h
+
+-- ---- the questions
+
+module _ (f names area before : List ℕ) (i : ℕ) (a : AxmlTextAnswer) (after : List ℕ) (h : AsksText f names area before i a after) where
+  as-text : (b : TextAnswer) → textAnswer f names area (length before) i ≡ b → TextReads f names area before i b after
+  as-text b e = record { answer = ap textNumbersOf (sym e); out = h .out }
+
+  pub text-refused-zeros : (a .refusal ≡ 0 → ⊥) → TextRefusedInC a before after
+  unfolding textNumbersOf
+  text-refused-zeros some = go (textAnswer f names area (length before) i) refl
+    where
+      go : (b : TextAnswer) → textAnswer f names area (length before) i ≡ b → TextRefusedInC a before after
+      go (textIs.Text k) e = absurd (some (ap (λ (x : AxmlTextAnswer). x .refusal) (h .answer ∙ ap (λ (b : TextAnswer). textAnswerOf (textNumbersOf b)) e)))
+      go (textIs.Refused x) e =
+          let q = h .answer ∙ ap (λ (b : TextAnswer). textAnswerOf (textNumbersOf b)) e in
+          record {
+            long = ap (λ (x : AxmlTextAnswer). x .length) q;
+            buffer = zeros.text-refused-zeros f names area before i x after (as-text (textIs.Refused x) e) .buffer;
+          }
+
+  pub text-done-zeros : a .refusal ≡ 0 → TextDoneInC a before after
+  unfolding textNumbersOf
+  text-done-zeros none = go (textAnswer f names area (length before) i) refl
+    where
+      go : (b : TextAnswer) → textAnswer f names area (length before) i ≡ b → TextDoneInC a before after
+      go (textIs.Refused x) e =
+          absurd (some-number x (sym (ap (λ (x : AxmlTextAnswer). x .refusal) (h .answer ∙ ap (λ (b : TextAnswer). textAnswerOf (textNumbersOf b)) e)) ∙ none))
+      go (textIs.Text k) e =
+          let q = h .answer ∙ ap (λ (b : TextAnswer). textAnswerOf (textNumbersOf b)) e in
+          record {
+            value = ap (λ (x : AxmlTextAnswer). x .value) q;
+            buffer = rw (ap (λ (x : AxmlTextAnswer). x .length) q) (zeros.text-done-zeros f names area before i k after (as-text (textIs.Text k) e) .buffer);
+          }
+
+pub first-refused-zeros : (b : FirstAnswer) (a : AxmlFirstAnswer) → a ≡ firstAnswerOf (firstNumbersOf b) → (a .refusal ≡ 0 → ⊥) → FirstRefusedInC a
+unfolding firstNumbersOf
+first-refused-zeros (firstIs.Found kind «data» reference) a e some = absurd (some (ap (λ (x : AxmlFirstAnswer). x .refusal) e))
+first-refused-zeros (firstIs.Refused x) a e some = record {
+  kind = ap (λ (x : AxmlFirstAnswer). x .kind) e;
+  value = ap (λ (x : AxmlFirstAnswer). x .«data») e;
+  reference = ap (λ (x : AxmlFirstAnswer). x .reference) e;
+}

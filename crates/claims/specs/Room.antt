@@ -1,0 +1,44 @@
+-- Room: when a record is without a place, how much room always suffices, and the room of a listing. docs/FORMAT.md, B3 to B6, L1.
+--
+--   isFullNumber   8, 9 and 10: a node, an attribute or a note is due and has no place; isFull of a refusal
+--   HasRoom        an answer that is none of these
+--   nodesFor       words for all the nodes that a file of n bytes can make: the chunk of an element has 36 bytes at least
+--   attributesFor  the same of attributes: each has 20 bytes, and the leading one is paid for by its element
+--   placesFor      places for all the notes that a cap keeps: the thirteen kinds are counted apart
+--   listingLimit   the bytes that a listing reads at most
+--   listingRoom    its room: words for 2,048 nodes and 3,276 attributes, 104 places for notes, and cap 8
+use Prim.Native.Nat.{ℕ, _*_, _/_}
+use mathlib.Core.Path.{_≡_}
+use mathlib.Core.Bool.{Bool, false, _&&_}
+use lib.Dec.{leb}
+use Rattle.errors.specs.Refusal.{numberOf}
+use Rattle.errors.specs.declared.Refusal.{Refusal}
+use Rattle.errors.specs.declared.ReadAnswer.{ReadAnswer}
+use Rattle.errors.specs.declared.ReadAnswer.the-variants.{Done, Refused}
+use Rattle.tables.specs.Keep.{nodeWidth, attributeWidth}
+use Rattle.walk.specs.Settle.{Room}
+
+abbrev pub isFullNumber : ℕ → Bool
+isFullNumber n = leb 8 n && leb n 10
+
+abbrev pub isFull : Refusal → Bool
+isFull x = isFullNumber (numberOf x)
+
+abbrev pub HasRoom : ReadAnswer → Type 0
+HasRoom (Done c) = Unit {0}
+HasRoom (Refused x) = isFull x ≡ false
+
+abbrev pub nodesFor : ℕ → ℕ
+nodesFor n = nodeWidth * (n / 36)
+
+abbrev pub attributesFor : ℕ → ℕ
+attributesFor n = attributeWidth * (n / 20)
+
+abbrev pub placesFor : ℕ → ℕ
+placesFor cap = 13 * cap
+
+abbrev pub listingLimit : ℕ
+listingLimit = 65536
+
+abbrev pub listingRoom : Room
+listingRoom = record { nodes = nodeWidth * 2048; attributes = attributeWidth * 3276; notes = 104; cap = 8 }
