@@ -15,7 +15,8 @@ import zipfile
 TOP = os.path.dirname(os.path.dirname(os.path.abspath(__file__)))
 sys.path.insert(0, f"{TOP}/oracle")
 sys.dont_write_bytecode = True
-from real import FRAMEWORK, manifest
+from needed import FRAMEWORK
+from real import manifest
 NONE = 0xFFFFFFFF
 LIMIT = 16_777_216
 

@@ -1,4 +1,5 @@
-/* The C interface of the AXML reader, for x86-64. Link target/staticlib/libc_api.a (`rt staticlib c_api`), which calls only C's memset.
+/* The C interface of the AXML reader. `tools/library DIR` writes what is linked on the machine at hand: DIR/lib/libaxml.a and libaxml.so,
+ * DIR/include/axml.h, and DIR/lib/pkgconfig/axml.pc. The library calls only C's memset. docs/USING.md has an example for each question.
  *
  * docs/FORMAT.md says what every number means; its rules are cited by number (B9). Each function takes whatever bytes and tables it is lent,
  * and returns; it allocates nothing and keeps nothing. The caller, whom nothing checks, sees to this alone:
@@ -16,6 +17,11 @@
 #ifdef __cplusplus
 extern "C" {
 #endif
+
+/* The form of this interface: raised whenever a record, a signature or a number below changes or is added. A library is of this form exactly if
+ * axml_abi() == AXML_ABI; one that is of another must not be called. */
+#define AXML_ABI 1u
+uint32_t axml_abi(void);
 
 /* The longest file that is read, in bytes: one byte more is refused with AXML_TOO_LARGE. */
 #define AXML_LONGEST_FILE 16777216u
@@ -71,6 +77,13 @@ enum axml_prefix {
   AXML_PREFIX_XMLNS = 2  /* the leading attribute of the first node: `android`, the Android namespace */
 };
 
+/* Which of the lent slices a content is a part of (N8). */
+enum axml_slice {
+  AXML_SLICE_NONE = 0,  /* there is none */
+  AXML_SLICE_AREA = 1,  /* the area of the system names: ASCII */
+  AXML_SLICE_FILE = 2   /* the file: bytes of its string pool before decoding, UTF-8 or UTF-16 */
+};
+
 /* Five words of the node table (B9). */
 struct axml_node {
   uint32_t name;    /* string index of its name */
@@ -120,6 +133,13 @@ struct axml_text_answer {
   uint64_t length;  /* bytes of the text in the buffer; 0 where it is refused */
 };
 
+/* The answer of a content question: `length` bytes of that slice from byte `start` on. They lie inside it. Slice 0 has start and length 0. */
+struct axml_content_answer {
+  uint32_t slice;  /* enum axml_slice */
+  uint64_t start;
+  uint64_t length;
+};
+
 /* The answer of a first-value question. */
 struct axml_first_answer {
   uint32_t refusal;
@@ -141,6 +161,12 @@ struct axml_answer axml_read(const uint8_t *file, size_t file_bytes, const uint3
  * file, names, area: as for axml_read. out, out_bytes: the buffer. index: the string index, as a table has it. */
 struct axml_text_answer axml_text(const uint8_t *file, size_t file_bytes, const uint32_t *names, size_t name_words, const uint8_t *area,
                                   size_t area_bytes, uint8_t *out, size_t out_bytes, uint32_t index);
+
+/* Where the content of a string index lies, as a part of what is lent, with nothing copied (N8, Q3). There is none where axml_text refuses
+ * with anything but AXML_TEXT_SHORT, and for a string that is cut or begins outside the pool.
+ * file, names, area: as for axml_read. index: the string index, as a table has it. */
+struct axml_content_answer axml_content(const uint8_t *file, size_t file_bytes, const uint32_t *names, size_t name_words, const uint8_t *area,
+                                        size_t area_bytes, uint32_t index);
 
 /* Type and data of the first attribute called name on the first node called tag (Q4 to Q8). The tables may have been written by anyone.
  * file, names, area: as for axml_read. nodes, attributes: the tables, as words. tag, name: UTF-8 bytes. node_count, attribute_count: how

@@ -2,7 +2,7 @@
 
   python3 real.py OUT_DIR [MANIFESTS]     writes OUT_DIR/framework-NNNN.axml and OUT_DIR/manifest-NNNN.axml (300, if not said otherwise)
 
-Needs Debian's packages aapt and android-framework-res. The manifests are made here: an application of a few to some hundred components
+Needs Debian's packages aapt and android-framework-res, and says so where one is missing. The manifests are made here: an application of a few to some hundred components
 with the attributes that applications use, the same for the same number; some are given to aapt with a UTF-16 pool (`--utf16`).
 """
 import os
@@ -12,7 +12,10 @@ import sys
 import tempfile
 import zipfile
 
-FRAMEWORK = "/usr/share/android-framework-res/framework-res.apk"
+sys.path.insert(0, os.path.dirname(os.path.abspath(__file__)))
+sys.dont_write_bytecode = True
+from needed import FRAMEWORK, needs
+
 PERMISSIONS = ["INTERNET", "ACCESS_FINE_LOCATION", "ACCESS_COARSE_LOCATION", "CAMERA", "BLUETOOTH", "VIBRATE", "WAKE_LOCK", "READ_CONTACTS", "NFC",
                "FOREGROUND_SERVICE", "RECEIVE_BOOT_COMPLETED", "RECORD_AUDIO", "WRITE_EXTERNAL_STORAGE"]
 ACTIONS = ["android.intent.action.MAIN", "android.intent.action.VIEW", "android.intent.action.SEND", "android.intent.action.BOOT_COMPLETED",
@@ -64,6 +67,7 @@ def manifest(number):
 
 
 def main(out, count=300):
+    needs("real.py", "aapt", "android-framework-res")
     os.makedirs(out, exist_ok=True)
     made = 0
     with zipfile.ZipFile(FRAMEWORK) as z:
@@ -88,4 +92,6 @@ def main(out, count=300):
 
 
 if __name__ == "__main__":
-    main(sys.argv[1], *map(int, sys.argv[2:3]))
+    if len(sys.argv) not in (2, 3):
+        sys.exit("usage: python3 real.py OUT_DIR [MANIFESTS]")
+    main(sys.argv[1], *map(int, sys.argv[2:]))

@@ -3,7 +3,7 @@
 
     python3 tools/readgen.py > crates/axml/proofs/read/Proof.antt
 
-The function has this shape, for any number of shared slices, word tables and numbers (byhand.py has the table):
+The function has this shape, for any number of shared slices, word tables and numbers (byhand/table.py has the table):
 
     let mut st = begin(notes.len(), NUMBERS..);
     loop {

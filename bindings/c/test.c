@@ -1,5 +1,5 @@
 /* The C interface on file S and its relatives (docs/FORMAT.md, L5): every number of the answer and every word of the three tables, which have
- * garbage in them before each call, and the questions. Says how many checks failed, and ends with 1 if any did. */
+ * garbage in them before each call, and the questions; and that the library is of the header's form. Says how many checks failed, and ends with 1 if any did. */
 #include <stdio.h>
 #include <string.h>
 
@@ -152,6 +152,38 @@ static void first(const char *what, const char *tag, const char *name, uint32_t 
   expect(r.reference == (refusal == 0 && type == 1), what, "reference");
 }
 
+/* The place of a content in what was lent, and its bytes there. */
+static void content(const char *what, const uint8_t *bytes, size_t count, const uint32_t *names, size_t name_words, const char *area, size_t area_bytes,
+                    uint32_t index, uint32_t slice, uint64_t start, uint64_t length, const char *wanted) {
+  struct axml_content_answer r = axml_content(bytes, count, names, name_words, (const uint8_t *)area, area_bytes, index);
+  expect(r.slice == slice, what, "slice");
+  expect(r.start == start, what, "start");
+  expect(r.length == length, what, "length");
+  if (slice == AXML_SLICE_AREA) expect(memcmp(area + start, wanted, length) == 0, what, "bytes of the area");
+  if (slice == AXML_SLICE_FILE) expect(memcmp(bytes + start, wanted, length) == 0, what, "bytes of the file");
+}
+
+static void contents(void) {
+  content("content 0", S, S_BYTES, no_words, 0, "", 0, 0, AXML_SLICE_FILE, 42, 1, "a");
+  content("content 1", S, S_BYTES, no_words, 0, "", 0, 1, AXML_SLICE_NONE, 0, 0, "");
+  content("content of 8 bytes", S, 8, no_words, 0, "", 0, 0, AXML_SLICE_NONE, 0, 0, "");
+
+  /* one id in the map: index 0 is the name of the second entry, behind the prefix that is left out */
+  const uint8_t id[4] = {0x03, 0x00, 0x01, 0x01};
+  size_t bytes = insert(S_START, id, 4);
+  file[S_START - 4] = 12;
+  const uint32_t names[6] = {0x01010001u, 0, 5, 0x01010003u, 5, 17}, other[3] = {0x01010001u, 0, 5};
+  content("content of a system name", file, bytes, names, 6, "labelandroid:attr/name", 22, 0, AXML_SLICE_AREA, 18, 4, "name");
+  content("content, no such name", file, bytes, other, 3, "label", 5, 0, AXML_SLICE_FILE, 42, 1, "a");
+  content("content, bad names", file, bytes, names, 6, "label", 5, 0, AXML_SLICE_NONE, 0, 0, "");
+
+  memcpy(file, S, S_BYTES);
+  file[41] = 5; /* a string of 5 bytes in a pool of 4 is cut; its text is empty */
+  content("content of a cut string", file, S_BYTES, no_words, 0, "", 0, 0, AXML_SLICE_NONE, 0, 0, "");
+  file[41] = 0;
+  content("content of an empty string", file, S_BYTES, no_words, 0, "", 0, 0, AXML_SLICE_FILE, 42, 0, "");
+}
+
 static void questions(void) {
   texts("text 0", S_BYTES, 0, 8, AXML_DONE, 0, "a");
   texts("text 0, one byte", S_BYTES, 0, 1, AXML_DONE, 0, "a");
@@ -170,8 +202,10 @@ static void questions(void) {
 }
 
 int main(void) {
+  expect(axml_abi() == AXML_ABI, "axml_abi", "AXML_ABI of the header");
   readings();
   questions();
+  contents();
   printf("test: %u checks, %u wrong\n", checks, failures);
   return failures != 0;
 }

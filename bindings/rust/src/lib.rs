@@ -1,4 +1,4 @@
-//! Reads Android's binary AndroidManifest.xml with a proved library.
+//! Reads Android's binary AndroidManifest.xml with a library whose every function is proved.
 //!
 //! ```no_run
 //! let bytes = std::fs::read("AndroidManifest.xml")?;
@@ -9,15 +9,27 @@
 //! # Ok::<(), Box<dyn std::error::Error>>(())
 //! ```
 //!
-//! Everything that is read comes from the archive `libc_api.a`, whose functions are proved to do what docs/FORMAT.md says. This crate lends it
-//! tables, and gives what comes back the types that a Rust programmer expects. The tables are sized by one rule: an element takes at least 36
-//! bytes of a file, an attribute at least 20, and the first element has one that takes none; a kind has at most `cap` notes, and there are
-//! thirteen. So no reading is refused for want of a place.
+//! Everything that is read comes from the library `libaxml`, whose functions are proved to do what docs/FORMAT.md says. This crate lends it
+//! tables, and gives what comes back the types that a Rust programmer expects; it is not itself proved. The tables are sized by one rule: an
+//! element takes at least 36 bytes of a file, an attribute at least 20, and the first element has one that takes none; a kind has at most
+//! `cap` notes. So no reading is refused for want of a place, which is a theorem about the library (`suffices` in crates/claims).
 
+#![deny(missing_docs)]
+
+#[cfg(test)]
+mod held;
+mod note;
 mod refusal;
 mod sys;
 
-pub use refusal::{Note, Refusal};
+pub use note::{Note, NoteKind};
+pub use refusal::Refusal;
+
+/// Bytes of the longest file that is read: 16,777,216.
+pub const LONGEST_FILE: usize = sys::LONGEST_FILE;
+
+/// The form of the C interface that this crate calls. A library of another form stops the program at the first call.
+pub const ABI: u32 = sys::ABI;
 
 /// Names of the framework's attributes, by resource id. Where a file's map has such an id, its name wins over the file's own.
 #[derive(Clone, Debug, Default)]
@@ -27,6 +39,7 @@ pub struct SystemNames {
 }
 
 impl SystemNames {
+    /// No names.
     pub fn new() -> SystemNames {
         SystemNames::default()
     }
@@ -67,17 +80,17 @@ impl Manifest {
 
     /// Reads a file with these system names, and keeps the first `cap` notes of each kind.
     pub fn read_with(file: &[u8], names: &SystemNames, cap: u32) -> Result<Manifest, Refusal> {
-        let mut nodes = vec![0; 5 * (file.len() / 36 + 1)];
-        let mut attributes = vec![0; 5 * (file.len() / 20 + 1)];
+        let mut nodes = vec![0; sys::NODE_WORDS * (file.len() / 36 + 1)];
+        let mut attributes = vec![0; sys::ATTRIBUTE_WORDS * (file.len() / 20 + 1)];
         // a note is about a byte at least, or about the end
-        let mut notes = vec![0; 3 * (13 * cap as usize).min(file.len() + 1)];
+        let mut notes = vec![0; sys::NOTE_WORDS * (sys::KINDS * cap as usize).min(file.len() + 1)];
         let a = sys::read(file, names, &mut nodes, &mut attributes, &mut notes, cap);
-        if a.refusal != 0 {
-            return Err(Refusal::of(a.refusal, a.value));
+        if let Some(refusal) = Refusal::from_number(a.refusal, a.value) {
+            return Err(refusal);
         }
-        nodes.truncate(5 * a.nodes as usize);
-        attributes.truncate(5 * a.attributes as usize);
-        notes.truncate(3 * a.notes as usize);
+        nodes.truncate(sys::NODE_WORDS * a.nodes as usize);
+        attributes.truncate(sys::ATTRIBUTE_WORDS * a.attributes as usize);
+        notes.truncate(sys::NOTE_WORDS * a.notes as usize);
         Ok(Manifest { file: file.to_vec(), names: names.clone(), starts: a.starts, nodes, attributes, notes })
     }
 
@@ -88,19 +101,24 @@ impl Manifest {
 
     /// The elements, in the order of their starts; the first is the root.
     pub fn nodes(&self) -> impl ExactSizeIterator<Item = Node<'_>> + '_ {
-        (0..self.nodes.len() / 5).map(move |index| Node { of: self, index })
+        (0..self.nodes.len() / sys::NODE_WORDS).map(move |index| Node { of: self, index })
     }
 
     /// All attributes, those of a node in turn.
     pub fn attributes(&self) -> impl ExactSizeIterator<Item = Attribute<'_>> + '_ {
-        (0..self.attributes.len() / 5).map(move |index| Attribute { of: self, index })
+        (0..self.attributes.len() / sys::ATTRIBUTE_WORDS).map(move |index| Attribute { of: self, index })
     }
 
     /// What was odd, in the order of the file.
     pub fn notes(&self) -> impl ExactSizeIterator<Item = Note> + '_ {
-        self.notes.chunks_exact(3).map(|w| Note { kind: w[0], a: w[1], b: w[2] })
+        self.notes.chunks_exact(sys::NOTE_WORDS).map(|w| Note {
+            kind: NoteKind::from_number(w[sys::NOTE_KIND]).expect("a library of this form has these kinds alone"),
+            a: w[sys::NOTE_A],
+            b: w[sys::NOTE_B],
+        })
     }
 
+    /// The first element; a file without one is refused.
     pub fn root(&self) -> Node<'_> {
         Node { of: self, index: 0 }
     }
@@ -113,17 +131,29 @@ impl Manifest {
             out = vec![0; a.value as usize];
             a = sys::text(&self.file, &self.names, &mut out, index);
         }
-        if a.refusal != 0 {
+        if a.refusal != sys::DONE {
             return None;
         }
         out.truncate(a.length as usize);
         String::from_utf8(out).ok()
     }
 
+    /// The bytes of a string index before decoding, where they lie in the file or among the system names: nothing is copied. None where
+    /// there is no text, and for a string that is cut or begins outside the pool.
+    pub fn content(&self, index: u32) -> Option<&[u8]> {
+        let a = sys::content(&self.file, &self.names, index);
+        let slice = match a.slice {
+            sys::SLICE_AREA => &self.names.area,
+            sys::SLICE_FILE => &self.file,
+            _ => return None,
+        };
+        Some(&slice[a.start as usize..][..a.length as usize])
+    }
+
     /// The first attribute of that name, whatever its prefix, on the first element of that tag.
     pub fn first_value(&self, tag: &str, name: &str) -> Option<Value> {
         let a = sys::first_value(&self.file, &self.names, &self.nodes, &self.attributes, tag.as_bytes(), name.as_bytes());
-        (a.refusal == 0).then_some(Value { kind: a.kind, data: a.data })
+        (a.refusal == sys::DONE).then_some(Value { kind: a.kind, data: a.data })
     }
 }
 
@@ -135,8 +165,8 @@ pub struct Node<'a> {
 }
 
 impl<'a> Node<'a> {
-    fn word(&self, k: usize) -> u32 {
-        self.of.nodes[5 * self.index + k]
+    fn word(&self, place: usize) -> u32 {
+        self.of.nodes[sys::NODE_WORDS * self.index + place]
     }
 
     /// Its number in the order of the starts.
@@ -146,30 +176,34 @@ impl<'a> Node<'a> {
 
     /// Its name, or `invalid-element` where it has none that XML allows.
     pub fn name(&self) -> String {
-        if self.word(1) == 1 {
+        if self.word(sys::NODE_FIXED) == 1 {
             return "invalid-element".into();
         }
-        self.of.text(self.word(0)).unwrap_or_default()
+        self.of.text(self.word(sys::NODE_NAME)).unwrap_or_default()
     }
 
     /// The element around it; none for the root.
     pub fn parent(&self) -> Option<Node<'a>> {
-        (self.word(2) != u32::MAX).then_some(Node { of: self.of, index: self.word(2) as usize })
+        let parent = self.word(sys::NODE_PARENT);
+        (parent != sys::NO_PARENT).then_some(Node { of: self.of, index: parent as usize })
     }
 
+    /// Its attributes, in the order of the file.
     pub fn attributes(&self) -> impl ExactSizeIterator<Item = Attribute<'a>> + 'a {
         let of = self.of;
-        let first = self.word(3) as usize;
-        (first..first + self.word(4) as usize).map(move |index| Attribute { of, index })
+        let first = self.word(sys::NODE_FIRST) as usize;
+        (first..first + self.word(sys::NODE_COUNT) as usize).map(move |index| Attribute { of, index })
     }
 }
 
 /// What stands before an attribute's name.
 #[derive(Clone, Copy, Debug, PartialEq, Eq)]
 pub enum Prefix {
+    /// Nothing.
     None,
+    /// `android:`, which every attribute with a namespace gets.
     Android,
-    /// The leading attribute of the root, `xmlns:android`.
+    /// `xmlns:`, of the leading attribute of the root, `xmlns:android`.
     Xmlns,
 }
 
@@ -181,31 +215,35 @@ pub struct Attribute<'a> {
 }
 
 impl<'a> Attribute<'a> {
-    fn word(&self, k: usize) -> u32 {
-        self.of.attributes[5 * self.index + k]
+    fn word(&self, place: usize) -> u32 {
+        self.of.attributes[sys::ATTRIBUTE_WORDS * self.index + place]
     }
 
+    /// The element that it stands on.
     pub fn owner(&self) -> Node<'a> {
-        Node { of: self.of, index: self.word(0) as usize }
+        Node { of: self.of, index: self.word(sys::ATTRIBUTE_OWNER) as usize }
     }
 
+    /// What stands before its name.
     pub fn prefix(&self) -> Prefix {
-        match self.word(1) {
-            1 => Prefix::Android,
-            2 => Prefix::Xmlns,
+        match self.word(sys::ATTRIBUTE_PREFIX) {
+            sys::PREFIX_ANDROID => Prefix::Android,
+            sys::PREFIX_XMLNS => Prefix::Xmlns,
             _ => Prefix::None,
         }
     }
 
+    /// Its name, without its prefix.
     pub fn name(&self) -> String {
         if self.prefix() == Prefix::Xmlns {
             return "android".into();
         }
-        self.of.text(self.word(2)).unwrap_or_default()
+        self.of.text(self.word(sys::ATTRIBUTE_NAME)).unwrap_or_default()
     }
 
+    /// Its value, as the file has it.
     pub fn value(&self) -> Value {
-        Value { kind: self.word(3), data: self.word(4) }
+        Value { kind: self.word(sys::ATTRIBUTE_TYPE), data: self.word(sys::ATTRIBUTE_DATA) }
     }
 
     /// The text of a string value; none for values of other types.
@@ -213,18 +251,26 @@ impl<'a> Attribute<'a> {
         if self.prefix() == Prefix::Xmlns {
             return Some("http://schemas.android.com/apk/res/android".into());
         }
-        (self.value().kind == 3).then(|| self.of.text(self.value().data)).flatten()
+        let value = self.value();
+        value.is_string().then(|| self.of.text(value.data)).flatten()
     }
 }
 
-/// A raw value: its type and its data, as the file has them.
+/// A raw value: its type and its data, as the file has them (docs/FORMAT.md, C5).
 #[derive(Clone, Copy, Debug, PartialEq, Eq)]
 pub struct Value {
+    /// Its type, a byte of the file.
     pub kind: u32,
+    /// Its data, four bytes of the file: of a string its string index, of a reference a resource id.
     pub data: u32,
 }
 
 impl Value {
+    /// Whether its data is a string index: type 3. `Manifest::text` has the text.
+    pub fn is_string(&self) -> bool {
+        self.kind == 3
+    }
+
     /// Whether it refers to a resource: types 1 and 7.
     pub fn is_reference(&self) -> bool {
         self.kind == 1 || self.kind == 7
@@ -240,3 +286,8 @@ impl Value {
 pub fn is_valid_name(name: &str) -> bool {
     sys::is_valid_name(name.as_bytes())
 }
+
+/// The examples of docs/USING.md, which `cargo test` compiles.
+#[cfg(doctest)]
+#[doc = include_str!("../../../docs/USING.md")]
+pub struct Using;

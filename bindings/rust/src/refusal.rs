@@ -1,9 +1,12 @@
-//! Why a file was not read, and what was odd about one that was.
+//! Why a file was not read.
 
 use std::fmt;
 
-/// Why a file was not read. `Display` says it in words; `number` and `value` are those of docs/FORMAT.md, B1.
+/// Why a file was not read, or why a question has no answer. `Display` says it in words and with its numbers.
+///
+/// [`Manifest::read`](crate::Manifest::read) lends tables that are large enough for every file, so that it is refused by the first seven alone.
 #[derive(Clone, Copy, Debug, PartialEq, Eq)]
+#[non_exhaustive]
 pub enum Refusal {
     /// Fewer than 8 bytes, with their number.
     TooSmall(u64),
@@ -11,18 +14,35 @@ pub enum Refusal {
     TooLarge,
     /// The file's header does not have 8 bytes, with what it says.
     HeaderSize(u64),
+    /// The string pool is cut.
     StringPool,
+    /// The resource map is cut.
     ResourceMap,
+    /// There is no element that was read whole.
     NoElement,
     /// The lent system names break their rule, with the first entry that does.
     SystemNames(u64),
-    /// A number that this library does not know: it is older than the archive.
+    /// A node has no place, with the places that there are.
+    NodesFull(u64),
+    /// An attribute has no place, with the places that there are.
+    AttributesFull(u64),
+    /// A note has no place, with the places that there are.
+    NotesFull(u64),
+    /// The buffer is too short, with the bytes that the text needs.
+    TextShort(u64),
+    /// There is no such text, or no such value.
+    NothingFound,
+    /// The lent tables do not fit the question, with the number of nodes, or the first bad one.
+    Tables(u64),
+    /// A number that this crate does not know, and its value: the crate is older than the library.
     Other(u32, u64),
 }
 
 impl Refusal {
-    pub(crate) fn of(number: u32, value: u64) -> Refusal {
-        match number {
+    /// The refusal of a number and a value, as docs/FORMAT.md has them (B1); none for number 0, which is no refusal.
+    pub fn from_number(number: u32, value: u64) -> Option<Refusal> {
+        Some(match number {
+            0 => return None,
             1 => Refusal::TooSmall(value),
             2 => Refusal::TooLarge,
             3 => Refusal::HeaderSize(value),
@@ -30,10 +50,17 @@ impl Refusal {
             5 => Refusal::ResourceMap,
             6 => Refusal::NoElement,
             7 => Refusal::SystemNames(value),
+            8 => Refusal::NodesFull(value),
+            9 => Refusal::AttributesFull(value),
+            10 => Refusal::NotesFull(value),
+            11 => Refusal::TextShort(value),
+            12 => Refusal::NothingFound,
+            13 => Refusal::Tables(value),
             _ => Refusal::Other(number, value),
-        }
+        })
     }
 
+    /// Its number (docs/FORMAT.md, B1).
     pub fn number(&self) -> u32 {
         match *self {
             Refusal::TooSmall(_) => 1,
@@ -43,61 +70,62 @@ impl Refusal {
             Refusal::ResourceMap => 5,
             Refusal::NoElement => 6,
             Refusal::SystemNames(_) => 7,
+            Refusal::NodesFull(_) => 8,
+            Refusal::AttributesFull(_) => 9,
+            Refusal::NotesFull(_) => 10,
+            Refusal::TextShort(_) => 11,
+            Refusal::NothingFound => 12,
+            Refusal::Tables(_) => 13,
             Refusal::Other(number, _) => number,
         }
     }
 
+    /// The value beside its number; 0 where the number says all.
     pub fn value(&self) -> u64 {
         match *self {
-            Refusal::TooSmall(v) | Refusal::HeaderSize(v) | Refusal::SystemNames(v) | Refusal::Other(_, v) => v,
-            _ => 0,
+            Refusal::TooSmall(v) | Refusal::HeaderSize(v) | Refusal::SystemNames(v) | Refusal::NodesFull(v) => v,
+            Refusal::AttributesFull(v) | Refusal::NotesFull(v) | Refusal::TextShort(v) | Refusal::Tables(v) => v,
+            Refusal::Other(_, v) => v,
+            Refusal::TooLarge | Refusal::StringPool | Refusal::ResourceMap | Refusal::NoElement | Refusal::NothingFound => 0,
+        }
+    }
+
+    /// What it is called, without its numbers: the words of docs/words.tsv, which `./axml-list` prints too.
+    pub fn words(&self) -> &'static str {
+        match *self {
+            Refusal::TooSmall(_) => "the file is cut short: it has fewer than 8 bytes",
+            Refusal::TooLarge => "the file is too large",
+            Refusal::HeaderSize(_) => "this is not binary XML: its first header does not have 8 bytes",
+            Refusal::StringPool => "the string pool is cut short",
+            Refusal::ResourceMap => "the resource map is cut short",
+            Refusal::NoElement => "the file has no element",
+            Refusal::SystemNames(_) => "the system names break their rule",
+            Refusal::NodesFull(_) => "the node table is full",
+            Refusal::AttributesFull(_) => "the attribute table is full",
+            Refusal::NotesFull(_) => "the note table is full",
+            Refusal::TextShort(_) => "the buffer is too short for the text",
+            Refusal::NothingFound => "nothing was found",
+            Refusal::Tables(_) => "the tables do not fit the question",
+            Refusal::Other(..) => "refused for a reason that this crate does not know",
         }
     }
 }
 
 impl fmt::Display for Refusal {
     fn fmt(&self, f: &mut fmt::Formatter<'_>) -> fmt::Result {
+        f.write_str(self.words())?;
         match *self {
-            Refusal::TooSmall(n) => write!(f, "the file is cut short: it has {n} bytes, and a header alone has 8"),
-            Refusal::TooLarge => write!(f, "the file is too large: at most 16777216 bytes are read"),
-            Refusal::HeaderSize(n) => write!(f, "this is no binary XML: the header says it has {n} bytes, not 8 (an APK is a zip: take AndroidManifest.xml out of it first)"),
-            Refusal::StringPool => write!(f, "the string pool is cut short"),
-            Refusal::ResourceMap => write!(f, "the resource map is cut short"),
-            Refusal::NoElement => write!(f, "the file has no element"),
-            Refusal::SystemNames(n) => write!(f, "the system names break their rule at entry {n}: ids rise and are of package 1, names are ASCII"),
-            Refusal::Other(number, value) => write!(f, "refused with number {number}, value {value}"),
+            Refusal::TooSmall(n) => write!(f, " (it has {n})"),
+            Refusal::TooLarge => write!(f, " (at most {} bytes are read)", crate::LONGEST_FILE),
+            Refusal::HeaderSize(n) => write!(f, " but {n} (an APK is a zip: take AndroidManifest.xml out of it first)"),
+            Refusal::SystemNames(n) => write!(f, " at entry {n} (ids rise and have the top byte 1, names are ASCII and not empty)"),
+            Refusal::NodesFull(n) | Refusal::AttributesFull(n) | Refusal::NotesFull(n) => write!(f, " ({n} places)"),
+            Refusal::TextShort(n) => write!(f, " ({n} bytes are needed)"),
+            Refusal::Tables(n) => write!(f, " ({n})"),
+            Refusal::Other(number, value) => write!(f, " (number {number}, value {value})"),
+            Refusal::StringPool | Refusal::ResourceMap | Refusal::NoElement | Refusal::NothingFound => Ok(()),
         }
     }
 }
 
 impl std::error::Error for Refusal {}
-
-/// Something odd that the reader passed over or mended; a and b are those of docs/FORMAT.md, B12.
-#[derive(Clone, Copy, Debug, PartialEq, Eq)]
-pub struct Note {
-    pub kind: u32,
-    pub a: u32,
-    pub b: u32,
-}
-
-impl fmt::Display for Note {
-    fn fmt(&self, f: &mut fmt::Formatter<'_>) -> fmt::Result {
-        let (a, b) = (self.a, self.b);
-        match self.kind {
-            0 => write!(f, "a chunk of type {a:#x} stands before the string pool; {b} bytes were skipped"),
-            1 => write!(f, "the string pool declares {a} strings and has {b}"),
-            2 => write!(f, "{a} strings begin outside the string pool"),
-            3 => write!(f, "a chunk of type {a:#x} is no XML and was skipped"),
-            4 => write!(f, "an XML chunk has a header of {a} bytes and was skipped"),
-            5 => write!(f, "an XML chunk has the unknown type {a:#x}"),
-            6 => write!(f, "an element's attributes begin at {a} and not at 20"),
-            7 => write!(f, "an element's attributes have {a} bytes and not 20"),
-            8 => write!(f, "{a} bytes follow an element's attributes"),
-            9 => write!(f, "an element has an invalid name, string {a}"),
-            10 => write!(f, "an attribute has an invalid name, string {a}, and was dropped"),
-            11 => write!(f, "the file is cut in the middle of a chunk"),
-            12 => write!(f, "{a} elements are not closed"),
-            k => write!(f, "note {k}: {a}, {b}"),
-        }
-    }
-}

@@ -1,8 +1,48 @@
-//! The functions of include/axml.h. All that is unsafe is here: each slice is lent as its pointer and its number of elements, the tables that
-//! are written are borrowed for the call alone, and the pointer of an empty slice is aligned and not null.
+//! The functions and the numbers of include/axml.h, by the same names. All that is unsafe is here: each slice is lent as its pointer and its
+//! number of elements, the tables that are written are borrowed for the call alone, and the pointer of an empty slice is aligned and not
+//! null. src/held.rs holds the numbers to the header's.
 
 use crate::SystemNames;
 
+/// The form of the C interface that this file declares: the header's AXML_ABI.
+pub const ABI: u32 = 1;
+
+/// Bytes of the longest file that is read.
+pub const LONGEST_FILE: usize = 16_777_216;
+/// Kinds of notes.
+pub const KINDS: usize = 13;
+
+/// Words of a node, and the place of each.
+pub const NODE_WORDS: usize = 5;
+pub const NODE_NAME: usize = 0;
+pub const NODE_FIXED: usize = 1;
+pub const NODE_PARENT: usize = 2;
+pub const NODE_FIRST: usize = 3;
+pub const NODE_COUNT: usize = 4;
+/// The parent of the first node.
+pub const NO_PARENT: u32 = 4_294_967_295;
+
+/// Words of an attribute, and the place of each.
+pub const ATTRIBUTE_WORDS: usize = 5;
+pub const ATTRIBUTE_OWNER: usize = 0;
+pub const ATTRIBUTE_PREFIX: usize = 1;
+pub const ATTRIBUTE_NAME: usize = 2;
+pub const ATTRIBUTE_TYPE: usize = 3;
+pub const ATTRIBUTE_DATA: usize = 4;
+
+/// Words of a note, and the place of each.
+pub const NOTE_WORDS: usize = 3;
+pub const NOTE_KIND: usize = 0;
+pub const NOTE_A: usize = 1;
+pub const NOTE_B: usize = 2;
+
+pub const PREFIX_ANDROID: u32 = 1;
+pub const PREFIX_XMLNS: u32 = 2;
+
+pub const SLICE_AREA: u32 = 1;
+pub const SLICE_FILE: u32 = 2;
+
+pub const DONE: u32 = 0;
 pub const TEXT_SHORT: u32 = 11;
 
 #[repr(C)]
@@ -23,6 +63,13 @@ pub struct TextAnswer {
 }
 
 #[repr(C)]
+pub struct ContentAnswer {
+    pub slice: u32,
+    pub start: u64,
+    pub length: u64,
+}
+
+#[repr(C)]
 pub struct FirstAnswer {
     pub refusal: u32,
     pub value: u64,
@@ -36,6 +83,7 @@ type Words = *const u32;
 type MutWords = *mut u32;
 
 extern "C" {
+    fn axml_abi() -> u32;
     fn axml_read(
         file: Bytes, file_bytes: usize, names: Words, name_words: usize, area: Bytes, area_bytes: usize,
         nodes: MutWords, node_words: usize, attributes: MutWords, attribute_words: usize, notes: MutWords, note_words: usize, cap: u32,
@@ -43,6 +91,9 @@ extern "C" {
     fn axml_text(
         file: Bytes, file_bytes: usize, names: Words, name_words: usize, area: Bytes, area_bytes: usize, out: *mut u8, out_bytes: usize, index: u32,
     ) -> TextAnswer;
+    fn axml_content(
+        file: Bytes, file_bytes: usize, names: Words, name_words: usize, area: Bytes, area_bytes: usize, index: u32,
+    ) -> ContentAnswer;
     fn axml_first_value(
         file: Bytes, file_bytes: usize, names: Words, name_words: usize, area: Bytes, area_bytes: usize,
         nodes: Words, node_words: usize, attributes: Words, attribute_words: usize,
@@ -52,7 +103,14 @@ extern "C" {
     fn axml_complex_to_float(data: u32) -> f64;
 }
 
+/// Stops the program where the library that is linked is of another form than this file: its functions would be called wrongly.
+fn same_form() {
+    let there = unsafe { axml_abi() };
+    assert!(there == ABI, "libaxml has the form {there} of its interface, and this crate was written for {ABI}: build both from one source");
+}
+
 pub fn read(file: &[u8], names: &SystemNames, nodes: &mut [u32], attributes: &mut [u32], notes: &mut [u32], cap: u32) -> Answer {
+    same_form();
     let (w, a) = (&names.words, &names.area);
     unsafe {
         axml_read(
@@ -63,24 +121,35 @@ pub fn read(file: &[u8], names: &SystemNames, nodes: &mut [u32], attributes: &mu
 }
 
 pub fn text(file: &[u8], names: &SystemNames, out: &mut [u8], index: u32) -> TextAnswer {
+    same_form();
     let (w, a) = (&names.words, &names.area);
     unsafe { axml_text(file.as_ptr(), file.len(), w.as_ptr(), w.len(), a.as_ptr(), a.len(), out.as_mut_ptr(), out.len(), index) }
 }
 
-pub fn first_value(file: &[u8], names: &SystemNames, nodes: &[u32], attributes: &[u32], tag: &[u8], name: &[u8]) -> FirstAnswer {
+pub fn content(file: &[u8], names: &SystemNames, index: u32) -> ContentAnswer {
+    same_form();
     let (w, a) = (&names.words, &names.area);
+    unsafe { axml_content(file.as_ptr(), file.len(), w.as_ptr(), w.len(), a.as_ptr(), a.len(), index) }
+}
+
+pub fn first_value(file: &[u8], names: &SystemNames, nodes: &[u32], attributes: &[u32], tag: &[u8], name: &[u8]) -> FirstAnswer {
+    same_form();
+    let (w, a) = (&names.words, &names.area);
+    let (node_count, attribute_count) = ((nodes.len() / NODE_WORDS) as u32, (attributes.len() / ATTRIBUTE_WORDS) as u32);
     unsafe {
         axml_first_value(
             file.as_ptr(), file.len(), w.as_ptr(), w.len(), a.as_ptr(), a.len(), nodes.as_ptr(), nodes.len(), attributes.as_ptr(), attributes.len(),
-            tag.as_ptr(), tag.len(), name.as_ptr(), name.len(), (nodes.len() / 5) as u32, (attributes.len() / 5) as u32,
+            tag.as_ptr(), tag.len(), name.as_ptr(), name.len(), node_count, attribute_count,
         )
     }
 }
 
 pub fn is_valid_name(name: &[u8]) -> bool {
+    same_form();
     unsafe { axml_is_valid_name(name.as_ptr(), name.len()) }
 }
 
 pub fn complex_to_float(data: u32) -> f64 {
+    same_form();
     unsafe { axml_complex_to_float(data) }
 }

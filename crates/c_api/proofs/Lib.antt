@@ -2,3 +2,4 @@
 pub mod Noting
 pub mod Points
 pub mod Same
+pub mod Placing

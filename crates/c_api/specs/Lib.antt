@@ -1,3 +1,6 @@
 -- The root of the crate's definitions.
 pub mod Words
 pub mod Answers
+pub mod Place
+pub mod Abi
+pub mod Inner

@@ -3,6 +3,12 @@
 // A slice is lent as two C parameters, a pointer and a number of elements. The answers are structs of numbers, since C has no enums that
 // hold values. Notes are lent as words (crate records), in the layout of C's `struct axml_note`; `axml::read` has them as records, and
 // `same-reading` (proofs/Same.antt) says that both are one reading. Definitions: specs/Words.antt, specs/Answers.antt.
+pub mod abi;
+pub mod content;
+
+pub use abi::axml_abi;
+pub use content::AxmlContentAnswer;
+pub use content::axml_content;
 ghost use mathlib.Core.Path.{_≡_};
 ghost use mathlib.Core.Bool.{false};
 ghost use Prim.Native.Nat.{_+_, _*_, _≤_};

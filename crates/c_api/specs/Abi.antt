@@ -1,0 +1,8 @@
+-- The form of the C interface as a number: include/axml.h, AXML_ABI. It is raised whenever a record, a signature or a number of that header
+-- changes or is added. bindings/c/test.c holds the header's number to what the library answers.
+--
+--   abi   1: nodes and attributes of five words, notes and names of three; axml_read, axml_text, axml_content, axml_first_value
+use Prim.Native.Nat.{ℕ}
+
+abbrev pub abi : ℕ
+abi = 1

@@ -1,0 +1,2 @@
+-- How the code goes, not to be believed: no public promise cites these files.
+pub mod Placed
