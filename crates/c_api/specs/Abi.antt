@@ -2,7 +2,8 @@
 -- changes or is added. bindings/c/test.c holds the header's number to what the library answers.
 --
 --   abi   1: nodes and attributes of five words, notes and names of three; axml_read, axml_text, axml_content, axml_first_value
+--         2: axml_round_up_add
 use Prim.Native.Nat.{ℕ}
 
 abbrev pub abi : ℕ
-abi = 1
+abi = 2

@@ -17,8 +17,8 @@ use Rattle.errors.specs.declared.ReadAnswer.the-variants.{Done, Refused}
 use Rattle.errors.proofs.Laws.{numberOf-le, numberOf-some}
 use Rattle.round_up.specs.declared.AddAnswer.the-variants as add
 use Rattle.round_up.specs.declared.RoundUp.{RoundUp}
-use Rattle.round_up.specs.RoundUp.{kinds, classes, places, gridFrom, refusedFrom, emptyRoundUp, gridOf, rowOf, cellsOf, classOf, headOf, readShare, refusedShare, shareBy}
-use Rattle.round_up.specs.RoundUp.{shareOf, sums, hasRoom, addedOf, fullOf, addedTo}
+use Rattle.round_up.specs.RoundUp.{classes, places, gridFrom, refusedFrom, emptyRoundUp, gridOf, rowOf, cellsOf, classOf, headOf}
+use Rattle.round_up.specs.RoundUp.{refusedShare, shareBy, shareOf, sums, hasRoom, addedOf, fullOf, addedTo}
 use Rattle.round_up.specs.History.{File, shareIn, next, after, isAdded, addedIn, total, keptBy, keptOf, keptIn}
 use Rattle.round_up.proofs.Laws.{sums-length}
 use Rattle.round_up.proofs.Shares.{classOf-lt, shareBy-length}

@@ -141,7 +141,8 @@ tally-turn xs x = go (ltb x kinds) refl
     go true e = rw e (sym (tally-in kinds 0 x x xs (omega arith) (ltb-true x kinds e)))
     go false e = rw e (sym (tally-above kinds 0 x xs (omega (arith, ltb-false x kinds e))))
 
-pub kinds-turn : (words : List ℕ) (i : ℕ) → countedIn (tally kinds 0 (kindsFrom i words)) (getD words (noteWidth * i) 0) ≡ tally kinds 0 (kindsFrom (i + 1) words)
+pub kinds-turn : (words : List ℕ) (i : ℕ)
+    → countedIn (tally kinds 0 (kindsFrom i words)) (getD words (noteWidth * i) 0) ≡ tally kinds 0 (kindsFrom (i + 1) words)
 kinds-turn words i =
     tally-turn (kindsFrom i words) (getD words (noteWidth * i) 0)
     ∙ ap (tally kinds 0) (sym (kindsFrom-more i words) ∙ ap (λ (n : ℕ). kindsFrom n words) (sym (add-one i)))

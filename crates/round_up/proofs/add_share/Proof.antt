@@ -44,7 +44,10 @@ add-i : tie.Need-add-i Inv-loop μ-loop
 add-i c = search needs
 
 loop-less : tie.Need-loop-less Inv-loop μ-loop
-loop-less c = let l = c .before .before .before .loop in omega (arith, length-set (l .counts) (l .i) (getD (l .counts) (l .i) 0 + getD (c .before .before .before .before .args .share .now) (l .i) 0))
+loop-less c =
+    let l = c .before .before .before .loop in
+    let s = c .before .before .before .before .args .share .now in
+    omega (arith, length-set (l .counts) (l .i) (getD (l .counts) (l .i) 0 + getD s (l .i) 0))
 
 loop-again : tie.Need-loop-again Inv-loop μ-loop
 loop-again c =

@@ -17,7 +17,8 @@ same-length c = search needs
 returns : tie.Need-returns
 returns c =
     let a = c .before .before .before .before .before .before .before .before .before .args in
-    adds-all (a .counts .now) (a .share .now) _ (c .before .before .before .before .before .has-room .ensures) (c .before .before .before .before .if1 .taken) _ (c .before .before .add-share .ensures)
+    adds-all (a .counts .now) (a .share .now) _ (c .before .before .before .before .before .has-room .ensures) (c .before .before .before .before .if1 .taken)
+    _ (c .before .before .add-share .ensures)
 
 same-length-2 : tie.Need-same-length-2
 same-length-2 c = search needs

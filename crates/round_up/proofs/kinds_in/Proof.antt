@@ -45,7 +45,10 @@ loop-less : tie.Need-loop-less Inv-loop μ-loop
 loop-less c = search needs
 
 loop-again : tie.Need-loop-again Inv-loop μ-loop
-loop-again c = let l = c .before .before .before .before .loop in (omega arith, c .count-kind .ensures ∙ rw (l .inv .1) (kinds-turn (c .before .before .before .before .before .before .before .args .words .now) (l .i)))
+loop-again c =
+    let l = c .before .before .before .before .loop in
+    let words = c .before .before .before .before .before .before .before .args .words .now in
+    (omega arith, c .count-kind .ensures ∙ rw (l .inv .1) (kinds-turn words (l .i)))
 
 returns : tie.Need-returns Inv-loop μ-loop
 returns c =
