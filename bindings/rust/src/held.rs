@@ -42,16 +42,24 @@ fn numbers() {
     is("AXML_PREFIX_XMLNS", sys::PREFIX_XMLNS.into());
     is("AXML_SLICE_AREA", sys::SLICE_AREA.into());
     is("AXML_SLICE_FILE", sys::SLICE_FILE.into());
+    is("AXML_ROUND_UP_WORDS", sys::ROUND_UP_WORDS as u64);
+    is("AXML_ROUND_UP_READ", sys::ROUND_UP_READ as u64);
+    is("AXML_ROUND_UP_REFUSED", sys::ROUND_UP_REFUSED as u64);
+    is("AXML_ROUND_UP_NUMBERS", sys::ROUND_UP_NUMBERS as u64);
+    is("AXML_ROUND_UP_GRID", sys::ROUND_UP_GRID as u64);
+    is("AXML_ROUND_UP_KINDS", sys::ROUND_UP_KINDS as u64);
+    is("AXML_ROUND_UP_CLASSES", sys::ROUND_UP_CLASSES as u64);
     is("AXML_DONE", sys::DONE.into());
     is("AXML_TEXT_SHORT", sys::TEXT_SHORT.into());
     let refusals = [
         "AXML_TOO_SMALL", "AXML_TOO_LARGE", "AXML_HEADER_SIZE", "AXML_STRING_POOL", "AXML_RESOURCE_MAP", "AXML_MISSING_ROOT", "AXML_SYSTEM_NAMES",
         "AXML_NODES_FULL", "AXML_ATTRIBUTES_FULL", "AXML_NOTES_FULL", "AXML_TEXT_SHORT", "AXML_NOTHING_FOUND", "AXML_TABLES",
+        "AXML_ROUND_UP_FULL",
     ];
     let cases = [
         Refusal::TooSmall(0), Refusal::TooLarge, Refusal::HeaderSize(0), Refusal::StringPool, Refusal::ResourceMap, Refusal::NoElement,
         Refusal::SystemNames(0), Refusal::NodesFull(0), Refusal::AttributesFull(0), Refusal::NotesFull(0), Refusal::TextShort(0),
-        Refusal::NothingFound, Refusal::Tables(0),
+        Refusal::NothingFound, Refusal::Tables(0), Refusal::RoundUpFull,
     ];
     for (name, refusal) in refusals.iter().zip(cases) {
         is(name, refusal.number().into());
@@ -97,6 +105,7 @@ fn places() {
     assert_eq!(fields(&header, "axml_answer"), ["refusal", "value", "starts", "nodes", "attributes", "notes"]);
     assert_eq!(fields(&header, "axml_text_answer"), ["refusal", "value", "length"]);
     assert_eq!(fields(&header, "axml_content_answer"), ["slice", "start", "length"]);
+    assert_eq!(fields(&header, "axml_add_answer"), ["refusal", "value"]);
     assert_eq!(fields(&header, "axml_first_answer"), ["refusal", "value", "type", "data", "reference"]);
 }
 
@@ -125,5 +134,5 @@ fn words() {
         };
         assert!(said.starts_with(words), "{said}");
     }
-    assert_eq!((refusals, notes), (13, NoteKind::ALL.len()));
+    assert_eq!((refusals, notes), (14, NoteKind::ALL.len()));
 }

@@ -34,6 +34,8 @@ pub enum Refusal {
     NothingFound,
     /// The lent tables do not fit the question, with the number of nodes, or the first bad one.
     Tables(u64),
+    /// A count of a round-up would pass 4,294,967,295.
+    RoundUpFull,
     /// A number that this crate does not know, and its value: the crate is older than the library.
     Other(u32, u64),
 }
@@ -56,6 +58,7 @@ impl Refusal {
             11 => Refusal::TextShort(value),
             12 => Refusal::NothingFound,
             13 => Refusal::Tables(value),
+            29 => Refusal::RoundUpFull,
             _ => Refusal::Other(number, value),
         })
     }
@@ -76,6 +79,7 @@ impl Refusal {
             Refusal::TextShort(_) => 11,
             Refusal::NothingFound => 12,
             Refusal::Tables(_) => 13,
+            Refusal::RoundUpFull => 29,
             Refusal::Other(number, _) => number,
         }
     }
@@ -87,6 +91,7 @@ impl Refusal {
             Refusal::AttributesFull(v) | Refusal::NotesFull(v) | Refusal::TextShort(v) | Refusal::Tables(v) => v,
             Refusal::Other(_, v) => v,
             Refusal::TooLarge | Refusal::StringPool | Refusal::ResourceMap | Refusal::NoElement | Refusal::NothingFound => 0,
+            Refusal::RoundUpFull => 0,
         }
     }
 
@@ -106,6 +111,7 @@ impl Refusal {
             Refusal::TextShort(_) => "the buffer is too short for the text",
             Refusal::NothingFound => "nothing was found",
             Refusal::Tables(_) => "the tables do not fit the question",
+            Refusal::RoundUpFull => "a count of the round-up is full",
             Refusal::Other(..) => "refused for a reason that this crate does not know",
         }
     }
@@ -123,7 +129,7 @@ impl fmt::Display for Refusal {
             Refusal::TextShort(n) => write!(f, " ({n} bytes are needed)"),
             Refusal::Tables(n) => write!(f, " ({n})"),
             Refusal::Other(number, value) => write!(f, " (number {number}, value {value})"),
-            Refusal::StringPool | Refusal::ResourceMap | Refusal::NoElement | Refusal::NothingFound => Ok(()),
+            Refusal::StringPool | Refusal::ResourceMap | Refusal::NoElement | Refusal::NothingFound | Refusal::RoundUpFull => Ok(()),
         }
     }
 }
