@@ -32,6 +32,15 @@ uint32_t axml_abi(void);
 #define AXML_NOTE_WORDS 3u
 #define AXML_NAME_WORDS 3u
 
+/* Kinds of notes: enum axml_note_kind. */
+#define AXML_NOTE_KINDS 13u
+
+/* Places that suffice for every file of so many bytes, and for every file at that cap: with them no reading is refused with AXML_NODES_FULL,
+ * AXML_ATTRIBUTES_FULL or AXML_NOTES_FULL. An element takes at least 36 bytes and an attribute 20; one attribute leads, which takes none. */
+#define AXML_NODE_PLACES(bytes) ((bytes) / 36u + 1u)
+#define AXML_ATTRIBUTE_PLACES(bytes) ((bytes) / 20u + 1u)
+#define AXML_NOTE_PLACES(cap) (AXML_NOTE_KINDS * (cap))
+
 /* The parent of the first node. */
 #define AXML_NO_PARENT 4294967295u
 

@@ -29,8 +29,7 @@ int main(int count, char **words) {
   fclose(from);
   if (failed) return fprintf(stderr, "%s cannot be read\n", words[1]), 2;
 
-  /* A start takes 36 bytes and an attribute 20, one attribute leads, and a kind has CAP notes at most: no table is too short. */
-  size_t node_places = bytes / 36 + 1, attribute_places = bytes / 20 + 1, note_places = 13 * CAP;
+  size_t node_places = AXML_NODE_PLACES(bytes), attribute_places = AXML_ATTRIBUTE_PLACES(bytes), note_places = AXML_NOTE_PLACES(CAP);
   struct axml_node *nodes = calloc(node_places, sizeof *nodes);
   struct axml_attribute *attributes = calloc(attribute_places, sizeof *attributes);
   struct axml_note *notes = calloc(note_places, sizeof *notes);

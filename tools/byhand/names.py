@@ -3,7 +3,7 @@
 import re
 from dataclasses import dataclass
 
-from byhand.table import ANSWER, ANSWERS, CORE, CRATE, LISTED, NOTE, OUTCOME, READING, ZERO
+from byhand.table import ANSWER, ANSWERS, CORE, CRATE, LIMITS, LISTED, NOTE, OUTCOME, READING, ZERO
 
 # a generated file imports those of these names that it uses; x=y is x under the name y
 USES = """
@@ -60,6 +60,7 @@ Rattle.{CORE}.specs.declared.State: State
 Rattle.{CRATE}.specs.declared.{LISTED}: {LISTED}=Listed
 {": ".join(OUTCOME)} {ANSWERS[1] if ANSWERS else ""}
 {": ".join(ZERO)}
+{": ".join(LIMITS)}
 {": ".join(READING)}
 Rattle.{CRATE}.proofs.Fields: gets
 Rattle.{CRATE}.proofs.Lending: slice Opened opens shuts passes-on takes-back holds fails

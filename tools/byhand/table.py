@@ -25,8 +25,9 @@ READING = ("Rattle.walk.specs.Reading", "Reads")             # what `read` leav
 ZERO = ("Rattle.walk.specs.Reading", "zeroNote")             # what the array of notes is made of
 
 LISTED = "Listed"                   # the struct that `read_listed` answers: the answer, and the array of notes
-COUNT = 104                         # notes of that array
+LIMITS = ("Rattle.records.specs.Limits", "listedCap listedNotes")  # the cap and the notes of a listing
+COUNT = "listedNotes"               # notes of that array
 EMPTY = ["names", "area"]           # what `read_listed` lends `read` as `&[]`
-FIXED = {"cap": 8}                  # and the numbers that it passes
+FIXED = {"cap": "listedCap"}        # and the numbers that it passes
 
 WIDTH = 150                         # columns of a generated line

@@ -74,7 +74,7 @@ fn kinds() {
     let header = repository("include/axml.h");
     let all = header.split("enum axml_note_kind {").nth(1).unwrap().split("};").next().unwrap();
     assert_eq!(all.matches(" = ").count(), NoteKind::ALL.len());
-    assert_eq!(sys::KINDS, NoteKind::ALL.len());
+    assert_eq!((sys::KINDS, number(&header, "AXML_NOTE_KINDS")), (NoteKind::ALL.len(), NoteKind::ALL.len() as u64));
     for (n, kind) in NoteKind::ALL.iter().enumerate() {
         let mut name = String::from("AXML");
         for c in format!("{kind:?}").chars() {

@@ -12,7 +12,8 @@
 //! Everything that is read comes from the library `libaxml`, whose functions are proved to do what docs/FORMAT.md says. This crate lends it
 //! tables, and gives what comes back the types that a Rust programmer expects; it is not itself proved. The tables are sized by one rule: an
 //! element takes at least 36 bytes of a file, an attribute at least 20, and the first element has one that takes none; a kind has at most
-//! `cap` notes. So no reading is refused for want of a place, which is a theorem about the library (`suffices` in crates/claims).
+//! `cap` notes. So no reading is refused for want of a place, which is a theorem about the library (`suffices` in crates/claims). Where the
+//! cap would allow more notes than the file has bytes, there are places for as many as it has bytes, and one.
 
 #![deny(missing_docs)]
 

@@ -4,6 +4,7 @@
 // tools/readgen.py and tools/listedgen.py over proofs/Lending.antt and proofs/Locals.antt (a lent slice is opened, passed on and taken back).
 ghost use mathlib.Core.List.{[]};
 ghost use lib.ListN.{replicate};
+ghost use Rattle.records.specs.Limits.{listedCap, listedNotes};
 ghost use Rattle.walk.specs.Reading.{Reads, zeroNote};
 pub use anomaly::Note;
 pub use common::ResourceId;
@@ -23,6 +24,8 @@ pub use errors::text_numbers;
 pub use first_value::first_value;
 pub use head::content;
 pub use head::text;
+use records::LISTED_CAP;
+use records::LISTED_NOTES;
 pub use xml::is_valid_name;
 
 // Reads `file` into the three tables, and answers the counts or the refusal. `names` and `area` are the lent system names, `cap` is how many
@@ -55,20 +58,20 @@ pub fn read(
 // The answer of a reading, and its notes by value.
 pub struct Listed {
     pub answer: ReadAnswer,
-    pub notes: [Note; 104],
+    pub notes: [Note; LISTED_NOTES],
 }
 
-// The same with no system names, a cap of 8 and places for 104 notes, which come back by value.
+// The same with no system names and the cap of a listing, with places for all notes that it keeps, which come back by value.
 // Ruled out: notes of another cap, and a note past the count that is not zero.
 pub fn read_listed(file: &[u8], nodes: &mut [u32], attributes: &mut [u32]) -> Listed
-    ensures { λ r. ⌜ Reads (now (file .entry)) [] [] (now (nodes .entry)) (now (attributes .entry)) (replicate 104 zeroNote) 8
+    ensures { λ r. ⌜ Reads (now (file .entry)) [] [] (now (nodes .entry)) (now (attributes .entry)) (replicate listedNotes zeroNote) listedCap
         (r .answer) (now (nodes .exit)) (now (attributes .exit)) (r .notes) ⌝ }
 {
     let mut notes = [Note {
         kind: 0,
         a: 0,
         b: 0,
-    }; 104];
-    let answer = read(file, &[], &[], nodes, attributes, &mut notes, 8);
+    }; LISTED_NOTES];
+    let answer = read(file, &[], &[], nodes, attributes, &mut notes, LISTED_CAP);
     Listed { answer, notes }
 }

@@ -15,7 +15,7 @@ use Rattle.c_api.specs.Words.{wordsOf, putNote}
 
 -- ---- length
 
-length-words : (os : List Note) → length (wordsOf os) ≡ noteWidth * length os
+pub length-words : (os : List Note) → length (wordsOf os) ≡ noteWidth * length os
 unfolding wordsOf
 length-words [] = refl
 length-words (n ∷ os) = omega (arith, length-words os)
@@ -96,7 +96,7 @@ words-take (o ∷ os) t (suc k) h =
     let e : noteWidth * suc k ≡ suc (suc (suc (noteWidth * k))) = omega arith in
     ap (λ (m : ℕ). take m (wordsOf (o ∷ os) ++ t)) e ∙ ap (λ (l : List ℕ). o .kind ∷ o .a ∷ o .b ∷ l) (words-take os t k (omega arith))
 
-words-behind : (os : List Note) (m n : ℕ) → wordsOf os ++ replicate (noteWidth * m + n) 0 ≡ wordsOf (os ++ replicate m zeroNote) ++ replicate n 0
+pub words-behind : (os : List Note) (m n : ℕ) → wordsOf os ++ replicate (noteWidth * m + n) 0 ≡ wordsOf (os ++ replicate m zeroNote) ++ replicate n 0
 words-behind os m n =
     ap (λ (l : List ℕ). wordsOf os ++ l) (sym (replicate-append-replicate (noteWidth * m) n 0))
     ∙ sym (append-assoc (wordsOf os) (replicate (noteWidth * m) 0) (replicate n 0))

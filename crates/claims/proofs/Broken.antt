@@ -10,7 +10,7 @@
 --   invents-notes-broken     one that gives some file more notes than its cap keeps
 --   wrong-kinds-broken       one that gives some file notes of other kinds, be they as many
 -- The witnesses are file S and its relatives (proofs/Cases.antt).
-use Prim.Native.Nat.{ℕ, zero, suc, _≤_, _<_}
+use Prim.Native.Nat.{ℕ, zero, suc, _+_, _≤_, _<_}
 use native.Mathlib.Omega.{arith}
 use mathlib.Core.Path.{_≡_, refl, sym, _∙_, ap}
 use mathlib.Core.List.{List, [], _∷_, _++_, map}
@@ -26,6 +26,8 @@ use Rattle.errors.specs.declared.Refusal.the-variants.{TooLargeError}
 use Rattle.errors.specs.declared.ReadAnswer.{ReadAnswer}
 use Rattle.errors.specs.declared.ReadAnswer.the-variants.{Done, Refused}
 use Rattle.errors.specs.declared.ReadCounts.{ReadCounts}
+use Rattle.records.specs.Words.{nodeParent, attributePrefix}
+use Rattle.records.specs.Limits.{fileLimit}
 use Rattle.system_types.specs.Names.{namesOf}
 use Rattle.system_types.specs.declared.NamesRead.{NamesRead}
 use Rattle.system_types.specs.declared.NamesRead.the-variants.{Good, Bad}
@@ -38,10 +40,10 @@ use Rattle.claims.specs.Insertion.{left}
 use Rattle.claims.specs.Readers.{allBelow, Call, Reader, Meets, eventsOf, kindsOf, RefusesAll, Constant, ConstantOnRead, StopsAtStart}
 use Rattle.claims.specs.Readers.{LeavesNodes, LeavesAttributes, LeavesNotes, ClearsNodes, ClearsAttributes, ClearsNotes}
 use Rattle.claims.specs.Counts.{opensIn, notesIn}
-use Rattle.claims.proofs.Cases.{fileS, headS, startS, endS, zeros, none, note, oneNode, firstNode, lead}
+use Rattle.claims.proofs.Cases.{fileS, headS, startS, endS, noNodes, noAttributes, none, note, oneNode, firstNode, lead}
 use Rattle.claims.proofs.Calls.{left-reading}
 use Rattle.claims.proofs.Structure.{starts-right, notes-many, notes-kept}
-use Rattle.claims.proofs.BrokenSample.{words, call-S, call-88, call-with-end, call-without}
+use Rattle.claims.proofs.BrokenSample.{call-S, call-88, call-with-end, call-without}
 use Rattle.claims.proofs.BrokenSample.{read-S, read-88, ends-S, read-with-end, read-without}
 
 pub meets-some : Meets (λ f names area ns ats os cap. reading (roomIn ns ats os cap) f names area)
@@ -54,9 +56,9 @@ zeros-below zero = refl
 zeros-below (suc n) = zeros-below n
 
 -- a file past the limit, and the empty one, have different answers, whatever is lent
-long-number : (r : Room) (f names area : List ℕ) → 16777216 < length f → _≡_ {A = ℕ} (numbersOf (reading r f names area .answer) .refusal) 2
+long-number : (r : Room) (f names area : List ℕ) → fileLimit < length f → _≡_ {A = ℕ} (numbersOf (reading r f names area .answer) .refusal) 2
 unfolding reading lengthCheck numbersOf numberOf
-long-number r f names area h = rw (lt-ltb 16777216 (length f) h)
+long-number r f names area h = rw (lt-ltb fileLimit (length f) h)
 
 empty-number : (r : Room) (names area : List ℕ) → _≡_ {A = ℕ} (numbersOf (reading r [] names area .answer) .refusal) 2 → ⊥
 unfolding reading lengthCheck numbersOf numberOf openedOf fileEvents settle
@@ -88,48 +90,48 @@ module _ (f names area ns ats : List ℕ) (os : List Note) (cap : ℕ) where
 
 module _ (R : Reader) (meets : Meets R) where
   -- of S, and of S without its end
-  of-S : R fileS [] [] words words none 8 ≡ oneNode 1 0 none
-  of-S = left-reading fileS [] [] words words none 8 _ _ _ _ (meets fileS [] [] words words none 8 call-S) ∙ read-S
+  of-S : R fileS [] [] (noNodes 3) (noAttributes 3) none 8 ≡ oneNode 1 0 none
+  of-S = left-reading fileS [] [] (noNodes 3) (noAttributes 3) none 8 _ _ _ _ (meets fileS [] [] (noNodes 3) (noAttributes 3) none 8 call-S) ∙ read-S
 
-  of-88 : R (take 88 fileS) [] [] words words none 8 ≡ oneNode 1 1 (note 12 1 ∷ zeroNote ∷ zeroNote ∷ zeroNote ∷ [])
-  of-88 = left-reading (take 88 fileS) [] [] words words none 8 _ _ _ _ (meets (take 88 fileS) [] [] words words none 8 call-88) ∙ read-88
+  of-88 : R (take 88 fileS) [] [] (noNodes 3) (noAttributes 3) none 8 ≡ oneNode 1 1 (note 12 1 ∷ zeroNote ∷ zeroNote ∷ zeroNote ∷ [])
+  of-88 = left-reading (take 88 fileS) [] [] (noNodes 3) (noAttributes 3) none 8 _ _ _ _ (meets (take 88 fileS) [] [] (noNodes 3) (noAttributes 3) none 8 call-88) ∙ read-88
 
   pub refuses-all-broken : RefusesAll R → ⊥
   unfolding numbersOf
-  refuses-all-broken h = h fileS [] [] words words none 8 call-S (ap (λ (x : Reading). numbersOf (x .answer) .refusal) of-S)
+  refuses-all-broken h = h fileS [] [] (noNodes 3) (noAttributes 3) none 8 call-S (ap (λ (x : Reading). numbersOf (x .answer) .refusal) of-S)
 
   -- none of the witnesses' tables holds zeros alone afterwards, as it did before
-  nodes-stored : R fileS [] [] words words none 8 .nodes ≡ words → ⊥
-  nodes-stored h = let z = ap (λ (l : List ℕ). getD l 2 0) (sym h ∙ ap (λ (x : Reading). x .nodes) of-S) in omega arith
+  nodes-stored : R fileS [] [] (noNodes 3) (noAttributes 3) none 8 .nodes ≡ noNodes 3 → ⊥
+  nodes-stored h = let z = ap (λ (l : List ℕ). getD l nodeParent 0) (sym h ∙ ap (λ (x : Reading). x .nodes) of-S) in omega arith
 
-  attributes-stored : R fileS [] [] words words none 8 .attributes ≡ words → ⊥
-  attributes-stored h = let z = ap (λ (l : List ℕ). getD l 1 0) (sym h ∙ ap (λ (x : Reading). x .attributes) of-S) in omega arith
+  attributes-stored : R fileS [] [] (noNodes 3) (noAttributes 3) none 8 .attributes ≡ noAttributes 3 → ⊥
+  attributes-stored h = let z = ap (λ (l : List ℕ). getD l attributePrefix 0) (sym h ∙ ap (λ (x : Reading). x .attributes) of-S) in omega arith
 
-  notes-stored : R (take 88 fileS) [] [] words words none 8 .notes ≡ none → ⊥
+  notes-stored : R (take 88 fileS) [] [] (noNodes 3) (noAttributes 3) none 8 .notes ≡ none → ⊥
   notes-stored h = let z = ap (λ (l : List Note). getD l 0 zeroNote .kind) (sym h ∙ ap (λ (x : Reading). x .notes) of-88) in omega arith
 
   pub leaves-nodes-broken : LeavesNodes R → ⊥
-  leaves-nodes-broken h = nodes-stored (h fileS [] [] words words none 8 call-S)
+  leaves-nodes-broken h = nodes-stored (h fileS [] [] (noNodes 3) (noAttributes 3) none 8 call-S)
 
   pub leaves-attributes-broken : LeavesAttributes R → ⊥
-  leaves-attributes-broken h = attributes-stored (h fileS [] [] words words none 8 call-S)
+  leaves-attributes-broken h = attributes-stored (h fileS [] [] (noNodes 3) (noAttributes 3) none 8 call-S)
 
   pub leaves-notes-broken : LeavesNotes R → ⊥
-  leaves-notes-broken h = notes-stored (h (take 88 fileS) [] [] words words none 8 call-88)
+  leaves-notes-broken h = notes-stored (h (take 88 fileS) [] [] (noNodes 3) (noAttributes 3) none 8 call-88)
 
   pub clears-nodes-broken : ClearsNodes R → ⊥
-  clears-nodes-broken h = nodes-stored (h fileS [] [] words words none 8 call-S)
+  clears-nodes-broken h = nodes-stored (h fileS [] [] (noNodes 3) (noAttributes 3) none 8 call-S)
 
   pub clears-attributes-broken : ClearsAttributes R → ⊥
-  clears-attributes-broken h = attributes-stored (h fileS [] [] words words none 8 call-S)
+  clears-attributes-broken h = attributes-stored (h fileS [] [] (noNodes 3) (noAttributes 3) none 8 call-S)
 
   pub clears-notes-broken : ClearsNotes R → ⊥
-  clears-notes-broken h = notes-stored (h (take 88 fileS) [] [] words words none 8 call-88)
+  clears-notes-broken h = notes-stored (h (take 88 fileS) [] [] (noNodes 3) (noAttributes 3) none 8 call-88)
 
   pub constant-broken : (names area ns ats : List ℕ) (os : List Note) (cap : ℕ) → Call [] names area ns ats os cap → Constant R names area ns ats os cap → ⊥
-  constant-broken names area ns ats os cap lent h = go (16777217) refl
+  constant-broken names area ns ats os cap lent h = go (fileLimit + 1) refl
     where
-      go : (n : ℕ) → n ≡ 16777217 → ⊥
+      go : (n : ℕ) → n ≡ fileLimit + 1 → ⊥
       go n e =
           let many : length {A = ℕ} (replicate n 0) ≡ n = length-replicate {A = ℕ} n 0 in
           let long : Call (replicate n 0) names area ns ats os cap = record {
@@ -153,16 +155,16 @@ module _ (R : Reader) (meets : Meets R) where
   unfolding numbersOf
   constant-on-read-broken h =
       let read : Reading → ℕ = λ x. numbersOf (x .answer) .refusal in
-      let same = h fileS (take 88 fileS) [] [] words words none 8 call-S call-88 (ap read read-S) (ap read read-88) in
+      let same = h fileS (take 88 fileS) [] [] (noNodes 3) (noAttributes 3) none 8 call-S call-88 (ap read read-S) (ap read read-88) in
       let e = ap (λ (x : Reading). numbersOf (x .answer) .notes) (sym of-S ∙ same ∙ of-88) in
       omega arith
 
   pub first-start-broken : StopsAtStart R → ⊥
   unfolding numbersOf
   first-start-broken h =
-      let same = h (headS ++ startS) endS [] [] [] words words none 8 call-with-end call-without ends-S in
-      let a = meets ((headS ++ startS) ++ endS) [] [] words words none 8 call-with-end .answer ∙ ap (λ (x : Reading). numbersOf (x .answer)) read-with-end in
-      let b = meets ((headS ++ startS) ++ []) [] [] words words none 8 call-without .answer ∙ ap (λ (x : Reading). numbersOf (x .answer)) read-without in
+      let same = h (headS ++ startS) endS [] [] [] (noNodes 3) (noAttributes 3) none 8 call-with-end call-without ends-S in
+      let a = meets ((headS ++ startS) ++ endS) [] [] (noNodes 3) (noAttributes 3) none 8 call-with-end .answer ∙ ap (λ (x : Reading). numbersOf (x .answer)) read-with-end in
+      let b = meets ((headS ++ startS) ++ []) [] [] (noNodes 3) (noAttributes 3) none 8 call-without .answer ∙ ap (λ (x : Reading). numbersOf (x .answer)) read-without in
       let e = ap (λ (x : Numbers). x .notes) (sym a ∙ ap (λ (x : Reading). numbersOf (x .answer)) same ∙ b) in
       omega arith
 
@@ -223,5 +225,5 @@ blurred f names area ns ats os cap =
     let r = reading (roomIn ns ats os cap) f names area in
     left (r .answer) (r .nodes) (r .attributes) (map (λ (x : Note). record { kind = 0; a = x .a; b = x .b }) (r .notes))
 
-pub blurred-kinds : kindsOf (take 1 (blurred (take 88 fileS) [] [] words words none 8 .notes)) ≡ 0 ∷ []
+pub blurred-kinds : kindsOf (take 1 (blurred (take 88 fileS) [] [] (noNodes 3) (noAttributes 3) none 8 .notes)) ≡ 0 ∷ []
 blurred-kinds = ap (λ (x : Reading). kindsOf (take 1 (map (λ (x : Note). record { kind = 0; a = x .a; b = x .b }) (x .notes)))) read-88

@@ -3,7 +3,7 @@
 --   read-S, read-88            the readings of S and of its first 88 bytes, from the table
 --   ends-S                     head and start of S end with its first start
 --   read-with-end, read-without   the two files that go on differently behind it
---   words, call-S ..           tables of zeros, with the room of the cases, and the calls with them: all bytes and words
+--   call-S ..                  the calls with tables of zeros, with the room of the cases: all bytes and words
 use Prim.Native.Nat.{ℕ}
 use native.Mathlib.Omega.{arith}
 use mathlib.Core.Path.{_≡_, refl, sym, _∙_, ap}
@@ -27,12 +27,12 @@ use Rattle.head.specs.Head.{tablesOf, openedOf, outsideIn}
 use Rattle.head.specs.Ask.{lengthCheck}
 use Rattle.xml_elements.specs.Chunk.{startOf, attributeAt, startTurn, xmlTurn, numberOf, turnOf}
 use Rattle.events.specs.Events.{attributeEvent, attributesOf, fromLead, fromOpen, fromName, fromTrailing, fromSize, fromGap, eventsOn, bodyEvents, fileEvents}
-use Rattle.tables.specs.Keep.{hasKey}
+use Rattle.records.specs.Repeats.{repeatsOne}
 use Rattle.walk.specs.Settle.{settle}
 use Rattle.walk.specs.Reading.{Reading, reading, zeroNote}
 use Rattle.claims.specs.Readers.{Bytes, Call, FirstStart, eventsOf}
 use Rattle.claims.specs.Counts.{opensIn}
-use Rattle.claims.proofs.Cases.{fileS, headS, startS, endS, room, zeros, none, note, oneNode, cases, cases-right}
+use Rattle.claims.proofs.Cases.{fileS, headS, startS, endS, room, noNodes, noAttributes, none, note, oneNode, cases, cases-right}
 
 pub read-S : reading room fileS [] [] ≡ oneNode 1 0 none
 unfolding cases
@@ -46,7 +46,7 @@ no-start : _≡_ {A = ℕ} (opensIn (eventsOf headS [] [])) 0
 unfolding fileS headS startS endS settle u16le u32le headerOf isXml sortOf contentLen foreignLen walk walkFrom trace traceFrom
     countOf numbered endOf poolFrom behindGarbage poolOf offsetOf outsideOf split8 split16 idsIn idsBy mapOf idOf isAscii isGood namesFrom
     nameOf systemOf stringAt stringOf contentOf tablesOf openedOf outsideIn lengthCheck startOf attributeAt startTurn xmlTurn numberOf
-    turnOf attributeEvent attributesOf fromLead fromOpen fromName fromTrailing fromSize fromGap eventsOn bodyEvents fileEvents hasKey
+    turnOf attributeEvent attributesOf fromLead fromOpen fromName fromTrailing fromSize fromGap eventsOn bodyEvents fileEvents repeatsOne
     kindIndex noteOf matched isWhole longest anyWhole spelt encode step8 stepsAfter bytesOf allSound textOf eqBytes inRanges isStart isChar
     nameSort allChar isNameOf validName
 no-start = refl
@@ -55,7 +55,7 @@ one-start : _≡_ {A = ℕ} (opensIn (eventsOf (headS ++ startS) [] [])) 1
 unfolding fileS headS startS endS settle u16le u32le headerOf isXml sortOf contentLen foreignLen walk walkFrom trace traceFrom
     countOf numbered endOf poolFrom behindGarbage poolOf offsetOf outsideOf split8 split16 idsIn idsBy mapOf idOf isAscii isGood namesFrom
     nameOf systemOf stringAt stringOf contentOf tablesOf openedOf outsideIn lengthCheck startOf attributeAt startTurn xmlTurn numberOf
-    turnOf attributeEvent attributesOf fromLead fromOpen fromName fromTrailing fromSize fromGap eventsOn bodyEvents fileEvents hasKey
+    turnOf attributeEvent attributesOf fromLead fromOpen fromName fromTrailing fromSize fromGap eventsOn bodyEvents fileEvents repeatsOne
     kindIndex noteOf matched isWhole longest anyWhole spelt encode step8 stepsAfter bytesOf allSound textOf eqBytes inRanges isStart isChar
     nameSort allChar isNameOf validName
 one-start = refl
@@ -64,7 +64,7 @@ pub ends-S : FirstStart [] [] (headS ++ startS)
 unfolding fileS headS startS endS settle u16le u32le headerOf isXml sortOf contentLen foreignLen walk walkFrom trace traceFrom
     countOf numbered endOf poolFrom behindGarbage poolOf offsetOf outsideOf split8 split16 idsIn idsBy mapOf idOf isAscii isGood namesFrom
     nameOf systemOf stringAt stringOf contentOf tablesOf openedOf outsideIn lengthCheck startOf attributeAt startTurn xmlTurn numberOf
-    turnOf attributeEvent attributesOf fromLead fromOpen fromName fromTrailing fromSize fromGap eventsOn bodyEvents fileEvents hasKey
+    turnOf attributeEvent attributesOf fromLead fromOpen fromName fromTrailing fromSize fromGap eventsOn bodyEvents fileEvents repeatsOne
     kindIndex noteOf matched isWhole longest anyWhole spelt encode step8 stepsAfter bytesOf allSound textOf eqBytes inRanges isStart isChar
     nameSort allChar isNameOf validName
 ends-S = record { before = headS; chunk = startS; start = startOf startS; split = refl; none = no-start; one = one-start; reads = refl; long = refl }
@@ -85,12 +85,8 @@ read-without = ap (λ (f : List ℕ). reading room f [] []) (sym without) ∙ re
 
 -- ---- calls
 
--- three tables of zeros, with the room of the cases
-abbrev pub words : List ℕ
-words = zeros ++ (zeros ++ zeros)
-
--- a call with them
-call : (f : List ℕ) → Bytes f → Call f [] [] words words none 8
+-- tables of zeros, with the room of the cases
+call : (f : List ℕ) → Bytes f → Call f [] [] (noNodes 3) (noAttributes 3) none 8
 call f b = record {
   file = b;
   nameWords = record { below = refl; short = omega arith };
@@ -103,18 +99,18 @@ call f b = record {
   capWord = omega arith;
 }
 
-pub call-S : Call fileS [] [] words words none 8
+pub call-S : Call fileS [] [] (noNodes 3) (noAttributes 3) none 8
 unfolding fileS headS startS endS
 call-S = call fileS (record { below = refl; short = omega arith })
 
-pub call-88 : Call (take 88 fileS) [] [] words words none 8
+pub call-88 : Call (take 88 fileS) [] [] (noNodes 3) (noAttributes 3) none 8
 unfolding fileS headS startS endS
 call-88 = call (take 88 fileS) (record { below = refl; short = omega arith })
 
-pub call-with-end : Call ((headS ++ startS) ++ endS) [] [] words words none 8
+pub call-with-end : Call ((headS ++ startS) ++ endS) [] [] (noNodes 3) (noAttributes 3) none 8
 unfolding fileS headS startS endS
 call-with-end = call ((headS ++ startS) ++ endS) (record { below = refl; short = omega arith })
 
-pub call-without : Call ((headS ++ startS) ++ []) [] [] words words none 8
+pub call-without : Call ((headS ++ startS) ++ []) [] [] (noNodes 3) (noAttributes 3) none 8
 unfolding fileS headS startS endS
 call-without = call ((headS ++ startS) ++ []) (record { below = refl; short = omega arith })

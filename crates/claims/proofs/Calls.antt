@@ -11,7 +11,8 @@ use Rattle.errors.specs.declared.ReadAnswer.{ReadAnswer}
 use Rattle.errors.specs.declared.ReadAnswer.the-variants.{Done}
 use Rattle.errors.specs.declared.ReadCounts.{ReadCounts}
 use Rattle.errors.proofs.Laws.{numbersOf-unique}
-use Rattle.tables.specs.Keep.{nodeWidth, attributeWidth}
+use Rattle.records.specs.Limits.{fileLimit}
+use Rattle.records.specs.Words.{nodeWidth, attributeWidth}
 use Rattle.walk.specs.Reading.{Reading, reading, roomIn, Reads}
 use Rattle.claims.specs.Insertion.{ForeignChunk, placesIn, insertedFile, placeNotes, withNotes, left}
 use Rattle.claims.specs.Room.{HasRoom}
@@ -33,7 +34,7 @@ module _ (f names area ns ats : List ℕ) (os : List NoteOf) (cap : ℕ) (c : Re
   done₁ : shorter .answer ≡ Done c
   done₁ = sym (ap (λ (x : Reading). x .answer) was)
 
-  module _ (places : List (List ForeignChunk)) (few : length places ≤ placesIn f) (limit : length (insertedFile places f) ≤ 16777216) (ns′ ats′ : List ℕ)
+  module _ (places : List (List ForeignChunk)) (few : length places ≤ placesIn f) (limit : length (insertedFile places f) ≤ fileLimit) (ns′ ats′ : List ℕ)
       (os′ : List NoteOf) (cap′ : ℕ) (a : ReadAnswer) (ns₂ ats₂ : List ℕ) (os₂ : List NoteOf)
       (second : Reads (insertedFile places f) names area ns′ ats′ os′ cap′ a ns₂ ats₂ os₂) where
     r₂ : left a ns₂ ats₂ os₂ ≡ reading (roomIn ns′ ats′ os′ cap′) (insertedFile places f) names area

@@ -4,10 +4,10 @@
 --   Case                  a file and its whole reading: the answer, every word of the two tables, every note
 --   cases                 the marked ones, with places for 3 nodes, 3 attributes and 4 notes, cap 8, no system names
 --   cases-right           each file's reading is that of the table
-use Prim.Native.Nat.{ℕ}
+use Prim.Native.Nat.{ℕ, _*_}
 use mathlib.Core.Path.{_≡_, refl}
 use mathlib.Core.List.{List, [], _∷_, _++_}
-use lib.ListN.{take, drop}
+use lib.ListN.{take, replicate}
 use Rattle.anomaly.specs.declared.Note.{Note}
 use Rattle.anomaly.specs.Note.{noteOf, kindIndex}
 use Rattle.errors.specs.declared.Refusal.the-variants.{TooSmallError, StringPoolError}
@@ -30,7 +30,8 @@ use Rattle.head.specs.Head.{tablesOf, openedOf, outsideIn}
 use Rattle.head.specs.Ask.{lengthCheck}
 use Rattle.xml_elements.specs.Chunk.{startOf, attributeAt, startTurn, xmlTurn, numberOf, turnOf}
 use Rattle.events.specs.Events.{attributeEvent, attributesOf, fromLead, fromOpen, fromName, fromTrailing, fromSize, fromGap, eventsOn, bodyEvents, fileEvents}
-use Rattle.tables.specs.Keep.{hasKey}
+use Rattle.records.specs.Words.{nodeWidth, nodeWords, noParent, attributeWidth, attributeWords}
+use Rattle.records.specs.Repeats.{repeatsOne}
 use Rattle.walk.specs.Settle.{Room, settle}
 use Rattle.walk.specs.Reading.{Reading, reading, zeroNote}
 
@@ -64,10 +65,14 @@ foreignChunk = 0x05 ∷ 0x01 ∷ 0x08 ∷ 0x00 ∷ 0x08 ∷ 0x00 ∷ 0x00 ∷ 0x
 -- ---- the readings
 
 abbrev pub room : Room
-room = record { nodes = 15; attributes = 15; notes = 4; cap = 8 }
+room = record { nodes = 3 * nodeWidth; attributes = 3 * attributeWidth; notes = 4; cap = 8 }
 
-abbrev pub zeros : List ℕ
-zeros = 0 ∷ 0 ∷ 0 ∷ 0 ∷ 0 ∷ []
+-- n records of zeros
+abbrev pub noNodes : ℕ → List ℕ
+noNodes n = replicate (n * nodeWidth) 0
+
+abbrev pub noAttributes : ℕ → List ℕ
+noAttributes n = replicate (n * attributeWidth) 0
 
 abbrev pub none : List Note
 none = zeroNote ∷ zeroNote ∷ zeroNote ∷ zeroNote ∷ []
@@ -76,21 +81,21 @@ abbrev pub note : ℕ → ℕ → Note
 note k a = record { kind = k; a = a; b = 0 }
 
 abbrev pub refusal : ReadAnswer → Reading
-refusal a = record { answer = a; nodes = zeros ++ (zeros ++ zeros); attributes = zeros ++ (zeros ++ zeros); notes = none }
+refusal a = record { answer = a; nodes = noNodes 3; attributes = noAttributes 3; notes = none }
 
 -- the first node has the leading attribute alone
 abbrev pub firstNode : List ℕ
-firstNode = 0 ∷ 0 ∷ 4294967295 ∷ 0 ∷ 1 ∷ []
+firstNode = nodeWords 0 0 noParent 0 1
 
 abbrev pub lead : List ℕ
-lead = 0 ∷ 2 ∷ 0 ∷ 3 ∷ 0 ∷ []
+lead = attributeWords 0 2 0 3 0
 
 -- one node, with so many starts, and these notes of which the first n count
 abbrev pub oneNode : ℕ → ℕ → List Note → Reading
 oneNode starts n os = record {
   answer = Done (record { starts = starts; nodes = 1; attributes = 1; notes = n });
-  nodes = firstNode ++ (zeros ++ zeros);
-  attributes = lead ++ (zeros ++ zeros);
+  nodes = firstNode ++ noNodes 2;
+  attributes = lead ++ noAttributes 2;
   notes = os;
 }
 
@@ -118,8 +123,8 @@ cases =
     row (take 88 fileS ++ startS) (oneNode 2 1 (note 12 2 ∷ zeroNote ∷ zeroNote ∷ zeroNote ∷ [])) ∷
     row (fileS ++ (startS ++ endS)) (record {
       answer = Done (record { starts = 2; nodes = 2; attributes = 1; notes = 0 });
-      nodes = firstNode ++ ((0 ∷ 0 ∷ 0 ∷ 1 ∷ 0 ∷ []) ++ zeros);
-      attributes = lead ++ (zeros ++ zeros);
+      nodes = firstNode ++ (nodeWords 0 0 0 1 0 ++ noNodes 1);
+      attributes = lead ++ noAttributes 2;
       notes = none;
     }) ∷
     row (take 88 fileS ++ (foreignChunk ++ endS)) (oneNode 1 1 (note 3 261 ∷ zeroNote ∷ zeroNote ∷ zeroNote ∷ [])) ∷ []
@@ -136,7 +141,7 @@ pub cases-right : readings cases ≡ results cases
 unfolding cases fileS headS startS endS reading settle u16le u32le headerOf isXml sortOf contentLen foreignLen walk walkFrom trace traceFrom
     countOf numbered endOf poolFrom behindGarbage poolOf offsetOf outsideOf split8 split16 idsIn idsBy mapOf idOf isAscii isGood namesFrom
     nameOf systemOf stringAt stringOf contentOf tablesOf openedOf outsideIn lengthCheck startOf attributeAt startTurn xmlTurn numberOf
-    turnOf attributeEvent attributesOf fromLead fromOpen fromName fromTrailing fromSize fromGap eventsOn bodyEvents fileEvents hasKey
+    turnOf attributeEvent attributesOf fromLead fromOpen fromName fromTrailing fromSize fromGap eventsOn bodyEvents fileEvents repeatsOne
     kindIndex noteOf matched isWhole longest anyWhole spelt encode step8 stepsAfter bytesOf allSound textOf eqBytes inRanges isStart isChar
     nameSort allChar isNameOf validName
 cases-right = refl

@@ -41,12 +41,13 @@ use Rattle.anomaly.specs.Note.{noteOf}
 use Rattle.anomaly.specs.declared.Note.{Note}
 use Rattle.anomaly.specs.Kept.{ofKind, keptNotes}
 use Rattle.anomaly.proofs.Laws.{keptNotes-of-kind}
+use Rattle.records.specs.Limits.{fileLimit, listedFile}
 use Rattle.listing_text.specs.Printed.{Printed}
 use Rattle.xml.specs.NCName.{validName}
 use Rattle.head.specs.Ask.{TextReads, contentAnswer}
 use Rattle.head.specs.Head.{openedOf, headLen}
-use Rattle.first_value.specs.Question.{firstAnswer}
-use Rattle.tables.specs.Keep.{nodeWidth, attributeWidth}
+use Rattle.first_value.specs.Question.{firstAnswer, FirstReads}
+use Rattle.records.specs.Words.{nodeWidth, attributeWidth, noteWidth}
 use Rattle.walk.specs.Settle.{Room}
 use Rattle.walk.specs.Reading.{reading, roomIn, zeroNote, Reads}
 use Rattle.claims.specs.Insertion.{ForeignChunk, noteFor, stretchNotes, placesIn, insertedFile, placeNotes, AllOf, BeginsOther, withNotes, left}
@@ -56,8 +57,8 @@ use Rattle.c_api.specs.Answers.{firstAnswerOf, AsksText}
 use Rattle.c_api.specs.declared.AxmlAnswer.{AxmlAnswer}
 use Rattle.c_api.specs.declared.AxmlTextAnswer.{AxmlTextAnswer}
 use Rattle.c_api.specs.declared.AxmlFirstAnswer.{AxmlFirstAnswer}
-use Rattle.claims.specs.InC.{noteWidth, leftInC, withNotesInC, RefusedInC, DoneInC, TextRefusedInC, TextDoneInC, FirstRefusedInC}
-use Rattle.claims.specs.Room.{isFullNumber, HasRoom, nodesFor, attributesFor, placesFor, listingLimit, listingRoom}
+use Rattle.claims.specs.InC.{leftInC, withNotesInC, RefusedInC, DoneInC, TextRefusedInC, TextDoneInC, FirstRefusedInC}
+use Rattle.claims.specs.Room.{isFullNumber, HasRoom, nodesFor, attributesFor, placesFor, listingRoom}
 use Rattle.claims.specs.Cleared.{RefusedZero, DoneZero, TextRefusedZero, TextDoneZero}
 use Rattle.claims.specs.Shape.{Structured}
 use Rattle.claims.specs.Readers.{Call, Reader, Meets, eventsOf, kindsOf, RefusesAll, Constant, ConstantOnRead, StopsAtStart}
@@ -88,9 +89,9 @@ pub content-unique : (f names area : List ℕ) (i : ℕ) (s s′ : List ℕ) →
 content-unique f names area i s s′ p q = p ∙ sym q
 
 module _ (f names area ns ats tag name : List ℕ) (nodes attributes : ℕ) where
-  pub first-unique : (r r′ : FirstAnswer) → r ≡ firstAnswer f names area ns ats tag name nodes attributes
-      → r′ ≡ firstAnswer f names area ns ats tag name nodes attributes → r ≡ r′
-  first-unique r r′ p q = p ∙ sym q
+  pub first-unique : (r r′ : FirstAnswer) → FirstReads f names area ns ats tag name nodes attributes r
+      → FirstReads f names area ns ats tag name nodes attributes r′ → r ≡ r′
+  first-unique r r′ p q = firstNumbersOf-unique r r′ (p .answer ∙ sym (q .answer))
 
 pub listing-unique : (text before : List ℕ) (r r′ : TextAnswer) (after after′ : List ℕ) → Printed text before r after → Printed text before r′ after′
     → (r ≡ r′) × (after ≡ after′)
@@ -116,7 +117,7 @@ first-numbers-unique a b e = firstNumbersOf-unique a b e
 -- A file reads with no refusal and no note, at a cap of at least 1; `places` are lists of complete foreign chunks: the first list stands before the
 -- first chunk that the walk meets behind the map, the next before the next, and one more at the end if the last chunk is whole and nothing follows it.
 module _ (r : Room) (f names area : List ℕ) (c : ReadCounts) (one : 1 ≤ r .cap) (done : reading r f names area .answer ≡ Done c) (none : c .notes ≡ 0)
-    (places : List (List ForeignChunk)) (few : length places ≤ placesIn f) (limit : length (insertedFile places f) ≤ 16777216) (r′ : Room) where
+    (places : List (List ForeignChunk)) (few : length places ≤ placesIn f) (limit : length (insertedFile places f) ≤ fileLimit) (r′ : Room) where
   -- Every table has room: starts, kept nodes and attributes are the same, word for word, and the notes are one for each stretch, up to the cap of each kind.
   pub insertion : HasRoom (reading r′ (insertedFile places f) names area .answer)
       → reading r′ (insertedFile places f) names area ≡ withNotes r′ (reading r f names area) c (keptNotes (r′ .cap) (placeNotes places))
@@ -145,7 +146,7 @@ module _ (r : Room) (f names area : List ℕ) (c : ReadCounts) (one : 1 ≤ r .c
 -- The same of two calls, whatever results the promise allows: `left` is an answer and what stands in the three tables.
 module _ (f names area ns ats : List ℕ) (os : List Note) (cap : ℕ) (c : ReadCounts) (ns₁ ats₁ : List ℕ) (os₁ : List Note) (one : 1 ≤ cap)
     (first : Reads f names area ns ats os cap (Done c) ns₁ ats₁ os₁) (none : c .notes ≡ 0) (places : List (List ForeignChunk))
-    (few : length places ≤ placesIn f) (limit : length (insertedFile places f) ≤ 16777216) (ns′ ats′ : List ℕ) (os′ : List Note) (cap′ : ℕ)
+    (few : length places ≤ placesIn f) (limit : length (insertedFile places f) ≤ fileLimit) (ns′ ats′ : List ℕ) (os′ : List Note) (cap′ : ℕ)
     (a : ReadAnswer) (ns₂ ats₂ : List ℕ) (os₂ : List Note) (second : Reads (insertedFile places f) names area ns′ ats′ os′ cap′ a ns₂ ats₂ os₂) where
   pub insertion-read : HasRoom a
       → left a ns₂ ats₂ os₂ ≡ withNotes (roomIn ns′ ats′ os′ cap′) (left (Done c) ns₁ ats₁ os₁) c (keptNotes cap′ (placeNotes places))
@@ -162,7 +163,7 @@ module _ (f names area ns ats : List ℕ) (os : List Note) (cap : ℕ) (c : Read
 
 -- Text, content and first value, asked of the longer file, are those of the file: of any two results that the promises allow.
 module _ (r : Room) (f names area : List ℕ) (c : ReadCounts) (one : 1 ≤ r .cap) (done : reading r f names area .answer ≡ Done c) (none : c .notes ≡ 0)
-    (places : List (List ForeignChunk)) (limit : length (insertedFile places f) ≤ 16777216) where
+    (places : List (List ForeignChunk)) (limit : length (insertedFile places f) ≤ fileLimit) where
   pub insertion-text : (before : List ℕ) (i : ℕ) (a a′ : TextAnswer) (after after′ : List ℕ) → TextReads f names area before i a after
       → TextReads (insertedFile places f) names area before i a′ after′ → (a′ ≡ a) × (after′ ≡ after)
   insertion-text = values.insertion-text r f names area c one done none places limit
@@ -171,8 +172,8 @@ module _ (r : Room) (f names area : List ℕ) (c : ReadCounts) (one : 1 ≤ r .c
   insertion-content = values.insertion-content r f names area c one done none places limit
 
   pub insertion-first : (ns ats tag name : List ℕ) (nodes attributes : ℕ) (a a′ : FirstAnswer)
-      → a ≡ firstAnswer f names area ns ats tag name nodes attributes
-      → a′ ≡ firstAnswer (insertedFile places f) names area ns ats tag name nodes attributes → a′ ≡ a
+      → FirstReads f names area ns ats tag name nodes attributes a → FirstReads (insertedFile places f) names area ns ats tag name nodes attributes a′
+      → a′ ≡ a
   insertion-first = values.insertion-first r f names area c one done none places limit
 
 -- with nothing put in it is the same file
@@ -208,11 +209,11 @@ pub read-suffices : (f names area ns ats : List ℕ) (os : List Note) (cap : ℕ
 read-suffices = room.read-suffices
 
 -- the room of a listing is such for all the lengths that it reads
-pub listing-suffices : (n : ℕ) → n ≤ listingLimit
+pub listing-suffices : (n : ℕ) → n ≤ listedFile
     → (nodesFor n ≤ listingRoom .nodes) × (attributesFor n ≤ listingRoom .attributes) × (placesFor (listingRoom .cap) ≤ listingRoom .notes)
 listing-suffices = room.listing-suffices
 
-pub read-listed-suffices : (f ns ats : List ℕ) (a : ReadAnswer) (ns′ ats′ : List ℕ) (os′ : List Note) → length f ≤ listingLimit
+pub read-listed-suffices : (f ns ats : List ℕ) (a : ReadAnswer) (ns′ ats′ : List ℕ) (os′ : List Note) → length f ≤ listedFile
     → length ns ≡ listingRoom .nodes → length ats ≡ listingRoom .attributes
     → Reads f [] [] ns ats (replicate (listingRoom .notes) zeroNote) (listingRoom .cap) a ns′ ats′ os′ → HasRoom a
 read-listed-suffices = room.read-listed-suffices
@@ -263,7 +264,7 @@ module _ (f names area ns ats tag name : List ℕ) (nodes attributes : ℕ) (a a
 -- insertion, of two calls of `axml_read`
 module _ (f names area ns ats ws : List ℕ) (cap : ℕ) (a : AxmlAnswer) (ns₁ ats₁ ws₁ : List ℕ) (one : 1 ≤ cap)
     (first : ReadsWords f names area ns ats ws cap a ns₁ ats₁ ws₁) (done : a .refusal ≡ 0) (none : a .notes ≡ 0) (places : List (List ForeignChunk))
-    (few : length places ≤ placesIn f) (limit : length (insertedFile places f) ≤ 16777216) (ns′ ats′ ws′ : List ℕ) (cap′ : ℕ) (a′ : AxmlAnswer)
+    (few : length places ≤ placesIn f) (limit : length (insertedFile places f) ≤ fileLimit) (ns′ ats′ ws′ : List ℕ) (cap′ : ℕ) (a′ : AxmlAnswer)
     (ns₂ ats₂ ws₂ : List ℕ) (second : ReadsWords (insertedFile places f) names area ns′ ats′ ws′ cap′ a′ ns₂ ats₂ ws₂) where
   pub c-insertion : isFullNumber (a′ .refusal) ≡ false
       → leftInC a′ ns₂ ats₂ ws₂ ≡ withNotesInC (length ns′) (length ats′) (length ws′) (leftInC a ns₁ ats₁ ws₁) (keptNotes cap′ (placeNotes places))

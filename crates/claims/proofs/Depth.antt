@@ -23,14 +23,14 @@ use Rattle.xml_elements.specs.declared.Turn.{Turn}
 use Rattle.xml_elements.specs.declared.Turn.the-variants.{Stop, Foreign, Met, Cut}
 use Rattle.xml_elements.specs.Chunk.{strideOf, attributesAt, trailingOf, attributeAt, turnOf}
 use Rattle.xml_elements.proofs.Laws.{cond-by}
+use Rattle.records.specs.Repeats.{Rule}
 use Rattle.events.specs.declared.Event.{Event}
 use Rattle.events.specs.declared.Event.the-variants.{Nothing, Open, Attribute, LeftOut, Close, Note, Refuse, Finish}
 use Rattle.events.specs.Events.{Names, Spot, when, isValid, hasOne, attributeBy, attributeEvent, attributesOf, leading, fromLead, fromOpen, fromName}
 use Rattle.events.specs.Events.{fromTrailing, fromSize, fromGap, cutShort, foreignNote, chunkYield, cutYield, yieldOf, chunkNext, cutNext, nextOf}
 use Rattle.events.specs.Events.{lastOf, used, next, eventsOn}
 use Rattle.events.proofs.Model.{eventsOn-stop, eventsOn-step}
-use Rattle.tables.specs.Keep.{hasKey}
-use Rattle.walk.specs.Settle.{Tables, closedIn}
+use Rattle.walk.specs.Settle.{Tables, closedIn, repeated}
 use Rattle.walk.specs.Reading.{secondOf}
 use Rattle.claims.proofs.Places.{fits, stop-of}
 use Rattle.claims.specs.Counts.{notesIn}
@@ -200,22 +200,22 @@ closed-le [] d h = omega arith
 closed-le (k ∷ []) d h = omega arith
 closed-le (k ∷ j ∷ o) d h = omega arith
 
-module _ (same : ℕ → ℕ → Bool) where
-  grow-stack : (t : Tables) (e : Event) (d : ℕ) → length (t .stack) ≤ d + 1 → length (grow same t e .stack) ≤ deeper e d + 1
+module _ (rule : Rule) where
+  grow-stack : (t : Tables) (e : Event) (d : ℕ) → length (t .stack) ≤ d + 1 → length (grow rule t e .stack) ≤ deeper e d + 1
   grow-stack t Nothing d h = h
   grow-stack t (Open n x l) d h = omega arith
   grow-stack t (Attribute p a) d h =
       cond-by (λ (u : Tables). length (u .stack) ≤ d + 1) (eqb (length (t .nodes)) 0) (λ _. h)
-      (λ _. cond-by (λ (u : Tables). length (u .stack) ≤ d + 1) (hasKey same p (a .name .0) (drop (t .first) (t .attributes))) (λ _. h) (λ _. h))
+      (λ _. cond-by (λ (u : Tables). length (u .stack) ≤ d + 1) (repeated rule t p a) (λ _. h) (λ _. h))
   grow-stack t (LeftOut n) d h = h
   grow-stack t Close d h = closed-le (t .stack) d h
   grow-stack t (Note x) d h = h
   grow-stack t (Refuse x) d h = h
   grow-stack t Finish d h = h
 
-  pub grown-stack : (es : List Event) (t : Tables) (d : ℕ) → length (t .stack) ≤ d + 1 → length (grown same t es .stack) ≤ deep es d + 1
+  pub grown-stack : (es : List Event) (t : Tables) (d : ℕ) → length (t .stack) ≤ d + 1 → length (grown rule t es .stack) ≤ deep es d + 1
   grown-stack [] t d h = h
-  grown-stack (e ∷ es) t d h = grown-stack es (grow same t e) (deeper e d) (grow-stack t e d h)
+  grown-stack (e ∷ es) t d h = grown-stack es (grow rule t e) (deeper e d) (grow-stack t e d h)
 
 -- where one is open at most, there is no second
 pub second-none : (o : List ℕ) → length o ≤ 1 → secondOf o ≡ 0

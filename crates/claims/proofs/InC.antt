@@ -3,9 +3,9 @@
 use Prim.Native.Nat.{ℕ, zero, suc, _+_, _-_, _*_, _/_, _%_, _≤_}
 use native.Mathlib.Omega.{arith}
 use mathlib.Core.Path.{_≡_, refl, sym, _∙_, ap, subst}
-use mathlib.Core.List.{List, [], _∷_, _++_, append-assoc, map}
+use mathlib.Core.List.{List, [], _∷_, _++_, map}
 use mathlib.Core.Bool.{false}
-use lib.ListN.{length, take, drop, replicate, length-append, length-replicate, length-map, replicate-append-replicate}
+use lib.ListN.{length, drop, replicate, length-append, length-replicate}
 use Rattle.anomaly.specs.Note.{noteOf}
 use Rattle.anomaly.specs.Kept.{keptNotes}
 use Rattle.anomaly.specs.declared.Note.{Note}
@@ -22,11 +22,13 @@ use Rattle.errors.specs.declared.TextAnswer.{TextAnswer}
 use Rattle.errors.specs.declared.TextAnswer.the-variants as textIs
 use Rattle.errors.specs.declared.FirstAnswer.{FirstAnswer}
 use Rattle.errors.specs.declared.FirstAnswer.the-variants as firstIs
+use Rattle.records.specs.Limits.{fileLimit}
 use Rattle.head.specs.Ask.{TextReads, textAnswer}
-use Rattle.tables.specs.Keep.{nodeWidth, attributeWidth}
+use Rattle.records.specs.Words.{nodeWidth, attributeWidth, noteWidth}
 use Rattle.walk.specs.Settle.{Room}
 use Rattle.walk.specs.Reading.{Reading, reading, roomIn, zeroNote, Reads}
 use Rattle.c_api.specs.Words.{wordsOf, wordRoom, answerOf, ReadsWords}
+use Rattle.c_api.proofs.Noting.{length-words, words-behind}
 use Rattle.c_api.specs.Answers.{textAnswerOf, firstAnswerOf, AsksText}
 use Rattle.c_api.specs.declared.AxmlAnswer.{AxmlAnswer}
 use Rattle.c_api.specs.declared.AxmlTextAnswer.{AxmlTextAnswer}
@@ -34,29 +36,12 @@ use Rattle.c_api.specs.declared.AxmlFirstAnswer.{AxmlFirstAnswer}
 use Rattle.claims.specs.Cleared.{ZeroBehind}
 use Rattle.claims.specs.Insertion.{ForeignChunk, placesIn, insertedFile, placeNotes, withNotes}
 use Rattle.claims.specs.Room.{isFullNumber, HasRoom}
-use Rattle.claims.specs.InC.{noteWidth, LeftInC, leftInC, withNotesInC, RefusedInC, DoneInC, TextRefusedInC, TextDoneInC, FirstRefusedInC}
+use Rattle.claims.specs.InC.{LeftInC, leftInC, withNotesInC, RefusedInC, DoneInC, TextRefusedInC, TextDoneInC, FirstRefusedInC}
 use Rattle.claims.proofs.Foreign.{placeNotes-room}
 use Rattle.claims.proofs.Insertion as proved
 use Rattle.claims.proofs.Zeros as zeros
 
 -- ---- words of notes
-
-words-append : (os ps : List Note) → wordsOf (os ++ ps) ≡ wordsOf os ++ wordsOf ps
-unfolding wordsOf
-words-append [] ps = refl
-words-append (o ∷ os) ps = ap (λ (l : List ℕ). o .kind ∷ o .a ∷ o .b ∷ l) (words-append os ps)
-
-words-zeros : (n : ℕ) → wordsOf (replicate n zeroNote) ≡ replicate (noteWidth * n) 0
-unfolding wordsOf
-words-zeros zero = refl
-words-zeros (suc n) =
-    let e : noteWidth * suc n ≡ suc (suc (suc (noteWidth * n))) = omega arith in
-    ap (λ (l : List ℕ). 0 ∷ 0 ∷ 0 ∷ l) (words-zeros n) ∙ ap (λ (m : ℕ). replicate m 0) (sym e)
-
-words-length : (os : List Note) → length (wordsOf os) ≡ noteWidth * length os
-unfolding wordsOf
-words-length [] = refl
-words-length (o ∷ os) = omega (arith, words-length os)
 
 words-drop : (os : List Note) (t : List ℕ) (k : ℕ) → k ≤ length os → drop (noteWidth * k) (wordsOf os ++ t) ≡ wordsOf (drop k os) ++ t
 unfolding wordsOf
@@ -67,13 +52,8 @@ words-drop (o ∷ os) t (suc k) h =
     ap (λ (m : ℕ). drop m (wordsOf (o ∷ os) ++ t)) e ∙ words-drop os t k (omega arith)
 
 -- notes of zeros, and zeros behind them
-words-behind : (os : List Note) (m n k : ℕ) → noteWidth * m + n ≡ k → wordsOf (os ++ replicate m zeroNote) ++ replicate n 0 ≡ wordsOf os ++ replicate k 0
-words-behind os m n k e =
-    ap (λ (l : List ℕ). l ++ replicate n 0) (words-append os (replicate m zeroNote))
-    ∙ append-assoc (wordsOf os) (wordsOf (replicate m zeroNote)) (replicate n 0)
-    ∙ ap (λ (l : List ℕ). wordsOf os ++ (l ++ replicate n 0)) (words-zeros m)
-    ∙ ap (λ (l : List ℕ). wordsOf os ++ l) (replicate-append-replicate (noteWidth * m) n 0)
-    ∙ ap (λ (j : ℕ). wordsOf os ++ replicate j 0) e
+zeros-behind : (os : List Note) (m n k : ℕ) → noteWidth * m + n ≡ k → wordsOf (os ++ replicate m zeroNote) ++ replicate n 0 ≡ wordsOf os ++ replicate k 0
+zeros-behind os m n k e = sym (words-behind os m n) ∙ ap (λ (j : ℕ). wordsOf os ++ replicate j 0) e
 
 -- ---- an answer by its numbers
 
@@ -151,7 +131,7 @@ module _ (f names area ns ats ws : List ℕ) (cap : ℕ) where
               nodeWords = h .nodes ∙ z .nodeWords;
               attributeWords = h .attributes ∙ z .attributeWords;
               noteWords = h .notes ∙ ap (λ (o : List Note). wordsOf o ++ replicate (length ws % noteWidth) 0) (z .noteRecords)
-                  ∙ words-behind [] (length places) (length ws % noteWidth) (length ws) (omega (arith, many));
+                  ∙ zeros-behind [] (length places) (length ws % noteWidth) (length ws) (omega (arith, many));
             }
 
     pub done-zeros : a .refusal ≡ 0 → DoneInC a ns ats ws ns′ ats′ ws′
@@ -170,12 +150,12 @@ module _ (f names area ns ats ws : List ℕ) (cap : ℕ) where
           attributeWords = rw (h .attributes, ap (λ (x : AxmlAnswer). x .attributes) q) (z .attributeWords);
           noteWords = record {
             long = ap length (h .notes) ∙ length-append (wordsOf os) t
-                ∙ omega (arith, words-length os, z .noteRecords .long, many, length-replicate {A = ℕ} (length ws % noteWidth) 0);
+                ∙ omega (arith, length-words os, z .noteRecords .long, many, length-replicate {A = ℕ} (length ws % noteWidth) 0);
             there = omega (arith, k, z .noteRecords .there, many);
             zeros = ap (drop (noteWidth * a .notes)) (h .notes) ∙ ap (λ (n : ℕ). drop (noteWidth * n) (wordsOf os ++ t)) k
                 ∙ words-drop os t (c .notes) (omega (arith, z .noteRecords .there, z .noteRecords .long))
                 ∙ ap (λ (o : List Note). wordsOf o ++ t) (z .noteRecords .zeros)
-                ∙ words-behind [] (length places - c .notes) (length ws % noteWidth) (length ws - noteWidth * a .notes)
+                ∙ zeros-behind [] (length places - c .notes) (length ws % noteWidth) (length ws - noteWidth * a .notes)
                 (omega (arith, k, many, z .noteRecords .there));
           };
         }
@@ -200,7 +180,7 @@ module _ (f names area ns ats ws : List ℕ) (cap : ℕ) (a : AxmlAnswer) (ns₁
   unfolding numbersOf
   no-notes = sym (ap (λ (x : AxmlAnswer). x .notes) told) ∙ none
 
-  module _ (places : List (List ForeignChunk)) (few : length places ≤ placesIn f) (limit : length (insertedFile places f) ≤ 16777216)
+  module _ (places : List (List ForeignChunk)) (few : length places ≤ placesIn f) (limit : length (insertedFile places f) ≤ fileLimit)
       (ns′ ats′ ws′ : List ℕ) (cap′ : ℕ) (a′ : AxmlAnswer) (ns₂ ats₂ ws₂ : List ℕ)
       (second : ReadsWords (insertedFile places f) names area ns′ ats′ ws′ cap′ a′ ns₂ ats₂ ws₂) where
     abbrev longer : Reading
@@ -228,7 +208,7 @@ module _ (f names area ns ats ws : List ℕ) (cap : ℕ) (a : AxmlAnswer) (ns₁
         let n : ns₂ ≡ _ = second .nodes ∙ ap (λ (x : Reading). x .nodes) e in
         let m : ats₂ ≡ _ = second .attributes ∙ ap (λ (x : Reading). x .attributes) e in
         let o : ws₂ ≡ _ = second .notes ∙ ap (λ (x : Reading). wordsOf (x .notes) ++ replicate (length ws′ % noteWidth) 0) e
-        ∙ words-behind (map noteOf ks) (length ws′ / noteWidth - length ks) (length ws′ % noteWidth) (length ws′ - noteWidth * length ks)
+        ∙ zeros-behind (map noteOf ks) (length ws′ / noteWidth - length ks) (length ws′ % noteWidth) (length ws′ - noteWidth * length ks)
         (omega (arith, fits)) in
         let left : leftInC a′ ns₂ ats₂ ws₂ ≡ with (answerOf (numbersOf (Done c))) (shorter .nodes) (shorter .attributes) = rw (q, n, m, o) in
         left ∙ ap (λ (x : AxmlAnswer). with x (shorter .nodes) (shorter .attributes)) (sym told)

@@ -13,24 +13,26 @@ use Rattle.anomaly.specs.Kept.{keptNotes}
 use Rattle.anomaly.specs.declared.ResAnomaly.{ResAnomaly}
 use Rattle.errors.specs.declared.ReadAnswer.the-variants.{Done}
 use Rattle.errors.specs.declared.ReadCounts.{ReadCounts}
+use Rattle.records.specs.Limits.{fileLimit}
 use Rattle.head.specs.declared.HeadEnd.the-variants.{Whole}
 use Rattle.head.specs.declared.Opened.{Opened}
 use Rattle.head.specs.Head.{openedOf, headLen, tablesIn, bodyIn}
 use Rattle.events.specs.declared.Event.{Event}
 use Rattle.events.specs.Events.{Names, namesIn, fileEvents}
 use Rattle.walk.specs.Settle.{Room, Tables, Out, going, refused, settle, nothingYet}
-use Rattle.tables.specs.Keep.{nodeWidth, attributeWidth}
+use Rattle.records.specs.Words.{nodeWidth, attributeWidth}
 use Rattle.walk.specs.Reading.{Reading, secondOf, nodesKept, attributesKept, succeeds, finalOf, settledIn, reading}
 use Rattle.claims.specs.Insertion.{ForeignChunk, placesIn, inserted, insertedFile, placeNotes, withNotes}
 use Rattle.claims.specs.Room.{HasRoom}
 use Rattle.claims.specs.Counts.{notesIn}
 use Rattle.claims.proofs.Erased.{othersIn}
-use Rattle.claims.proofs.Grown.{bare, grown, Sound}
+use Rattle.claims.proofs.Grown.{bare, grown}
 use Rattle.claims.proofs.Depth.{deep, grown-stack, second-none}
 use Rattle.claims.proofs.Pushed.{Going}
-use Rattle.claims.proofs.Settled.{Settles, empty, settled, settled-sound, Comes, settle-beside, beside-roomy}
+use Rattle.claims.proofs.StructureTables.{Shaped, settled-shaped, kept-in}
+use Rattle.claims.proofs.Settled.{Settles, empty, settled, Comes, settle-beside, beside-roomy}
 use Rattle.claims.proofs.Longer.{longer-opened, longer-tables, longer-body, longer-head, whole-of, deep-file, longer-others, longer-notes}
-use Rattle.claims.proofs.Success.{Success, success, reading-of, succeeds-beside, none-kept, keptNodes, keptAttributes, again-nodes, again-attributes}
+use Rattle.claims.proofs.Success.{Success, KeptThere, success, reading-of, succeeds-beside, none-kept, keptNodes, keptAttributes, again-nodes, again-attributes}
 
 true-false : true ≡ false → ⊥
 true-false e = let z : _≡_ {A = ℕ} 0 1 = cc in omega arith
@@ -55,8 +57,8 @@ module _ (r : Room) (f names area : List ℕ) (c : ReadCounts) (one : 1 ≤ r .c
   abbrev es : List Event
   es = fileEvents N o t l
 
-  told : Settles (N .same) r empty es (s .tables)
-  told = settled (N .same) r es (s .tables) (s .settles)
+  told : Settles (N .repeats) r empty es (s .tables)
+  told = settled (N .repeats) r es (s .tables) (s .settles)
 
   no-notes : notesIn es ≡ []
   no-notes =
@@ -74,39 +76,44 @@ module _ (r : Room) (f names area : List ℕ) (c : ReadCounts) (one : 1 ≤ r .c
   -- no second element is open in the end
   no-second : secondOf (s .tables .stack) ≡ 0
   no-second =
-      let e : grown (N .same) (bare empty) es .stack ≡ s .tables .stack = ap (λ (u : Tables). u .stack) (sym (told .tree)) in
+      let e : grown (N .repeats) (bare empty) es .stack ≡ s .tables .stack = ap (λ (u : Tables). u .stack) (sym (told .tree)) in
       let d : deep es 0 ≡ 0 = deep-file N o t head-whole l no-notes in
-      let h : length (grown (N .same) (bare empty) es .stack) ≤ deep es 0 + 1 = grown-stack (N .same) es (bare empty) 0 (omega arith) in
+      let h : length (grown (N .repeats) (bare empty) es .stack) ≤ deep es 0 + 1 = grown-stack (N .repeats) es (bare empty) 0 (omega arith) in
       second-none (s .tables .stack) (rw (← e) (omega (arith, d, h)))
 
   -- so nothing is dropped: all starts and all attributes are kept
   pub nothing-dropped : c .nodes ≡ c .starts
   nothing-dropped = rw (← s .counts, no-second)
 
-  sound : Sound (bare (s .tables))
-  sound = settled-sound (N .same) r es (s .tables) (s .settles)
+  shaped : Shaped r (s .tables)
+  shaped = rw (s .settles) at (settled-shaped r (N .repeats) es)
+
+  there : KeptThere (s .tables)
+  there =
+      let k = kept-in r (s .tables) shaped in
+      record { nodes = omega (arith, k .nodes, shaped .nodes); attributes = omega (arith, k .attributes, shaped .attributes) }
 
   all-nodes : length (s .tables .nodes) ≡ nodeWidth * c .nodes
   all-nodes =
-      let e : length (s .tables .nodes) ≡ nodeWidth * nodesKept (s .tables) = rw no-second (sym (sound .whole)) in
+      let e : length (s .tables .nodes) ≡ nodeWidth * nodesKept (s .tables) = rw no-second (omega (arith, shaped .nodes)) in
       e ∙ ap (λ (d : ReadCounts). nodeWidth * d .nodes) (s .counts)
 
   all-attributes : length (s .tables .attributes) ≡ attributeWidth * c .attributes
   all-attributes =
-      let e : length (s .tables .attributes) ≡ attributeWidth * attributesKept (s .tables) = rw no-second (sym (sound .even)) in
+      let e : length (s .tables .attributes) ≡ attributeWidth * attributesKept (s .tables) = rw no-second (omega (arith, shaped .attributes)) in
       e ∙ ap (λ (d : ReadCounts). attributeWidth * d .attributes) (s .counts)
 
-  module _ (places : List (List ForeignChunk)) (few : length places ≤ placesIn f) (limit : length (insertedFile places f) ≤ 16777216) (r′ : Room) where
+  module _ (places : List (List ForeignChunk)) (few : length places ≤ placesIn f) (limit : length (insertedFile places f) ≤ fileLimit) (r′ : Room) where
     abbrev es′ : List Event
     es′ = fileEvents N o t (inserted places l)
 
     abbrev ns : List ResAnomaly
     ns = keptNotes (r′ .cap) (placeNotes places)
 
-    longer : reading r′ (insertedFile places f) names area ≡ finalOf r′ (settle (N .same) r′ nothingYet es′)
+    longer : reading r′ (insertedFile places f) names area ≡ finalOf r′ (settle (N .repeats) r′ nothingYet es′)
     longer = reading-of r′ (insertedFile places f) names area limit (s .good) ∙ ap (finalOf r′) same
       where
-        same : settledIn r′ (insertedFile places f) names area (openedOf (insertedFile places f)) ≡ settle (N .same) r′ nothingYet es′
+        same : settledIn r′ (insertedFile places f) names area (openedOf (insertedFile places f)) ≡ settle (N .repeats) r′ nothingYet es′
         same =
             rw (
               longer-opened f (s .short) head-whole places,
@@ -124,13 +131,13 @@ module _ (r : Room) (f names area : List ℕ) (c : ReadCounts) (one : 1 ≤ r .c
     pub insertion : HasRoom (reading r′ (insertedFile places f) names area .answer)
         → reading r′ (insertedFile places f) names area ≡ withNotes r′ (reading r f names area) c ns
     insertion room =
-        go (settle (N .same) r′ nothingYet es′) longer (settle-beside (N .same) r es (s .tables) (s .settles) r′ es′ others)
+        go (settle (N .repeats) r′ nothingYet es′) longer (settle-beside (N .repeats) r es (s .tables) (s .settles) r′ es′ others)
       where
-        go : (x : Out) → reading r′ (insertedFile places f) names area ≡ finalOf r′ x → Comes (N .same) r es (s .tables) (s .settles) r′ es′ others x
+        go : (x : Out) → reading r′ (insertedFile places f) names area ≡ finalOf r′ x → Comes (N .repeats) r es (s .tables) (s .settles) r′ es′ others x
             → reading r′ (insertedFile places f) names area ≡ withNotes r′ (reading r f names area) c ns
         go (refused x) e full = absurd (true-false (sym full ∙ (rw e at room)))
         go (going u) e b =
-            e ∙ succeeds-beside r r′ (s .tables) u ns (b .tree) (b .notes ∙ rw notes) sound
+            e ∙ succeeds-beside r r′ (s .tables) u ns (b .tree) (b .notes ∙ rw notes) there
             ∙ ap (λ (d : ReadCounts). withNotes r′ (succeeds r (s .tables)) d ns) (s .counts) ∙ ap (λ (x : Reading). withNotes r′ x c ns) (sym (s .whole))
 
     -- places for the records that the first reading kept, and for the notes, are room
@@ -138,10 +145,10 @@ module _ (r : Room) (f names area : List ℕ) (c : ReadCounts) (one : 1 ≤ r .c
         → HasRoom (reading r′ (insertedFile places f) names area .answer)
     insertion-room n a m =
         rw longer
-        (go (settle (N .same) r′ nothingYet es′)
-        (beside-roomy (N .same) r es (s .tables) (s .settles) r′ es′ others (rw all-nodes n) (rw all-attributes a) (rw notes m)))
+        (go (settle (N .repeats) r′ nothingYet es′)
+        (beside-roomy (N .repeats) r es (s .tables) (s .settles) r′ es′ others (rw all-nodes n) (rw all-attributes a) (rw notes m)))
       where
-        go : (x : Out) → Going (N .same) r′ x → HasRoom (finalOf r′ x .answer)
+        go : (x : Out) → Going (N .repeats) r′ x → HasRoom (finalOf r′ x .answer)
         go (going u) g = tt
         go (refused x) g = absurd g
 
@@ -153,10 +160,10 @@ module _ (r : Room) (f names area : List ℕ) (c : ReadCounts) (one : 1 ≤ r .c
         let e = insertion room in (
           ap (λ (x : Reading). x .nodes) e ∙ ap (λ (m : ℕ). keptNodes m (reading r f names area) c) n
               ∙ ap (λ (x : Reading). keptNodes (r .nodes) x c) (s .whole)
-              ∙ ap (keptNodes (r .nodes) (succeeds r (s .tables))) (sym (s .counts)) ∙ again-nodes r (s .tables) sound
+              ∙ ap (keptNodes (r .nodes) (succeeds r (s .tables))) (sym (s .counts)) ∙ again-nodes r (s .tables) there
               ∙ sym (ap (λ (x : Reading). x .nodes) (s .whole)),
           ap (λ (x : Reading). x .attributes) e ∙ ap (λ (m : ℕ). keptAttributes m (reading r f names area) c) a
               ∙ ap (λ (x : Reading). keptAttributes (r .attributes) x c) (s .whole)
-              ∙ ap (keptAttributes (r .attributes) (succeeds r (s .tables))) (sym (s .counts)) ∙ again-attributes r (s .tables) sound
+              ∙ ap (keptAttributes (r .attributes) (succeeds r (s .tables))) (sym (s .counts)) ∙ again-attributes r (s .tables) there
               ∙ sym (ap (λ (x : Reading). x .attributes) (s .whole)),
         )

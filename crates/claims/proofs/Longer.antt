@@ -12,6 +12,7 @@ use lib.ListN.{length, take, drop, length-drop, length-take, take-append-drop}
 use lib.Seq.{length-take-le, take-at, drop-at}
 use lib.Dec.{ltb}
 use Rattle.anomaly.specs.declared.ResAnomaly.{ResAnomaly}
+use Rattle.records.specs.Limits.{fileLimit}
 use Rattle.head.specs.declared.HeadEnd.{HeadEnd}
 use Rattle.head.specs.declared.HeadEnd.the-variants.{Whole, TooSmall, HeaderSize, PoolShort, MapShort}
 use Rattle.head.specs.declared.Opened.{Opened}
@@ -47,7 +48,7 @@ whole-long f w = go (ltb (length f) 8) refl
         let s : openedOf f .end ≡ TooSmall (length f) = ap (λ (o : Opened). o .end) (openedOf-small f (ltb-true (length f) 8 e)) in
         absurd (subst IsWhole (sym w ∙ s) tt)
 
-pub head-fits : (f : List ℕ) → length f ≤ 16777216 → openedOf f .end ≡ Whole → 8 + headLen (openedOf f .head) ≤ length f
+pub head-fits : (f : List ℕ) → length f ≤ fileLimit → openedOf f .end ≡ Whole → 8 + headLen (openedOf f .head) ≤ length f
 head-fits f short w =
     let h = openedOf f .head in
     let ids : headLen h ≤ length (tablesIn f h) = openedOf-fits f short (rw w tt) .ids in
@@ -56,7 +57,7 @@ head-fits f short w =
 
 -- ---- the longer file
 
-module _ (f : List ℕ) (short : length f ≤ 16777216) (w : openedOf f .end ≡ Whole) (places : List (List ForeignChunk)) where
+module _ (f : List ℕ) (short : length f ≤ fileLimit) (w : openedOf f .end ≡ Whole) (places : List (List ForeignChunk)) where
   abbrev c : List ℕ
   c = take (8 + headLen (openedOf f .head)) f
 

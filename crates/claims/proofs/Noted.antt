@@ -16,19 +16,18 @@ use lib.Dec.{eqb}
 use Rattle.anomaly.specs.Note.{kindIndex, noteOf}
 use Rattle.anomaly.specs.Kept.{isDue, counted, keptFrom, keptNotes, ofKind as ofPlace}
 use Rattle.anomaly.specs.declared.ResAnomaly.{ResAnomaly}
-use Rattle.anomaly.specs.declared.ResAnomaly.the-variants.{StringPoolGarbageChunk, StringCountMismatch, StringOffsetsOutOfBounds, NonXmlChunk}
-use Rattle.anomaly.specs.declared.ResAnomaly.the-variants.{XmlNodeHeaderSize, UnknownChunk, AttributeStartShifted, AttributeSizeMismatch}
-use Rattle.anomaly.specs.declared.ResAnomaly.the-variants.{ElementTrailingBytes, InvalidElementName, InvalidAttributeName, TruncatedXml, UnclosedElements}
 use Rattle.anomaly.proofs.Laws.{keptFrom-due, keptFrom-past, keptNotes-of-kind-le}
+use Rattle.anomaly.proofs.Numbers.{kind-place}
+use Rattle.records.specs.Repeats.{Rule}
 use Rattle.events.specs.declared.Event.{Event}
 use Rattle.walk.specs.Settle.{Room, Tables, going, settle, nothingYet}
 use Rattle.claims.specs.Counts.{notesIn}
 use Rattle.claims.specs.Shape.{ofKind}
 use Rattle.claims.proofs.Settled.{settled}
 
-pub settled-notes : (same : ℕ → ℕ → Bool) (r : Room) (es : List Event) (t : Tables) → settle same r nothingYet es ≡ going t
+pub settled-notes : (rule : Rule) (r : Room) (es : List Event) (t : Tables) → settle rule r nothingYet es ≡ going t
     → t .notes ≡ map noteOf (keptNotes (r .cap) (notesIn es))
-settled-notes same r es t e = settled same r es t e .notes
+settled-notes rule r es t e = settled rule r es t e .notes
 
 -- ---- all anomalies, and those that are kept
 
@@ -73,25 +72,6 @@ pub kept-le : (cap : ℕ) (l : List ResAnomaly) → length (keptNotes cap l) ≤
 kept-le cap l = keptFrom-le cap _ l
 
 -- ---- numbers and places of kinds
-
-kindIndex-kind : (x : ResAnomaly) → noteOf x .kind ≡ kindIndex x
-unfolding noteOf kindIndex
-kindIndex-kind (StringPoolGarbageChunk chunk-type skipped) = refl
-kindIndex-kind (StringCountMismatch declared actual) = refl
-kindIndex-kind (StringOffsetsOutOfBounds count) = refl
-kindIndex-kind (NonXmlChunk chunk-type) = refl
-kindIndex-kind (XmlNodeHeaderSize header-size) = refl
-kindIndex-kind (UnknownChunk chunk-type) = refl
-kindIndex-kind (AttributeStartShifted attribute-start) = refl
-kindIndex-kind (AttributeSizeMismatch attribute-size) = refl
-kindIndex-kind (ElementTrailingBytes len) = refl
-kindIndex-kind (InvalidElementName name has-text) = refl
-kindIndex-kind (InvalidAttributeName name) = refl
-kindIndex-kind TruncatedXml = refl
-kindIndex-kind (UnclosedElements count) = refl
-
-pub kind-place : (x y : ResAnomaly) → eqb (noteOf x .kind) (noteOf y .kind) ≡ eqb (kindIndex x) (kindIndex y)
-kind-place x y = rw (kindIndex-kind x, kindIndex-kind y)
 
 pub number-of : (x : ResAnomaly) (l : List ResAnomaly) → ofKind (noteOf x .kind) (map noteOf l) ≡ length (ofPlace (kindIndex x) l)
 unfolding ofPlace

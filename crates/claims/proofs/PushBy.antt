@@ -22,8 +22,9 @@ use Rattle.xml_elements.specs.declared.XmlAttributeElement.{XmlAttributeElement
 use Rattle.xml_elements.proofs.Laws.{cond-by}
 use Rattle.events.specs.declared.Event.{Event}
 use Rattle.events.specs.declared.Event.the-variants.{Nothing, Open, Attribute, LeftOut, Close, Note, Refuse, Finish}
-use Rattle.tables.specs.Keep.{hasKey, nodeWidth, attributeWidth}
-use Rattle.walk.specs.Settle.{Room, Tables, Out, going, refused, push, settle, opened, closed, kept, noted}
+use Rattle.records.specs.Words.{nodeWidth, attributeWidth}
+use Rattle.records.specs.Repeats.{Rule}
+use Rattle.walk.specs.Settle.{Room, Tables, Out, going, refused, push, settle, opened, closed, kept, noted, repeated}
 use Rattle.claims.specs.Counts.{isOpen, stepped, opensAs, notesIn}
 
 abbrev pub InOut : (Tables → Type 0) → (Refusal → Type 0) → Out → Type 0
@@ -88,8 +89,8 @@ pub record Stops (r : Room) (I : List Event → Tables → Type 0) (S : Refusal 
 
 -- ---- and then
 
-module _ (same : ℕ → ℕ → Bool) (r : Room) (I : List Event → Tables → Type 0) (S : Refusal → Type 0) (goes : Goes r I) (stops : Stops r I S) where
-  push-by : (t : Tables) (e : Event) (es : List Event) → I (e ∷ es) t → InOut (I es) S (push same r (going t) e)
+module _ (rule : Rule) (r : Room) (I : List Event → Tables → Type 0) (S : Refusal → Type 0) (goes : Goes r I) (stops : Stops r I S) where
+  push-by : (t : Tables) (e : Event) (es : List Event) → I (e ∷ es) t → InOut (I es) S (push rule r (going t) e)
   push-by t Nothing es h = goes .idles t Nothing es tt h
   push-by t Finish es h = goes .idles t Finish es tt h
   push-by t (LeftOut n) es h = goes .idles t (LeftOut n) es tt h
@@ -100,7 +101,7 @@ module _ (same : ℕ → ℕ → Bool) (r : Room) (I : List Event → Tables →
       (λ e. goes .opens t es n f l (leb-true _ _ e) h) (λ e. stops .nodes t es n f l (leb-false _ _ e) h)
   push-by t (Attribute p a) es h =
       cond-by (InOut (I es) S) (eqb (length (t .nodes)) 0) (λ e. goes .idles t (Attribute p a) es tt h)
-      (λ n. cond-by (InOut (I es) S) (hasKey same p (a .name .0) (drop (t .first) (t .attributes))) {x = going t}
+      (λ n. cond-by (InOut (I es) S) (repeated rule t p a) {x = going t}
       {y = cond (leb (length (t .attributes) + attributeWidth) (r .attributes)) (going (kept t p a)) (refused (AttributesFull (r .attributes / attributeWidth)))}
       (λ e. goes .idles t (Attribute p a) es tt h)
       (λ k. cond-by (InOut (I es) S) (leb (length (t .attributes) + attributeWidth) (r .attributes)) {x = going (kept t p a)}
@@ -112,17 +113,17 @@ module _ (same : ℕ → ℕ → Bool) (r : Room) (I : List Event → Tables →
       (λ e. goes .notes t es x (ltb-true _ _ d) (ltb-true _ _ e) h) (λ e. stops .notes t es x (ltb-true _ _ d) (ltb-false _ _ e) h))
       (λ d. goes .past t es x d h)
 
-  pub settle-by : (o : Out) (es : List Event) → InOut (I es) S o → InOut (I []) S (settle same r o es)
+  pub settle-by : (o : Out) (es : List Event) → InOut (I es) S o → InOut (I []) S (settle rule r o es)
   unfolding settle
   settle-by (going t) [] h = h
   settle-by (refused x) [] h = h
   settle-by (refused x) (e ∷ es) h = settle-by (refused x) es h
-  settle-by (going t) (e ∷ es) h = settle-by (push same r (going t) e) es (push-by t e es h)
+  settle-by (going t) (e ∷ es) h = settle-by (push rule r (going t) e) es (push-by t e es h)
 
-pub settle-in : (same : ℕ → ℕ → Bool) (r : Room) (I : List Event → Tables → Type 0) → Goes r I → (o : Out) (es : List Event) → InTables (I es) o
-    → InTables (I []) (settle same r o es)
-settle-in same r I goes o es h =
-    settle-by same r I Anything goes (record {
+pub settle-in : (rule : Rule) (r : Room) (I : List Event → Tables → Type 0) → Goes r I → (o : Out) (es : List Event) → InTables (I es) o
+    → InTables (I []) (settle rule r o es)
+settle-in rule r I goes o es h =
+    settle-by rule r I Anything goes (record {
       refuses = λ t es x h. tt;
       nodes = λ t es n f l g h. tt;
       attributes = λ t es p a g h. tt;

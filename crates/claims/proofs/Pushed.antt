@@ -18,8 +18,9 @@ use Rattle.errors.specs.declared.Refusal.{Refusal}
 use Rattle.xml_elements.proofs.Laws.{cond-by}
 use Rattle.events.specs.declared.Event.{Event}
 use Rattle.events.specs.declared.Event.the-variants.{Nothing, Open, Attribute, LeftOut, Close, Note, Refuse, Finish}
-use Rattle.tables.specs.Keep.{nodeWidth, attributeWidth, hasKey}
-use Rattle.walk.specs.Settle.{Room, Tables, Out, going, refused, opened, kept, push}
+use Rattle.records.specs.Words.{nodeWidth, attributeWidth}
+use Rattle.records.specs.Repeats.{Rule}
+use Rattle.walk.specs.Settle.{Room, Tables, Out, going, refused, opened, kept, push, repeated}
 use Rattle.claims.specs.Room.{isFull}
 use Rattle.claims.specs.Counts.{noted}
 use Rattle.claims.proofs.Erased.{othersIn}
@@ -71,7 +72,7 @@ stay-from (Note x ∷ es) h = (tt, stay-from es h)
 stay-from (Refuse x ∷ es) h = absurd (h .0)
 stay-from (Finish ∷ es) h = (tt, stay-from es (h .1))
 
-module _ (same : ℕ → ℕ → Bool) (r : Room) where
+module _ (rule : Rule) (r : Room) where
   -- the notes that are kept of those to come
   abbrev pub keptOf : Tables → List ResAnomaly → List ResAnomaly
   keptOf t ns = keptFrom (r .cap) (t .counts) ns
@@ -79,7 +80,7 @@ module _ (same : ℕ → ℕ → Bool) (r : Room) where
   -- ---- one event
 
   pub record Pushed (t : Tables) (e : Event) (t′ : Tables) : Type 0 where
-    pub tree : bare t′ ≡ grow same (bare t) e
+    pub tree : bare t′ ≡ grow rule (bare t) e
     pub notes : t′ .notes ≡ t .notes ++ map noteOf (keptOf t (noted e))
     pub counts : (ns : List ResAnomaly) → keptOf t (noted e ++ ns) ≡ keptOf t (noted e) ++ keptOf t′ ns
     pub stays : Stays e
@@ -91,7 +92,7 @@ module _ (same : ℕ → ℕ → Bool) (r : Room) where
   Tells t e (refused x) = Stays e → Full x
 
   -- an event that changes nothing
-  idle : (t : Tables) (e : Event) → bare t ≡ grow same (bare t) e → noted e ≡ [] → Stays e → Pushed t e t
+  idle : (t : Tables) (e : Event) → bare t ≡ grow rule (bare t) e → noted e ≡ [] → Stays e → Pushed t e t
   unfolding keptFrom
   idle t e g n s = record {
     tree = g;
@@ -102,7 +103,7 @@ module _ (same : ℕ → ℕ → Bool) (r : Room) where
     attributes = λ h. h;
   }
 
-  push-open : (t : Tables) (name fixed : ℕ) {e : Event} → grow same (bare t) e ≡ opened (bare t) name fixed → noted e ≡ [] → Stays e
+  push-open : (t : Tables) (name fixed : ℕ) {e : Event} → grow rule (bare t) e ≡ opened (bare t) name fixed → noted e ≡ [] → Stays e
       → length (t .nodes) + nodeWidth ≤ r .nodes → Pushed t e (opened t name fixed)
   unfolding keptFrom
   push-open t name fixed g n s room = record {
@@ -114,7 +115,7 @@ module _ (same : ℕ → ℕ → Bool) (r : Room) where
     attributes = λ h. h;
   }
 
-  pub push-tells : (t : Tables) (e : Event) → Tells t e (push same r (going t) e)
+  pub push-tells : (t : Tables) (e : Event) → Tells t e (push rule r (going t) e)
   unfolding keptFrom numberOf
   push-tells t Nothing = idle t Nothing refl refl tt
   push-tells t Finish = idle t Finish refl refl tt
@@ -131,7 +132,7 @@ module _ (same : ℕ → ℕ → Bool) (r : Room) where
       A = Attribute p a
 
       key : Bool
-      key = hasKey same p (a .name .0) (drop (t .first) (t .attributes))
+      key = repeated rule t p a
 
       stored : eqb (length (t .nodes)) 0 ≡ false → key ≡ false → length (t .attributes) + attributeWidth ≤ r .attributes → Pushed t A (kept t p a)
       stored z k room = record {
@@ -144,15 +145,15 @@ module _ (same : ℕ → ℕ → Bool) (r : Room) where
       }
 
       room : eqb (length (t .nodes)) 0 ≡ false → key ≡ false → (b : Bool) → leb (length (t .attributes) + attributeWidth) (r .attributes) ≡ b
-          → Tells t A (push same r (going t) A)
+          → Tells t A (push rule r (going t) A)
       room z k true e = rw (z, k, e) (stored z k (leb-true _ _ e))
       room z k false e = rw (z, k, e) (λ s. refl)
 
-      there : eqb (length (t .nodes)) 0 ≡ false → (b : Bool) → key ≡ b → Tells t A (push same r (going t) A)
+      there : eqb (length (t .nodes)) 0 ≡ false → (b : Bool) → key ≡ b → Tells t A (push rule r (going t) A)
       there z true k = rw (z, k) (idle t A (rw (z, k)) refl tt)
       there z false k = room z k (leb (length (t .attributes) + attributeWidth) (r .attributes)) refl
 
-      none : (b : Bool) → eqb (length (t .nodes)) 0 ≡ b → Tells t A (push same r (going t) A)
+      none : (b : Bool) → eqb (length (t .nodes)) 0 ≡ b → Tells t A (push rule r (going t) A)
       none true z = rw z (idle t A (rw z) refl tt)
       none false z = there z key refl
   push-tells t (Note x) = due (ltb (getD (t .counts) (kindIndex x) 0) (r .cap)) refl
@@ -164,7 +165,7 @@ module _ (same : ℕ → ℕ → Bool) (r : Room) where
       past d = keptFrom-past (r .cap) (t .counts) x [] d
 
       place : ltb (getD (t .counts) (kindIndex x) 0) (r .cap) ≡ true → (b : Bool) → ltb (length (t .notes)) (r .notes) ≡ b
-          → Tells t (Note x) (push same r (going t) (Note x))
+          → Tells t (Note x) (push rule r (going t) (Note x))
       place d true e =
           rw (d, e) (record {
             tree = refl;
@@ -176,7 +177,7 @@ module _ (same : ℕ → ℕ → Bool) (r : Room) where
           })
       place d false e = rw (d, e) (λ s. refl)
 
-      due : (b : Bool) → ltb (getD (t .counts) (kindIndex x) 0) (r .cap) ≡ b → Tells t (Note x) (push same r (going t) (Note x))
+      due : (b : Bool) → ltb (getD (t .counts) (kindIndex x) 0) (r .cap) ≡ b → Tells t (Note x) (push rule r (going t) (Note x))
       due true d = place d (ltb (length (t .notes)) (r .notes)) refl
       due false d =
           rw d (record {
@@ -194,9 +195,9 @@ module _ (same : ℕ → ℕ → Bool) (r : Room) where
   Going (going t) = Unit {0}
   Going (refused x) = ⊥
 
-  pub push-roomy : (t : Tables) (e : Event) → Stays e → length (grow same (bare t) e .nodes) ≤ r .nodes
-      → length (grow same (bare t) e .attributes) ≤ r .attributes → length (t .notes) + length (keptOf t (noted e)) ≤ r .notes
-      → Going (push same r (going t) e)
+  pub push-roomy : (t : Tables) (e : Event) → Stays e → length (grow rule (bare t) e .nodes) ≤ r .nodes
+      → length (grow rule (bare t) e .attributes) ≤ r .attributes → length (t .notes) + length (keptOf t (noted e)) ≤ r .notes
+      → Going (push rule r (going t) e)
   unfolding keptFrom
   push-roomy t Nothing s n a o = tt
   push-roomy t Finish s n a o = tt
@@ -210,20 +211,20 @@ module _ (same : ℕ → ℕ → Bool) (r : Room) where
       A = Attribute p x
 
       key : Bool
-      key = hasKey same p (x .name .0) (drop (t .first) (t .attributes))
+      key = repeated rule t p x
 
-      there : eqb (length (t .nodes)) 0 ≡ false → (b : Bool) → key ≡ b → Going (push same r (going t) A)
+      there : eqb (length (t .nodes)) 0 ≡ false → (b : Bool) → key ≡ b → Going (push rule r (going t) A)
       there z true k = rw (z, k) tt
       there z false k =
           let more : length (t .attributes) + attributeWidth ≤ r .attributes = rw (z, k, length-append) at a in
           rw (z, k, le-leb (length (t .attributes) + attributeWidth) (r .attributes) more) tt
 
-      none : (b : Bool) → eqb (length (t .nodes)) 0 ≡ b → Going (push same r (going t) A)
+      none : (b : Bool) → eqb (length (t .nodes)) 0 ≡ b → Going (push rule r (going t) A)
       none true z = rw z tt
       none false z = there z key refl
   push-roomy t (Note x) s n a o = due (ltb (getD (t .counts) (kindIndex x) 0) (r .cap)) refl
     where
-      due : (b : Bool) → ltb (getD (t .counts) (kindIndex x) 0) (r .cap) ≡ b → Going (push same r (going t) (Note x))
+      due : (b : Bool) → ltb (getD (t .counts) (kindIndex x) 0) (r .cap) ≡ b → Going (push rule r (going t) (Note x))
       due true d =
           let room : length (t .notes) + 1 ≤ r .notes = rw (keptFrom-due (r .cap) (t .counts) x [] d) at o in
           rw (d, lt-ltb (length (t .notes)) (r .notes) (omega arith)) tt

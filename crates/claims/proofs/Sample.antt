@@ -5,7 +5,7 @@
 --   s-asked         what the three questions answer of S with these chunks: its string `a`, and the value of its one attribute
 --   s-full          with a word less than a node has S is refused with 8, which room that suffices excludes
 --   swallowed       why there is no place behind a chunk that is cut: a foreign chunk there makes no note
-use Prim.Native.Nat.{_≤_}
+use Prim.Native.Nat.{_-_, _*_, _≤_}
 use native.Mathlib.Omega.{arith}
 use mathlib.Core.Path.{_≡_, refl, _∙_, ap}
 use mathlib.Core.List.{[], _∷_, _++_}
@@ -17,6 +17,7 @@ use Rattle.errors.specs.declared.ReadAnswer.the-variants.{Done, Refused}
 use Rattle.errors.specs.declared.TextAnswer.the-variants.{Text}
 use Rattle.errors.specs.declared.FirstAnswer.the-variants.{Found}
 use Rattle.errors.specs.declared.ReadCounts.{ReadCounts}
+use Rattle.records.specs.Limits.{fileLimit}
 use Rattle.field.specs.Le.{u16le, u32le}
 use Rattle.common.specs.Header.{headerOf}
 use Rattle.common.specs.ValueType.{isReference, valueTypeNumber, valueTypeOf}
@@ -36,7 +37,8 @@ use Rattle.head.specs.Ask.{lengthCheck, headCheck, openOf, textAnswer, textBuff
 use Rattle.first_value.specs.Question.{androidName, runsFrom, fitOf, findNode, findValue, firstAnswer}
 use Rattle.xml_elements.specs.Chunk.{startOf, attributeAt, startTurn, xmlTurn, numberOf, turnOf}
 use Rattle.events.specs.Events.{attributeEvent, attributesOf, fromLead, fromOpen, fromName, fromTrailing, fromSize, fromGap, eventsOn, bodyEvents, fileEvents}
-use Rattle.tables.specs.Keep.{hasKey}
+use Rattle.records.specs.Words.{nodeWidth, attributeWidth}
+use Rattle.records.specs.Repeats.{repeatsOne}
 use Rattle.walk.specs.Settle.{Room, settle}
 use Rattle.walk.specs.Reading.{Reading, reading}
 use Rattle.claims.specs.Insertion.{chunksOf, restOf, placesIn, inserted, insertedFile}
@@ -47,7 +49,7 @@ use Rattle.claims.proofs.Insertion.{insertion, insertion-room}
 -- ---- the theorem, and the promise
 
 abbrev room : Room
-room = record { nodes = 15; attributes = 15; notes = 4; cap = 2 }
+room = record { nodes = 3 * nodeWidth; attributes = 3 * attributeWidth; notes = 4; cap = 2 }
 
 abbrev counts : ReadCounts
 counts = record { starts = 1; nodes = 1; attributes = 1; notes = 0 }
@@ -60,7 +62,7 @@ s-reads : reading room fileS [] [] ≡ oneNode 1 0 none
 unfolding fileS headS startS endS reading settle u16le u32le headerOf isXml sortOf contentLen foreignLen walk walkFrom trace traceFrom
     countOf numbered endOf poolFrom behindGarbage poolOf offsetOf outsideOf split8 split16 idsIn idsBy mapOf idOf isAscii isGood namesFrom
     nameOf systemOf stringAt stringOf contentOf tablesOf openedOf outsideIn lengthCheck startOf attributeAt startTurn xmlTurn numberOf
-    turnOf attributeEvent attributesOf fromLead fromOpen fromName fromTrailing fromSize fromGap eventsOn bodyEvents fileEvents hasKey
+    turnOf attributeEvent attributesOf fromLead fromOpen fromName fromTrailing fromSize fromGap eventsOn bodyEvents fileEvents repeatsOne
     kindIndex noteOf matched isWhole longest anyWhole spelt encode step8 stepsAfter bytesOf allSound textOf eqBytes inRanges isStart isChar
     nameSort allChar isNameOf validName
 s-reads = refl
@@ -70,7 +72,7 @@ unfolding noteOf
 s-by-theorem =
     let done : reading room fileS [] [] .answer ≡ Done counts = ap (λ (x : Reading). x .answer) s-reads in
     let few : length some ≤ placesIn fileS = rw (s-places .0) (omega arith) in
-    let limit : length (insertedFile some fileS) ≤ 16777216 = rw s-limit (omega arith) in
+    let limit : length (insertedFile some fileS) ≤ fileLimit = rw s-limit (omega arith) in
     insertion room fileS [] [] counts (omega arith) done refl some few limit room
     (insertion-room room fileS [] [] counts (omega arith) done refl some few limit room (omega arith) (omega arith) (rw s-kept (omega arith)))
     ∙ rw (s-reads, s-kept)
@@ -79,7 +81,7 @@ pub s-by-computing : reading room (insertedFile some fileS) [] [] ≡ expected
 unfolding fileS headS startS endS insertedFile inserted chunksOf restOf reading settle u16le u32le headerOf isXml sortOf contentLen foreignLen walk
     walkFrom trace traceFrom countOf numbered endOf poolFrom behindGarbage poolOf offsetOf outsideOf split8 split16 idsIn idsBy mapOf idOf isAscii
     isGood namesFrom nameOf systemOf stringAt stringOf contentOf tablesOf openedOf outsideIn lengthCheck startOf attributeAt startTurn xmlTurn
-    numberOf turnOf attributeEvent attributesOf fromLead fromOpen fromName fromTrailing fromSize fromGap eventsOn bodyEvents fileEvents hasKey
+    numberOf turnOf attributeEvent attributesOf fromLead fromOpen fromName fromTrailing fromSize fromGap eventsOn bodyEvents fileEvents repeatsOne
     kindIndex noteOf matched isWhole longest anyWhole spelt encode step8 stepsAfter bytesOf allSound textOf eqBytes inRanges isStart isChar
     nameSort allChar isNameOf validName f105 f102
 s-by-computing = refl
@@ -97,11 +99,11 @@ s-asked = (refl, refl, refl, refl)
 
 -- ---- room
 
-pub s-full : reading (record { nodes = 4; attributes = 15; notes = 4; cap = 2 }) fileS [] [] .answer ≡ Refused (NodesFull 0)
+pub s-full : reading (record { nodes = nodeWidth - 1; attributes = attributeWidth; notes = 4; cap = 2 }) fileS [] [] .answer ≡ Refused (NodesFull 0)
 unfolding fileS headS startS endS reading settle u16le u32le headerOf isXml sortOf contentLen foreignLen walk walkFrom trace traceFrom
     countOf numbered endOf poolFrom behindGarbage poolOf offsetOf outsideOf split8 split16 idsIn idsBy mapOf idOf isAscii isGood namesFrom
     nameOf systemOf stringAt stringOf contentOf tablesOf openedOf outsideIn lengthCheck startOf attributeAt startTurn xmlTurn numberOf
-    turnOf attributeEvent attributesOf fromLead fromOpen fromName fromTrailing fromSize fromGap eventsOn bodyEvents fileEvents hasKey
+    turnOf attributeEvent attributesOf fromLead fromOpen fromName fromTrailing fromSize fromGap eventsOn bodyEvents fileEvents repeatsOne
     kindIndex noteOf matched isWhole longest anyWhole spelt encode step8 stepsAfter bytesOf allSound textOf eqBytes inRanges isStart isChar
     nameSort allChar isNameOf validName
 s-full = refl
@@ -113,7 +115,7 @@ pub swallowed : reading room (take 107 fileS ++ (0x05 ∷ 0x01 ∷ 0x08 ∷ 0x00
 unfolding fileS headS startS endS reading settle u16le u32le headerOf isXml sortOf contentLen foreignLen walk walkFrom trace traceFrom
     countOf numbered endOf poolFrom behindGarbage poolOf offsetOf outsideOf split8 split16 idsIn idsBy mapOf idOf isAscii isGood namesFrom
     nameOf systemOf stringAt stringOf contentOf tablesOf openedOf outsideIn lengthCheck startOf attributeAt startTurn xmlTurn numberOf
-    turnOf attributeEvent attributesOf fromLead fromOpen fromName fromTrailing fromSize fromGap eventsOn bodyEvents fileEvents hasKey
+    turnOf attributeEvent attributesOf fromLead fromOpen fromName fromTrailing fromSize fromGap eventsOn bodyEvents fileEvents repeatsOne
     kindIndex noteOf matched isWhole longest anyWhole spelt encode step8 stepsAfter bytesOf allSound textOf eqBytes inRanges isStart isChar
     nameSort allChar isNameOf validName
 swallowed = refl

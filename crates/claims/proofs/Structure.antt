@@ -21,11 +21,14 @@ use Rattle.errors.specs.declared.ReadAnswer.the-variants.{Done}
 use Rattle.errors.specs.declared.ReadCounts.{ReadCounts}
 use Rattle.head.specs.Head.{openedOf, tablesIn, bodyIn}
 use Rattle.events.specs.declared.Event.{Event}
+use Rattle.records.specs.Words.{nodeWidth, nodeName, nodeFixed, nodeParent, nodeFirst, nodeCount, attributeWidth, attributeOwner}
+use Rattle.records.specs.Repeats.{Rule}
 use Rattle.walk.specs.Settle.{Room, Tables, settle, nothingYet}
 use Rattle.walk.specs.Reading.{Reading, reading, secondOf, nodesKept, attributesKept, roomIn, Reads}
 use Rattle.claims.specs.Counts.{opensIn, notesIn, depthFrom}
 use Rattle.claims.specs.Readers.{namesFor, eventsOf}
-use Rattle.claims.specs.Shape.{word, Descends, Runs, Owns, Structured}
+use Rattle.claims.specs.Shape.{word, attributeWord, Descends, Runs, Owns, Structured}
+use Rattle.claims.proofs.StructurePush.{place-lt}
 use Rattle.claims.proofs.StructureShape.{second-lt, run-le, covered}
 use Rattle.claims.proofs.StructureTables.{Shaped, kept-in, pos}
 use Rattle.claims.proofs.StructureDone.{DoneBy, done-by, done-shaped}
@@ -38,43 +41,45 @@ use Rattle.claims.proofs.StructureSaid.{walked-said, walked-twelve, wal
 
 -- ---- the kept records, and zeros behind them
 
-abbrev Same : List ℕ → List ℕ → ℕ → Type 0
-Same w w′ n = (i k : ℕ) → i < n → k < 5 → word w′ i k ≡ word w i k
+-- of tables with so many words to a record
+abbrev Same : ℕ → List ℕ → List ℕ → ℕ → Type 0
+Same width w w′ n = (i k : ℕ) → i < n → k < width → word width w′ i k ≡ word width w i k
 
-kept-same : (w w′ z : List ℕ) (n : ℕ) → 5 * n ≤ length w → w′ ≡ take (5 * n) w ++ z → Same w w′ n
-kept-same w w′ z n h e i k g l =
-    let s : length (take (5 * n) w) ≡ 5 * n = length-take-le (5 * n) w h in
-    rw e (List·getD-append (take (5 * n) w) z 0 (5 * i + k) (omega arith) ∙ getD-take (5 * n) w (5 * i + k) 0 (omega arith))
+kept-same : (width : ℕ) (w w′ z : List ℕ) (n : ℕ) → width * n ≤ length w → w′ ≡ take (width * n) w ++ z → Same width w w′ n
+kept-same width w w′ z n h e i k g l =
+    let s : length (take (width * n) w) ≡ width * n = length-take-le (width * n) w h in
+    let p : width * i + k < width * n = place-lt width n i k g l in
+    rw e (List·getD-append (take (width * n) w) z 0 (width * i + k) (omega arith) ∙ getD-take (width * n) w (width * i + k) 0 (omega arith))
 
-parents-same : (w w′ : List ℕ) (n m : ℕ) → Same w w′ n → n ≤ m → Descends w m → Descends w′ n
+parents-same : (w w′ : List ℕ) (n m : ℕ) → Same nodeWidth w w′ n → n ≤ m → Descends w m → Descends w′ n
 parents-same w w′ n m s l h i g =
-    let q = s i 2 g (omega arith) in
+    let q = s i nodeParent g (omega arith) in
     let p = h i (omega arith) in
     record { first = λ z. q ∙ p .first z; later = λ z. omega (arith, p .later z) }
 
-runs-same : (w w′ : List ℕ) (n m : ℕ) → Same w w′ n → Runs w n m → Runs w′ n m
+runs-same : (w w′ : List ℕ) (n m : ℕ) → Same nodeWidth w w′ n → Runs w n m → Runs w′ n m
 runs-same w w′ n m s h = record {
   none = h .none;
-  begins = λ z. s 0 3 z (omega arith) ∙ h .begins z;
-  follows = λ i g. omega (arith, s (i + 1) 3 g (omega arith), s i 3 (omega arith) (omega arith), s i 4 (omega arith) (omega arith), h .follows i g);
-  ends = λ i e. omega (arith, s i 3 (omega arith) (omega arith), s i 4 (omega arith) (omega arith), h .ends i e);
+  begins = λ z. s 0 nodeFirst z (omega arith) ∙ h .begins z;
+  follows = λ i g. omega (arith, s (i + 1) nodeFirst g (omega arith), s i nodeFirst (omega arith) (omega arith), s i nodeCount (omega arith) (omega arith), h .follows i g);
+  ends = λ i e. omega (arith, s i nodeFirst (omega arith) (omega arith), s i nodeCount (omega arith) (omega arith), h .ends i e);
 }
 
-owns-same : (w w′ v v′ : List ℕ) (n m a : ℕ) → Same w w′ n → Same v v′ a → n ≤ m → Runs w n a → Owns w v m → Owns w′ v′ n
+owns-same : (w w′ v v′ : List ℕ) (n m a : ℕ) → Same nodeWidth w w′ n → Same attributeWidth v v′ a → n ≤ m → Runs w n a → Owns w v m → Owns w′ v′ n
 owns-same w w′ v v′ n m a s u l h o i j g x y =
-    let p = s i 3 g (omega arith) in
-    let q = s i 4 g (omega arith) in
+    let p = s i nodeFirst g (omega arith) in
+    let q = s i nodeCount g (omega arith) in
     let e = run-le w n a (n - i - 1) i h (omega arith) in
-    u j 0 (omega arith) (omega arith) ∙ o i j (omega arith) (omega arith) (omega arith)
+    u j attributeOwner (omega arith) (omega arith) ∙ o i j (omega arith) (omega arith) (omega arith)
 
-owners-in : (w v : List ℕ) (n m : ℕ) → Runs w n m → Owns w v n → (j : ℕ) → j < m → word v j 0 < n
+owners-in : (w v : List ℕ) (n m : ℕ) → Runs w n m → Owns w v n → (j : ℕ) → j < m → attributeWord v j attributeOwner < n
 owners-in w v n m h o j l =
     let c = covered w n m j h l in
     omega (arith, o (c .node) j (c .below) (c .from) (c .upto), c .below)
 
 -- ---- how many are kept
 
-nodes-all : (t : Tables) → _≡_ {A = ℕ} (secondOf (t .stack)) 0 → nodesKept t ≡ length (t .nodes) / 5
+nodes-all : (t : Tables) → _≡_ {A = ℕ} (secondOf (t .stack)) 0 → nodesKept t ≡ length (t .nodes) / nodeWidth
 nodes-all t e = rw (eq-eqb (secondOf (t .stack)) 0 e)
 
 nodes-some : (t : Tables) → 0 < secondOf (t .stack) → nodesKept t ≡ secondOf (t .stack)
@@ -84,14 +89,14 @@ module _ (r : Room) (t : Tables) (h : Shaped r t) where
   kept-some : 0 < h .n → 0 < nodesKept t
   kept-some l = go (eqb (secondOf (t .stack)) 0) refl
     where
-      go : (b : Bool) → eqb (secondOf (t .stack)) 0 ≡ b → 0 < cond b (length (t .nodes) / 5) (secondOf (t .stack))
+      go : (b : Bool) → eqb (secondOf (t .stack)) 0 ≡ b → 0 < cond b (length (t .nodes) / nodeWidth) (secondOf (t .stack))
       go true e = omega (arith, h .nodes)
       go false e = pos (secondOf (t .stack)) (eqb-false (secondOf (t .stack)) 0 e)
 
-  kept-all : (d : ℕ) → Near d (t .stack) → d ≡ 0 → nodesKept t ≡ length (t .nodes) / 5
+  kept-all : (d : ℕ) → Near d (t .stack) → d ≡ 0 → nodesKept t ≡ length (t .nodes) / nodeWidth
   kept-all d g z = nodes-all t (near-none (t .stack) (rw z at g))
 
-  kept-fewer : (d : ℕ) → Near d (t .stack) → 2 ≤ d → nodesKept t < length (t .nodes) / 5
+  kept-fewer : (d : ℕ) → Near d (t .stack) → 2 ≤ d → nodesKept t < length (t .nodes) / nodeWidth
   kept-fewer d g z =
       let p = near-second d (h .n) (t .stack) g z (h .stack) in
       omega (arith, nodes-some t p, second-lt (h .n) (t .stack) (h .stack) p, h .nodes)
@@ -103,26 +108,26 @@ module _ (f names area ns ats : List ℕ) (os : List Note) (cap : ℕ) (c : Read
   abbrev es : List Event
   es = eventsOf f names area
 
-  abbrev same : ℕ → ℕ → Bool
-  same = namesFor f names area .same
+  abbrev rule : Rule
+  rule = namesFor f names area .repeats
 
   abbrev r : Room
   r = roomIn ns ats os cap
 
-  d : DoneBy r (settle same r nothingYet es) c (reading r f names area)
+  d : DoneBy r (settle rule r nothingYet es) c (reading r f names area)
   d = done-by f names area ns ats os cap c ns′ ats′ os′ reads
 
   abbrev t : Tables
   t = d .tables
 
   pub starts-right : c .starts ≡ opensIn es
-  starts-right = omega (arith, d .starts, settled-starts same r es t (d .out))
+  starts-right = omega (arith, d .starts, settled-starts rule r es t (d .out))
 
   abbrev ks : List ResAnomaly
   ks = keptNotes cap (notesIn es)
 
   told : t .notes ≡ map noteOf ks
-  told = settled-notes same r es t (d .out)
+  told = settled-notes rule r es t (d .out)
 
   pub notes-many : c .notes ≡ length ks
   notes-many = d .notes ∙ ap length told ∙ length-map ks noteOf
@@ -133,7 +138,7 @@ module _ (f names area ns ats : List ℕ) (os : List Note) (cap : ℕ) (c : Read
       ∙ ap (take (length (t .notes))) (reads .notes ∙ ap (λ (x : Reading). x .notes) (d .whole)) ∙ take-at (t .notes) _ (length (t .notes)) refl ∙ told
 
   walk : WalkedFile es
-  walk = settled-walked same r es t (file-ends (namesFor f names area) (openedOf f) (tablesIn f (openedOf f .head)) (bodyIn f (openedOf f .head))) (d .out)
+  walk = settled-walked rule r es t (file-ends (namesFor f names area) (openedOf f) (tablesIn f (openedOf f .head)) (bodyIn f (openedOf f .head))) (d .out)
 
   some-start : 0 < opensIn es
   some-start = walked-some es walk
@@ -142,10 +147,10 @@ module _ (f names area ns ats : List ℕ) (os : List Note) (cap : ℕ) (c : Read
   structured =
       let h = done-shaped f names area ns ats os cap t (d .out) in
       let k = kept-in r t h in
-      let near = settled-near same r es t (d .out) in
-      let n = settled-starts same r es t (d .out) in
-      let sn = kept-same (t .nodes) ns′ _ (nodesKept t) (omega (arith, k .nodes, h .nodes)) (reads .nodes ∙ ap (λ (x : Reading). x .nodes) (d .whole)) in
-      let sa = kept-same (t .attributes) ats′ _ (attributesKept t) (omega (arith, k .attributes, h .attributes))
+      let near = settled-near rule r es t (d .out) in
+      let n = settled-starts rule r es t (d .out) in
+      let sn = kept-same nodeWidth (t .nodes) ns′ _ (nodesKept t) (omega (arith, k .nodes, h .nodes)) (reads .nodes ∙ ap (λ (x : Reading). x .nodes) (d .whole)) in
+      let sa = kept-same attributeWidth (t .attributes) ats′ _ (attributesKept t) (omega (arith, k .attributes, h .attributes))
       (reads .attributes ∙ ap (λ (x : Reading). x .attributes) (d .whole)) in
       let runs = runs-same (t .nodes) ns′ (nodesKept t) (attributesKept t) sn (k .runs) in
       let owns = owns-same (t .nodes) ns′ (t .attributes) ats′ (nodesKept t) (h .n) (attributesKept t) sn sa (k .nodes) (k .runs) (h .owns) in
@@ -154,8 +159,8 @@ module _ (f names area ns ats : List ℕ) (os : List Note) (cap : ℕ) (c : Read
         starts = omega (arith, n);
         some = kept-some r t h (omega (arith, some-start, h .nodes, n));
         within = omega (arith, k .nodes, h .nodes);
-        names = λ i l. sn i 0 l (omega arith) ∙ settled-names same r es t (d .out) (h .n) i (h .nodes) (omega (arith, k .nodes));
-        fixed = λ i l. sn i 1 l (omega arith) ∙ settled-fixed same r es t (d .out) (h .n) i (h .nodes) (omega (arith, k .nodes));
+        names = λ i l. sn i nodeName l (omega arith) ∙ settled-names rule r es t (d .out) (h .n) i (h .nodes) (omega (arith, k .nodes));
+        fixed = λ i l. sn i nodeFixed l (omega arith) ∙ settled-fixed rule r es t (d .out) (h .n) i (h .nodes) (omega (arith, k .nodes));
         parents = parents-same (t .nodes) ns′ (nodesKept t) (h .n) sn (k .nodes) (h .parents);
         runs = runs;
         owns = owns;

@@ -5,10 +5,10 @@ use Prim.Native.Nat.{ℕ, _+_, _*_}
 use native.Mathlib.Omega.{arith}
 use mathlib.Core.Path.{_≡_}
 use mathlib.Core.List.{List, []}
-use mathlib.Core.Bool.{Bool}
 use lib.ListN.{length, length-append, length-set}
 use Rattle.events.specs.declared.Event.{Event}
-use Rattle.tables.specs.Keep.{nodeWidth}
+use Rattle.records.specs.Words.{nodeWidth}
+use Rattle.records.specs.Repeats.{Rule}
 use Rattle.walk.specs.Settle.{Room, Tables, going, settle, nothingYet}
 use Rattle.claims.specs.Counts.{opensIn}
 use Rattle.claims.proofs.PushBy.{idle-still, Goes, settle-in}
@@ -27,9 +27,9 @@ goes r n = record {
   past = λ t es x d h. omega (arith, h);
 }
 
-module _ (same : ℕ → ℕ → Bool) (r : Room) (es : List Event) (t : Tables) (e : settle same r nothingYet es ≡ going t) where
+module _ (rule : Rule) (r : Room) (es : List Event) (t : Tables) (e : settle rule r nothingYet es ≡ going t) where
   pub settled-starts : length (t .nodes) ≡ nodeWidth * opensIn es
   settled-starts =
       let n = nodeWidth * opensIn es in
-      let h : Ahead n [] t = rw e at (settle-in same r (Ahead n) (goes r n) nothingYet es (omega arith)) in
+      let h : Ahead n [] t = rw e at (settle-in rule r (Ahead n) (goes r n) nothingYet es (omega arith)) in
       omega (arith, h)

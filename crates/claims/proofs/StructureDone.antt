@@ -12,18 +12,19 @@ use Rattle.errors.specs.declared.ReadAnswer.the-variants.{Done}
 use Rattle.errors.specs.declared.ReadCounts.{ReadCounts}
 use Rattle.errors.proofs.Laws.{numbersOf-unique}
 use Rattle.head.specs.Ask.{Check, passes, fails, firstOf, lengthCheck, namesCheck}
+use Rattle.records.specs.Words.{nodeWidth}
 use Rattle.walk.specs.Settle.{Room, Tables, Out, going, refused, settle, nothingYet}
 use Rattle.walk.specs.Reading.{Reading, reading, readingBy, succeeds, nodesKept, attributesKept, roomIn, Reads}
 use Rattle.claims.specs.Readers.{namesFor, eventsOf}
 use Rattle.claims.proofs.StructureTables.{Shaped, settled-shaped}
 
 abbrev pub countsOf : Tables → ReadCounts
-countsOf t = record { starts = length (t .nodes) / 5; nodes = nodesKept t; attributes = attributesKept t; notes = length (t .notes) }
+countsOf t = record { starts = length (t .nodes) / nodeWidth; nodes = nodesKept t; attributes = attributesKept t; notes = length (t .notes) }
 
 pub record DoneBy (r : Room) (o : Out) (c : ReadCounts) (R : Reading) : Type 0 where
   pub tables : Tables
   pub out : o ≡ going tables
-  pub starts : c .starts ≡ length (tables .nodes) / 5
+  pub starts : c .starts ≡ length (tables .nodes) / nodeWidth
   pub nodes : c .nodes ≡ nodesKept tables
   pub attributes : c .attributes ≡ attributesKept tables
   pub notes : c .notes ≡ length (tables .notes)
@@ -50,7 +51,7 @@ module _ (f names area ns ats : List ℕ) (os : List Note) (cap : ℕ) where
   room = roomIn ns ats os cap
 
   abbrev pub outOf : Out
-  outOf = settle (namesFor f names area .same) room nothingYet (eventsOf f names area)
+  outOf = settle (namesFor f names area .repeats) room nothingYet (eventsOf f names area)
 
   pub done-by : (c : ReadCounts) (ns′ ats′ : List ℕ) (os′ : List Note) → Reads f names area ns ats os cap (Done c) ns′ ats′ os′
       → DoneBy room outOf c (reading room f names area)
@@ -58,4 +59,4 @@ module _ (f names area ns ats : List ℕ) (os : List Note) (cap : ℕ) where
   done-by c ns′ ats′ os′ h = final-by room outOf (firstOf (lengthCheck f ∷ namesCheck area names ∷ [])) c (numbersOf-unique _ _ (h .answer))
 
   pub done-shaped : (t : Tables) → outOf ≡ going t → Shaped room t
-  done-shaped t e = rw e at (settled-shaped room (namesFor f names area .same) (eventsOf f names area))
+  done-shaped t e = rw e at (settled-shaped room (namesFor f names area .repeats) (eventsOf f names area))

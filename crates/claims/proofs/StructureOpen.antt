@@ -7,9 +7,9 @@ use Prim.Native.Nat.{ℕ, _+_, _-_, _≤_, _<_}
 use native.Mathlib.Omega.{arith}
 use mathlib.Core.Path.{_≡_, refl, sym, _∙_, ap}
 use mathlib.Core.List.{List, [], _∷_, _++_}
-use mathlib.Core.Bool.{Bool}
 use lib.ListN.{length}
 use Rattle.errors.specs.declared.Refusal.{Refusal}
+use Rattle.records.specs.Repeats.{Rule}
 use Rattle.events.specs.declared.Event.{Event}
 use Rattle.events.specs.declared.Event.the-variants.{Refuse}
 use Rattle.walk.specs.Settle.{Room, Tables, Out, going, refused, push, settle, nothingYet, closedIn}
@@ -51,7 +51,7 @@ record NearBy (last : ℕ) (es : List Event) (t : Tables) : Type 0 where
   then : depthFrom now es ≡ last
   near : Near now (t .stack)
 
-module _ (same : ℕ → ℕ → Bool) (r : Room) where
+module _ (rule : Rule) (r : Room) where
   goes : (last : ℕ) → Goes r (NearBy last)
   goes last = record {
     idles = λ t e es i h. record {
@@ -70,20 +70,20 @@ module _ (same : ℕ → ℕ → Bool) (r : Room) where
     past = λ t es x d h. record { now = h .now; then = h .then; near = h .near };
   }
 
-  pub settled-near : (es : List Event) (t : Tables) → settle same r nothingYet es ≡ going t → Near (depthFrom 0 es) (t .stack)
+  pub settled-near : (es : List Event) (t : Tables) → settle rule r nothingYet es ≡ going t → Near (depthFrom 0 es) (t .stack)
   settled-near es t e =
       let start : NearBy (depthFrom 0 es) es empty = record { now = 0; then = refl; near = record { low = omega arith; high = omega arith } } in
-      let h = rw e at (settle-in same r (NearBy (depthFrom 0 es)) (goes (depthFrom 0 es)) nothingYet es start) in
+      let h = rw e at (settle-in rule r (NearBy (depthFrom 0 es)) (goes (depthFrom 0 es)) nothingYet es start) in
       rw (← h .then) (h .near)
 
   -- ---- events that leave tables
 
-  refuse-ends : (o : Out) (a : List Event) (x : Refusal) (t : Tables) → settle same r o (a ++ (Refuse x ∷ [])) ≡ going t → ⊥
+  refuse-ends : (o : Out) (a : List Event) (x : Refusal) (t : Tables) → settle rule r o (a ++ (Refuse x ∷ [])) ≡ going t → ⊥
   unfolding settle
   refuse-ends (going u) [] x t e = let z : _≡_ {A = ℕ} 0 1 = cc in omega arith
   refuse-ends (refused y) [] x t e = let z : _≡_ {A = ℕ} 0 1 = cc in omega arith
-  refuse-ends o (d ∷ a) x t e = refuse-ends (push same r o d) a x t e
+  refuse-ends o (d ∷ a) x t e = refuse-ends (push rule r o d) a x t e
 
-  pub settled-walked : (es : List Event) (t : Tables) → Ending es → settle same r nothingYet es ≡ going t → WalkedFile es
-  settled-walked es t (refusedAt a x q) e = absurd (refuse-ends nothingYet a x t (sym (ap (λ (y : List Event). settle same r nothingYet y) q) ∙ e))
+  pub settled-walked : (es : List Event) (t : Tables) → Ending es → settle rule r nothingYet es ≡ going t → WalkedFile es
+  settled-walked es t (refusedAt a x q) e = absurd (refuse-ends nothingYet a x t (sym (ap (λ (y : List Event). settle rule r nothingYet y) q) ∙ e))
   settled-walked es t (walkedTo w) e = w

@@ -15,13 +15,14 @@ use Rattle.anomaly.specs.Kept.{keptNotes, ofKind as ofPlace}
 use Rattle.anomaly.specs.declared.ResAnomaly.{ResAnomaly}
 use Rattle.anomaly.specs.declared.ResAnomaly.the-variants.{UnclosedElements}
 use Rattle.anomaly.proofs.Laws.{keptNotes-of-kind}
+use Rattle.anomaly.proofs.Numbers.{kind-place}
 use Rattle.events.specs.declared.Event.{Event}
 use Rattle.events.specs.declared.Event.the-variants.{Note}
 use Rattle.events.specs.Events.{when}
 use Rattle.claims.specs.Counts.{depthFrom, notesIn}
 use Rattle.claims.specs.Shape.{ofKind, DepthSaid}
 use Rattle.claims.proofs.Erased.{notesIn-append}
-use Rattle.claims.proofs.Noted.{All, all-append, all-of, kept-all, kind-place, number-of}
+use Rattle.claims.proofs.Noted.{All, all-append, all-of, kept-all, number-of}
 use Rattle.claims.proofs.StructureDepth.{NotTwelve, depth-append}
 use Rattle.claims.proofs.StructureWalk.{WalkedFile}
 

@@ -10,12 +10,13 @@ use mathlib.Core.Path.{_≡_, refl, sym, _∙_}
 use mathlib.Core.List.{List, [], _∷_, _++_}
 use mathlib.Core.Bool.{Bool, true, false}
 use borrow.Author.Tests.{ltb-true, ltb-false, leb-true, leb-false}
-use lib.ListN.{length, set}
+use lib.ListN.{length}
 use lib.Dec.{ltb, leb}
+use Rattle.records.specs.Words.{nodeWidth, nodeParent, nodeFirst, nodeCount, nodeWords, attributeWidth, attributeOwner, attributeWords}
 use Rattle.walk.specs.Settle.{parentIn, closedIn}
 use Rattle.walk.specs.Reading.{secondOf}
-use Rattle.claims.specs.Shape.{word, Parent, Descends, begin, end, Runs, Owns}
-use Rattle.claims.proofs.StructurePush.{word-old, word-new, word-other, word-same}
+use Rattle.claims.specs.Shape.{attributeWord, Parent, Descends, begin, end, Runs, Owns}
+use Rattle.claims.proofs.StructurePush.{counting, word-old, word-new, word-other, word-same}
 
 -- ---- the open elements
 
@@ -85,94 +86,94 @@ split-lt P n i h low top = go (ltb i n) refl
 
 -- ---- a node opens
 
-module _ (w v : List ℕ) (n m name fixed parent : ℕ) (len : length w ≡ 5 * n) where
-  abbrev five : List ℕ
-  five = name ∷ fixed ∷ parent ∷ m ∷ 0 ∷ []
+module _ (w v : List ℕ) (n m name fixed parent : ℕ) (len : length w ≡ nodeWidth * n) where
+  abbrev node : List ℕ
+  node = nodeWords name fixed parent m 0
 
-  pub opens-parents : (s : List ℕ) → parent ≡ parentIn s → Falls n s → Descends w n → Descends (w ++ five) (n + 1)
-  opens-parents s p f h i l = split-lt (λ i. Parent (w ++ five) i) n i l
+  pub opens-parents : (s : List ℕ) → parent ≡ parentIn s → Falls n s → Descends w n → Descends (w ++ node) (n + 1)
+  opens-parents s p f h i l = split-lt (λ i. Parent (w ++ node) i) n i l
       (λ g. record {
-        first = λ z. rw (word-old w five n i 2 len g (omega arith)) (h i g .first z);
-        later = λ z. rw (word-old w five n i 2 len g (omega arith)) (h i g .later z);
+        first = λ z. rw (word-old nodeWidth w node n len i nodeParent g (omega arith)) (h i g .first z);
+        later = λ z. rw (word-old nodeWidth w node n len i nodeParent g (omega arith)) (h i g .later z);
       }) (new s p f)
     where
-      new : (s : List ℕ) → parent ≡ parentIn s → Falls n s → Parent (w ++ five) n
+      new : (s : List ℕ) → parent ≡ parentIn s → Falls n s → Parent (w ++ node) n
       new [] p f = record {
-        first = λ z. word-new w five n 2 len ∙ p;
+        first = λ z. word-new nodeWidth w node n len nodeParent ∙ p;
         later = λ z. absurd (let y : ⊥ = omega arith in y);
       }
       new (k ∷ []) p f = record {
         first = λ z. absurd (let y : ⊥ = omega (arith, f .1) in y);
-        later = λ z. omega (arith, word-new w five n 2 len, f .0);
+        later = λ z. omega (arith, word-new nodeWidth w node n len nodeParent, f .0);
       }
       new (k ∷ j ∷ s) p f = record {
         first = λ z. absurd (let y : ⊥ = omega (arith, f .0) in y);
-        later = λ z. omega (arith, word-new w five n 2 len, f .0);
+        later = λ z. omega (arith, word-new nodeWidth w node n len nodeParent, f .0);
       }
 
-  pub opens-runs : Runs w n m → Runs (w ++ five) (n + 1) m
+  pub opens-runs : Runs w n m → Runs (w ++ node) (n + 1) m
   opens-runs h = record {
     none = λ z. absurd (let y : ⊥ = omega arith in y);
     begins = λ z. begins (ltb 0 n) refl;
     follows = λ i l. follows i l (ltb (i + 1) n) refl;
-    ends = λ i e. let q : i ≡ n = omega arith in rw q (omega (arith, word-new w five n 3 len, word-new w five n 4 len));
+    ends = λ i e. let q : i ≡ n = omega arith in rw q (omega (arith, word-new nodeWidth w node n len nodeFirst, word-new nodeWidth w node n len nodeCount));
   }
     where
-      begins : (b : Bool) → ltb 0 n ≡ b → _≡_ {A = ℕ} (begin (w ++ five) 0) 0
-      begins true e = let g = ltb-true 0 n e in omega (arith, word-old w five n 0 3 len g (omega arith), h .begins g)
+      begins : (b : Bool) → ltb 0 n ≡ b → _≡_ {A = ℕ} (begin (w ++ node) 0) 0
+      begins true e = let g = ltb-true 0 n e in omega (arith, word-old nodeWidth w node n len 0 nodeFirst g (omega arith), h .begins g)
       begins false e =
           let z : n ≡ 0 = omega (arith, ltb-false 0 n e) in
-          let q = rw z at (word-new w five n 3 len) in
+          let q = rw z at (word-new nodeWidth w node n len nodeFirst) in
           omega (arith, q, h .none z)
 
-      follows : (i : ℕ) → i + 1 < n + 1 → (b : Bool) → ltb (i + 1) n ≡ b → begin (w ++ five) (i + 1) ≡ end (w ++ five) i
+      follows : (i : ℕ) → i + 1 < n + 1 → (b : Bool) → ltb (i + 1) n ≡ b → begin (w ++ node) (i + 1) ≡ end (w ++ node) i
       follows i l true e =
           let g = ltb-true (i + 1) n e in
           omega (
             arith,
-            word-old w five n (i + 1) 3 len g (omega arith),
-            word-old w five n i 3 len (omega arith) (omega arith),
-            word-old w five n i 4 len (omega arith) (omega arith),
+            word-old nodeWidth w node n len (i + 1) nodeFirst g (omega arith),
+            word-old nodeWidth w node n len i nodeFirst (omega arith) (omega arith),
+            word-old nodeWidth w node n len i nodeCount (omega arith) (omega arith),
             h .follows i g,
           )
       follows i l false e =
           let q : i + 1 ≡ n = omega (arith, ltb-false (i + 1) n e) in
           rw q (omega (
             arith,
-            word-new w five n 3 len,
-            word-old w five n i 3 len (omega arith) (omega arith),
-            word-old w five n i 4 len (omega arith) (omega arith),
+            word-new nodeWidth w node n len nodeFirst,
+            word-old nodeWidth w node n len i nodeFirst (omega arith) (omega arith),
+            word-old nodeWidth w node n len i nodeCount (omega arith) (omega arith),
             h .ends i q,
           ))
 
-  pub opens-owns : Owns w v n → Owns (w ++ five) v (n + 1)
-  opens-owns h i j l = split-lt (λ i. begin (w ++ five) i ≤ j → j < end (w ++ five) i → word v j 0 ≡ i) n i l
-      (λ g a b. h i j g (omega (arith, word-old w five n i 3 len g (omega arith)))
-      (omega (arith, word-old w five n i 3 len g (omega arith), word-old w five n i 4 len g (omega arith))))
-      (λ a b. absurd (let y : ⊥ = omega (arith, word-new w five n 3 len, word-new w five n 4 len) in y))
+  pub opens-owns : Owns w v n → Owns (w ++ node) v (n + 1)
+  opens-owns h i j l = split-lt (λ i. begin (w ++ node) i ≤ j → j < end (w ++ node) i → attributeWord v j attributeOwner ≡ i) n i l
+      (λ g a b. h i j g (omega (arith, word-old nodeWidth w node n len i nodeFirst g (omega arith)))
+      (omega (arith, word-old nodeWidth w node n len i nodeFirst g (omega arith), word-old nodeWidth w node n len i nodeCount g (omega arith))))
+      (λ a b. absurd (let y : ⊥ = omega (arith, word-new nodeWidth w node n len nodeFirst, word-new nodeWidth w node n len nodeCount) in y))
 
 -- ---- an attribute is kept: the last node counts one more
 
-module _ (w v : List ℕ) (k m p name type «data» : ℕ) (lw : length w ≡ 5 * (k + 1)) (lv : length v ≡ 5 * m) (h : Runs w (k + 1) m) where
+module _ (w v : List ℕ) (k m p name type «data» : ℕ) (lw : length w ≡ nodeWidth * (k + 1)) (lv : length v ≡ attributeWidth * m) (h : Runs w (k + 1) m) where
   abbrev more : List ℕ
-  more = set w (length w - 1) (m + 1 - begin w k)
+  more = counting w k (m + 1 - begin w k)
 
   abbrev attribute : List ℕ
-  attribute = k ∷ p ∷ name ∷ type ∷ «data» ∷ []
+  attribute = attributeWords k p name type «data»
 
   pub kept-parents : Descends w (k + 1) → Descends more (k + 1)
   kept-parents d i l =
-      let q = word-other w (k + 1) i 2 (m + 1 - begin w k) lw (λ a b. omega arith) (omega arith) l in
+      let q = word-other w k i nodeParent (m + 1 - begin w k) (λ a b. omega arith) (omega arith) in
       record { first = λ z. q ∙ d i l .first z; later = λ z. omega (arith, q, d i l .later z) }
 
   pub kept-begin : (i : ℕ) → i < k + 1 → begin more i ≡ begin w i
-  kept-begin i l = word-other w (k + 1) i 3 (m + 1 - begin w k) lw (λ a b. omega arith) (omega arith) l
+  kept-begin i l = word-other w k i nodeFirst (m + 1 - begin w k) (λ a b. omega arith) (omega arith)
 
   kept-end : (i : ℕ) → i < k → end more i ≡ end w i
-  kept-end i l = omega (arith, kept-begin i (omega arith), word-other w (k + 1) i 4 (m + 1 - begin w k) lw (λ a b. omega arith) (omega arith) (omega arith))
+  kept-end i l = omega (arith, kept-begin i (omega arith), word-other w k i nodeCount (m + 1 - begin w k) (λ a b. omega arith) (omega arith))
 
   kept-last : end more k ≡ m + 1
-  kept-last = omega (arith, kept-begin k (omega arith), word-same w k (m + 1 - begin w k) lw, h .ends k refl)
+  kept-last = omega (arith, kept-begin k (omega arith), word-same w k (m + 1 - begin w k) (omega arith), h .ends k refl)
 
   pub kept-runs : Runs more (k + 1) (m + 1)
   kept-runs = record {
@@ -183,17 +184,17 @@ module _ (w v : List ℕ) (k m p name type «data» : ℕ) (lw : length w ≡ 5 
   }
 
   pub kept-owns : Owns w v (k + 1) → Owns more (v ++ attribute) (k + 1)
-  kept-owns o i j l = split-lt (λ i. begin more i ≤ j → j < end more i → word (v ++ attribute) j 0 ≡ i) k i l low top
+  kept-owns o i j l = split-lt (λ i. begin more i ≤ j → j < end more i → attributeWord (v ++ attribute) j attributeOwner ≡ i) k i l low top
     where
-      low : i < k → begin more i ≤ j → j < end more i → word (v ++ attribute) j 0 ≡ i
+      low : i < k → begin more i ≤ j → j < end more i → attributeWord (v ++ attribute) j attributeOwner ≡ i
       low g a b =
           let e = kept-end i g in
           let c = kept-begin i l in
           let r = run-le w (k + 1) m (k - i) i h (omega arith) in
-          word-old v attribute m j 0 lv (omega arith) (omega arith) ∙ o i j l (omega arith) (omega arith)
+          word-old attributeWidth v attribute m lv j attributeOwner (omega arith) (omega arith) ∙ o i j l (omega arith) (omega arith)
 
-      top : begin more k ≤ j → j < end more k → word (v ++ attribute) j 0 ≡ k
-      top a b = split-lt (λ j. begin more k ≤ j → word (v ++ attribute) j 0 ≡ k) m j (omega (arith, kept-last))
-          (λ g a. word-old v attribute m j 0 lv g (omega arith)
+      top : begin more k ≤ j → j < end more k → attributeWord (v ++ attribute) j attributeOwner ≡ k
+      top a b = split-lt (λ j. begin more k ≤ j → attributeWord (v ++ attribute) j attributeOwner ≡ k) m j (omega (arith, kept-last))
+          (λ g a. word-old attributeWidth v attribute m lv j attributeOwner g (omega arith)
           ∙ o k j (omega arith) (omega (arith, kept-begin k (omega arith))) (omega (arith, h .ends k refl)))
-          (λ a. word-new v attribute m 0 lv) a
+          (λ a. word-new attributeWidth v attribute m lv attributeOwner) a

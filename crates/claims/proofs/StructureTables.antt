@@ -15,6 +15,8 @@ use Rattle.anomaly.specs.Note.{noteOf}
 use Rattle.anomaly.specs.declared.ResAnomaly.{ResAnomaly}
 use Rattle.xml_elements.specs.declared.XmlAttributeElement.{XmlAttributeElement}
 use Rattle.events.specs.declared.Event.{Event}
+use Rattle.records.specs.Words.{nodeWidth, nodeFirst, nodeWords, attributeWidth}
+use Rattle.records.specs.Repeats.{Rule}
 use Rattle.walk.specs.Settle.{Room, Tables, settle, nothingYet, opened, closed, kept, noted, parentIn}
 use Rattle.walk.specs.Reading.{secondOf, nodesKept, attributesKept}
 use Rattle.claims.specs.Shape.{Descends, begin, end, Runs, Owns}
@@ -26,16 +28,16 @@ use Rattle.claims.proofs.StructureShape.{opens-parents, opens-runs, ope
 pub record Shaped (r : Room) (t : Tables) : Type 0 where
   pub n : ℕ
   pub m : ℕ
-  pub nodes : length (t .nodes) ≡ 5 * n
-  pub attributes : length (t .attributes) ≡ 5 * m
-  pub nodesFit : 5 * n ≤ r .nodes
-  pub attributesFit : 5 * m ≤ r .attributes
+  pub nodes : length (t .nodes) ≡ nodeWidth * n
+  pub attributes : length (t .attributes) ≡ attributeWidth * m
+  pub nodesFit : nodeWidth * n ≤ r .nodes
+  pub attributesFit : attributeWidth * m ≤ r .attributes
   pub notesFit : length (t .notes) ≤ r .notes
   pub stack : Falls n (t .stack)
   pub parents : Descends (t .nodes) n
   pub runs : Runs (t .nodes) n m
   pub owns : Owns (t .nodes) (t .attributes) n
-  pub first : (i : ℕ) → i + 1 ≡ n → t .first ≡ 5 * begin (t .nodes) i
+  pub first : (i : ℕ) → i + 1 ≡ n → t .first ≡ attributeWidth * begin (t .nodes) i
 
 module _ (r : Room) where
   shaped-none : InTables (Shaped r) nothingYet
@@ -59,14 +61,14 @@ module _ (r : Room) where
     first = λ i e. absurd (let y : ⊥ = omega arith in y);
   }
 
-  shaped-opened : (t : Tables) (name fixed : ℕ) → length (t .nodes) + 5 ≤ r .nodes → Shaped r t → Shaped r (opened t name fixed)
+  shaped-opened : (t : Tables) (name fixed : ℕ) → length (t .nodes) + nodeWidth ≤ r .nodes → Shaped r t → Shaped r (opened t name fixed)
   shaped-opened t name fixed room h =
-      let da : length (t .attributes) / 5 ≡ h .m = omega (arith, h .attributes) in
-      let dn : length (t .nodes) / 5 ≡ h .n = omega (arith, h .nodes) in
+      let da : length (t .attributes) / attributeWidth ≡ h .m = omega (arith, h .attributes) in
+      let dn : length (t .nodes) / nodeWidth ≡ h .n = omega (arith, h .nodes) in
       rw (da, dn) (record {
         n = h .n + 1;
         m = h .m;
-        nodes = omega (arith, length-append (t .nodes) (name ∷ fixed ∷ parentIn (t .stack) ∷ h .m ∷ 0 ∷ []), h .nodes);
+        nodes = rw length-append (omega (arith, h .nodes));
         attributes = h .attributes;
         nodesFit = omega (arith, h .nodes);
         attributesFit = h .attributesFit;
@@ -77,28 +79,27 @@ module _ (r : Room) where
         owns = opens-owns (t .nodes) (t .attributes) (h .n) (h .m) name fixed _ (h .nodes) (h .owns);
         first = λ i e.
             let q : i ≡ h .n = omega arith in
-            rw q (omega (arith, word-new (t .nodes) (name ∷ fixed ∷ parentIn (t .stack) ∷ h .m ∷ 0 ∷ []) (h .n) 3 (h .nodes), h .attributes));
+            rw q (omega (arith, word-new nodeWidth (t .nodes) (nodeWords name fixed (parentIn (t .stack)) (h .m) 0) (h .n) (h .nodes) nodeFirst, h .attributes));
       })
 
-  shaped-kept : (t : Tables) (p : ℕ) (a : XmlAttributeElement) → (length (t .nodes) ≡ 0 → ⊥) → length (t .attributes) + 5 ≤ r .attributes → Shaped r t
+  shaped-kept : (t : Tables) (p : ℕ) (a : XmlAttributeElement) → (length (t .nodes) ≡ 0 → ⊥) → length (t .attributes) + attributeWidth ≤ r .attributes → Shaped r t
       → Shaped r (kept t p a)
   shaped-kept t p a some room h =
       let k = h .n - 1 in
       let e : h .n ≡ k + 1 = omega (arith, h .nodes) in
-      let lw : length (t .nodes) ≡ 5 * (k + 1) = omega (arith, h .nodes) in
-      let f : t .first ≡ 5 * begin (t .nodes) k = h .first k (sym e) in
+      let lw : length (t .nodes) ≡ nodeWidth * (k + 1) = omega (arith, h .nodes) in
+      let f : t .first ≡ attributeWidth * begin (t .nodes) k = h .first k (sym e) in
       let last : end (t .nodes) k ≡ h .m = h .runs .ends k (sym e) in
       let runs : Runs (t .nodes) (k + 1) (h .m) = rw (← e) (h .runs) in
       let parents : Descends (t .nodes) (k + 1) = rw (← e) (h .parents) in
       let owns : Owns (t .nodes) (t .attributes) (k + 1) = rw (← e) (h .owns) in
-      let da : (length (t .attributes) + 5 - t .first) / 5 ≡ h .m + 1 - begin (t .nodes) k = omega (arith, h .attributes) in
-      let dn : length (t .nodes) / 5 - 1 ≡ k = omega (arith, h .nodes) in
-      let five = k ∷ p ∷ a .name .0 ∷ a .«data_type» ∷ a .«data» ∷ [] in
+      let da : (length (t .attributes) + attributeWidth - t .first) / attributeWidth ≡ h .m + 1 - begin (t .nodes) k = omega (arith, h .attributes) in
+      let dn : length (t .nodes) / nodeWidth - 1 ≡ k = omega (arith, h .nodes) in
       rw (da, dn) (record {
         n = k + 1;
         m = h .m + 1;
-        nodes = length-set (t .nodes) (length (t .nodes) - 1) (h .m + 1 - begin (t .nodes) k) ∙ lw;
-        attributes = omega (arith, length-append (t .attributes) five, h .attributes);
+        nodes = rw length-set lw;
+        attributes = rw length-append (omega (arith, h .attributes));
         nodesFit = omega (arith, h .nodesFit);
         attributesFit = omega (arith, h .attributes);
         notesFit = h .notesFit;
@@ -108,7 +109,7 @@ module _ (r : Room) where
         owns = kept-owns (t .nodes) (t .attributes) k (h .m) p (a .name .0) (a .«data_type») (a .«data») lw (h .attributes) runs owns;
         first = λ i q.
             let z : i ≡ k = omega arith in
-            rw z (f ∙ ap (λ (x : ℕ). 5 * x) (sym (kept-begin (t .nodes) (t .attributes) k (h .m) p (a .name .0) (a .«data_type») (a .«data») lw
+            rw z (f ∙ ap (λ (x : ℕ). attributeWidth * x) (sym (kept-begin (t .nodes) (t .attributes) k (h .m) p (a .name .0) (a .«data_type») (a .«data») lw
             (h .attributes) runs k (omega arith))));
       })
 
@@ -144,9 +145,9 @@ module _ (r : Room) where
     first = h .first;
   }
 
-  pub settled-shaped : (same : ℕ → ℕ → Bool) (es : List Event) → InTables (Shaped r) (settle same r nothingYet es)
-  settled-shaped same es =
-      settle-keeps same r (Shaped r) shaped-opened shaped-closed shaped-kept shaped-noted nothingYet es shaped-none
+  pub settled-shaped : (rule : Rule) (es : List Event) → InTables (Shaped r) (settle rule r nothingYet es)
+  settled-shaped rule es =
+      settle-keeps rule r (Shaped r) shaped-opened shaped-closed shaped-kept shaped-noted nothingYet es shaped-none
 
 -- ---- what is kept
 
@@ -167,10 +168,10 @@ kept-in r t h = go (eqb (secondOf (t .stack)) 0) refl
     s = secondOf (t .stack)
 
     go : (b : Bool) → eqb (secondOf (t .stack)) 0 ≡ b
-        → KeptIn (t .nodes) (h .n) (h .m) (cond b (length (t .nodes) / 5) s) (cond b (length (t .attributes) / 5) (getD (t .nodes) (5 * s + 3) 0))
+        → KeptIn (t .nodes) (h .n) (h .m) (cond b (length (t .nodes) / nodeWidth) s) (cond b (length (t .attributes) / attributeWidth) (getD (t .nodes) (nodeWidth * s + nodeFirst) 0))
     go true e =
-        let da : length (t .attributes) / 5 ≡ h .m = omega (arith, h .attributes) in
-        let dn : length (t .nodes) / 5 ≡ h .n = omega (arith, h .nodes) in
+        let da : length (t .attributes) / attributeWidth ≡ h .m = omega (arith, h .attributes) in
+        let dn : length (t .nodes) / nodeWidth ≡ h .n = omega (arith, h .nodes) in
         rw (da, dn) (record { nodes = omega arith; attributes = omega arith; runs = h .runs })
     go false e =
         let l : s < h .n = second-lt (h .n) (t .stack) (h .stack) (pos s (eqb-false s 0 e)) in

@@ -10,8 +10,8 @@ use borrow.Author.Tests.{ltb-false, le-ltb, lt-ltb}
 use lib.ListN.{length, take, getD, replicate, length-map}
 use lib.Seq.{length-take-le, take-at}
 use lib.Dec.{ltb}
-use Rattle.anomaly.specs.Note.{kindIndex, noteOf}
-use Rattle.anomaly.specs.Kept.{isDue, keptNotes}
+use Rattle.anomaly.specs.Note.{kinds, kindIndex, noteOf}
+use Rattle.anomaly.specs.Kept.{isDue, none, keptNotes}
 use Rattle.anomaly.specs.declared.ResAnomaly.{ResAnomaly}
 use Rattle.anomaly.proofs.Laws.{keptFrom-due}
 use Rattle.errors.specs.declared.Refusal.{Refusal}
@@ -19,13 +19,14 @@ use Rattle.errors.specs.declared.Refusal.the-variants.{TooLargeError}
 use Rattle.errors.specs.declared.ReadAnswer.{ReadAnswer}
 use Rattle.errors.specs.declared.ReadAnswer.the-variants.{Done, Refused}
 use Rattle.errors.specs.declared.ReadCounts.{ReadCounts}
+use Rattle.records.specs.Limits.{fileLimit}
 use Rattle.head.specs.Head.{openedOf}
 use Rattle.head.specs.Ask.{Check, passes, fails, lengthCheck, namesCheck}
-use Rattle.tables.specs.Keep.{nodeWidth, attributeWidth}
+use Rattle.records.specs.Words.{nodeWidth, attributeWidth}
 use Rattle.walk.specs.Settle.{Room, Tables, Out, going, refused}
 use Rattle.walk.specs.Reading.{Reading, nodesKept, attributesKept, refuses, succeeds, finalOf, settledIn, reading}
 use Rattle.claims.specs.Insertion.{withNotes}
-use Rattle.claims.proofs.Grown.{bare, Sound, sound-nodes, sound-attributes}
+use Rattle.claims.proofs.Grown.{bare}
 
 -- ---- what a success says
 
@@ -41,7 +42,7 @@ abbrev pub countsOf : Tables → ReadCounts
 countsOf t = record { starts = length (t .nodes) / nodeWidth; nodes = nodesKept t; attributes = attributesKept t; notes = length (t .notes) }
 
 pub record Success (r : Room) (f names area : List ℕ) (c : ReadCounts) : Type 0 where
-  pub short : length f ≤ 16777216
+  pub short : length f ≤ fileLimit
   pub good : namesCheck area names ≡ passes
   pub tables : Tables
   pub settles : settledIn r f names area (openedOf f) ≡ going tables
@@ -49,20 +50,20 @@ pub record Success (r : Room) (f names area : List ℕ) (c : ReadCounts) : Type 
   pub counts : countsOf tables ≡ c
 
 module _ (r : Room) (f names area : List ℕ) where
-  pub reading-of : length f ≤ 16777216 → namesCheck area names ≡ passes → reading r f names area ≡ finalOf r (settledIn r f names area (openedOf f))
+  pub reading-of : length f ≤ fileLimit → namesCheck area names ≡ passes → reading r f names area ≡ finalOf r (settledIn r f names area (openedOf f))
   unfolding reading lengthCheck
-  reading-of short good = rw (le-ltb 16777216 (length f) short, good)
+  reading-of short good = rw (le-ltb fileLimit (length f) short, good)
 
-  reading-long : ltb 16777216 (length f) ≡ true → reading r f names area ≡ refuses r TooLargeError
+  reading-long : ltb fileLimit (length f) ≡ true → reading r f names area ≡ refuses r TooLargeError
   unfolding reading lengthCheck
   reading-long q = rw q
 
-  reading-names : length f ≤ 16777216 → (x : Refusal) → namesCheck area names ≡ fails x → reading r f names area ≡ refuses r x
+  reading-names : length f ≤ fileLimit → (x : Refusal) → namesCheck area names ≡ fails x → reading r f names area ≡ refuses r x
   unfolding reading lengthCheck
-  reading-names short x q = rw (le-ltb 16777216 (length f) short, q)
+  reading-names short x q = rw (le-ltb fileLimit (length f) short, q)
 
   pub success : (c : ReadCounts) → reading r f names area .answer ≡ Done c → Success r f names area c
-  success c e = long (ltb 16777216 (length f)) refl
+  success c e = long (ltb fileLimit (length f)) refl
     where
       answer : Reading → ReadAnswer
       answer x = x .answer
@@ -70,27 +71,32 @@ module _ (r : Room) (f names area : List ℕ) where
       no-done : {A : Type 0} (x : Refusal) → reading r f names area ≡ refuses r x → A
       no-done x z = absurd (subst IsDone (sym (sym (ap answer z) ∙ e)) tt)
 
-      out : length f ≤ 16777216 → namesCheck area names ≡ passes → (o : Out) → settledIn r f names area (openedOf f) ≡ o → Success r f names area c
+      out : length f ≤ fileLimit → namesCheck area names ≡ passes → (o : Out) → settledIn r f names area (openedOf f) ≡ o → Success r f names area c
       out short good (refused x) q = no-done x (reading-of short good ∙ ap (finalOf r) q)
       out short good (going t) q =
           let w : reading r f names area ≡ succeeds r t = reading-of short good ∙ ap (finalOf r) q in
           record { short = short; good = good; tables = t; settles = q; whole = w; counts = ap (countsIn c) (sym (ap answer w) ∙ e) }
 
-      named : length f ≤ 16777216 → (k : Check) → namesCheck area names ≡ k → Success r f names area c
+      named : length f ≤ fileLimit → (k : Check) → namesCheck area names ≡ k → Success r f names area c
       named short passes q = out short q (settledIn r f names area (openedOf f)) refl
       named short (fails x) q = no-done x (reading-names short x q)
 
-      long : (b : Bool) → ltb 16777216 (length f) ≡ b → Success r f names area c
+      long : (b : Bool) → ltb fileLimit (length f) ≡ b → Success r f names area c
       long true q = no-done TooLargeError (reading-long q)
-      long false q = named (ltb-false 16777216 (length f) q) (namesCheck area names) refl
+      long false q = named (ltb-false fileLimit (length f) q) (namesCheck area names) refl
 
 -- ---- two successes
 
 take-kept : (n : ℕ) (l z : List ℕ) → n ≤ length l → take n (take n l ++ z) ≡ take n l
 take-kept n l z h = take-at (take n l) z n (length-take-le n l h)
 
+-- what is kept is there
+pub record KeptThere (u : Tables) : Type 0 where
+  pub nodes : nodeWidth * nodesKept u ≤ length (u .nodes)
+  pub attributes : attributeWidth * attributesKept u ≤ length (u .attributes)
+
 -- what is kept of u′ is what is kept of u
-pub succeeds-beside : (r r′ : Room) (u u′ : Tables) (ns : List ResAnomaly) → bare u′ ≡ bare u → u′ .notes ≡ map noteOf ns → Sound (bare u)
+pub succeeds-beside : (r r′ : Room) (u u′ : Tables) (ns : List ResAnomaly) → bare u′ ≡ bare u → u′ .notes ≡ map noteOf ns → KeptThere u
     → succeeds r′ u′ ≡ withNotes r′ (succeeds r u) (countsOf u) ns
 succeeds-beside r r′ u u′ ns e o s =
     let n : u′ .nodes ≡ u .nodes = ap (λ (t : Tables). t .nodes) e in
@@ -102,9 +108,9 @@ succeeds-beside r r′ u u′ ns e o s =
       k,
       o,
       length-map ns noteOf,
-      take-kept (nodeWidth * nodesKept u) (u .nodes) (replicate (r .nodes - nodeWidth * nodesKept u) 0) (sound-nodes (bare u) s),
+      take-kept (nodeWidth * nodesKept u) (u .nodes) (replicate (r .nodes - nodeWidth * nodesKept u) 0) (s .nodes),
       take-kept (attributeWidth * attributesKept u) (u .attributes) (replicate (r .attributes - attributeWidth * attributesKept u) 0)
-          (sound-attributes (bare u) s),
+          (s .attributes),
     )
 
 -- what was kept of a reading, in a table of n words
@@ -115,14 +121,14 @@ abbrev pub keptAttributes : ℕ → Reading → ReadCounts → List ℕ
 keptAttributes n x c = take (attributeWidth * c .attributes) (x .attributes) ++ replicate (n - attributeWidth * c .attributes) 0
 
 -- in a table of the same length it is the whole table
-pub again-nodes : (r : Room) (u : Tables) → Sound (bare u) → keptNodes (r .nodes) (succeeds r u) (countsOf u) ≡ succeeds r u .nodes
-again-nodes r u s = rw (take-kept (nodeWidth * nodesKept u) (u .nodes) (replicate (r .nodes - nodeWidth * nodesKept u) 0) (sound-nodes (bare u) s))
+pub again-nodes : (r : Room) (u : Tables) → KeptThere u → keptNodes (r .nodes) (succeeds r u) (countsOf u) ≡ succeeds r u .nodes
+again-nodes r u s = rw (take-kept (nodeWidth * nodesKept u) (u .nodes) (replicate (r .nodes - nodeWidth * nodesKept u) 0) (s .nodes))
 
-pub again-attributes : (r : Room) (u : Tables) → Sound (bare u)
+pub again-attributes : (r : Room) (u : Tables) → KeptThere u
     → keptAttributes (r .attributes) (succeeds r u) (countsOf u) ≡ succeeds r u .attributes
 again-attributes r u s =
     rw (take-kept (attributeWidth * attributesKept u) (u .attributes) (replicate (r .attributes - attributeWidth * attributesKept u) 0)
-    (sound-attributes (bare u) s))
+    (s .attributes))
 
 -- ---- no note
 
@@ -135,6 +141,6 @@ getD-zeros (suc n) (suc k) = getD-zeros n k
 pub none-kept : (cap : ℕ) → 1 ≤ cap → (ns : List ResAnomaly) → length (keptNotes cap ns) ≡ 0 → ns ≡ []
 none-kept cap h [] e = refl
 none-kept cap h (x ∷ ns) e =
-    let due : isDue cap (replicate 13 0) (kindIndex x) ≡ true = lt-ltb _ cap (omega (arith, getD-zeros 13 (kindIndex x))) in
-    let e′ = rw (keptFrom-due cap (replicate 13 0) x ns due) at e in
+    let due : isDue cap none (kindIndex x) ≡ true = lt-ltb _ cap (omega (arith, getD-zeros kinds (kindIndex x))) in
+    let e′ = rw (keptFrom-due cap none x ns due) at e in
     absurd (let z : ⊥ = omega (arith, e′) in z)

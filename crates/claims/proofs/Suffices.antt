@@ -23,6 +23,7 @@ use Rattle.errors.proofs.Laws.{numbersOf-unique}
 use Rattle.errors.specs.Refusal.{numberOf}
 use Rattle.errors.specs.declared.Refusal.{Refusal}
 use Rattle.errors.specs.declared.ReadAnswer.{ReadAnswer}
+use Rattle.records.specs.Limits.{fileLimit, listedFile}
 use Rattle.system_types.specs.Names.{namesOf}
 use Rattle.system_types.specs.declared.NamesRead.{NamesRead}
 use Rattle.system_types.specs.declared.NamesRead.the-variants.{Good, Bad}
@@ -33,10 +34,10 @@ use Rattle.xml_elements.proofs.Laws.{cond-by}
 use Rattle.events.specs.declared.Event.{Event}
 use Rattle.events.specs.Events.{namesIn, fileEvents}
 use Rattle.walk.specs.Settle.{Room, Tables, Out, going, refused, nothingYet}
-use Rattle.tables.specs.Keep.{nodeWidth, attributeWidth}
+use Rattle.records.specs.Words.{nodeWidth, attributeWidth}
 use Rattle.walk.specs.Reading.{reading, readingBy, settledIn, roomIn, zeroNote, Reads}
 use Rattle.claims.specs.Counts.{opensIn, attributesIn, notesIn}
-use Rattle.claims.specs.Room.{isFull, HasRoom, nodesFor, attributesFor, placesFor, listingLimit, listingRoom}
+use Rattle.claims.specs.Room.{isFull, HasRoom, nodesFor, attributesFor, placesFor, listingRoom}
 use Rattle.claims.proofs.PushBy.{InOut, idle-still, Goes, Stops, settle-by}
 use Rattle.claims.proofs.SufficesStart.{Fine}
 use Rattle.claims.proofs.SufficesBytes.{file-few}
@@ -110,7 +111,7 @@ Under (fails x) = Other x
 
 length-under : (f : List ℕ) → Under (lengthCheck f)
 unfolding lengthCheck numberOf
-length-under f = cond-by Under (ltb 16777216 (length f)) (λ e. refl) (λ e. tt)
+length-under f = cond-by Under (ltb fileLimit (length f)) (λ e. refl) (λ e. tt)
 
 names-under : (n : NamesRead) → Under (namesCheckBy n)
 unfolding numberOf
@@ -136,7 +137,7 @@ module _ (r : Room) (f names area : List ℕ) (nodes : nodesFor (length f) ≤ r
       let b = bodyIn f (o .head) in
       let few = file-few N o t b in
       let l : length b ≡ length f - (8 + headLen (o .head)) = length-drop (8 + headLen (o .head)) f in
-      settle-by (N .same) r (Enough r) Other (goes r) (stops r) nothingYet (fileEvents N o t b) (record {
+      settle-by (N .repeats) r (Enough r) Other (goes r) (stops r) nothingYet (fileEvents N o t b) (record {
         nodes = omega (arith, few .opens);
         attributes = omega (arith, few .attributes);
         fine = few .fine;
@@ -159,12 +160,12 @@ read-suffices f names area ns ats os cap a ns′ ats′ os′ n m o h =
 
 -- ---- a listing
 
-pub listing-suffices : (n : ℕ) → n ≤ listingLimit
+pub listing-suffices : (n : ℕ) → n ≤ listedFile
     → (nodesFor n ≤ listingRoom .nodes) × (attributesFor n ≤ listingRoom .attributes) × (placesFor (listingRoom .cap) ≤ listingRoom .notes)
 listing-suffices n short = (omega arith, omega arith, omega arith)
 
 pub read-listed-suffices : (f ns ats : List ℕ) (a : ReadAnswer) (ns′ ats′ : List ℕ) (os′ : List NoteOf)
-    → length f ≤ listingLimit → length ns ≡ listingRoom .nodes → length ats ≡ listingRoom .attributes
+    → length f ≤ listedFile → length ns ≡ listingRoom .nodes → length ats ≡ listingRoom .attributes
     → Reads f [] [] ns ats (replicate (listingRoom .notes) zeroNote) (listingRoom .cap) a ns′ ats′ os′ → HasRoom a
 read-listed-suffices f ns ats a ns′ ats′ os′ short n m h =
     let s = listing-suffices (length f) short in

@@ -9,13 +9,14 @@ use Rattle.errors.specs.declared.ReadAnswer.the-variants.{Done}
 use Rattle.errors.specs.declared.ReadCounts.{ReadCounts}
 use Rattle.errors.specs.declared.TextAnswer.{TextAnswer}
 use Rattle.errors.specs.declared.FirstAnswer.{FirstAnswer}
-use Rattle.errors.specs.Refusal.{textNumbersOf}
-use Rattle.errors.proofs.Laws.{textNumbersOf-unique}
+use Rattle.errors.specs.Refusal.{textNumbersOf, firstNumbersOf}
+use Rattle.errors.proofs.Laws.{textNumbersOf-unique, firstNumbersOf-unique}
+use Rattle.records.specs.Limits.{fileLimit}
 use Rattle.head.specs.Head.{openedOf, tablesIn}
 use Rattle.head.specs.Ask.{Check, passes, fails, firstOf, checks, lengthCheck, headCheck, openBy, openOf, askedBy}
 use Rattle.head.specs.Ask.{textAnswer, textBuffer, contentAnswer, TextReads}
 use Rattle.first_value.specs.Question as first
-use Rattle.first_value.specs.Question.{firstAnswer}
+use Rattle.first_value.specs.Question.{firstAnswer, FirstReads}
 use Rattle.walk.specs.Settle.{Room}
 use Rattle.walk.specs.Reading.{reading}
 use Rattle.claims.specs.Insertion.{ForeignChunk, insertedFile}
@@ -24,11 +25,11 @@ use Rattle.claims.proofs.Insertion.{head-whole, insertion-head}
 use Rattle.claims.proofs.Longer.{longer-tables}
 
 module _ (r : Room) (f names area : List ℕ) (c : ReadCounts) (one : 1 ≤ r .cap) (done : reading r f names area .answer ≡ Done c) (none : c .notes ≡ 0)
-    (places : List (List ForeignChunk)) (limit : length (insertedFile places f) ≤ 16777216) where
+    (places : List (List ForeignChunk)) (limit : length (insertedFile places f) ≤ fileLimit) where
   abbrev g : List ℕ
   g = insertedFile places f
 
-  short : length f ≤ 16777216
+  short : length f ≤ fileLimit
   short = success r f names area c done .short
 
   opened-same : openedOf g ≡ openedOf f
@@ -40,7 +41,7 @@ module _ (r : Room) (f names area : List ℕ) (c : ReadCounts) (one : 1 ≤ r .c
   -- the head is opened as that of f, and it is that of f
   open-same : openOf g names area ≡ openOf f names area
   unfolding openOf lengthCheck headCheck
-  open-same = rw (le-ltb 16777216 (length g) limit, le-ltb 16777216 (length f) short, opened-same)
+  open-same = rw (le-ltb fileLimit (length g) limit, le-ltb fileLimit (length f) short, opened-same)
 
   asked-same : (i : ℕ) → askedBy g names area i (openOf g names area) ≡ askedBy f names area i (openOf f names area)
   unfolding openOf
@@ -77,6 +78,6 @@ module _ (r : Room) (f names area : List ℕ) (c : ReadCounts) (one : 1 ≤ r .c
     unfolding firstAnswer openOf
     first-same = ap (first.askedBy g names area ns ats tag name nodes attributes) open-same ∙ asked-first (firstOf (checks f names area))
 
-    pub insertion-first : (a a′ : FirstAnswer) → a ≡ firstAnswer f names area ns ats tag name nodes attributes
-        → a′ ≡ firstAnswer g names area ns ats tag name nodes attributes → a′ ≡ a
-    insertion-first a a′ p q = q ∙ first-same ∙ sym p
+    pub insertion-first : (a a′ : FirstAnswer) → FirstReads f names area ns ats tag name nodes attributes a
+        → FirstReads g names area ns ats tag name nodes attributes a′ → a′ ≡ a
+    insertion-first a a′ p q = firstNumbersOf-unique a′ a (q .answer ∙ ap firstNumbersOf first-same ∙ sym (p .answer))

@@ -29,6 +29,7 @@ use Rattle.head.specs.Ask.{textAnswerBy, textAnswer, textBuffer, TextReads}
 use Rattle.head.specs.declared.OpenRead.{OpenRead}
 use Rattle.head.specs.declared.OpenRead.the-variants.{Open, Closed}
 use Rattle.text.specs.Content.{Content, none, cut, some, textIn}
+use Rattle.records.specs.Words.{nodeWidth, attributeWidth}
 use Rattle.walk.specs.Settle.{Room, Out, going, refused}
 use Rattle.walk.specs.Reading.{Reading, zeroNote, reading, readingBy, settledIn, roomIn, nodesKept, attributesKept, Reads}
 use Rattle.claims.specs.Cleared.{ZeroBehind, RefusedZero, DoneZero, TextRefusedZero, TextDoneZero}
@@ -87,12 +88,12 @@ module _ (f names area ns ats : List ℕ) (os : List Note) (cap : ℕ) where
         refusal = refl;
         value = refl;
         nodeWords = rw (d .nodes)
-            (behind 0 (5 * nodesKept t) (length ns) (take (5 * nodesKept t) (t .nodes)) ns ns′
-            (length-take-le (5 * nodesKept t) (t .nodes) (omega (arith, s .nodes))) refl (omega (arith, s .nodesFit))
+            (behind 0 (nodeWidth * nodesKept t) (length ns) (take (nodeWidth * nodesKept t) (t .nodes)) ns ns′
+            (length-take-le (nodeWidth * nodesKept t) (t .nodes) (omega (arith, s .nodes))) refl (omega (arith, s .nodesFit))
             (h .nodes ∙ ap (λ (x : Reading). x .nodes) (d .whole)));
         attributeWords = rw (d .attributes)
-            (behind 0 (5 * attributesKept t) (length ats) (take (5 * attributesKept t) (t .attributes)) ats ats′
-            (length-take-le (5 * attributesKept t) (t .attributes) (omega (arith, s .attributes))) refl (omega (arith, s .attributesFit))
+            (behind 0 (attributeWidth * attributesKept t) (length ats) (take (attributeWidth * attributesKept t) (t .attributes)) ats ats′
+            (length-take-le (attributeWidth * attributesKept t) (t .attributes) (omega (arith, s .attributes))) refl (omega (arith, s .attributesFit))
             (h .attributes ∙ ap (λ (x : Reading). x .attributes) (d .whole)));
         noteRecords = rw (d .notes)
             (behind zeroNote (length (t .notes)) (length os) (t .notes) os os′ refl refl (s .notesFit)

@@ -11,6 +11,7 @@ use lib.ListN.{length, drop, replicate}
 use Rattle.anomaly.specs.declared.Note.{Note}
 use Rattle.errors.specs.declared.Numbers.{Numbers}
 use Rattle.errors.specs.declared.TextNumbers.{TextNumbers}
+use Rattle.records.specs.Words.{nodeWidth, attributeWidth}
 use Rattle.walk.specs.Reading.{zeroNote}
 
 pub record ZeroBehind {A : Type 0} (z : A) (k : ℕ) (l l′ : List A) : Type 0 where
@@ -30,8 +31,8 @@ pub record RefusedZero (x : Numbers) (ns ats : List ℕ) (os : List Note) (ns′
 pub record DoneZero (x : Numbers) (ns ats : List ℕ) (os : List Note) (ns′ ats′ : List ℕ) (os′ : List Note) : Type 0 where
   pub refusal : _≡_ {A = ℕ} (x .refusal) 0
   pub value : _≡_ {A = ℕ} (x .value) 0
-  pub nodeWords : ZeroBehind 0 (5 * x .nodes) ns ns′
-  pub attributeWords : ZeroBehind 0 (5 * x .attributes) ats ats′
+  pub nodeWords : ZeroBehind 0 (nodeWidth * x .nodes) ns ns′
+  pub attributeWords : ZeroBehind 0 (attributeWidth * x .attributes) ats ats′
   pub noteRecords : ZeroBehind zeroNote (x .notes) os os′
 
 pub record TextRefusedZero (x : TextNumbers) (before after : List ℕ) : Type 0 where

@@ -32,7 +32,7 @@ use Rattle.xml_elements.specs.declared.Turn.{Turn}
 use Rattle.xml_elements.specs.declared.Turn.the-variants.{Stop, Foreign, Met, Cut}
 use Rattle.xml_elements.specs.Chunk.{turnOf, usedOf, numberOf}
 use Rattle.events.specs.Events.{foreignNote}
-use Rattle.tables.specs.Keep.{nodeWidth, attributeWidth}
+use Rattle.records.specs.Words.{nodeWidth, attributeWidth}
 use Rattle.walk.specs.Settle.{Room}
 use Rattle.walk.specs.Reading.{Reading, zeroNote}
 

@@ -4,18 +4,19 @@
 --   HasRoom        an answer that is none of these
 --   nodesFor       words for all the nodes that a file of n bytes can make: the chunk of an element has 36 bytes at least
 --   attributesFor  the same of attributes: each has 20 bytes, and the leading one is paid for by its element
---   placesFor      places for all the notes that a cap keeps: the thirteen kinds are counted apart
---   listingLimit   the bytes that a listing reads at most
---   listingRoom    its room: words for 2,048 nodes and 3,276 attributes, 104 places for notes, and cap 8
+--   placesFor      places for all the notes that a cap keeps: the kinds are counted apart
+--   listingRoom    the room of a listing, by the numbers of records/Limits
 use Prim.Native.Nat.{ℕ, _*_, _/_}
 use mathlib.Core.Path.{_≡_}
 use mathlib.Core.Bool.{Bool, false, _&&_}
 use lib.Dec.{leb}
+use Rattle.anomaly.specs.Note.{kinds}
 use Rattle.errors.specs.Refusal.{numberOf}
 use Rattle.errors.specs.declared.Refusal.{Refusal}
 use Rattle.errors.specs.declared.ReadAnswer.{ReadAnswer}
 use Rattle.errors.specs.declared.ReadAnswer.the-variants.{Done, Refused}
-use Rattle.tables.specs.Keep.{nodeWidth, attributeWidth}
+use Rattle.records.specs.Words.{nodeWidth, attributeWidth}
+use Rattle.records.specs.Limits.{listedNodes, listedAttributes, listedCap, listedNotes}
 use Rattle.walk.specs.Settle.{Room}
 
 abbrev pub isFullNumber : ℕ → Bool
@@ -35,10 +36,7 @@ abbrev pub attributesFor : ℕ → ℕ
 attributesFor n = attributeWidth * (n / 20)
 
 abbrev pub placesFor : ℕ → ℕ
-placesFor cap = 13 * cap
-
-abbrev pub listingLimit : ℕ
-listingLimit = 65536
+placesFor cap = kinds * cap
 
 abbrev pub listingRoom : Room
-listingRoom = record { nodes = nodeWidth * 2048; attributes = attributeWidth * 3276; notes = 104; cap = 8 }
+listingRoom = record { nodes = nodeWidth * listedNodes; attributes = attributeWidth * listedAttributes; notes = listedNotes; cap = listedCap }

@@ -1,7 +1,7 @@
 -- The shape of what a reading leaves: docs/FORMAT.md, W25 to W29, B9 to B15.
 --
---   word         the word k of the record i of a table of five words each
---   Descends     of n nodes, the first has 4294967295 for its parent, and each other an earlier node
+--   word         the word k of the record i of a table whose records have so many words; nodeWord of a node, attributeWord of an attribute
+--   Descends     of n nodes, the first has no parent, and each other an earlier node
 --   begin, end   a node's run: its first attribute, and where the next run begins
 --   Runs         the runs of n nodes cover m attributes in turn: the first begins at 0, each next where the one before ends, and the last ends at m
 --   Owns         an attribute within a node's run has that node for its owner
@@ -20,24 +20,31 @@ use Rattle.anomaly.specs.Note.{noteOf}
 use Rattle.anomaly.specs.Kept.{keptNotes}
 use Rattle.anomaly.specs.declared.Note.{Note}
 use Rattle.errors.specs.declared.ReadCounts.{ReadCounts}
+use Rattle.records.specs.Words.{nodeWidth, nodeName, nodeFixed, nodeParent, nodeFirst, nodeCount, noParent, attributeWidth, attributeOwner}
 use Rattle.events.specs.declared.Event.{Event}
 use Rattle.claims.specs.Counts.{opensIn, notesIn, openNames, openFixed, depthFrom}
 
-abbrev pub word : List ℕ → ℕ → ℕ → ℕ
-word w i k = getD w (5 * i + k) 0
+abbrev pub word : ℕ → List ℕ → ℕ → ℕ → ℕ
+word width w i k = getD w (width * i + k) 0
+
+abbrev pub nodeWord : List ℕ → ℕ → ℕ → ℕ
+nodeWord w i k = word nodeWidth w i k
+
+abbrev pub attributeWord : List ℕ → ℕ → ℕ → ℕ
+attributeWord w i k = word attributeWidth w i k
 
 pub record Parent (w : List ℕ) (i : ℕ) : Type 0 where
-  pub first : i ≡ 0 → word w i 2 ≡ 4294967295
-  pub later : 0 < i → word w i 2 < i
+  pub first : i ≡ 0 → nodeWord w i nodeParent ≡ noParent
+  pub later : 0 < i → nodeWord w i nodeParent < i
 
 abbrev pub Descends : List ℕ → ℕ → Type 0
 Descends w n = (i : ℕ) → i < n → Parent w i
 
 abbrev pub begin : List ℕ → ℕ → ℕ
-begin w i = word w i 3
+begin w i = nodeWord w i nodeFirst
 
 abbrev pub end : List ℕ → ℕ → ℕ
-end w i = word w i 3 + word w i 4
+end w i = begin w i + nodeWord w i nodeCount
 
 pub record Runs (w : List ℕ) (n m : ℕ) : Type 0 where
   pub none : n ≡ 0 → m ≡ 0
@@ -46,7 +53,7 @@ pub record Runs (w : List ℕ) (n m : ℕ) : Type 0 where
   pub ends : (i : ℕ) → i + 1 ≡ n → end w i ≡ m
 
 abbrev pub Owns : List ℕ → List ℕ → ℕ → Type 0
-Owns w v n = (i j : ℕ) → i < n → begin w i ≤ j → j < end w i → word v j 0 ≡ i
+Owns w v n = (i j : ℕ) → i < n → begin w i ≤ j → j < end w i → attributeWord v j attributeOwner ≡ i
 
 abbrev pub ofKind : ℕ → List Note → ℕ
 ofKind k [] = 0
@@ -62,12 +69,12 @@ pub record Structured (es : List Event) (cap : ℕ) (c : ReadCounts) (ns ats : L
   pub starts : c .starts ≡ opensIn es
   pub some : 0 < c .nodes
   pub within : c .nodes ≤ c .starts
-  pub names : (i : ℕ) → i < c .nodes → word ns i 0 ≡ getD (openNames es) i 0
-  pub fixed : (i : ℕ) → i < c .nodes → word ns i 1 ≡ getD (openFixed es) i 0
+  pub names : (i : ℕ) → i < c .nodes → nodeWord ns i nodeName ≡ getD (openNames es) i 0
+  pub fixed : (i : ℕ) → i < c .nodes → nodeWord ns i nodeFixed ≡ getD (openFixed es) i 0
   pub parents : Descends ns (c .nodes)
   pub runs : Runs ns (c .nodes) (c .attributes)
   pub owns : Owns ns ats (c .nodes)
-  pub owners : (j : ℕ) → j < c .attributes → word ats j 0 < c .nodes
+  pub owners : (j : ℕ) → j < c .attributes → attributeWord ats j attributeOwner < c .nodes
   pub many : c .notes ≡ length (keptNotes cap (notesIn es))
   pub notes : take (c .notes) os ≡ map noteOf (keptNotes cap (notesIn es))
   pub kinds : (k : ℕ) → ofKind k (take (c .notes) os) ≤ cap

@@ -20,7 +20,8 @@ use Rattle.anomaly.specs.declared.ResAnomaly.{ResAnomaly}
 use Rattle.anomaly.specs.declared.ResAnomaly.the-variants.{NonXmlChunk, XmlNodeHeaderSize, UnknownChunk, TruncatedXml, UnclosedElements}
 use Rattle.anomaly.specs.declared.ResAnomaly.the-variants.{AttributeStartShifted, AttributeSizeMismatch, ElementTrailingBytes}
 use Rattle.anomaly.specs.declared.ResAnomaly.the-variants.{InvalidElementName, InvalidAttributeName}
-use Rattle.text.specs.Content.{contentOf, hasText, stateIn, sameText}
+use Rattle.records.specs.Repeats.{Rule, byPrefix}
+use Rattle.text.specs.Content.{contentOf, hasText, stateIn, sameName}
 use Rattle.text.specs.declared.Head.{Head}
 use Rattle.text.specs.declared.NameState.{NameState}
 use Rattle.text.specs.declared.NameState.the-variants.{NoText, Invalid, Valid}
@@ -42,19 +43,19 @@ use Rattle.events.specs.declared.Event.the-variants.{Open, Attribute, Le
 
 -- ---- names
 
--- what an index stands for: no text, a text that is no valid name, or a valid name; the prefix that a namespace index gives; and
--- whether the texts of two indices are equal
+-- what an index stands for: no text, a text that is no valid name, or a valid name; the prefix that a namespace index gives; and when an
+-- attribute repeats another
 pub record Names : Type 0 where
   pub state : ℕ → NameState
   pub prefixOf : ℕ → ℕ
-  pub same : ℕ → ℕ → Bool
+  pub repeats : Rule
 
--- the names of a head: prefix 1 (android) for a namespace index with any text
+-- the names of a head: prefix 1 (android) for a namespace index with any text; a repeat has the same prefix and a name of the same text
 abbrev pub namesIn : Head → List ℕ → List ℕ → List ℕ → Names
 namesIn h t names area = record {
   state = λ i. stateIn (contentOf h t names area i);
   prefixOf = λ i. cond (hasText (contentOf h t names area i)) 1 0;
-  same = λ i j. sameText (contentOf h t names area i) (contentOf h t names area j);
+  repeats = byPrefix (sameName h t names area);
 }
 
 abbrev pub when : Bool → Event → List Event

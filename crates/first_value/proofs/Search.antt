@@ -5,17 +5,19 @@
 use Prim.Native.Nat.{ℕ, zero, suc, _+_, _-_, _*_, _≤_, _<_}
 use native.Mathlib.Omega.{arith}
 use native.Mathlib.Nat.{add-zero}
-use mathlib.Core.Path.{_≡_, refl, sym, _∙_}
+use mathlib.Core.Path.{_≡_, refl, sym, _∙_, ap}
 use mathlib.Core.List.{List}
 use mathlib.Core.Bool.{Bool, true, false, cond}
 use borrow.Author.Tests.{ltb-false}
 use lib.ListN.{length, take, drop, getD}
 use lib.Seq.{getD-drop}
 use lib.Dec.{ltb}
+use Rattle.errors.specs.Refusal.{firstNumbersOf}
 use Rattle.errors.specs.declared.Refusal.{Refusal}
 use Rattle.errors.specs.declared.Refusal.the-variants.{NothingFound}
 use Rattle.errors.specs.declared.FirstAnswer.{FirstAnswer}
 use Rattle.errors.specs.declared.FirstAnswer.the-variants.{Refused}
+use Rattle.errors.proofs.Laws.{firstNumbersOf-unique}
 use Rattle.text.specs.declared.Head.{Head}
 use Rattle.head.specs.Head.{tablesIn}
 use Rattle.head.specs.Ask.{openOf}
@@ -25,7 +27,7 @@ use Rattle.records.specs.Words.{nodeWidth, nodeName, nodeFixed, nodeFirst, node
 use Rattle.records.specs.Words.{attributeWidth, attributePrefix, attributeName, attributeType, attributeData}
 use Rattle.records.proofs.Places.{drop-record}
 use Rattle.first_value.specs.Question.{runsFrom, fitOf, tagIs, nameIs, foundBy, findNode, findValue}
-use Rattle.first_value.specs.Question.{valueBy, firstBy, firstAnswer}
+use Rattle.first_value.specs.Question.{valueBy, firstBy, firstAnswer, FirstReads}
 use Rattle.first_value.specs.declared.Fit.the-variants.{Fitting, Unfit}
 use Rattle.first_value.specs.declared.NodeFound.{NodeFound}
 use Rattle.first_value.specs.declared.NodeFound.the-variants.{Run, NoNode}
@@ -162,18 +164,19 @@ module _ (f names area ns ats tag name : List ℕ) (nodes attributes : ℕ) wher
       → openOf f names area ≡ Open h
       → t ≡ tablesIn f h
       → r ≡ firstBy h t names area ns ats tag name nodes (fitOf ns ats nodes attributes)
-      → r ≡ firstAnswer f names area ns ats tag name nodes attributes
+      → FirstReads f names area ns ats tag name nodes attributes r
   unfolding firstAnswer
-  first-open e q g = rw e (rw q at g)
+  first-open {r = r} e q g =
+      let same : r ≡ firstAnswer f names area ns ats tag name nodes attributes = rw e (rw q at g) in record { answer = ap firstNumbersOf same }
 
-  pub first-closed : {why : Refusal} → openOf f names area ≡ Closed why → Refused why ≡ firstAnswer f names area ns ats tag name nodes attributes
+  pub first-closed : {why : Refusal} → openOf f names area ≡ Closed why → FirstReads f names area ns ats tag name nodes attributes (Refused why)
   unfolding firstAnswer
-  first-closed e = rw e
+  first-closed e = record { answer = rw e }
 
   -- P4
   pub first-unique
       : {r r′ : FirstAnswer}
-      → r ≡ firstAnswer f names area ns ats tag name nodes attributes
-      → r′ ≡ firstAnswer f names area ns ats tag name nodes attributes
+      → FirstReads f names area ns ats tag name nodes attributes r
+      → FirstReads f names area ns ats tag name nodes attributes r′
       → r ≡ r′
-  first-unique a b = a ∙ sym b
+  first-unique a b = firstNumbersOf-unique _ _ (a .answer ∙ sym (b .answer))

@@ -1,5 +1,6 @@
 -- The first-value question: docs/FORMAT.md, Q4 to Q8.
 --
+--   FirstReads    THE PROMISE of the first-value question, by the numbers of its answer
 --   firstAnswer   the answer: the head's refusals, 13 where the tables do not fit, 12 where nothing is found, or type, data and reference
 --   fitOf         whether the lent tables fit the counts; the node count, or the first node that does not
 --   tagIs         whether a node has the tag; nameIs whether an attribute has the name
@@ -9,6 +10,7 @@
 -- The tables may be any words: nothing is asked of them. A record is read where it stands, words past the end as 0.
 -- Laws: proofs/Laws.antt, proofs/Search.antt. Computed on small tables: proofs/Cases.antt.
 use Prim.Native.Nat.{ℕ, zero, suc, _+_, _*_}
+use mathlib.Core.Path.{_≡_}
 use mathlib.Core.List.{List, [], _∷_}
 use mathlib.Core.Bool.{Bool, cond, _||_}
 use lib.ListN.{length, drop, getD}
@@ -16,6 +18,7 @@ use lib.Dec.{ltb, eqb}
 use Rattle.utf.specs.Text.{eqBytes}
 use Rattle.common.specs.ValueType.{isReference, valueTypeOf}
 use Rattle.errors.specs.declared.Refusal.the-variants.{NothingFound, TablesError}
+use Rattle.errors.specs.Refusal.{firstNumbersOf}
 use Rattle.errors.specs.declared.FirstAnswer.{FirstAnswer}
 use Rattle.errors.specs.declared.FirstAnswer.the-variants.{Found, Refused}
 use Rattle.text.specs.declared.Head.{Head}
@@ -107,3 +110,6 @@ askedBy f names area ns ats tag name nodes attributes (Open h) = firstBy h (tabl
 
 unfoldable pub firstAnswer : List ℕ → List ℕ → List ℕ → List ℕ → List ℕ → List ℕ → List ℕ → ℕ → ℕ → FirstAnswer
 firstAnswer f names area ns ats tag name nodes attributes = askedBy f names area ns ats tag name nodes attributes (openOf f names area)
+
+pub record FirstReads (f names area ns ats tag name : List ℕ) (nodes attributes : ℕ) (r : FirstAnswer) : Type 0 where
+  pub answer : firstNumbersOf r ≡ firstNumbersOf (firstAnswer f names area ns ats tag name nodes attributes)

@@ -15,7 +15,7 @@ ghost use lib.ListN.{length};
 ghost use Rattle.records.specs.Words.{nodeWidth, attributeWidth};
 ghost use Rattle.text.specs.Found.{Asks};
 ghost use Rattle.first_value.specs.declared.Fit.the-variants.{Fitting};
-ghost use Rattle.first_value.specs.Question.{fitOf, foundBy, findNode, findValue, valueBy, firstBy, firstAnswer};
+ghost use Rattle.first_value.specs.Question.{fitOf, foundBy, findNode, findValue, valueBy, firstBy, FirstReads};
 use common::StringIndex;
 use common::is_reference;
 use common::value_type_of;
@@ -209,8 +209,8 @@ pub fn first_value(
     node_count: u32,
     attribute_count: u32,
 ) -> FirstAnswer
-    ensures { λ r. ⌜ r ≡ firstAnswer (now (file .entry)) (now (names .entry)) (now (area .entry)) (now (nodes .entry)) (now (attributes .entry))
-        (now (tag .entry)) (now (name .entry)) «node_count» «attribute_count» ⌝ }
+    ensures { λ r. ⌜ FirstReads (now (file .entry)) (now (names .entry)) (now (area .entry)) (now (nodes .entry)) (now (attributes .entry))
+        (now (tag .entry)) (now (name .entry)) «node_count» «attribute_count» r ⌝ }
 {
     let opened = open_file(file, names, area);
     match opened {

@@ -1,18 +1,22 @@
 // Lists a binary XML file: standard input in, the lines of docs/FORMAT.md (L1 to L4) out.
 //
-// The program only moves bytes: `axml::read_listed` reads, `listing_text::listing_into` prints, and both say in their contracts what they do.
-// More than 65,536 bytes are refused with 2 and not read to their end. A read that fails prints nothing on standard output and a line on
-// standard error, so that a part of a file is never listed as if it were the whole.
-use anomaly::Note;
-use errors::ReadAnswer;
-use errors::Refusal;
-use errors::TextAnswer;
+// The program only moves bytes: what it lists is `listed::list_whole`'s promise, and `list_input` says so of what came in. More than the limit is
+// refused with 2 and not read to its end. A read that fails prints nothing on standard output and a line on standard error, so that a part of a
+// file is never listed as if it were the whole; a write that fails says so too, for what was written then is a part of the listing.
 use libc::STDERR_FILENO;
 use libc::STDIN_FILENO;
 use libc::STDOUT_FILENO;
-ghost use Prim.Native.Nat.{_≤_};
+use listing_text::LISTED_BYTES;
+ghost use Prim.Native.Nat.{_≤_, _<_};
 ghost use lib.ListN.{length};
-ghost use Rattle.listing.specs.Input.{Within};
+ghost use Rattle.records.specs.Limits.{listedFile};
+ghost use Rattle.listed.specs.Lists.{Roomy};
+ghost use Rattle.listing.specs.Input.{Within, Runs};
+use records::ATTRIBUTE_WORDS;
+use records::LISTED_ATTRIBUTES;
+use records::LISTED_FILE;
+use records::LISTED_NODES;
+use records::NODE_WORDS;
 
 // What came in on standard input.
 pub enum Input {
@@ -23,7 +27,7 @@ pub enum Input {
 
 // Reads until the room is full, the input ends or a read fails.
 fn take_in(room: &mut [u8]) -> Input
-    ensures { λ r. ⌜ Within r (length (now (room .entry))) ⌝ }
+    ensures { λ r. ⌜ Within r (length (now (room .exit))) ⌝ }
 {
     let mut n: usize = 0;
     while n < room.len() {
@@ -40,61 +44,45 @@ fn take_in(room: &mut [u8]) -> Input
     Input::Full
 }
 
-// Prints the listing of an answer. A buffer of 900,000 bytes takes every listing of 2,048 nodes, 3,276 attributes and 104 notes
-// (`listingText-fits` of listing_text), so the second line is for a buffer that is shorter.
-fn print(
-    answer: ReadAnswer,
-    nodes: &[u32],
-    attributes: &[u32],
-    notes: [Note; 104],
+// The listing of what came in, and its length. The room for the file has more bytes than a file may have, so that a full room is refused
+// whatever follows it. Ruled out: the listing of a part of the input.
+fn list_input(
+    input: Input,
+    file: &[u8],
+    nodes: &mut [u32],
+    attributes: &mut [u32],
     out: &mut [u8],
-) {
-    let n = errors::read_numbers(answer);
-    let printed = listing_text::listing_into(8, n, nodes, attributes, notes, out);
-    match printed {
-        TextAnswer::Text(length) => {
-            if length <= out.len() {
-                io::write_all(STDOUT_FILENO, &out[..length]);
-            }
-        }
-        TextAnswer::Refused(_) => {
-            io::write_all(
-                STDERR_FILENO,
-                b"listing: the listing does not fit its buffer\n",
-            );
-        }
+) -> usize
+    requires { ⌜ Within input (length (now file)) × (listedFile < length (now file)) × Roomy (length (now nodes)) (length (now attributes)) (length (now out)) ⌝ }
+    ensures { λ r. ⌜ Runs input (now (file .entry)) (now (nodes .entry)) (now (attributes .entry)) (now (out .entry)) r
+        (now (nodes .exit)) (now (attributes .exit)) (now (out .exit)) × (r ≤ length (now (out .entry))) ⌝ }
+{
+    match input {
+        Input::Whole(n) => listed::list_whole(&file[..n], nodes, attributes, out),
+        Input::Full => listed::list_whole(file, nodes, attributes, out),
+        Input::Failed => 0,
     }
 }
 
-// Reads, and prints the listing. The room for the file has one byte more than a file may have.
-fn run(file: &mut [u8], nodes: &mut [u32], attributes: &mut [u32], out: &mut [u8]) {
+// Reads, lists and writes. A listing is never empty: its length is 0 where a read failed.
+fn run(file: &mut [u8], nodes: &mut [u32], attributes: &mut [u32], out: &mut [u8])
+    requires { ⌜ (listedFile < length (now file)) × Roomy (length (now nodes)) (length (now attributes)) (length (now out)) ⌝ }
+{
     let input = take_in(file);
-    match input {
-        Input::Whole(n) => {
-            let l = axml::read_listed(&file[..n], nodes, attributes);
-            let answer = l.answer;
-            let notes = l.notes;
-            print(answer, nodes, attributes, notes, out);
-        }
-        Input::Full => {
-            let notes = [Note {
-                kind: 0,
-                a: 0,
-                b: 0,
-            }; 104];
-            let answer = ReadAnswer::Refused(Refusal::TooLargeError);
-            print(answer, nodes, attributes, notes, out);
-        }
-        Input::Failed => {
-            io::write_all(STDERR_FILENO, b"listing: standard input cannot be read\n");
-        }
+    let length = list_input(input, file, nodes, attributes, out);
+    if length == 0 {
+        io::write_all(STDERR_FILENO, b"listing: standard input cannot be read\n");
+        return;
+    }
+    if !io::write_all(STDOUT_FILENO, &out[..length]) {
+        io::write_all(STDERR_FILENO, b"listing: standard output takes no more\n");
     }
 }
 
 fn main() {
-    let mut file = [0u8; 65537];
-    let mut nodes = [0u32; 10240];
-    let mut attributes = [0u32; 16380];
-    let mut out = [0u8; 900000];
+    let mut file = [0u8; LISTED_FILE + 1];
+    let mut nodes = [0u32; NODE_WORDS * LISTED_NODES];
+    let mut attributes = [0u32; ATTRIBUTE_WORDS * LISTED_ATTRIBUTES];
+    let mut out = [0u8; LISTED_BYTES];
     run(&mut file, &mut nodes, &mut attributes, &mut out);
 }

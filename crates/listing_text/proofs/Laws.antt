@@ -1,42 +1,20 @@
--- Laws of specs/Listing.antt, for this crate and for whoever reads a listing. In order: digits, lines, the words of a record.
--- Not here: decimal numbers (proofs/Decimal.antt), greatest lengths (proofs/Lengths.antt).
-use Prim.Native.Nat.{ℕ, zero, suc, _+_, _-_, _/_, _%_, _≤_, _<_}
+-- Laws of specs/Listing.antt, for this crate and for whoever reads a listing. In order: lines, the words of a record.
+-- Not here: decimal numbers (crate digits), greatest lengths (proofs/Lengths.antt).
+use Prim.Native.Nat.{ℕ, _+_}
 use mathlib.Core.Path.{_≡_, refl}
 use mathlib.Core.List.{List, [], _∷_, _++_, append-assoc}
-use native.Mathlib.Omega.{arith}
-use native.Mathlib.Nat.{mod-eq-of-lt, add-zero}
-use native.Mathlib.Numerals.{sub-one}
-use borrow.Author.Tests.{lt-ltb, le-ltb}
 use lib.ListN.{getD, drop}
 use lib.Seq.{getD-drop}
 use Rattle.anomaly.specs.declared.Note.{Note}
 use Rattle.errors.specs.declared.Refusal.{Refusal}
 use Rattle.errors.specs.declared.ReadAnswer.the-variants.{Refused}
 use Rattle.errors.specs.Refusal.{numbersOf}
+use Rattle.records.specs.Words.{nodeName, nodeFixed, nodeParent, nodeFirst, nodeCount}
+use Rattle.records.specs.Words.{attributeOwner, attributePrefix, attributeName, attributeType, attributeData}
 use Rattle.listing_text.specs.Keys.{nodeKey, nameKey, fixedKey, parentKey, firstKey, countKey, attributeKey, ownerKey, prefixKey, typeKey, dataKey}
-use Rattle.listing_text.specs.Listing.{Field, Line, digits, fieldText, lineText, linesText, field, nodeLine, attributeLine}
-use Rattle.listing_text.specs.Listing.{headLines, nodeLines, attributeLines, noteLines, listing}
-use Rattle.listing_text.specs.Printed.{threeText}
-
--- ---- digits
-
--- the last of them alone
-pub digits-zero : (k n : ℕ) → k ≡ 0 → digits k n ≡ (48 + n % 10) ∷ []
-unfolding digits
-digits-zero k n h = rw h
-
-pub digits-lt : (k n : ℕ) → n < 10 → digits k n ≡ (48 + n % 10) ∷ []
-unfolding digits
-digits-lt zero n h = refl
-digits-lt (suc k) n h = rw (lt-ltb n 10 h, mod-eq-of-lt h)
-
-pub digits-suc : (k n : ℕ) → 10 ≤ n → digits (suc k) n ≡ digits k (n / 10) ++ ((48 + n % 10) ∷ [])
-unfolding digits
-digits-suc k n h = rw (le-ltb n 10 h)
-
-pub digits-step : (k n : ℕ) → 0 < k → 10 ≤ n → digits k n ≡ digits (k - 1) (n / 10) ++ ((48 + n % 10) ∷ [])
-digits-step zero n z h = absurd (let f : ⊥ = omega arith in f)
-digits-step (suc k) n z h = rw sub-one (digits-suc k n h)
+use Rattle.listing_text.specs.Listing.{Field, Line, fieldText, lineText, linesText, field, nodeLine, attributeLine}
+use Rattle.listing_text.specs.Listing.{headLines, recordLines, noteLines, listing}
+use Rattle.listing_text.specs.Inner.Three.{threeText}
 
 -- ---- lines
 
@@ -48,7 +26,7 @@ linesText-append (x ∷ a) b = rw (linesText-append a b, append-assoc)
 -- a refusal has the seven lines alone
 pub listing-refused :
     (most : ℕ) (r : Refusal) (ns ats : List ℕ) (os : List Note) → listing most (numbersOf (Refused r)) ns ats os ≡ headLines most (numbersOf (Refused r))
-unfolding listing nodeLines attributeLines noteLines numbersOf
+unfolding listing recordLines noteLines numbersOf
 listing-refused most r ns ats os = refl
 
 -- a line in halves, as it is written
@@ -68,19 +46,19 @@ linesText-seven f g h i j k l = simp append-assoc
 
 -- the words of a record, read one by one
 pub nodeLine-drop :
-    (k i : ℕ) (w : List ℕ) {a b c d e : ℕ} → a ≡ getD w i 0 → b ≡ getD w (i + 1) 0 → c ≡ getD w (i + 2) 0 → d ≡ getD w (i + 3) 0 →
-    e ≡ getD w (i + 4) 0 →
+    (k i : ℕ) (w : List ℕ) {a b c d e : ℕ} → a ≡ getD w (i + nodeName) 0 → b ≡ getD w (i + nodeFixed) 0 → c ≡ getD w (i + nodeParent) 0 → d ≡ getD w (i + nodeFirst) 0 →
+    e ≡ getD w (i + nodeCount) 0 →
     threeText 32 32 (field nodeKey k) (field nameKey a) (field fixedKey b) ++ threeText 32 10 (field parentKey c) (field firstKey d) (field countKey e) ≡
     lineText (nodeLine k (drop i w))
 nodeLine-drop k i w {a} {b} {c} {d} {e} pa pb pc pd pe =
-    rw (getD-drop i w 0 0, getD-drop i w 1 0, getD-drop i w 2 0, getD-drop i w 3 0, getD-drop i w 4 0, add-zero, ← pa, ← pb, ← pc, ← pd, ← pe)
+    rw (getD-drop i w nodeName 0, getD-drop i w nodeFixed 0, getD-drop i w nodeParent 0, getD-drop i w nodeFirst 0, getD-drop i w nodeCount 0, ← pa, ← pb, ← pc, ← pd, ← pe)
     (lineText-six (field nodeKey k) (field nameKey a) (field fixedKey b) (field parentKey c) (field firstKey d) (field countKey e))
 
 pub attributeLine-drop :
-    (k i : ℕ) (w : List ℕ) {a b c d e : ℕ} → a ≡ getD w i 0 → b ≡ getD w (i + 1) 0 → c ≡ getD w (i + 2) 0 → d ≡ getD w (i + 3) 0 →
-    e ≡ getD w (i + 4) 0 →
+    (k i : ℕ) (w : List ℕ) {a b c d e : ℕ} → a ≡ getD w (i + attributeOwner) 0 → b ≡ getD w (i + attributePrefix) 0 → c ≡ getD w (i + attributeName) 0 → d ≡ getD w (i + attributeType) 0 →
+    e ≡ getD w (i + attributeData) 0 →
     threeText 32 32 (field attributeKey k) (field ownerKey a) (field prefixKey b) ++ threeText 32 10 (field nameKey c) (field typeKey d) (field dataKey e) ≡
     lineText (attributeLine k (drop i w))
 attributeLine-drop k i w {a} {b} {c} {d} {e} pa pb pc pd pe =
-    rw (getD-drop i w 0 0, getD-drop i w 1 0, getD-drop i w 2 0, getD-drop i w 3 0, getD-drop i w 4 0, add-zero, ← pa, ← pb, ← pc, ← pd, ← pe)
+    rw (getD-drop i w attributeOwner 0, getD-drop i w attributePrefix 0, getD-drop i w attributeName 0, getD-drop i w attributeType 0, getD-drop i w attributeData 0, ← pa, ← pb, ← pc, ← pd, ← pe)
     (lineText-six (field attributeKey k) (field ownerKey a) (field prefixKey b) (field nameKey c) (field typeKey d) (field dataKey e))

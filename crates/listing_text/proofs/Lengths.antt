@@ -1,32 +1,26 @@
--- How long a listing can be, whatever its numbers: a line has at most 164 bytes, so that a buffer of 900,000 takes every listing of
--- 2,048 nodes, 3,276 attributes and 104 notes. No contract cites this file.
-use Prim.Native.Nat.{ℕ, zero, suc, _+_, _*_, _/_, _%_, _≤_}
+-- How long a listing can be, whatever its numbers (specs/Size.antt): of tables of so many places, and so of the tables that a listing has, full.
+-- No contract cites this file.
+use Prim.Native.Nat.{ℕ, zero, suc, _+_, _*_, _≤_, _<_}
+use mathlib.Core.Path.{_≡_, refl}
 use mathlib.Core.Bool.{Bool, true, false, cond}
 use mathlib.Core.List.{List, [], _∷_, _++_}
 use native.Mathlib.Omega.{arith}
-use native.Mathlib.Nat.{mul-suc}
+use native.Mathlib.Nat.{mul-suc, mul-zero}
+use borrow.Author.Tests.{ltb-false}
 use lib.Dec.{ltb}
-use lib.ListN.{length, drop, getD, length-append}
+use lib.ListN.{length, drop, getD, length-append, length-drop}
 use Rattle.anomaly.specs.declared.Note.{Note}
 use Rattle.errors.specs.declared.Numbers.{Numbers}
+use Rattle.records.specs.Words.{nodeWidth, nodeName, nodeFixed, nodeParent, nodeFirst, nodeCount}
+use Rattle.records.specs.Words.{attributeWidth, attributeOwner, attributePrefix, attributeName, attributeType, attributeData}
+use Rattle.records.specs.Limits.{listedNodes, listedAttributes, listedNotes}
+use Rattle.listing_text.specs.Size.{headBytes, lineBytes, listedBytes}
 use Rattle.listing_text.specs.Keys.{nodeKey, nameKey, fixedKey, parentKey, firstKey, countKey, attributeKey, ownerKey}
 use Rattle.listing_text.specs.Keys.{prefixKey, typeKey, dataKey, noteKey, kindKey, aKey, bKey}
-use Rattle.listing_text.specs.Listing.{Field, Line, digits, decimal, field, lineText, linesText, headLines, nodeLine, nodeLines}
-use Rattle.listing_text.specs.Listing.{attributeLine, attributeLines, noteLine, noteLines, listingText}
+use Rattle.listing_text.specs.Listing.{Field, Line, field, lineText, linesText, headLines, nodeLine, recordLines}
+use Rattle.listing_text.specs.Listing.{attributeLine, noteLine, noteLines, listingText}
+use Rattle.digits.proofs.Laws.{decimal-le}
 use Rattle.listing_text.proofs.Whole.{listingText-parts}
-
-pub digits-le : (k n : ℕ) → length (digits k n) ≤ k + 1
-unfolding digits
-digits-le zero n = omega arith
-digits-le (suc k) n = go (ltb n 10) (digits-le k (n / 10)) where
-  go : (t : Bool) → length (digits k (n / 10)) ≤ k + 1 →
-      length (cond t ((48 + n) ∷ []) (digits k (n / 10) ++ ((48 + n % 10) ∷ []))) ≤ suc k + 1
-  go true h = omega arith
-  go false h = rw length-append (omega arith)
-
--- at most 20 digits
-decimal-le : (n : ℕ) → length (decimal n) ≤ 20
-decimal-le n = digits-le 19 n
 
 module _ (f g h i : Field) where
   four-le : length (lineText (f ∷ g ∷ h ∷ i ∷ [])) ≤ length (f .key) + length (g .key) + length (h .key) + length (i .key) + 88
@@ -50,26 +44,26 @@ module _ (f g h i : Field) where
         decimal-le (k .number),
       ))
 
-pub nodeLine-le : (k : ℕ) (w : List ℕ) → length (lineText (nodeLine k w)) ≤ 164
+pub nodeLine-le : (k : ℕ) (w : List ℕ) → length (lineText (nodeLine k w)) ≤ lineBytes
 nodeLine-le k w =
     let h =
-    six-le (field nodeKey k) (field nameKey (getD w 0 0)) (field fixedKey (getD w 1 0)) (field parentKey (getD w 2 0)) (field firstKey (getD w 3 0))
-    (field countKey (getD w 4 0))
+    six-le (field nodeKey k) (field nameKey (getD w nodeName 0)) (field fixedKey (getD w nodeFixed 0)) (field parentKey (getD w nodeParent 0)) (field firstKey (getD w nodeFirst 0))
+    (field countKey (getD w nodeCount 0))
     in
     omega arith
 
-pub attributeLine-le : (k : ℕ) (w : List ℕ) → length (lineText (attributeLine k w)) ≤ 164
+pub attributeLine-le : (k : ℕ) (w : List ℕ) → length (lineText (attributeLine k w)) ≤ lineBytes
 attributeLine-le k w =
     let h =
-    six-le (field attributeKey k) (field ownerKey (getD w 0 0)) (field prefixKey (getD w 1 0)) (field nameKey (getD w 2 0)) (field typeKey (getD w 3 0))
-    (field dataKey (getD w 4 0))
+    six-le (field attributeKey k) (field ownerKey (getD w attributeOwner 0)) (field prefixKey (getD w attributePrefix 0)) (field nameKey (getD w attributeName 0)) (field typeKey (getD w attributeType 0))
+    (field dataKey (getD w attributeData 0))
     in
     omega arith
 
-pub noteLine-le : (k : ℕ) (o : Note) → length (lineText (noteLine k o)) ≤ 164
+pub noteLine-le : (k : ℕ) (o : Note) → length (lineText (noteLine k o)) ≤ lineBytes
 noteLine-le k o = let h = four-le (field noteKey k) (field kindKey (o .kind)) (field aKey (o .a)) (field bKey (o .b)) in omega arith
 
-headLines-le : (most : ℕ) (n : Numbers) → length (linesText (headLines most n)) ≤ 195
+headLines-le : (most : ℕ) (n : Numbers) → length (linesText (headLines most n)) ≤ headBytes
 unfolding linesText
 headLines-le most n =
     simp length-append
@@ -84,48 +78,58 @@ headLines-le most n =
       decimal-le (n .notes),
     ))
 
-none-le : length (linesText []) ≤ 164 * 0
-unfolding linesText
-none-le = omega arith
+-- ---- the lines of a table of at most m places
 
--- one line more, or none
+none-le : (m : ℕ) → length (linesText []) ≤ lineBytes * m
+unfolding linesText
+none-le m = omega arith
+
+-- one line more
 more-le :
-    (t : Bool) (x : Line) (xs : List Line) (n : ℕ) → length (lineText x) ≤ 164 → length (linesText xs) ≤ 164 * n →
-    length (linesText (cond t [] (x ∷ xs))) ≤ 164 * suc n
+    (x : Line) (xs : List Line) (m : ℕ) → length (lineText x) ≤ lineBytes → length (linesText xs) ≤ lineBytes * m →
+    length (linesText (x ∷ xs)) ≤ lineBytes * suc m
 unfolding linesText
-more-le true x xs n h i = omega arith
-more-le false x xs n h i = rw (length-append, mul-suc) (omega arith)
+more-le x xs m h i = rw (length-append, mul-suc) (omega arith)
 
-pub nodeLines-le : (k n : ℕ) (w : List ℕ) → length (linesText (nodeLines k n w)) ≤ 164 * n
-unfolding nodeLines
-nodeLines-le k zero w = none-le
-nodeLines-le k (suc n) w =
-    more-le (ltb (length w) 5) (nodeLine k w) (nodeLines (k + 1) n (drop 5 w)) n (nodeLine-le k w) (nodeLines-le (k + 1) n (drop 5 w))
+module _ (width : ℕ) (line : ℕ → List ℕ → Line) (some : 0 < width) (short : (k : ℕ) (w : List ℕ) → length (lineText (line k w)) ≤ lineBytes) where
+  pub recordLines-le : (k n : ℕ) (w : List ℕ) (m : ℕ) → length w ≤ width * m → length (linesText (recordLines width line k n w)) ≤ lineBytes * m
+  unfolding recordLines
+  recordLines-le k zero w m h = none-le m
+  recordLines-le k (suc n) w m h = go (ltb (length w) width) refl (recordLines-le (k + 1) n (drop width w)) m h where
+    go : (t : Bool) → ltb (length w) width ≡ t →
+        ((m : ℕ) → length (drop width w) ≤ width * m → length (linesText (recordLines width line (k + 1) n (drop width w))) ≤ lineBytes * m) →
+        (m : ℕ) → length w ≤ width * m →
+        length (linesText (cond t [] (line k w ∷ recordLines width line (k + 1) n (drop width w)))) ≤ lineBytes * m
+    go true e ih m h = none-le m
+    go false e ih zero h = absurd (let f : ⊥ = omega (arith, ltb-false (length w) width e, mul-zero width) in f)
+    go false e ih (suc m) h =
+        let i : length (drop width w) ≤ width * m = rw (length-drop width w) (omega (arith, mul-suc width m)) in
+        more-le (line k w) (recordLines width line (k + 1) n (drop width w)) m (short k w) (ih m i)
 
-pub attributeLines-le : (k n : ℕ) (w : List ℕ) → length (linesText (attributeLines k n w)) ≤ 164 * n
-unfolding attributeLines
-attributeLines-le k zero w = none-le
-attributeLines-le k (suc n) w =
-    more-le (ltb (length w) 5) (attributeLine k w) (attributeLines (k + 1) n (drop 5 w)) n (attributeLine-le k w)
-    (attributeLines-le (k + 1) n (drop 5 w))
-
-pub noteLines-le : (k n : ℕ) (os : List Note) → length (linesText (noteLines k n os)) ≤ 164 * n
+pub noteLines-le : (k n : ℕ) (os : List Note) → length (linesText (noteLines k n os)) ≤ lineBytes * length os
 unfolding noteLines
-noteLines-le k zero os = none-le
-noteLines-le k (suc n) [] = more-le true (noteLine k (record { kind = 0; a = 0; b = 0 })) [] n (noteLine-le k _) (omega (arith, none-le))
-noteLines-le k (suc n) (o ∷ os) = more-le false (noteLine k o) (noteLines (k + 1) n os) n (noteLine-le k o) (noteLines-le (k + 1) n os)
+noteLines-le k zero os = none-le (length os)
+noteLines-le k (suc n) [] = none-le 0
+noteLines-le k (suc n) (o ∷ os) = more-le (noteLine k o) (noteLines (k + 1) n os) (length os) (noteLine-le k o) (noteLines-le (k + 1) n os)
 
--- seven lines, and a line for each record
+-- ---- the whole
+
+-- seven lines, and a line for each place
 pub listingText-le :
-    (most : ℕ) (n : Numbers) (ns ats : List ℕ) (os : List Note) → length (listingText most n ns ats os) ≤
-    195 + 164 * (n .nodes) + 164 * (n .attributes) + 164 * (n .notes)
-listingText-le most n ns ats os =
-    rw (← listingText-parts most n ns ats os, length-append, length-append, length-append)
-    (omega
-    (arith, headLines-le most n, nodeLines-le 0 (n .nodes) ns, attributeLines-le 0 (n .attributes) ats, noteLines-le 0 (n .notes) os))
+    (cap : ℕ) (n : Numbers) (ns ats : List ℕ) (os : List Note) (a b : ℕ) → length ns ≤ nodeWidth * a → length ats ≤ attributeWidth * b →
+    length (listingText cap n ns ats os) ≤ headBytes + lineBytes * (a + b + length os)
+listingText-le cap n ns ats os a b h i =
+    rw (← listingText-parts cap n ns ats os, length-append, length-append, length-append)
+    (omega (
+      arith,
+      headLines-le cap n,
+      recordLines-le nodeWidth nodeLine (omega arith) nodeLine-le 0 (n .nodes) ns a h,
+      recordLines-le attributeWidth attributeLine (omega arith) attributeLine-le 0 (n .attributes) ats b i,
+      noteLines-le 0 (n .notes) os,
+    ))
 
--- the listing program's buffer takes every listing
+-- the buffer of the listing program takes every listing of its tables
 pub listingText-fits :
-    (most : ℕ) (n : Numbers) (ns ats : List ℕ) (os : List Note) → n .nodes ≤ 2048 → n .attributes ≤ 3276 → n .notes ≤ 104 →
-    length (listingText most n ns ats os) ≤ 900000
-listingText-fits most n ns ats os a b c = omega (arith, listingText-le most n ns ats os)
+    (cap : ℕ) (n : Numbers) (ns ats : List ℕ) (os : List Note) → length ns ≤ nodeWidth * listedNodes → length ats ≤ attributeWidth * listedAttributes →
+    length os ≤ listedNotes → length (listingText cap n ns ats os) ≤ listedBytes
+listingText-fits cap n ns ats os h i j = omega (arith, listingText-le cap n ns ats os listedNodes listedAttributes h i)

@@ -5,7 +5,8 @@ use mathlib.Core.List.{List, [], _∷_, _++_}
 use Prim.Native.Nat.{ℕ}
 use Rattle.anomaly.specs.declared.Note.{Note}
 use Rattle.errors.specs.declared.Numbers.{Numbers}
-use Rattle.listing_text.specs.Listing.{digits, fieldText, lineText, linesText, nodeLines, attributeLines, noteLines, listing, listingText}
+use Rattle.digits.specs.Digits.{digits}
+use Rattle.listing_text.specs.Listing.{fieldText, lineText, linesText, recordLines, noteLines, listing, listingText}
 
 abbrev pub sampleNumbers : Numbers
 sampleNumbers = record { refusal = 0; value = 0; starts = 1; nodes = 1; attributes = 1; notes = 0 }
@@ -62,5 +63,5 @@ abbrev pub sampleText : List ℕ
 sampleText = refusalLine ++ valueLine ++ capLine ++ startsLine ++ nodesLine ++ attributesLine ++ notesLine ++ nodeText ++ attributeText
 
 pub listingText-sample : (os : List Note) → listingText 8 sampleNumbers sampleNodes sampleAttributes os ≡ sampleText
-unfolding digits fieldText lineText linesText nodeLines attributeLines noteLines listing listingText
+unfolding digits fieldText lineText linesText recordLines noteLines listing listingText
 listingText-sample os = refl

@@ -10,65 +10,39 @@ use borrow.Author.Tests.{lt-ltb, le-ltb}
 use lib.ListN.{length, drop, getD, length-drop, drop-of-length-le}
 use lib.Seq.{drop-drop, drop-cons}
 use Rattle.anomaly.specs.declared.Note.{Note}
-use Rattle.listing_text.specs.Listing.{lineText, linesText, nodeLine, nodeLines, attributeLine, attributeLines, noteLine, noteLines}
+use Rattle.listing_text.specs.Listing.{Line, lineText, linesText, recordLines, noteLine, noteLines}
 
--- ---- nodes
+-- ---- nodes and attributes: records of any width, whose line is any line
 
-pub nodeLines-stop : (k n i : ℕ) (w : List ℕ) → n ≤ k → linesText (nodeLines k (n - k) (drop i w)) ≡ []
-unfolding linesText nodeLines
-nodeLines-stop k n i w h = let z : n - k ≡ 0 = omega arith in rw z
+module _ (width : ℕ) (line : ℕ → List ℕ → Line) where
+  pub recordLines-stop : (k n i : ℕ) (w : List ℕ) → n ≤ k → linesText (recordLines width line k (n - k) (drop i w)) ≡ []
+  unfolding linesText recordLines
+  recordLines-stop k n i w h = let z : n - k ≡ 0 = omega arith in rw z
 
-nodeLines-less : (k n : ℕ) (w : List ℕ) → length w < 5 → nodeLines k n w ≡ []
-unfolding nodeLines
-nodeLines-less k zero w h = refl
-nodeLines-less k (suc n) w h = rw (lt-ltb (length w) 5 h)
+  recordLines-less : (k n : ℕ) (w : List ℕ) → length w < width → recordLines width line k n w ≡ []
+  unfolding recordLines
+  recordLines-less k zero w h = refl
+  recordLines-less k (suc n) w h = rw (lt-ltb (length w) width h)
 
-pub nodeLines-short : (k n i : ℕ) (w : List ℕ) → length w - i < 5 → linesText (nodeLines k n (drop i w)) ≡ []
-unfolding linesText
-nodeLines-short k n i w h = rw (nodeLines-less k n (drop i w) (rw length-drop h))
+  pub recordLines-short : (k n i : ℕ) (w : List ℕ) → length w - i < width → linesText (recordLines width line k n (drop i w)) ≡ []
+  unfolding linesText
+  recordLines-short k n i w h = rw (recordLines-less k n (drop i w) (rw length-drop h))
 
-nodeLines-more : (k n : ℕ) (w : List ℕ) → 0 < n → 5 ≤ length w → nodeLines k n w ≡ nodeLine k w ∷ nodeLines (k + 1) (n - 1) (drop 5 w)
-unfolding nodeLines
-nodeLines-more k zero w z h = absurd (let f : ⊥ = omega arith in f)
-nodeLines-more k (suc n) w z h = simp (unary-clauses, le-ltb (length w) 5 h)
+  recordLines-more :
+      (k n : ℕ) (w : List ℕ) → 0 < n → width ≤ length w →
+      recordLines width line k n w ≡ line k w ∷ recordLines width line (k + 1) (n - 1) (drop width w)
+  unfolding recordLines
+  recordLines-more k zero w z h = absurd (let f : ⊥ = omega arith in f)
+  recordLines-more k (suc n) w z h = simp (unary-clauses, le-ltb (length w) width h)
 
-pub nodeLines-step :
-    (k n i : ℕ) (w : List ℕ) → k < n → i + 5 ≤ length w → linesText (nodeLines k (n - k) (drop i w)) ≡
-    lineText (nodeLine k (drop i w)) ++ linesText (nodeLines (k + 1) (n - (k + 1)) (drop (i + 5) w))
-unfolding linesText
-nodeLines-step k n i w h r =
-    let z : 0 < n - k = omega arith in
-    let f : 5 ≤ length (drop i w) = rw length-drop (omega arith) in
-    rw (nodeLines-more k (n - k) (drop i w) z f, drop-drop 5 i w, sub-add-eq n k 1)
-
--- ---- attributes
-
-pub attributeLines-stop : (k n i : ℕ) (w : List ℕ) → n ≤ k → linesText (attributeLines k (n - k) (drop i w)) ≡ []
-unfolding linesText attributeLines
-attributeLines-stop k n i w h = let z : n - k ≡ 0 = omega arith in rw z
-
-attributeLines-less : (k n : ℕ) (w : List ℕ) → length w < 5 → attributeLines k n w ≡ []
-unfolding attributeLines
-attributeLines-less k zero w h = refl
-attributeLines-less k (suc n) w h = rw (lt-ltb (length w) 5 h)
-
-pub attributeLines-short : (k n i : ℕ) (w : List ℕ) → length w - i < 5 → linesText (attributeLines k n (drop i w)) ≡ []
-unfolding linesText
-attributeLines-short k n i w h = rw (attributeLines-less k n (drop i w) (rw length-drop h))
-
-attributeLines-more : (k n : ℕ) (w : List ℕ) → 0 < n → 5 ≤ length w → attributeLines k n w ≡ attributeLine k w ∷ attributeLines (k + 1) (n - 1) (drop 5 w)
-unfolding attributeLines
-attributeLines-more k zero w z h = absurd (let f : ⊥ = omega arith in f)
-attributeLines-more k (suc n) w z h = simp (unary-clauses, le-ltb (length w) 5 h)
-
-pub attributeLines-step :
-    (k n i : ℕ) (w : List ℕ) → k < n → i + 5 ≤ length w → linesText (attributeLines k (n - k) (drop i w)) ≡
-    lineText (attributeLine k (drop i w)) ++ linesText (attributeLines (k + 1) (n - (k + 1)) (drop (i + 5) w))
-unfolding linesText
-attributeLines-step k n i w h r =
-    let z : 0 < n - k = omega arith in
-    let f : 5 ≤ length (drop i w) = rw length-drop (omega arith) in
-    rw (attributeLines-more k (n - k) (drop i w) z f, drop-drop 5 i w, sub-add-eq n k 1)
+  pub recordLines-step :
+      (k n i : ℕ) (w : List ℕ) → k < n → i + width ≤ length w → linesText (recordLines width line k (n - k) (drop i w)) ≡
+      lineText (line k (drop i w)) ++ linesText (recordLines width line (k + 1) (n - (k + 1)) (drop (i + width) w))
+  unfolding linesText
+  recordLines-step k n i w h r =
+      let z : 0 < n - k = omega arith in
+      let f : width ≤ length (drop i w) = rw length-drop (omega arith) in
+      rw (recordLines-more k (n - k) (drop i w) z f, drop-drop width i w, sub-add-eq n k 1)
 
 -- ---- notes
 

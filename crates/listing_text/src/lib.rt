@@ -1,24 +1,51 @@
 // The text of a listing, into a lent buffer.
 //
 // No file of the Rust prints a listing. The lines and their order: docs/FORMAT.md, L1 to L4.
-// Definitions: specs/Listing.antt (lines and their text), specs/Keys.antt, specs/Printed.antt (the answer and the buffer).
-// One pass: each `put` takes the place reached so far, writes what lies within the buffer, and answers the place behind its text (src/buffer.rt),
+// Definitions: specs/Listing.antt (lines and their text), specs/Keys.antt, specs/Printed.antt (the answer and the buffer), specs/Size.antt.
+// One pass: each `put` takes the place reached so far, writes what lies within the buffer, and answers the place behind its text (crate `digits`),
 // so that the last place is the length of the whole text whether it fits or not.
-mod buffer;
+mod fields;
 
 use anomaly::Note;
-use buffer::put_field;
-use buffer::put_three;
-use buffer::zero;
+use digits::zero;
 use errors::Numbers;
 use errors::Refusal;
 use errors::TextAnswer;
+use fields::put_field;
+use fields::put_three;
+use records::ATTRIBUTE_DATA;
+use records::ATTRIBUTE_NAME;
+use records::ATTRIBUTE_OWNER;
+use records::ATTRIBUTE_PREFIX;
+use records::ATTRIBUTE_TYPE;
+use records::ATTRIBUTE_WORDS;
+use records::LISTED_ATTRIBUTES;
+use records::LISTED_NODES;
+use records::LISTED_NOTES;
+use records::NODE_COUNT;
+use records::NODE_FIRST;
+use records::NODE_FIXED;
+use records::NODE_NAME;
+use records::NODE_PARENT;
+use records::NODE_WORDS;
 ghost use mathlib.Core.Path.{_≡_};
 ghost use Prim.Native.Nat.{_+_, _*_, _≤_, _<_};
 ghost use lib.ListN.{length, drop, getD};
 ghost use Rattle.listing_text.specs.Listing.{lineText, linesText, headLines, nodeLine, attributeLine, noteLine};
 ghost use Rattle.listing_text.specs.Listing.{nodeLines, attributeLines, noteLines, listingText};
-ghost use Rattle.listing_text.specs.Printed.{Wrote, Printed};
+ghost use Rattle.digits.specs.Written.{Wrote};
+ghost use Rattle.records.specs.Words.{nodeWidth, attributeWidth};
+ghost use Rattle.records.specs.Limits.{listedNotes};
+ghost use Rattle.listing_text.specs.Printed.{Printed};
+
+// How many bytes the seven lines of every answer take at most, how many the line of a record, and so how many the listing of full tables:
+// specs/Size.antt.
+const HEAD_BYTES: usize = 195;
+
+const LINE_BYTES: usize = 164;
+
+pub const LISTED_BYTES: usize = HEAD_BYTES
+    + LINE_BYTES * (LISTED_NODES + LISTED_ATTRIBUTES + LISTED_NOTES);
 
 // The seven lines of every answer, from the front of the buffer on.
 fn put_head(out: &mut [u8], cap: u32, n: Numbers) -> usize
@@ -51,24 +78,24 @@ fn put_head(out: &mut [u8], cap: u32, n: Numbers) -> usize
     put_field(out, b, b"notes", n.notes as u64, 10)
 }
 
-// A word of a table.
-fn word(words: &[u32], i: usize) -> u64
-    requires { ⌜ i < length (now words) ⌝ }
-    ensures { λ r. ⌜ r ≡ getD (now (words .entry)) i 0 ⌝ }
+// A word of the record that begins at i, by its place (crate `records`).
+fn word(words: &[u32], i: usize, place: usize) -> u64
+    requires { ⌜ i + place < length (now words) ⌝ }
+    ensures { λ r. ⌜ r ≡ getD (now (words .entry)) (i + place) 0 ⌝ }
 {
-    words[i] as u64
+    words[i + place] as u64
 }
 
 // The line of the node with the number k, whose words begin at i.
 fn put_node(out: &mut [u8], p: usize, k: u32, nodes: &[u32], i: usize) -> usize
-    requires { ⌜ (p < 1152921504606846976) × (i + 5 ≤ length (now nodes)) ⌝ }
+    requires { ⌜ (p < 1152921504606846976) × (i + nodeWidth ≤ length (now nodes)) ⌝ }
     ensures { λ r. ⌜ Wrote 192 p (lineText (nodeLine k (drop i (now (nodes .entry))))) (now (out .entry)) r (now (out .exit)) ⌝ }
 {
-    let name = word(nodes, i);
-    let fixed = word(nodes, i + 1);
-    let parent = word(nodes, i + 2);
-    let first = word(nodes, i + 3);
-    let count = word(nodes, i + 4);
+    let name = word(nodes, i, NODE_NAME);
+    let fixed = word(nodes, i, NODE_FIXED);
+    let parent = word(nodes, i, NODE_PARENT);
+    let first = word(nodes, i, NODE_FIRST);
+    let count = word(nodes, i, NODE_COUNT);
     let a = put_three(
         out,
         p,
@@ -97,14 +124,14 @@ fn put_node(out: &mut [u8], p: usize, k: u32, nodes: &[u32], i: usize) -> usize
 
 // The line of the attribute with the number k, whose words begin at i.
 fn put_attribute(out: &mut [u8], p: usize, k: u32, attributes: &[u32], i: usize) -> usize
-    requires { ⌜ (p < 1152921504606846976) × (i + 5 ≤ length (now attributes)) ⌝ }
+    requires { ⌜ (p < 1152921504606846976) × (i + attributeWidth ≤ length (now attributes)) ⌝ }
     ensures { λ r. ⌜ Wrote 192 p (lineText (attributeLine k (drop i (now (attributes .entry))))) (now (out .entry)) r (now (out .exit)) ⌝ }
 {
-    let owner = word(attributes, i);
-    let prefix = word(attributes, i + 1);
-    let name = word(attributes, i + 2);
-    let kind = word(attributes, i + 3);
-    let data = word(attributes, i + 4);
+    let owner = word(attributes, i, ATTRIBUTE_OWNER);
+    let prefix = word(attributes, i, ATTRIBUTE_PREFIX);
+    let name = word(attributes, i, ATTRIBUTE_NAME);
+    let kind = word(attributes, i, ATTRIBUTE_TYPE);
+    let data = word(attributes, i, ATTRIBUTE_DATA);
     let a = put_three(
         out,
         p,
@@ -149,11 +176,11 @@ fn put_nodes(out: &mut [u8], p: usize, count: u32, nodes: &[u32]) -> usize
     let mut k: u32 = 0;
     let mut i: usize = 0;
     while k < count {
-        if nodes.len() - i < 5 {
+        if nodes.len() - i < NODE_WORDS {
             return at;
         }
         at = put_node(out, at, k, nodes, i);
-        i += 5;
+        i += NODE_WORDS;
         k += 1;
     }
     at
@@ -168,26 +195,26 @@ fn put_attributes(out: &mut [u8], p: usize, count: u32, attributes: &[u32]) -> u
     let mut k: u32 = 0;
     let mut i: usize = 0;
     while k < count {
-        if attributes.len() - i < 5 {
+        if attributes.len() - i < ATTRIBUTE_WORDS {
             return at;
         }
         at = put_attribute(out, at, k, attributes, i);
-        i += 5;
+        i += ATTRIBUTE_WORDS;
         k += 1;
     }
     at
 }
 
-// The lines of the first `count` notes, 104 of them at most.
-fn put_notes(out: &mut [u8], p: usize, count: u32, notes: [Note; 104]) -> usize
+// The lines of the first `count` notes, as many of them as a listing has room for.
+fn put_notes(out: &mut [u8], p: usize, count: u32, notes: [Note; LISTED_NOTES]) -> usize
     requires { ⌜ p < 100000000000000 ⌝ }
-    ensures { λ r. ⌜ Wrote 13312 p (linesText (noteLines 0 count notes)) (now (out .entry)) r (now (out .exit)) ⌝ }
+    ensures { λ r. ⌜ Wrote (128 * listedNotes) p (linesText (noteLines 0 count notes)) (now (out .entry)) r (now (out .exit)) ⌝ }
 {
     let mut at = p;
     let mut k: u32 = 0;
     let mut i: usize = 0;
     while k < count {
-        if 104 <= i {
+        if LISTED_NOTES <= i {
             return at;
         }
         let o = notes[i];
@@ -205,10 +232,10 @@ fn put_listing(
     n: Numbers,
     nodes: &[u32],
     attributes: &[u32],
-    notes: [Note; 104],
+    notes: [Note; LISTED_NOTES],
 ) -> usize
     ensures { λ r.
-        ⌜ Wrote (224 + (192 * (n .nodes) + (192 * (n .attributes) + 13312))) 0
+        ⌜ Wrote (224 + (192 * (n .nodes) + (192 * (n .attributes) + 128 * listedNotes))) 0
         (listingText cap n (now (nodes .entry)) (now (attributes .entry)) notes)
         (now (out .entry)) r (now (out .exit)) ⌝ }
 {
@@ -226,7 +253,7 @@ pub fn listing_into(
     n: Numbers,
     nodes: &[u32],
     attributes: &[u32],
-    notes: [Note; 104],
+    notes: [Note; LISTED_NOTES],
     out: &mut [u8],
 ) -> TextAnswer
     ensures { λ r. ⌜ Printed (listingText cap n (now (nodes .entry)) (now (attributes .entry)) notes) (now (out .entry)) r (now (out .exit)) ⌝ }

@@ -1,21 +1,24 @@
 -- The stores of a record's words, one behind the other, are its words put at a place. No contract cites this file.
-use Prim.Native.Nat.{ℕ, _+_, _≤_}
-use native.Mathlib.Numerals.{add-one, add-two, add-three, add-four}
-use mathlib.Core.Path.{_≡_}
-use mathlib.Core.List.{List, _++_}
+--
+--   putFrom      the words ws stored at the places i + k, i + (k + 1) and so on
+--   put-words    from i + 0 on: they stand at the place i, and no other word is changed
+use Prim.Native.Nat.{ℕ, suc, _+_, _≤_}
+use native.Mathlib.Omega.{arith}
+use native.Mathlib.Nat.{add-zero}
+use mathlib.Core.Path.{_≡_, refl, _∙_, ap}
+use mathlib.Core.List.{List, [], _∷_, _++_}
 use lib.ListN.{length, take, drop, set}
-use lib.Seq.{sets-eq}
-use Rattle.records.specs.Words.{nodeWidth, nodeFixed, nodeParent, nodeFirst, nodeCount, nodeWords}
-use Rattle.records.specs.Words.{attributeWidth, attributePrefix, attributeName, attributeType, attributeData, attributeWords}
+use lib.Seq.{sets, sets-eq}
 
-pub put-node : (l : List ℕ) (i name fixed parent first count : ℕ) → i + nodeWidth ≤ length l
-    → set (set (set (set (set l i name) (i + nodeFixed) fixed) (i + nodeParent) parent) (i + nodeFirst) first) (i + nodeCount) count
-    ≡ take i l ++ nodeWords name fixed parent first count ++ drop (i + nodeWidth) l
-put-node l i name fixed parent first count h =
-    rw (add-one, add-two, add-three, add-four) (sets-eq (nodeWords name fixed parent first count) l i h)
+abbrev pub putFrom : List ℕ → ℕ → ℕ → List ℕ → List ℕ
+putFrom l i k [] = l
+putFrom l i k (a ∷ ws) = putFrom (set l (i + k) a) i (k + 1) ws
 
-pub put-attribute : (l : List ℕ) (i owner prefix name kind «data» : ℕ) → i + attributeWidth ≤ length l
-    → set (set (set (set (set l i owner) (i + attributePrefix) prefix) (i + attributeName) name) (i + attributeType) kind) (i + attributeData) «data»
-    ≡ take i l ++ attributeWords owner prefix name kind «data» ++ drop (i + attributeWidth) l
-put-attribute l i owner prefix name kind «data» h =
-    rw (add-one, add-two, add-three, add-four) (sets-eq (attributeWords owner prefix name kind «data») l i h)
+putFrom-sets : (ws l : List ℕ) (i k : ℕ) → putFrom l i k ws ≡ sets l (i + k) ws
+putFrom-sets [] l i k = refl
+putFrom-sets (a ∷ ws) l i k =
+    let e : i + (k + 1) ≡ suc (i + k) = omega arith in
+    putFrom-sets ws (set l (i + k) a) i (k + 1) ∙ ap (λ (j : ℕ). sets (set l (i + k) a) j ws) e
+
+pub put-words : (ws l : List ℕ) (i : ℕ) → i + length ws ≤ length l → putFrom l i 0 ws ≡ take i l ++ ws ++ drop (i + length ws) l
+put-words ws l i h = putFrom-sets ws l i 0 ∙ ap (λ (j : ℕ). sets l j ws) (add-zero i) ∙ sets-eq ws l i h

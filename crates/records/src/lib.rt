@@ -106,7 +106,7 @@ pub fn put_node(
     ensures { λ _. ⌜ now (words .exit)
         ≡ take i (now (words .entry)) ++ nodeWords name fixed parent first count ++ drop (i + nodeWidth) (now (words .entry)) ⌝ }
 {
-    words[i] = name;
+    words[i + NODE_NAME] = name;
     words[i + NODE_FIXED] = fixed;
     words[i + NODE_PARENT] = parent;
     words[i + NODE_FIRST] = first;
@@ -127,7 +127,7 @@ pub fn put_attribute(
     ensures { λ _. ⌜ now (words .exit)
         ≡ take i (now (words .entry)) ++ attributeWords owner prefix name kind «data» ++ drop (i + attributeWidth) (now (words .entry)) ⌝ }
 {
-    words[i] = owner;
+    words[i + ATTRIBUTE_OWNER] = owner;
     words[i + ATTRIBUTE_PREFIX] = prefix;
     words[i + ATTRIBUTE_NAME] = name;
     words[i + ATTRIBUTE_TYPE] = kind;

@@ -11,6 +11,8 @@ use axml::read_listed;
 use axml::read_numbers;
 use c_api::AxmlAnswer;
 use c_api::axml_read;
+use records::LISTED_NOTES;
+use records::NOTE_WORDS;
 
 fn wide(n: u32) -> u64 {
     n as u64
@@ -71,7 +73,7 @@ fn is_right_listed(
     n: Numbers,
     nodes: &[u32],
     attributes: &[u32],
-    notes: [Note; 104],
+    notes: [Note; LISTED_NOTES],
 ) -> bool {
     if !is_right(data, row, n, nodes, attributes) {
         return false;
@@ -141,7 +143,7 @@ fn is_read_in(
     let n = word(row, 2) as usize;
     let a = word(row, 3) as usize;
     let places = word(row, 4) as usize;
-    let m = 3 * places + places % 3;
+    let m = NOTE_WORDS * places + places % NOTE_WORDS;
     if nodes.len() < n {
         return false;
     }
@@ -162,7 +164,7 @@ fn is_read_in(
     )
 }
 
-// Whether `read_listed`, which lends `read` 104 notes, answers so.
+// Whether `read_listed`, which lends `read` places for all notes of a listing, answers so.
 fn is_listed(data: &[u8], row: &[u8], nodes: &mut [u32], attributes: &mut [u32]) -> bool {
     soil(nodes);
     soil(attributes);

@@ -1,8 +1,15 @@
 // Words and parts of the data, and tables of words: filled before a question, held to what is stored behind it.
 use axml::Note;
 use field::u32_at;
-ghost use Prim.Native.Nat.{_≤_};
+use records::LISTED_NOTES;
+use records::NOTE_A;
+use records::NOTE_B;
+use records::NOTE_KIND;
+use records::NOTE_WORDS;
+ghost use Prim.Native.Nat.{_*_, _≤_};
 ghost use lib.ListN.{length};
+ghost use Rattle.records.specs.Limits.{listedNotes};
+ghost use Rattle.records.specs.Words.{noteWidth};
 
 // Word i of a part; 0 behind its last.
 pub(crate) fn word(s: &[u8], i: usize) -> u32 {
@@ -69,25 +76,25 @@ pub(crate) fn holds(table: &[u32], want: &[u8]) -> bool {
     want.len() / 4 <= table.len()
 }
 
-// The same of the three words of a note, from word i on.
+// The same of the words of a note, from word i on.
 fn is_note(note: Note, want: &[u8], i: usize) -> bool
-    requires { ⌜ i ≤ 312 ⌝ }
+    requires { ⌜ i ≤ noteWidth * listedNotes ⌝ }
 {
-    if note.kind != word(want, i) {
+    if note.kind != word(want, i + NOTE_KIND) {
         return false;
     }
-    if note.a != word(want, i + 1) {
+    if note.a != word(want, i + NOTE_A) {
         return false;
     }
-    note.b == word(want, i + 2)
+    note.b == word(want, i + NOTE_B)
 }
 
 // The same of notes by value.
-pub(crate) fn notes_hold(notes: [Note; 104], want: &[u8]) -> bool {
+pub(crate) fn notes_hold(notes: [Note; LISTED_NOTES], want: &[u8]) -> bool {
     let mut i: usize = 0;
-    while i < 104 {
+    while i < LISTED_NOTES {
         let note = notes[i];
-        if !is_note(note, want, 3 * i) {
+        if !is_note(note, want, NOTE_WORDS * i) {
             return false;
         }
         i += 1;

@@ -1,13 +1,15 @@
-// Records in lent tables: a word is stored, words are zeroed, and attributes are asked for a prefix and a name.
+// Records in lent tables: a word is stored, words are zeroed, and attributes are asked whether a new one repeats one of them.
 //
 // Stands for the vectors of axml.rs (apk-info 13770539b8), and `has` for its `HashSet` of attribute names.
-// Definitions: specs/Keep.antt. Differs from the Rust: names are compared where they lie, by text, and nothing is copied.
+// Definitions: records/specs/Repeats.antt. Differs from the Rust: names are compared where they lie, by text, and nothing is copied.
 ghost use mathlib.Core.Path.{_≡_};
 ghost use mathlib.Core.List.{_++_};
-ghost use Prim.Native.Nat.{_-_, _≤_, _<_};
+ghost use Prim.Native.Nat.{ℕ, _-_, _≤_, _<_};
 ghost use lib.ListN.{length, take, replicate, set};
+ghost use Rattle.records.specs.Words.{attributeWords};
+ghost use Rattle.records.specs.Repeats.{byPrefix, isRepeat};
+ghost use Rattle.text.specs.Content.{sameName};
 ghost use Rattle.text.specs.Found.{Asks};
-ghost use Rattle.tables.specs.Keep.{hasKey, sameIn};
 use common::StringIndex;
 use records::ATTRIBUTE_NAME;
 use records::ATTRIBUTE_PREFIX;
@@ -45,8 +47,8 @@ pub fn zero_from(words: &mut [u32], from: usize)
     zero_all(&mut words[from..]);
 }
 
-// Whether one of these attributes has this prefix and a name of the same text (W23). The name's own text is found once, and
-// looked at once: where it is plain, bytes are compared, and its marks tell most names apart before they are looked up.
+// Whether an attribute of this prefix and name, whatever its other words, repeats one of these (W23). The name's own text is found once,
+// and looked at once: where it is plain, bytes are compared, and its marks tell most names apart before they are looked up.
 // Ruled out: yes for the same index under another prefix, and no for another index whose text is the same.
 pub fn has(
     t: &[u8],
@@ -58,7 +60,8 @@ pub fn has(
     name: StringIndex,
 ) -> bool
     requires { ⌜ Asks (now t) (now names) (now area) h ⌝ }
-    ensures { λ r. ⌜ r ≡ hasKey (sameIn h (now (t .entry)) (now (names .entry)) (now (area .entry))) prefix (name .0) (now (words .entry)) ⌝ }
+    ensures { λ r. ⌜ ((owner kind «data» : ℕ) → r ≡ isRepeat (byPrefix (sameName h (now (t .entry)) (now (names .entry)) (now (area .entry))))
+        (attributeWords owner prefix (name .0) kind «data») (now (words .entry))) ⌝ }
 {
     if words.len() < ATTRIBUTE_WORDS {
         return false;

@@ -115,5 +115,9 @@ stateIn c = cond (hasText c) (validBy (isName c)) NoText
 abbrev pub sameText : Content → Content → Bool
 sameText a b = hasText a && (hasText b && eqBytes (textIn a) (textIn b))
 
+-- whether two string indices have equal texts; an index without a text equals nothing, not even itself
+abbrev pub sameName : Head → List ℕ → List ℕ → List ℕ → ℕ → ℕ → Bool
+sameName h t names area i j = sameText (contentOf h t names area i) (contentOf h t names area j)
+
 abbrev pub isText : Content → List ℕ → Bool
 isText a s = hasText a && eqBytes (textIn a) s

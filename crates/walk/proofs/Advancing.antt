@@ -134,10 +134,10 @@ module _ (f names area ns₀ ats₀ : List ℕ) (st : State) (g : Good f names a
     abbrev U : List NoteOf → Tables
     U os = tablesOf ns′ ats′ (h .tree) (due .now .stack) (os-of os) (st .notes .counts)
 
-    pushed : (os : List NoteOf) → here os ≡ settle (M .same) R (push (M .same) R (going (U os)) (Note x)) (pending M (st .opened) T B (h .cur))
+    pushed : (os : List NoteOf) → here os ≡ settle (M .repeats) R (push (M .repeats) R (going (U os)) (Note x)) (pending M (st .opened) T B (h .cur))
     pushed os =
         due .goes R (os-of os) (st .notes .counts) (sym (hd .ln)) (sym (hd .la))
-        ∙ settle-cons (M .same) R (going (U os)) (Note x) (pending M (st .opened) T B (h .cur))
+        ∙ settle-cons (M .repeats) R (going (U os)) (Note x) (pending M (st .opened) T B (h .cur))
 
     -- past its cap
     pub read-past : st .cap ≤ getD (st .notes .counts) (kindIndex x) 0 → ReadHead f names area ns₀ ats₀ st g ns′ ats′ (h .cur) (h .tree)
@@ -167,7 +167,7 @@ module _ (f names area ns₀ ats₀ : List ℕ) (st : State) (g : Good f names a
           lt-ltb (getD (st .notes .counts) (kindIndex x) 0) (st .cap) under,
           le-ltb (length (os-of os)) (st .room) (omega (arith, stored-len os l)),
         )
-        (settle-refused (M .same) R (NotesFull (st .room)) (pending M (st .opened) T B (h .cur))))
+        (settle-refused (M .repeats) R (NotesFull (st .room)) (pending M (st .opened) T B (h .cur))))
 
     -- it is to be stored
     read-noted : getD (st .notes .counts) (kindIndex x) 0 < st .cap → st .notes .used < st .room
@@ -191,8 +191,8 @@ module _ (f names area ns₀ ats₀ : List ℕ) (st : State) (g : Good f names a
     }
       where
         step : (os : List NoteOf) → length os ≡ st .room
-            → settle (M .same) R (push (M .same) R (going (U os)) (Note x)) (pending M (st .opened) T B (h .cur))
-            ≡ settle (M .same) R (going (noted (U os) x)) (pending M (st .opened) T B (h .cur))
+            → settle (M .repeats) R (push (M .repeats) R (going (U os)) (Note x)) (pending M (st .opened) T B (h .cur))
+            ≡ settle (M .repeats) R (going (noted (U os) x)) (pending M (st .opened) T B (h .cur))
         step os l =
             rw (
               lt-ltb (getD (st .notes .counts) (kindIndex x) 0) (st .cap) under,

@@ -14,6 +14,7 @@ use Rattle.text.specs.Found.{Asks}
 use Rattle.head.specs.declared.Opened.{Opened}
 use Rattle.head.specs.Head.{PoolThere}
 use Rattle.xml_elements.specs.declared.XmlAttributeElement.{XmlAttributeElement}
+use Rattle.records.specs.Repeats.{Rule}
 use Rattle.events.specs.declared.Cursor.{Cursor}
 use Rattle.events.specs.declared.Step.{Step}
 use Rattle.events.specs.declared.Phase.{Phase}
@@ -116,15 +117,15 @@ not-other e e′ p h q = subst (λ (x : Event). Other x) (sym p ∙ q) h
 
 -- ---- those that leave the tables alone
 
-module _ (same : ℕ → ℕ → Bool) (ns ats : List ℕ) (t : Tree) (o : List ℕ) (e : Event) where
-  pub place-as : (p : Placed) (ns′ ats′ : List ℕ) (e′ : Event) → e ≡ e′ → PlacesBy same p ns ats t o e′ ns′ ats′ → PlacesBy same p ns ats t o e ns′ ats′
+module _ (rule : Rule) (ns ats : List ℕ) (t : Tree) (o : List ℕ) (e : Event) where
+  pub place-as : (p : Placed) (ns′ ats′ : List ℕ) (e′ : Event) → e ≡ e′ → PlacesBy rule p ns ats t o e′ ns′ ats′ → PlacesBy rule p ns ats t o e ns′ ats′
   place-as p ns′ ats′ e′ q h = rw q h
 
-  pub place-nothing : Tied ns ats t o → e ≡ Nothing → PlacesBy same (Done t) ns ats t o e ns ats
+  pub place-nothing : Tied ns ats t o → e ≡ Nothing → PlacesBy rule (Done t) ns ats t o e ns ats
   place-nothing h q = rw q (record { stack = o; tied = h; few = omega arith; pushed = λ r os cs rn ra. refl })
 
-  pub place-left : (n : StringIndex) → Tied ns ats t o → e ≡ LeftOut n → PlacesBy same (Done t) ns ats t o e ns ats
+  pub place-left : (n : StringIndex) → Tied ns ats t o → e ≡ LeftOut n → PlacesBy rule (Done t) ns ats t o e ns ats
   place-left n h q = rw q (record { stack = o; tied = h; few = omega arith; pushed = λ r os cs rn ra. refl })
 
-  pub place-refused : (x : Refusal) → e ≡ Refuse x → PlacesBy same (Full x) ns ats t o e ns ats
+  pub place-refused : (x : Refusal) → e ≡ Refuse x → PlacesBy rule (Full x) ns ats t o e ns ats
   place-refused x q = rw q (λ r os cs rn ra. refl)

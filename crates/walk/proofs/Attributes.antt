@@ -12,8 +12,8 @@ use lib.Seq.{drop-at, take-add, length-take-le, getD-set-other, take-set-lt}
 use lib.Dec.{eqb}
 use Rattle.errors.specs.declared.Refusal.the-variants.{AttributesFull}
 use Rattle.xml_elements.specs.declared.XmlAttributeElement.{XmlAttributeElement}
-use Rattle.records.specs.Words.{nodeWidth, nodeFirst, nodeCount, attributeWidth}
-use Rattle.tables.specs.Keep.{hasKey}
+use Rattle.records.specs.Words.{nodeWidth, nodeFirst, nodeCount, attributeWidth, attributeWords}
+use Rattle.records.specs.Repeats.{Rule, byPrefix, isRepeat}
 use Rattle.events.specs.declared.Event.the-variants.{Attribute}
 use Rattle.walk.specs.declared.tree.Tree.{Tree}
 use Rattle.walk.specs.declared.tree.Put.{Put}
@@ -30,12 +30,15 @@ own l a b h k =
     (ap (λ (x : List ℕ). drop a x) (ap (λ (j : ℕ). take j l) (sym e) ∙ take-add a (b - a) l)
     ∙ drop-at (take a l) (take (b - a) (drop a l)) a (length-take-le a l (omega arith)))
 
-module _ (same : ℕ → ℕ → Bool) (ns ats : List ℕ) (t : Tree) (o : List ℕ) (h : Tied ns ats t o) (p : ℕ) (a : XmlAttributeElement) where
+module _ (rule : Rule) (ns ats : List ℕ) (t : Tree) (o : List ℕ) (h : Tied ns ats t o) (p : ℕ) (a : XmlAttributeElement) where
   lu : length (take (nodeWidth * t .nodes) ns) ≡ nodeWidth * t .nodes
   lu = length-take-le (nodeWidth * t .nodes) ns (h .sized .nodes)
 
   la : length (take (attributeWidth * t .attributes) ats) ≡ attributeWidth * t .attributes
   la = length-take-le (attributeWidth * t .attributes) ats (h .sized .attributes)
+
+  dn : nodeWidth * t .nodes / nodeWidth ≡ t .nodes
+  dn = omega arith
 
   owned : ownWords t ats ≡ drop (attributeWidth * t .first) (take (attributeWidth * t .attributes) ats)
   owned = own ats (attributeWidth * t .first) (attributeWidth * t .attributes) (omega (arith, h .sized .first)) (h .sized .attributes)
@@ -43,23 +46,23 @@ module _ (same : ℕ → ℕ → Bool) (ns ats : List ℕ) (t : Tree) (o : List 
   some : (t .nodes ≡ 0 → ⊥) → length (take (nodeWidth * t .nodes) ns) ≡ 0 → ⊥
   some z e = z (omega (arith, lu))
 
-  pub attribute-none : t .nodes ≡ 0 → PlacesBy same (Done t) ns ats t o (Attribute p a) ns ats
+  pub attribute-none : t .nodes ≡ 0 → PlacesBy rule (Done t) ns ats t o (Attribute p a) ns ats
   attribute-none z =
       let y : length (take (nodeWidth * t .nodes) ns) ≡ 0 = omega (arith, lu) in
       record { stack = o; tied = h; few = omega arith; pushed = λ r os cs rn ra. rw (eq-eqb _ 0 y) }
 
-  pub attribute-same : (t .nodes ≡ 0 → ⊥) → hasKey same p (a .name .0) (ownWords t ats) ≡ true → PlacesBy same (Done t) ns ats t o (Attribute p a) ns ats
-  attribute-same z e = record { stack = o; tied = h; few = omega arith; pushed = λ r os cs rn ra. rw (ne-eqb _ 0 (some z), ← owned, e) }
+  pub attribute-same : (t .nodes ≡ 0 → ⊥) → isRepeat rule (newWords t p a) (ownWords t ats) ≡ true → PlacesBy rule (Done t) ns ats t o (Attribute p a) ns ats
+  attribute-same z e = record { stack = o; tied = h; few = omega arith; pushed = λ r os cs rn ra. rw (ne-eqb _ 0 (some z), lu, dn, ← owned, e) }
 
-  pub attribute-full : (ns′ ats′ : List ℕ) (m : ℕ) → m ≡ length ats → (t .nodes ≡ 0 → ⊥) → hasKey same p (a .name .0) (ownWords t ats) ≡ false
-      → length ats < attributeWidth * t .attributes + attributeWidth → PlacesBy same (Full (AttributesFull (m / attributeWidth))) ns ats t o (Attribute p a) ns′ ats′
+  pub attribute-full : (ns′ ats′ : List ℕ) (m : ℕ) → m ≡ length ats → (t .nodes ≡ 0 → ⊥) → isRepeat rule (newWords t p a) (ownWords t ats) ≡ false
+      → length ats < attributeWidth * t .attributes + attributeWidth → PlacesBy rule (Full (AttributesFull (m / attributeWidth))) ns ats t o (Attribute p a) ns′ ats′
   attribute-full ns′ ats′ m em z e none r os cs rn ra =
       let over : r .attributes < length (take (attributeWidth * t .attributes) ats) + attributeWidth = omega (arith, la) in
-      rw (ne-eqb _ 0 (some z), ← owned, e, lt-leb _ _ over, em, ra)
+      rw (ne-eqb _ 0 (some z), lu, dn, ← owned, e, lt-leb _ _ over, em, ra)
 
-  pub attribute-kept : (ns′ ats′ : List ℕ) → (t .nodes ≡ 0 → ⊥) → hasKey same p (a .name .0) (ownWords t ats) ≡ false → attributeWidth * t .attributes + attributeWidth ≤ length ats
+  pub attribute-kept : (ns′ ats′ : List ℕ) → (t .nodes ≡ 0 → ⊥) → isRepeat rule (newWords t p a) (ownWords t ats) ≡ false → attributeWidth * t .attributes + attributeWidth ≤ length ats
       → length ns′ ≡ length ns → length ats′ ≡ length ats → ats′ ≡ take (attributeWidth * t .attributes) ats ++ newWords t p a ++ drop (attributeWidth * t .attributes + attributeWidth) ats
-      → ns′ ≡ set ns (nodeWidth * (t .nodes - 1) + nodeCount) (t .attributes + 1 - t .first) → PlacesBy same (Done (keptTree t)) ns ats t o (Attribute p a) ns′ ats′
+      → ns′ ≡ set ns (nodeWidth * (t .nodes - 1) + nodeCount) (t .attributes + 1 - t .first) → PlacesBy rule (Done (keptTree t)) ns ats t o (Attribute p a) ns′ ats′
   attribute-kept ns′ ats′ z e room ln lats put one = record {
     stack = o;
     tied = record {
@@ -82,8 +85,7 @@ module _ (same : ℕ → ℕ → Bool) (ns ats : List ℕ) (t : Tree) (o : List 
     pushed = λ r os cs rn ra. (
         let fit : length (take (attributeWidth * t .attributes) ats) + attributeWidth ≤ r .attributes = omega (arith, la) in
         let count : (attributeWidth * t .attributes + attributeWidth - attributeWidth * t .first) / attributeWidth ≡ t .attributes + 1 - t .first = omega (arith, h .sized .first) in
-        let dn : nodeWidth * t .nodes / nodeWidth ≡ t .nodes = omega arith in
-        rw (ne-eqb _ 0 (some z), ← owned, e, le-leb _ _ fit, words, more, la, lu, count, dn));
+        rw (ne-eqb _ 0 (some z), lu, dn, ← owned, e, le-leb _ _ fit, words, more, la, count));
   }
     where
       pos : 0 < t .nodes
@@ -99,26 +101,28 @@ module _ (same : ℕ → ℕ → Bool) (ns ats : List ℕ) (t : Tree) (o : List 
 
 -- ---- as `keep` says it
 
--- what `has` answers for the words between the code's places f and u
-pub own-key : (same : ℕ → ℕ → Bool) (p n : ℕ) (ats : List ℕ) (t : Tree) (f u : ℕ) (r b : Bool) → f ≡ attributeWidth * t .first
-    → u ≡ attributeWidth * t .attributes → r ≡ hasKey same p n (take (u - f) (drop f ats)) → r ≡ b → hasKey same p n (ownWords t ats) ≡ b
-own-key same p n ats t f u r b ef eu e q = sym (rw (ef, eu) at e) ∙ q
+-- what `has` answers for the words between the code's places f and u, whatever the other words of the new record are
+pub own-repeat : (same : ℕ → ℕ → Bool) (p : ℕ) (a : XmlAttributeElement) (ats : List ℕ) (t : Tree) (f u : ℕ) (r b : Bool) → f ≡ attributeWidth * t .first
+    → u ≡ attributeWidth * t .attributes
+    → ((owner kind value : ℕ) → r ≡ isRepeat (byPrefix same) (attributeWords owner p (a .name .0) kind value) (take (u - f) (drop f ats)))
+    → r ≡ b → isRepeat (byPrefix same) (newWords t p a) (ownWords t ats) ≡ b
+own-repeat same p a ats t f u r b ef eu e q = sym (rw (ef, eu) at (e (t .nodes - 1) (a .«data_type») (a .«data»))) ∙ q
 
-module _ (same : ℕ → ℕ → Bool) (ns ats ns′ ats′ : List ℕ) (t : Tree) (o : List ℕ) (h : Tied ns ats t o) (p : ℕ) (a : XmlAttributeElement) where
-  pub keep-same : {r : Put} → r ≡ Same → Keeps same r t p a ns ats ns′ ats′ → PlacesBy same (Done t) ns ats t o (Attribute p a) ns′ ats′
+module _ (rule : Rule) (ns ats ns′ ats′ : List ℕ) (t : Tree) (o : List ℕ) (h : Tied ns ats t o) (p : ℕ) (a : XmlAttributeElement) where
+  pub keep-same : {r : Put} → r ≡ Same → Keeps rule r t p a ns ats ns′ ats′ → PlacesBy rule (Done t) ns ats t o (Attribute p a) ns′ ats′
   keep-same e q₀ = let q = rw e at q₀ in rw (q .nodes, q .attributes) (go (eqb (t .nodes) 0) refl (q .there))
     where
-      go : (b : Bool) → eqb (t .nodes) 0 ≡ b → ((t .nodes ≡ 0 → ⊥) → hasKey same p (a .name .0) (ownWords t ats) ≡ true)
-          → PlacesBy same (Done t) ns ats t o (Attribute p a) ns ats
-      go true z q = attribute-none same ns ats t o h p a (eqb-true _ _ z)
-      go false z q = attribute-same same ns ats t o h p a (eqb-false _ _ z) (q (eqb-false _ _ z))
+      go : (b : Bool) → eqb (t .nodes) 0 ≡ b → ((t .nodes ≡ 0 → ⊥) → isRepeat rule (newWords t p a) (ownWords t ats) ≡ true)
+          → PlacesBy rule (Done t) ns ats t o (Attribute p a) ns ats
+      go true z q = attribute-none rule ns ats t o h p a (eqb-true _ _ z)
+      go false z q = attribute-same rule ns ats t o h p a (eqb-false _ _ z) (q (eqb-false _ _ z))
 
-  pub keep-full : {r : Put} (m : ℕ) → r ≡ NoPlace → Keeps same r t p a ns ats ns′ ats′ → m ≡ length ats
-      → PlacesBy same (Full (AttributesFull (m / attributeWidth))) ns ats t o (Attribute p a) ns′ ats′
-  keep-full m e q₀ em = let q = rw e at q₀ in attribute-full same ns ats t o h p a ns′ ats′ m em (q .some) (q .new) (q .full)
+  pub keep-full : {r : Put} (m : ℕ) → r ≡ NoPlace → Keeps rule r t p a ns ats ns′ ats′ → m ≡ length ats
+      → PlacesBy rule (Full (AttributesFull (m / attributeWidth))) ns ats t o (Attribute p a) ns′ ats′
+  keep-full m e q₀ em = let q = rw e at q₀ in attribute-full rule ns ats t o h p a ns′ ats′ m em (q .some) (q .new) (q .full)
 
-  pub keep-stored : {r : Put} (u : Tree) → r ≡ Stored u → Keeps same r t p a ns ats ns′ ats′ → length ns′ ≡ length ns → length ats′ ≡ length ats
-      → PlacesBy same (Done u) ns ats t o (Attribute p a) ns′ ats′
+  pub keep-stored : {r : Put} (u : Tree) → r ≡ Stored u → Keeps rule r t p a ns ats ns′ ats′ → length ns′ ≡ length ns → length ats′ ≡ length ats
+      → PlacesBy rule (Done u) ns ats t o (Attribute p a) ns′ ats′
   keep-stored u e q₀ ln la =
       let q = rw e at q₀ in
-      rw (q .tree) (attribute-kept same ns ats t o h p a ns′ ats′ (q .some) (q .new) (q .room) ln la (q .attributes) (q .nodes))
+      rw (q .tree) (attribute-kept rule ns ats t o h p a ns′ ats′ (q .some) (q .new) (q .room) ln la (q .attributes) (q .nodes))

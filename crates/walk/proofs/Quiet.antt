@@ -18,6 +18,7 @@ use Rattle.chunk.specs.Run.{runUsed}
 use Rattle.xml_elements.specs.declared.Turn.the-variants.{Foreign}
 use Rattle.xml_elements.specs.Chunk.{numberOf, turnOf}
 use Rattle.xml_elements.proofs.Laws.{turnOf-run}
+use Rattle.records.specs.Repeats.{Rule}
 use Rattle.head.specs.declared.Opened.{Opened}
 use Rattle.events.specs.declared.Cursor.{Cursor}
 use Rattle.events.specs.declared.Event.{Event}
@@ -38,11 +39,11 @@ use Rattle.walk.proofs.Advancing.{ReadHead, body, tables, N}
 
 -- ---- a note past its cap
 
-settle-when : (same : ℕ → ℕ → Bool) (r : Room) (T : Tables) (x : ResAnomaly) (b : Bool) (es : List Event) → r .cap ≤ getD (T .counts) (kindIndex x) 0
-    → settle same r (going T) (when b (Note x) ++ es) ≡ settle same r (going T) es
+settle-when : (rule : Rule) (r : Room) (T : Tables) (x : ResAnomaly) (b : Bool) (es : List Event) → r .cap ≤ getD (T .counts) (kindIndex x) 0
+    → settle rule r (going T) (when b (Note x) ++ es) ≡ settle rule r (going T) es
 unfolding settle
-settle-when same r T x true es h = rw (le-ltb (getD (T .counts) (kindIndex x) 0) (r .cap) h)
-settle-when same r T x false es h = refl
+settle-when rule r T x true es h = rw (le-ltb (getD (T .counts) (kindIndex x) 0) (r .cap) h)
+settle-when rule r T x false es h = refl
 
 -- what the code knows of the place k where it found no note due
 pub past-cap : (cap : ℕ) (counts : List ℕ) {k k′ : ℕ} {b : Bool} → k ≡ k′ → b ≡ isDue cap counts k → b ≡ false → cap ≤ getD counts k′ 0
@@ -64,8 +65,8 @@ module _ (b : List ℕ) (at run n : ℕ) (some : 0 < n) (f : at + n ≤ length b
         more = omega arith;
         fits = f;
         quiet = λ M d s r T none.
-            (ap (λ (es : List Event). settle (M .same) r (going T) es) (eventsOn-turn M b at (spotAt run d s) n t refl some)
-            ∙ settle-when (M .same) r T (NonXmlChunk a) (not (eqb 0 run)) (eventsOn M (drop (at + n) b) (spotAt 0 d s)) (none .0));
+            (ap (λ (es : List Event). settle (M .repeats) r (going T) es) (eventsOn-turn M b at (spotAt run d s) n t refl some)
+            ∙ settle-when (M .repeats) r T (NonXmlChunk a) (not (eqb 0 run)) (eventsOn M (drop (at + n) b) (spotAt 0 d s)) (none .0));
       }
 
   pub reaches-1 : n ≡ runUsed 1 (drop at b) → Reaches b at run (at + n) 1
@@ -78,8 +79,8 @@ module _ (b : List ℕ) (at run n : ℕ) (some : 0 < n) (f : at + n ≤ length b
         more = omega arith;
         fits = f;
         quiet = λ M d s r T none.
-            (ap (λ (es : List Event). settle (M .same) r (going T) es) (eventsOn-turn M b at (spotAt run d s) n t refl some)
-            ∙ settle-when (M .same) r T (XmlNodeHeaderSize a) (not (eqb 1 run)) (eventsOn M (drop (at + n) b) (spotAt 1 d s)) (none .1));
+            (ap (λ (es : List Event). settle (M .repeats) r (going T) es) (eventsOn-turn M b at (spotAt run d s) n t refl some)
+            ∙ settle-when (M .repeats) r T (XmlNodeHeaderSize a) (not (eqb 1 run)) (eventsOn M (drop (at + n) b) (spotAt 1 d s)) (none .1));
       }
 
 pub reaches-on : (b : List ℕ) (at run at′ run′ at″ run″ : ℕ) → Reaches b at run at′ run′ → Reaches b at′ run′ at″ run″ → Reaches b at run at″ run″
@@ -103,7 +104,7 @@ module _ (b : List ℕ) (cap : ℕ) (cs : List ℕ) (c : Cursor) (at run : ℕ) 
   chunk-low = rw e (omega (arith, g .more))
 
   chunk-quiet : NoneDue cap cs → (M : Names) (o : Opened) (t : List ℕ) (r : Room) (T : Tables) → r .cap ≡ cap → T .counts ≡ cs
-      → settle (M .same) r (going T) (pending M o t b c) ≡ settle (M .same) r (going T) (pending M o t b (passedTo c at run))
+      → settle (M .repeats) r (going T) (pending M o t b c) ≡ settle (M .repeats) r (going T) (pending M o t b (passedTo c at run))
   unfolding pending
   chunk-quiet none M o t r T p q = rw e (g .quiet M (c .depth) (c .starts) r T (rw (p, q) none))
 

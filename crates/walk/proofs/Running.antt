@@ -55,24 +55,24 @@ module _ (t names area b : List ℕ) (o : Opened) where
 
   module _ (ns₀ ats₀ : List ℕ) (c₀ : Cursor) (tree₀ : Tree) (g : Running t names area b o ns₀ ats₀ c₀ tree₀) (ns ats : List ℕ) (c : Cursor) (tree : Tree)
       (h : RunHead t names area b o ns₀ ats₀ c₀ tree₀ g ns ats c tree) (s : Step) (es : s ≡ stepOf N o t b c) (ns′ ats′ : List ℕ)
-      (ln : length ns′ ≡ length ns) (la : length ats′ ≡ length ats) (p : Placed) (places : Places (N .same) p ns ats tree (s .event) ns′ ats′)
+      (ln : length ns′ ≡ length ns) (la : length ats′ ≡ length ats) (p : Placed) (places : Places (N .repeats) p ns ats tree (s .event) ns′ ats′)
       (notEnd : NotEnd p (s .event)) where
     st : Stepped N o t b c s
     st = rw es (stepped N o t b c (h .now .within))
 
-    put : PlacesBy (N .same) p ns ats tree (h .now .stack) (s .event) ns′ ats′
+    put : PlacesBy (N .repeats) p ns ats tree (h .now .stack) (s .event) ns′ ats′
     put = places (h .now .stack) (h .now .tied)
 
     once : (r : Room) (os : List NoteOf) (cs : List ℕ)
         → onFrom r N o t b ns ats c tree (h .now .stack) os cs
-        ≡ settle (N .same) r (push (N .same) r (going (tablesOf ns ats tree (h .now .stack) os cs)) (s .event)) (pending N o t b (s .cur))
-    once r os cs = rw (st .same) (settle-the (N .same) r (tablesOf ns ats tree (h .now .stack) os cs) (s .event) (pending N o t b (s .cur)))
+        ≡ settle (N .repeats) r (push (N .repeats) r (going (tablesOf ns ats tree (h .now .stack) os cs)) (s .event)) (pending N o t b (s .cur))
+    once r os cs = rw (st .same) (settle-the (N .repeats) r (tablesOf ns ats tree (h .now .stack) os cs) (s .event) (pending N o t b (s .cur)))
 
     -- what the push gives, pushed on
     pushed : (r : Room) (os : List NoteOf) (cs : List ℕ) (x : Out) → r .nodes ≡ length ns₀ → r .attributes ≡ length ats₀
-        → push (N .same) r (going (tablesOf ns ats tree (h .now .stack) os cs)) (s .event) ≡ x
-        → onFrom r N o t b ns₀ ats₀ c₀ tree₀ (g .stack) os cs ≡ settle (N .same) r x (pending N o t b (s .cur))
-    pushed r os cs x rn ra e = h .same r os cs rn ra ∙ once r os cs ∙ ap (λ (y : Out). settle (N .same) r y (pending N o t b (s .cur))) e
+        → push (N .repeats) r (going (tablesOf ns ats tree (h .now .stack) os cs)) (s .event) ≡ x
+        → onFrom r N o t b ns₀ ats₀ c₀ tree₀ (g .stack) os cs ≡ settle (N .repeats) r x (pending N o t b (s .cur))
+    pushed r os cs x rn ra e = h .same r os cs rn ra ∙ once r os cs ∙ ap (λ (y : Out). settle (N .repeats) r y (pending N o t b (s .cur))) e
 
     pub run-less : (u : Tree) → p ≡ Done u → steps b (s .cur) < steps b c
     run-less u e = st .less (rw e at notEnd)
@@ -93,7 +93,7 @@ module _ (t names area b : List ℕ) (o : Opened) where
     run-full x tree′ e =
         let q = rw e at put in
         λ r os cs rn ra.
-        (pushed r os cs _ rn ra (q r os cs (rn ∙ sym (h .ln)) (ra ∙ sym (h .la))) ∙ settle-refused (N .same) r x (pending N o t b (s .cur)))
+        (pushed r os cs _ rn ra (q r os cs (rn ∙ sym (h .ln)) (ra ∙ sym (h .la))) ∙ settle-refused (N .repeats) r x (pending N o t b (s .cur)))
 
     pub run-due : (x : ResAnomaly) → p ≡ Due x → RanBy t names area b o (StopDue x) ns₀ ats₀ c₀ tree₀ (g .stack) (s .cur) tree ns′ ats′
     run-due x e =
@@ -105,7 +105,7 @@ module _ (t names area b : List ℕ) (o : Opened) where
           now = record { stack = h .now .stack; ready = h .now .ready; within = st .within; tied = h .now .tied; budget = omega (arith, h .now .budget) };
           less = omega (arith, h .low);
           goes = λ r os cs rn ra.
-              (h .same r os cs rn ra ∙ ap (λ (y : List Event). settle (N .same) r (going (tablesOf ns ats tree (h .now .stack) os cs)) y) first-is);
+              (h .same r os cs rn ra ∙ ap (λ (y : List Event). settle (N .repeats) r (going (tablesOf ns ats tree (h .now .stack) os cs)) y) first-is);
         })
 
     pub run-finished : p ≡ Finished → RanBy t names area b o StopFinished ns₀ ats₀ c₀ tree₀ (g .stack) (s .cur) tree ns′ ats′
@@ -117,6 +117,6 @@ module _ (t names area b : List ℕ) (o : Opened) where
           tied = h .now .tied;
           goes = λ r os cs rn ra.
               (h .same r os cs rn ra
-              ∙ ap (λ (y : List Event). settle (N .same) r (going (tablesOf ns ats tree (h .now .stack) os cs)) y) (st .over (q .event))
-              ∙ settle-nil (N .same) r (going (tablesOf ns ats tree (h .now .stack) os cs)));
+              ∙ ap (λ (y : List Event). settle (N .repeats) r (going (tablesOf ns ats tree (h .now .stack) os cs)) y) (st .over (q .event))
+              ∙ settle-nil (N .repeats) r (going (tablesOf ns ats tree (h .now .stack) os cs)));
         })

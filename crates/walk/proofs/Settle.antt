@@ -5,13 +5,14 @@ use mathlib.Core.Path.{_≡_, refl}
 use mathlib.Core.List.{List, [], _∷_, _++_}
 use mathlib.Core.Bool.{Bool}
 use Rattle.errors.specs.declared.Refusal.{Refusal}
+use Rattle.records.specs.Repeats.{Rule}
 use Rattle.events.specs.declared.Event.{Event}
 use Rattle.events.specs.declared.Event.the-variants.{Nothing, Open, Attribute, LeftOut, Close, Note, Refuse, Finish}
 use Rattle.events.specs.Pending.{the}
 use Rattle.walk.specs.Settle.{Room, Tables, Out, going, refused, push, settle}
 
-module _ (same : ℕ → ℕ → Bool) (r : Room) where
-  pub settle-the : (t : Tables) (e : Event) (es : List Event) → settle same r (going t) (the e ++ es) ≡ settle same r (push same r (going t) e) es
+module _ (rule : Rule) (r : Room) where
+  pub settle-the : (t : Tables) (e : Event) (es : List Event) → settle rule r (going t) (the e ++ es) ≡ settle rule r (push rule r (going t) e) es
   unfolding settle
   settle-the t Nothing es = refl
   settle-the t Finish es = refl
@@ -22,15 +23,15 @@ module _ (same : ℕ → ℕ → Bool) (r : Room) where
   settle-the t (Note x) es = refl
   settle-the t (Refuse x) es = refl
 
-  pub settle-refused : (x : Refusal) (es : List Event) → settle same r (refused x) es ≡ refused x
+  pub settle-refused : (x : Refusal) (es : List Event) → settle rule r (refused x) es ≡ refused x
   unfolding settle
   settle-refused x [] = refl
   settle-refused x (e ∷ es) = settle-refused x es
 
-  pub settle-cons : (o : Out) (e : Event) (es : List Event) → settle same r o (e ∷ es) ≡ settle same r (push same r o e) es
+  pub settle-cons : (o : Out) (e : Event) (es : List Event) → settle rule r o (e ∷ es) ≡ settle rule r (push rule r o e) es
   unfolding settle
   settle-cons o e es = refl
 
-  pub settle-nil : (o : Out) → settle same r o [] ≡ o
+  pub settle-nil : (o : Out) → settle rule r o [] ≡ o
   unfolding settle
   settle-nil o = refl

@@ -14,6 +14,7 @@ use Rattle.common.specs.declared.StringIndex.{StringIndex}
 use Rattle.anomaly.specs.declared.Note.{Note as NoteOf}
 use Rattle.errors.specs.declared.Refusal.the-variants.{NodesFull}
 use Rattle.records.specs.Words.{nodeWidth, nodeParent, nodeFirst, nodeCount, attributeWidth}
+use Rattle.records.specs.Repeats.{Rule}
 use Rattle.events.specs.declared.Event.the-variants.{Open, Close}
 use Rattle.walk.specs.declared.tree.Tree.{Tree}
 use Rattle.walk.specs.declared.placing.Placed.the-variants.{Done, Full}
@@ -61,7 +62,7 @@ second-in w (k ∷ j ∷ i ∷ r) h n = second-in w (j ∷ i ∷ r) (h .3) n
 
 -- ---- a node opens
 
-module _ (same : ℕ → ℕ → Bool) (ns ats ns′ : List ℕ) (t : Tree) (name : StringIndex) (fixed line : ℕ) (room : nodeWidth * t .nodes + nodeWidth ≤ length ns)
+module _ (rule : Rule) (ns ats ns′ : List ℕ) (t : Tree) (name : StringIndex) (fixed line : ℕ) (room : nodeWidth * t .nodes + nodeWidth ≤ length ns)
     (len : length ns′ ≡ length ns) (put : ns′ ≡ take (nodeWidth * t .nodes) ns ++ openedWords t (name .0) fixed ++ drop (nodeWidth * t .nodes + nodeWidth) ns) where
   abbrev w : List ℕ
   w = take (nodeWidth * t .nodes) ns
@@ -95,7 +96,7 @@ module _ (same : ℕ → ℕ → Bool) (ns ats ns′ : List ℕ) (t : Tree) (nam
       (uf : u .first ≡ t .attributes) (ui : u .inner ≡ t .nodes) (us : secondOf (t .nodes ∷ o) ≡ u .second)
       (uu : (u .second ≡ 0 → ⊥) → getD (w ++ opening) (nodeWidth * u .second + nodeFirst) 0 ≡ u .upto) (ub : u .upto ≤ t .attributes) where
     pushed : (r : Room) (os : List NoteOf) (cs : List ℕ) → r .nodes ≡ length ns → r .attributes ≡ length ats
-        → push same r (going (tablesOf ns ats t o os cs)) (Open name fixed line) ≡ going (tablesOf ns′ ats u (t .nodes ∷ o) os cs)
+        → push rule r (going (tablesOf ns ats t o os cs)) (Open name fixed line) ≡ going (tablesOf ns′ ats u (t .nodes ∷ o) os cs)
     pushed r os cs rn ra =
         let la : length (take (attributeWidth * t .attributes) ats) ≡ attributeWidth * t .attributes = length-take-le (attributeWidth * t .attributes) ats (h .sized .attributes) in
         let fit : length w + nodeWidth ≤ r .nodes = omega (arith, lw) in
@@ -118,10 +119,10 @@ module _ (same : ℕ → ℕ → Bool) (ns ats ns′ : List ℕ) (t : Tree) (nam
       below = rw ua ub;
     }
 
-    done : PlacesBy same (Done u) ns ats t o (Open name fixed line) ns′ ats
+    done : PlacesBy rule (Done u) ns ats t o (Open name fixed line) ns′ ats
     done = record { stack = t .nodes ∷ o; tied = tied; few = rw (un, ua) (omega arith); pushed = pushed }
 
-  pub node-opens : (o : List ℕ) → Tied ns ats t o → PlacesBy same (Done (openedTree t)) ns ats t o (Open name fixed line) ns′ ats
+  pub node-opens : (o : List ℕ) → Tied ns ats t o → PlacesBy rule (Done (openedTree t)) ns ats t o (Open name fixed line) ns′ ats
   node-opens [] h =
       let z : t .nodes ≡ 0 = omega (arith, h .linked, lw) in
       rw (eq-eqb (t .nodes) 0 z)
@@ -145,20 +146,20 @@ module _ (same : ℕ → ℕ → Bool) (ns ats ns′ : List ℕ) (t : Tree) (nam
       refl refl refl refl (h .second) (λ n. List·getD-append w opening 0 (nodeWidth * t .second + nodeFirst) (omega (arith, b n)) ∙ h .upto n) (h .below))
 
 -- no place for it
-pub node-full : (same : ℕ → ℕ → Bool) (ns ats ns′ : List ℕ) (t : Tree) (name : StringIndex) (fixed line : ℕ) (o : List ℕ) → Tied ns ats t o
-    → length ns < nodeWidth * t .nodes + nodeWidth → PlacesBy same (Full (NodesFull (length ns / nodeWidth))) ns ats t o (Open name fixed line) ns′ ats
-node-full same ns ats ns′ t name fixed line o h none r os cs rn ra =
+pub node-full : (rule : Rule) (ns ats ns′ : List ℕ) (t : Tree) (name : StringIndex) (fixed line : ℕ) (o : List ℕ) → Tied ns ats t o
+    → length ns < nodeWidth * t .nodes + nodeWidth → PlacesBy rule (Full (NodesFull (length ns / nodeWidth))) ns ats t o (Open name fixed line) ns′ ats
+node-full rule ns ats ns′ t name fixed line o h none r os cs rn ra =
     let lw : length (take (nodeWidth * t .nodes) ns) ≡ nodeWidth * t .nodes = length-take-le (nodeWidth * t .nodes) ns (h .sized .nodes) in
     let over : r .nodes < length (take (nodeWidth * t .nodes) ns) + nodeWidth = omega (arith, lw) in
     rw (lt-leb _ _ over, rn)
 
 -- ---- an element closes
 
-module _ (same : ℕ → ℕ → Bool) (ns ats : List ℕ) (t : Tree) where
+module _ (rule : Rule) (ns ats : List ℕ) (t : Tree) where
   abbrev u : List ℕ
   u = take (nodeWidth * t .nodes) ns
 
-  stays : (o : List ℕ) → Tied ns ats t o → closedIn o ≡ o → PlacesBy same (Done t) ns ats t o Close ns ats
+  stays : (o : List ℕ) → Tied ns ats t o → closedIn o ≡ o → PlacesBy rule (Done t) ns ats t o Close ns ats
   stays o h e = record { stack = o; tied = h; few = omega arith; pushed = λ r os cs rn ra. rw e }
 
   -- the parent word of the innermost is the next of the open elements
@@ -168,7 +169,7 @@ module _ (same : ℕ → ℕ → Bool) (ns ats : List ℕ) (t : Tree) where
       rw (← h .top) (sym (getD-take (nodeWidth * t .nodes) ns (nodeWidth * k + nodeParent) 0 (omega (arith, h .linked .1, lu))) ∙ h .linked .2)
 
   pub node-closes : (o : List ℕ) → Tied ns ats t o
-      → PlacesBy same (Done (cond (eqb (t .inner) 0) t (closedTree t (getD ns (nodeWidth * t .inner + nodeParent) 0)))) ns ats t o Close ns ats
+      → PlacesBy rule (Done (cond (eqb (t .inner) 0) t (closedTree t (getD ns (nodeWidth * t .inner + nodeParent) 0)))) ns ats t o Close ns ats
   node-closes [] h = rw (eq-eqb (t .inner) 0 (sym (h .top))) (stays [] h refl)
   node-closes (k ∷ []) h = rw (eq-eqb (t .inner) 0 (sym (h .top) ∙ h .linked .0)) (stays (k ∷ []) h refl)
   node-closes (k ∷ j ∷ []) h =

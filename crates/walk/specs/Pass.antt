@@ -27,11 +27,11 @@ pub record Reaches (b : List ℕ) (at run at′ run′ : ℕ) : Type 0 where
   pub more : at ≤ at′
   pub fits : at′ ≤ length b
   pub quiet : (N : Names) (d s : ℕ) (r : Room) (T : Tables) → NoneDue (r .cap) (T .counts)
-      → settle (N .same) r (going T) (eventsOn N (drop at b) (spotAt run d s))
-      ≡ settle (N .same) r (going T) (eventsOn N (drop at′ b) (spotAt run′ d s))
+      → settle (N .repeats) r (going T) (eventsOn N (drop at b) (spotAt run d s))
+      ≡ settle (N .repeats) r (going T) (eventsOn N (drop at′ b) (spotAt run′ d s))
 
 pub record PassesOn (b : List ℕ) (cap : ℕ) (cs : List ℕ) (c c′ : Cursor) : Type 0 where
   pub within : (o : Opened) → Within o b c → Within o b c′
   pub low : steps b c′ ≤ steps b c
   pub quiet : (N : Names) (o : Opened) (t : List ℕ) (r : Room) (T : Tables) → r .cap ≡ cap → T .counts ≡ cs
-      → settle (N .same) r (going T) (pending N o t b c) ≡ settle (N .same) r (going T) (pending N o t b c′)
+      → settle (N .repeats) r (going T) (pending N o t b c) ≡ settle (N .repeats) r (going T) (pending N o t b c′)

@@ -72,7 +72,7 @@ abbrev pub settledIn : Room → List ℕ → List ℕ → List ℕ → Opened �
 settledIn r f names area o =
     let t = tablesIn f (o .head) in
     let N = namesIn (o .head) t names area in
-    settle (N .same) r nothingYet (fileEvents N o t (bodyIn f (o .head)))
+    settle (N .repeats) r nothingYet (fileEvents N o t (bodyIn f (o .head)))
 
 -- 2 and 7 come before the file is read
 abbrev pub readingBy : Room → Out → Check → Reading

@@ -32,7 +32,7 @@ pub record Running (t names area b : List ℕ) (o : Opened) (ns ats : List ℕ) 
   pub budget : tree .nodes + tree .attributes + steps b c ≤ 400000000
 
 abbrev pub onFrom : Room → Names → Opened → List ℕ → List ℕ → List ℕ → List ℕ → Cursor → Tree → List ℕ → List NoteOf → List ℕ → Out
-onFrom r N o t b ns ats c tree stack os cs = settle (N .same) r (going (tablesOf ns ats tree stack os cs)) (pending N o t b c)
+onFrom r N o t b ns ats c tree stack os cs = settle (N .repeats) r (going (tablesOf ns ats tree stack os cs)) (pending N o t b c)
 
 module _ (t names area b : List ℕ) (o : Opened) where
   abbrev pub N : Names
@@ -50,7 +50,7 @@ module _ (t names area b : List ℕ) (o : Opened) where
     pub now : Running t names area b o ns′ ats′ c′ tree′
     pub less : steps b c′ < steps b c
     pub goes : ComesTo ns ats c tree stack (λ r os cs.
-        settle (N .same) r (going (tablesOf ns′ ats′ tree′ (now .stack) os cs)) (Note x ∷ pending N o t b c′))
+        settle (N .repeats) r (going (tablesOf ns′ ats′ tree′ (now .stack) os cs)) (Note x ∷ pending N o t b c′))
 
   -- nothing is left
   pub record StopsDone (ns ats : List ℕ) (c : Cursor) (tree : Tree) (stack : List ℕ) (tree′ : Tree) (ns′ ats′ : List ℕ) : Type 0 where

@@ -7,7 +7,7 @@
 --   kept      an attribute of the last node, which counts it
 --   noted     a note, counted by its kind
 --
--- An attribute of the same prefix and name text as one of its element is passed over, and has no place due; a note past its cap too.
+-- An attribute that repeats one of its element, by the rule that is given, is passed over, and has no place due; a note past its cap too.
 use Prim.Native.Nat.{ℕ, _+_, _-_, _*_, _/_}
 use mathlib.Core.List.{List, [], _∷_, _++_}
 use mathlib.Core.Bool.{Bool, cond}
@@ -20,7 +20,7 @@ use Rattle.errors.specs.declared.Refusal.{Refusal}
 use Rattle.errors.specs.declared.Refusal.the-variants.{NodesFull, AttributesFull, NotesFull}
 use Rattle.xml_elements.specs.declared.XmlAttributeElement.{XmlAttributeElement}
 use Rattle.records.specs.Words.{nodeWidth, nodeCount, noParent, nodeWords, attributeWidth, attributeWords}
-use Rattle.tables.specs.Keep.{hasKey}
+use Rattle.records.specs.Repeats.{Rule, isRepeat}
 use Rattle.events.specs.declared.Event.{Event}
 use Rattle.events.specs.declared.Event.the-variants.{Nothing, Open, Attribute, LeftOut, Close, Note, Refuse, Finish}
 
@@ -77,10 +77,18 @@ closed t = record { nodes = t .nodes; attributes = t .attributes; first = t .fir
 abbrev pub lastNode : Tables → ℕ
 lastNode t = length (t .nodes) / nodeWidth - 1
 
+-- the words of an attribute of that node
+abbrev pub recordOf : Tables → ℕ → XmlAttributeElement → List ℕ
+recordOf t p a = attributeWords (lastNode t) p (a .name .0) (a .«data_type») (a .«data»)
+
+-- whether it repeats one of that node's
+abbrev pub repeated : Rule → Tables → ℕ → XmlAttributeElement → Bool
+repeated rule t p a = isRepeat rule (recordOf t p a) (drop (t .first) (t .attributes))
+
 abbrev pub kept : Tables → ℕ → XmlAttributeElement → Tables
 kept t p a = record {
   nodes = set (t .nodes) (nodeWidth * lastNode t + nodeCount) ((length (t .attributes) + attributeWidth - t .first) / attributeWidth);
-  attributes = t .attributes ++ attributeWords (lastNode t) p (a .name .0) (a .«data_type») (a .«data»);
+  attributes = t .attributes ++ recordOf t p a;
   first = t .first;
   stack = t .stack;
   notes = t .notes;
@@ -97,29 +105,29 @@ noted t x = record {
   counts = set (t .counts) (kindIndex x) (getD (t .counts) (kindIndex x) 0 + 1);
 }
 
-abbrev pub push : (ℕ → ℕ → Bool) → Room → Out → Event → Out
-push same r (refused x) e = refused x
-push same r (going t) Nothing = going t
-push same r (going t) Finish = going t
-push same r (going t) (LeftOut n) = going t
-push same r (going t) (Refuse x) = refused x
-push same r (going t) (Open name fixed line) =
+abbrev pub push : Rule → Room → Out → Event → Out
+push rule r (refused x) e = refused x
+push rule r (going t) Nothing = going t
+push rule r (going t) Finish = going t
+push rule r (going t) (LeftOut n) = going t
+push rule r (going t) (Refuse x) = refused x
+push rule r (going t) (Open name fixed line) =
     cond (leb (length (t .nodes) + nodeWidth) (r .nodes)) (going (opened t (name .0) fixed)) (refused (NodesFull (r .nodes / nodeWidth)))
-push same r (going t) Close = going (closed t)
-push same r (going t) (Attribute p a) =
+push rule r (going t) Close = going (closed t)
+push rule r (going t) (Attribute p a) =
     cond (eqb (length (t .nodes)) 0) (going t)
-    (cond (hasKey same p (a .name .0) (drop (t .first) (t .attributes))) (going t)
+    (cond (repeated rule t p a) (going t)
     (cond (leb (length (t .attributes) + attributeWidth) (r .attributes)) (going (kept t p a)) (refused (AttributesFull (r .attributes / attributeWidth)))))
-push same r (going t) (Note x) =
+push rule r (going t) (Note x) =
     cond (ltb (getD (t .counts) (kindIndex x) 0) (r .cap))
     (cond (ltb (length (t .notes)) (r .notes)) (going (noted t x)) (refused (NotesFull (r .notes))))
     (going t)
 
 -- ---- all of them
 
-unfoldable pub settle : (ℕ → ℕ → Bool) → Room → Out → List Event → Out
-settle same r o [] = o
-settle same r o (e ∷ es) = settle same r (push same r o e) es
+unfoldable pub settle : Rule → Room → Out → List Event → Out
+settle rule r o [] = o
+settle rule r o (e ∷ es) = settle rule r (push rule r o e) es
 
 abbrev pub nothingYet : Out
 nothingYet = going (record { nodes = []; attributes = []; first = 0; stack = []; notes = []; counts = replicate kinds 0 })

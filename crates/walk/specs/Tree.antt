@@ -17,7 +17,7 @@ use Rattle.text.specs.Found.{Asks}
 use Rattle.text.specs.declared.Head.{Head}
 use Rattle.xml_elements.specs.declared.XmlAttributeElement.{XmlAttributeElement}
 use Rattle.records.specs.Words.{nodeWidth, nodeParent, nodeFirst, nodeCount, noParent, nodeWords, attributeWidth, attributeWords}
-use Rattle.tables.specs.Keep.{hasKey}
+use Rattle.records.specs.Repeats.{Rule, isRepeat}
 use Rattle.events.specs.declared.Event.{Event}
 use Rattle.events.specs.declared.Event.the-variants.{Nothing, Open, Attribute, LeftOut, Close, Note, Refuse, Finish}
 use Rattle.walk.specs.declared.tree.Tree.{Tree}
@@ -102,41 +102,41 @@ ownWords t ats = take (attributeWidth * t .attributes - attributeWidth * t .firs
 abbrev pub newWords : Tree → ℕ → XmlAttributeElement → List ℕ
 newWords t p a = attributeWords (t .nodes - 1) p (a .name .0) (a .«data_type») (a .«data»)
 
--- the element has one of this prefix and name text, or there is no element
-pub record Repeats (same : ℕ → ℕ → Bool) (t : Tree) (p : ℕ) (a : XmlAttributeElement) (ns ats ns′ ats′ : List ℕ) : Type 0 where
-  pub there : (t .nodes ≡ 0 → ⊥) → hasKey same p (a .name .0) (ownWords t ats) ≡ true
+-- it repeats one of its element, or there is no element
+pub record Repeats (rule : Rule) (t : Tree) (p : ℕ) (a : XmlAttributeElement) (ns ats ns′ ats′ : List ℕ) : Type 0 where
+  pub there : (t .nodes ≡ 0 → ⊥) → isRepeat rule (newWords t p a) (ownWords t ats) ≡ true
   pub nodes : ns′ ≡ ns
   pub attributes : ats′ ≡ ats
 
 -- it has no place
-pub record Lacks (same : ℕ → ℕ → Bool) (t : Tree) (p : ℕ) (a : XmlAttributeElement) (ats : List ℕ) : Type 0 where
+pub record Lacks (rule : Rule) (t : Tree) (p : ℕ) (a : XmlAttributeElement) (ats : List ℕ) : Type 0 where
   pub some : t .nodes ≡ 0 → ⊥
-  pub new : hasKey same p (a .name .0) (ownWords t ats) ≡ false
+  pub new : isRepeat rule (newWords t p a) (ownWords t ats) ≡ false
   pub full : length ats < attributeWidth * t .attributes + attributeWidth
 
 -- it is stored, and its element counts it
-pub record Stores (same : ℕ → ℕ → Bool) (u t : Tree) (p : ℕ) (a : XmlAttributeElement) (ns ats ns′ ats′ : List ℕ) : Type 0 where
+pub record Stores (rule : Rule) (u t : Tree) (p : ℕ) (a : XmlAttributeElement) (ns ats ns′ ats′ : List ℕ) : Type 0 where
   pub some : t .nodes ≡ 0 → ⊥
-  pub new : hasKey same p (a .name .0) (ownWords t ats) ≡ false
+  pub new : isRepeat rule (newWords t p a) (ownWords t ats) ≡ false
   pub room : attributeWidth * t .attributes + attributeWidth ≤ length ats
   pub tree : u ≡ keptTree t
   pub attributes : ats′ ≡ take (attributeWidth * t .attributes) ats ++ newWords t p a ++ drop (attributeWidth * t .attributes + attributeWidth) ats
   pub nodes : ns′ ≡ set ns (nodeWidth * (t .nodes - 1) + nodeCount) (t .attributes + 1 - t .first)
 
-abbrev pub Keeps : (ℕ → ℕ → Bool) → Put → Tree → ℕ → XmlAttributeElement → List ℕ → List ℕ → List ℕ → List ℕ → Type 0
-Keeps same Same t p a ns ats ns′ ats′ = Repeats same t p a ns ats ns′ ats′
-Keeps same NoPlace t p a ns ats ns′ ats′ = Lacks same t p a ats
-Keeps same (Stored u) t p a ns ats ns′ ats′ = Stores same u t p a ns ats ns′ ats′
+abbrev pub Keeps : Rule → Put → Tree → ℕ → XmlAttributeElement → List ℕ → List ℕ → List ℕ → List ℕ → Type 0
+Keeps rule Same t p a ns ats ns′ ats′ = Repeats rule t p a ns ats ns′ ats′
+Keeps rule NoPlace t p a ns ats ns′ ats′ = Lacks rule t p a ats
+Keeps rule (Stored u) t p a ns ats ns′ ats′ = Stores rule u t p a ns ats ns′ ats′
 
 -- ---- an event
 
 -- it is put away, and the tree is u: one push
-pub record PutAway (same : ℕ → ℕ → Bool) (u : Tree) (ns ats : List ℕ) (t : Tree) (o : List ℕ) (e : Event) (ns′ ats′ : List ℕ) : Type 0 where
+pub record PutAway (rule : Rule) (u : Tree) (ns ats : List ℕ) (t : Tree) (o : List ℕ) (e : Event) (ns′ ats′ : List ℕ) : Type 0 where
   pub stack : List ℕ
   pub tied : Tied ns′ ats′ u stack
   pub few : u .nodes + u .attributes ≤ t .nodes + t .attributes + 1
   pub pushed : (r : Room) (os : List NoteOf) (cs : List ℕ) → r .nodes ≡ length ns → r .attributes ≡ length ats
-      → push same r (going (tablesOf ns ats t o os cs)) e ≡ going (tablesOf ns′ ats′ u stack os cs)
+      → push rule r (going (tablesOf ns ats t o os cs)) e ≡ going (tablesOf ns′ ats′ u stack os cs)
 
 -- it is e′, which is not the tables'
 pub record Passes (e e′ : Event) (ns ats ns′ ats′ : List ℕ) : Type 0 where
@@ -144,16 +144,16 @@ pub record Passes (e e′ : Event) (ns ats ns′ ats′ : List ℕ) : Type 0 whe
   pub nodes : ns′ ≡ ns
   pub attributes : ats′ ≡ ats
 
-abbrev pub PlacesBy : (ℕ → ℕ → Bool) → Placed → List ℕ → List ℕ → Tree → List ℕ → Event → List ℕ → List ℕ → Type 0
-PlacesBy same (Done u) ns ats t o e ns′ ats′ = PutAway same u ns ats t o e ns′ ats′
-PlacesBy same (Full x) ns ats t o e ns′ ats′ =
+abbrev pub PlacesBy : Rule → Placed → List ℕ → List ℕ → Tree → List ℕ → Event → List ℕ → List ℕ → Type 0
+PlacesBy rule (Done u) ns ats t o e ns′ ats′ = PutAway rule u ns ats t o e ns′ ats′
+PlacesBy rule (Full x) ns ats t o e ns′ ats′ =
     (r : Room) (os : List NoteOf) (cs : List ℕ) → r .nodes ≡ length ns → r .attributes ≡ length ats
-    → push same r (going (tablesOf ns ats t o os cs)) e ≡ refused x
-PlacesBy same (Due x) ns ats t o e ns′ ats′ = Passes e (Note x) ns ats ns′ ats′
-PlacesBy same Finished ns ats t o e ns′ ats′ = Passes e Finish ns ats ns′ ats′
+    → push rule r (going (tablesOf ns ats t o os cs)) e ≡ refused x
+PlacesBy rule (Due x) ns ats t o e ns′ ats′ = Passes e (Note x) ns ats ns′ ats′
+PlacesBy rule Finished ns ats t o e ns′ ats′ = Passes e Finish ns ats ns′ ats′
 
-abbrev pub Places : (ℕ → ℕ → Bool) → Placed → List ℕ → List ℕ → Tree → Event → List ℕ → List ℕ → Type 0
-Places same p ns ats t e ns′ ats′ = (o : List ℕ) → Tied ns ats t o → PlacesBy same p ns ats t o e ns′ ats′
+abbrev pub Places : Rule → Placed → List ℕ → List ℕ → Tree → Event → List ℕ → List ℕ → Type 0
+Places rule p ns ats t e ns′ ats′ = (o : List ℕ) → Tied ns ats t o → PlacesBy rule p ns ats t o e ns′ ats′
 
 -- what is put away is not the end
 abbrev pub NotEnd : Placed → Event → Type 0

@@ -3,8 +3,8 @@
 // Mirrors axml.rs (apk-info 13770539b8): the body of the loop of `get_xml_tree`.
 // Definitions: specs/Tree.antt, specs/Run.antt. Differs from the Rust: a record without a place refuses.
 ghost use Prim.Native.Nat.{ℕ};
-ghost use mathlib.Core.Bool.{Bool};
-ghost use Rattle.tables.specs.Keep.{sameIn};
+ghost use Rattle.records.specs.Repeats.{Rule, byPrefix};
+ghost use Rattle.text.specs.Content.{sameName};
 ghost use Rattle.text.specs.Found.{Asks};
 ghost use Rattle.events.specs.declared.Event.the-variants.{Open, Attribute, Close};
 ghost use Rattle.walk.specs.Tree.{Fit, Places, NotEnd, AsksFor};
@@ -59,7 +59,7 @@ fn open_place(
     fixed: u32,
 ) -> Placed
     requires { ⌜ Fit (now nodes) (now attributes) tree ⌝ }
-    ensures { λ r. ⌜ ((same : ℕ → ℕ → Bool) (line : ℕ) → Places same r (now (nodes .entry)) (now (attributes .entry)) tree (Open name fixed line)
+    ensures { λ r. ⌜ ((rule : Rule) (line : ℕ) → Places rule r (now (nodes .entry)) (now (attributes .entry)) tree (Open name fixed line)
         (now (nodes .exit)) (now (attributes .entry))) ⌝ }
 {
     if nodes.len() - node_place(tree.nodes) < NODE_WORDS {
@@ -71,7 +71,7 @@ fn open_place(
 // The innermost element closes.
 fn close_place(nodes: &[u32], attributes: &[u32], tree: Tree) -> Placed
     requires { ⌜ Fit (now nodes) (now attributes) tree ⌝ }
-    ensures { λ r. ⌜ ((same : ℕ → ℕ → Bool) → Places same r (now (nodes .entry)) (now (attributes .entry)) tree Close
+    ensures { λ r. ⌜ ((rule : Rule) → Places rule r (now (nodes .entry)) (now (attributes .entry)) tree Close
         (now (nodes .entry)) (now (attributes .entry))) ⌝ }
 {
     Placed::Done(close_node(nodes, tree))
@@ -90,7 +90,7 @@ fn keep_place(
     a: XmlAttributeElement,
 ) -> Placed
     requires { ⌜ Asks (now t) (now names) (now area) h × Fit (now nodes) (now attributes) tree ⌝ }
-    ensures { λ r. ⌜ Places (sameIn h (now (t .entry)) (now (names .entry)) (now (area .entry))) r
+    ensures { λ r. ⌜ Places (byPrefix (sameName h (now (t .entry)) (now (names .entry)) (now (area .entry)))) r
         (now (nodes .entry)) (now (attributes .entry)) tree (Attribute prefix a) (now (nodes .exit)) (now (attributes .exit)) ⌝ }
 {
     let p = keep(t, names, area, h, nodes, attributes, tree, prefix, a);
@@ -113,7 +113,7 @@ pub fn place(
     e: Event,
 ) -> Placed
     requires { ⌜ AsksFor e (now t) (now names) (now area) h × Fit (now nodes) (now attributes) tree ⌝ }
-    ensures { λ r. ⌜ Places (sameIn h (now (t .entry)) (now (names .entry)) (now (area .entry))) r
+    ensures { λ r. ⌜ Places (byPrefix (sameName h (now (t .entry)) (now (names .entry)) (now (area .entry)))) r
         (now (nodes .entry)) (now (attributes .entry)) tree e (now (nodes .exit)) (now (attributes .exit)) × NotEnd r e ⌝ }
 {
     match e {

@@ -10,8 +10,9 @@ ghost use Prim.Native.Nat.{_+_, _*_, _≤_, _<_};
 ghost use lib.ListN.{length, drop, take, getD};
 ghost use lib.Dec.{eqb};
 ghost use Rattle.records.specs.Words.{nodeWidth, nodeParent};
+ghost use Rattle.records.specs.Repeats.{byPrefix};
+ghost use Rattle.text.specs.Content.{sameName};
 ghost use Rattle.text.specs.Found.{Asks};
-ghost use Rattle.tables.specs.Keep.{sameIn};
 ghost use Rattle.walk.specs.Tree.{parentOf, openedTree, closedTree, keptTree, openedWords, keptNodes, keptAttributes, Fit, Keeps};
 use common::StringIndex;
 use records::ATTRIBUTE_WORDS;
@@ -40,7 +41,7 @@ pub struct Tree {
 
 // What became of an attribute.
 pub enum Put {
-    // its element has one of this prefix and name, or there is no element
+    // it repeats one of its element, or there is no element
     Same,
     // no place
     Full,
@@ -165,7 +166,7 @@ pub fn close_node(nodes: &[u32], tree: Tree) -> Tree
     tree.closed(nodes[i])
 }
 
-// An attribute of the last node, unless it has one of the same prefix and name text.
+// An attribute of the last node, unless it repeats one of that node's.
 // Ruled out: a place asked for a repeat, and the node's count of attributes left as it was.
 pub fn keep(
     t: &[u8],
@@ -179,7 +180,7 @@ pub fn keep(
     a: XmlAttributeElement,
 ) -> Put
     requires { ⌜ Asks (now t) (now names) (now area) h × Fit (now nodes) (now attributes) tree ⌝ }
-    ensures { λ r. ⌜ Keeps (sameIn h (now (t .entry)) (now (names .entry)) (now (area .entry))) r tree prefix a
+    ensures { λ r. ⌜ Keeps (byPrefix (sameName h (now (t .entry)) (now (names .entry)) (now (area .entry)))) r tree prefix a
         (now (nodes .entry)) (now (attributes .entry)) (now (nodes .exit)) (now (attributes .exit)) ⌝ }
 {
     let n = tree.nodes;

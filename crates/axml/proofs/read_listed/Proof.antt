@@ -51,6 +51,7 @@ use Rattle.errors.specs.declared.ReadAnswer.{ReadAnswer as Answer}
 use Rattle.axml.specs.declared.Listed.{Listed}
 use Rattle.walk.specs.Outcome.{first}
 use Rattle.walk.specs.Reading.{zeroNote}
+use Rattle.records.specs.Limits.{listedCap, listedNotes}
 use Rattle.walk.specs.Reading.{Reads}
 use Rattle.axml.proofs.Lending.{slice}
 use Rattle.axml.proofs.Locals.{lends-none, lends-array, array-back, repeat-is, each-field}
@@ -82,7 +83,7 @@ Read 𝓤 H A mem run = tripleOf 𝓤 H A read.signature (read.spec 𝓤 H A mem
 
 -- how many notes, the notes that are lent, and their machine value
 abbrev count : ℕ
-count = 104
+count = listedNotes
 
 abbrev ys : List Note
 ys = replicate count zeroNote
@@ -169,7 +170,7 @@ module _ {M : Type 1} (𝓤 : URA M) (H : Heap 𝓤) (A : Atoms 𝓤) (W : Given
       ‵ (finally u32 γ-nodes ws-nodes) ∷ ‵ (finally u32 γ-attributes ws-attributes) ∷ own-file ∷ []
 
   exits : (r : Listed) (v : Val) (ws-nodes ws-attributes : List ℕ) → Is L.the-row r (v ∷ [])
-      → Reads xs-file [] [] xs-nodes xs-attributes ys 8 (r .answer) ws-nodes ws-attributes (r .notes)
+      → Reads xs-file [] [] xs-nodes xs-attributes ys listedCap (r .answer) ws-nodes ws-attributes (r .notes)
       → length ws-nodes ≡ length xs-nodes → length ws-attributes ≡ length xs-attributes → ent 𝓤 (⋆ 𝓤 H A (Kept ws-nodes ws-attributes)) (Post v)
   exits r v ws-nodes ws-attributes is e lw-nodes lw-attributes =
       qed W (Kept ws-nodes ws-attributes) ∵
@@ -190,14 +191,17 @@ module _ {M : Type 1} (𝓤 : URA M) (H : Heap 𝓤) (A : Atoms 𝓤) (W : Given
         x-file,
         (
           slice l-names 0 δ-names [],
-          (slice l-area 0 δ-area [], (x-nodes γ-nodes xs-nodes, (x-attributes γ-attributes xs-attributes, (slice l-notes 0 δ-notes ys, (8, tt))))),
+          (
+            slice l-area 0 δ-area [],
+            (x-nodes γ-nodes xs-nodes, (x-attributes γ-attributes xs-attributes, (slice l-notes 0 δ-notes ys, (listedCap, tt)))),
+          ),
         ),
       ),
       (
         v-file ∷ [],
         (
           sliceVal (l-names, 0) 0 ∷ [],
-          (sliceVal (l-area, 0) 0 ∷ [], (v-nodes ∷ [], (v-attributes ∷ [], (sliceVal (l-notes, 0) count ∷ [], (vint w32 8 ∷ [], tt))))),
+          (sliceVal (l-area, 0) 0 ∷ [], (v-nodes ∷ [], (v-attributes ∷ [], (sliceVal (l-notes, 0) count ∷ [], (vint w32 listedCap ∷ [], tt))))),
         ),
       ),
     ),
@@ -217,9 +221,10 @@ module _ {M : Type 1} (𝓤 : URA M) (H : Heap 𝓤) (A : Atoms 𝓤) (W : Given
   goes-read l-names l-area l-notes ν-names ν-area ν-notes δ-names δ-area δ-notes =
       qed W (Asked l-names l-area l-notes ν-names ν-area ν-notes δ-names δ-area δ-notes) ∵
       nothing ! $ move ! (6 ∷ 0 ∷ []) $ join ! $ move ! (5 ∷ 0 ∷ []) $ join ! $ move ! (4 ∷ 0 ∷ []) $ join ! $ move ! (3 ∷ 0 ∷ []) $ join ! $
-      move ! (2 ∷ 0 ∷ []) $ join ! $ move ! (1 ∷ 0 ∷ []) $ join ! $ nothing ! $ owned ! u32 (Is u32) (uint-makes 𝓤 H A W w32) 8 _ (refl, lit< tt) $
-      fjoin ! $ move ! (7 ∷ 0 ∷ []) $ fjoin ! $ move ! (6 ∷ 0 ∷ []) $ fjoin ! $ move ! (5 ∷ 0 ∷ []) $ fjoin ! $ move ! (4 ∷ 0 ∷ []) $ fjoin ! $
-      move ! (3 ∷ 0 ∷ []) $ fjoin ! $ move ! (2 ∷ 0 ∷ []) $ fjoin ! $ move ! (1 ∷ 0 ∷ []) $ join ! $ frame ! $ done !
+      move ! (2 ∷ 0 ∷ []) $ join ! $ move ! (1 ∷ 0 ∷ []) $ join ! $ nothing ! $
+      owned ! u32 (Is u32) (uint-makes 𝓤 H A W w32) listedCap _ (refl, lit< tt) $ fjoin ! $ move ! (7 ∷ 0 ∷ []) $ fjoin ! $ move ! (6 ∷ 0 ∷ []) $
+      fjoin ! $ move ! (5 ∷ 0 ∷ []) $ fjoin ! $ move ! (4 ∷ 0 ∷ []) $ fjoin ! $ move ! (3 ∷ 0 ∷ []) $ fjoin ! $ move ! (2 ∷ 0 ∷ []) $ fjoin ! $
+      move ! (1 ∷ 0 ∷ []) $ join ! $ frame ! $ done !
 
   module _ (𝓣 : Tables 𝓤 H) (fm : FmC 𝓤 H (W .laws) (𝓣 .C)) (known-read : Triple 𝓤 (𝓣 .C #axml·read) (Read 𝓤 H A at-mem run))
       (room-file : Room u8 (length xs-file)) (room-nodes : Room u32 (length xs-nodes)) (room-attributes : Room u32 (length xs-attributes)) where
@@ -280,7 +285,7 @@ module _ {M : Type 1} (𝓤 : URA M) (H : Heap 𝓤) (A : Atoms 𝓤) (W : Given
           x-file,
           (
             slice l₆ 0 δ-names [],
-            (slice l₇ 0 δ-area [], (x-nodes γ-nodes xs-nodes, (x-attributes γ-attributes xs-attributes, (slice l₄ 0 δ-notes ys, (8, tt))))),
+            (slice l₇ 0 δ-area [], (x-nodes γ-nodes xs-nodes, (x-attributes γ-attributes xs-attributes, (slice l₄ 0 δ-notes ys, (listedCap, tt))))),
           ),
         ) tt r)))) (id⊢ 𝓤 _) $
         await ! tt $ pick ! (λ r. split ! $ move ! (1 ∷ []) $
@@ -289,14 +294,14 @@ module _ {M : Type 1} (𝓤 : URA M) (H : Heap 𝓤) (A : Atoms 𝓤) (W : Given
           x-file,
           (
             slice l₆ 0 δ-names [],
-            (slice l₇ 0 δ-area [], (x-nodes γ-nodes xs-nodes, (x-attributes γ-attributes xs-attributes, (slice l₄ 0 δ-notes ys, (8, tt))))),
+            (slice l₇ 0 δ-area [], (x-nodes γ-nodes xs-nodes, (x-attributes γ-attributes xs-attributes, (slice l₄ 0 δ-notes ys, (listedCap, tt))))),
           ),
-        ) zs) ⊛ raw (fact 𝓤 (Reads xs-file [] [] xs-nodes xs-attributes ys 8 r (zs .1 .1 .1 .0) (zs .1 .1 .1 .1 .0) (zs .1 .1 .1 .1 .1 .0)))))
+        ) zs) ⊛ raw (fact 𝓤 (Reads xs-file [] [] xs-nodes xs-attributes ys listedCap r (zs .1 .1 .1 .0) (zs .1 .1 .1 .1 .0) (zs .1 .1 .1 .1 .1 .0)))))
         (id⊢ 𝓤 _) $
         pick ! (λ zs. split ! $ move ! (1 ∷ []) $
-        heard ! (Reads xs-file [] [] xs-nodes xs-attributes ys 8 r (zs .1 .1 .1 .0) (zs .1 .1 .1 .1 .0) (zs .1 .1 .1 .1 .1 .0)) (λ e. fsplit ! $
-        drop ! $ fsplit ! $ drop ! $ fsplit ! $ drop ! $ fsplit ! $ fsplit ! $ move ! (1 ∷ []) $ feqL ! (λ lz-nodes. move ! (1 ∷ []) $ fsplit ! $
-        fsplit ! $ move ! (1 ∷ []) $ feqL ! (λ lz-attributes. move ! (1 ∷ []) $ fsplit ! $ fsplit ! $ move ! (1 ∷ []) $ feqL ! (λ lz-notes.
+        heard ! (Reads xs-file [] [] xs-nodes xs-attributes ys listedCap r (zs .1 .1 .1 .0) (zs .1 .1 .1 .1 .0) (zs .1 .1 .1 .1 .1 .0)) (λ e.
+        fsplit ! $ drop ! $ fsplit ! $ drop ! $ fsplit ! $ drop ! $ fsplit ! $ fsplit ! $ move ! (1 ∷ []) $ feqL ! (λ lz-nodes. move ! (1 ∷ []) $
+        fsplit ! $ fsplit ! $ move ! (1 ∷ []) $ feqL ! (λ lz-attributes. move ! (1 ∷ []) $ fsplit ! $ fsplit ! $ move ! (1 ∷ []) $ feqL ! (λ lz-notes.
         move ! (4 ∷ []) $ split ! $ move ! (1 ∷ []) $ facts ! B.the-row (Is B.the-row) (shows 𝓤 H A B.the-row) r (w ∷ []) (λ is.
         land ! (from ! (stop !)) (init ! 37 refl (EL.lawful B.the-type B′.the-laws 𝓤 H A W tt .typed r _ is .0)) $
         rewrite ! 37 (λ (u : Val). ‵ (fat fullShare B′.mir l₅ 0 u)) (ap only (B′.lowers .val-is r (w ∷ []) is)) refl $

@@ -1,7 +1,6 @@
 -- `c_api::axml_first_value` meets its contract: the answer of `first_value`, in numbers.
 use borrow.Author.Needs.{needs}
 use mathlib.Core.Path.{_∙_, ap}
-use Rattle.errors.specs.Refusal.{firstNumbersOf}
 use Rattle.c_api.specs.Answers.{firstAnswerOf}
 use Rattle.c_api.proofs.axml_first_value.Statement.{statement}
 use Rattle.c_api.proofs.axml_first_value.Tie as tie
@@ -18,7 +17,7 @@ first-answer-of-requires c κs = search needs
 returns : tie.Need-returns
 returns c =
     c .first-answer-of .ensures
-    ∙ ap firstAnswerOf (c .before .first-numbers .ensures ∙ ap firstNumbersOf (c .before .before .first-value .ensures))
+    ∙ ap firstAnswerOf (c .before .first-numbers .ensures ∙ c .before .before .first-value .ensures .answer)
 
 pub axml-first-value-spec : {M : Type 1} → statement M
 axml-first-value-spec =

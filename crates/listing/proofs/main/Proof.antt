@@ -1,7 +1,9 @@
--- `listing::main` is safe: each table is lent whole.
+-- `listing::main` is safe: each array is lent whole, and has the room of a listing.
 use mathlib.Core.Path.{sym}
 use Prim.Native.Nat.{ℕ}
 use lib.ListN.{length-replicate}
+use Rattle.listing_text.specs.Size.{listedBytes}
+use Rattle.listing.proofs.Laws.{as-long}
 use borrow.Author.Needs.{needs}
 use Rattle.listing.proofs.main.Statement.{statement}
 use Rattle.listing.proofs.main.Tie as tie
@@ -16,10 +18,10 @@ slice-aggregate-run-3 : tie.Need-slice-aggregate-run-3
 slice-aggregate-run-3 c = search needs
 
 slice-aggregate-run-4 : tie.Need-slice-aggregate-run-4
-slice-aggregate-run-4 c = sym (length-replicate {A = ℕ} 900000 0)
+slice-aggregate-run-4 c = sym (length-replicate {A = ℕ} listedBytes 0)
 
 run-requires : tie.Need-run-requires
-run-requires c κs = search needs
+run-requires c κs = (search needs, record { nodes = search needs; attributes = search needs; out = as-long listedBytes })
 
 returns : tie.Need-returns
 returns c = search needs

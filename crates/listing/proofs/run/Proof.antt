@@ -1,8 +1,7 @@
--- `listing::run` is safe: a whole input lies within the room (`take_in`).
+-- `listing::run` is safe: what came in lies within its room, and the listing within the buffer.
 use mathlib.Core.Path.{sym}
 use native.Mathlib.Omega.{arith}
 use lib.Seq.{length-take-le}
-use Rattle.listing.proofs.Laws.{within-whole}
 use borrow.Author.Needs.{needs}
 use Rattle.listing.proofs.run.Statement.{statement}
 use Rattle.listing.proofs.run.Tie as tie
@@ -10,31 +9,9 @@ use Rattle.listing.proofs.run.Tie as tie
 take-in-requires : tie.Need-take-in-requires
 take-in-requires c κs = search needs
 
-enum-known-input : tie.Need-enum-known-input
-enum-known-input c = search needs
-
-slice-reshare-prefix-read-listed : tie.Need-slice-reshare-prefix-read-listed
-slice-reshare-prefix-read-listed c =
-    omega (arith, within-whole _ _ _ (c .before .input .given .1) (c .before .before .before .before .before .take-in .ensures))
-
-slice-aggregate-read-listed : tie.Need-slice-aggregate-read-listed
-slice-aggregate-read-listed c =
-    sym (length-take-le _ _ (omega (arith, within-whole _ _ _ (c .before .before .input .given .1) (c .before .before .before .before .before .before .take-in .ensures))))
-
-read-listed-requires : tie.Need-read-listed-requires
-read-listed-requires c κs = search needs
-
-print-requires : tie.Need-print-requires
-print-requires c κs = search needs
-
-enum-told : tie.Need-enum-told
-enum-told c = search needs
-
-print-requires-2 : tie.Need-print-requires-2
-print-requires-2 c κs = search needs
-
-enum-told-2 : tie.Need-enum-told-2
-enum-told-2 c = search needs
+list-input-requires : tie.Need-list-input-requires
+list-input-requires c κs =
+    (c .before .before .before .before .before .before .take-in .ensures, search needs, search needs)
 
 slice-aggregate-write-all : tie.Need-slice-aggregate-write-all
 slice-aggregate-write-all c = search needs
@@ -57,6 +34,22 @@ same-length-4 c = search needs
 returns : tie.Need-returns
 returns c = search needs
 
+slice-reshare-prefix-write-all : tie.Need-slice-reshare-prefix-write-all
+slice-reshare-prefix-write-all c = search needs
+
+slice-aggregate-write-all-2 : tie.Need-slice-aggregate-write-all-2
+slice-aggregate-write-all-2 c =
+    sym (length-take-le _ _ (omega (arith, c .before .before .before .before .before .before .before .before .list-input .ensures .1)))
+
+write-all-requires-2 : tie.Need-write-all-requires-2
+write-all-requires-2 c κs = search needs
+
+slice-aggregate-write-all-3 : tie.Need-slice-aggregate-write-all-3
+slice-aggregate-write-all-3 c = search needs
+
+write-all-requires-3 : tie.Need-write-all-requires-3
+write-all-requires-3 c κs = search needs
+
 same-length-5 : tie.Need-same-length-5
 same-length-5 c = search needs
 
@@ -75,6 +68,15 @@ returns-2 c = search needs
 same-length-9 : tie.Need-same-length-9
 same-length-9 c = search needs
 
+same-length-10 : tie.Need-same-length-10
+same-length-10 c = search needs
+
+same-length-11 : tie.Need-same-length-11
+same-length-11 c = search needs
+
+same-length-12 : tie.Need-same-length-12
+same-length-12 c = search needs
+
 returns-3 : tie.Need-returns-3
 returns-3 c = search needs
 
@@ -83,14 +85,7 @@ run-spec =
     tie.close
     (tie.spec
     take-in-requires
-    enum-known-input
-    slice-reshare-prefix-read-listed
-    slice-aggregate-read-listed
-    read-listed-requires
-    print-requires
-    enum-told
-    print-requires-2
-    enum-told-2
+    list-input-requires
     slice-aggregate-write-all
     write-all-requires
     same-length
@@ -98,10 +93,18 @@ run-spec =
     same-length-3
     same-length-4
     returns
+    slice-reshare-prefix-write-all
+    slice-aggregate-write-all-2
+    write-all-requires-2
+    slice-aggregate-write-all-3
+    write-all-requires-3
     same-length-5
     same-length-6
     same-length-7
     same-length-8
     returns-2
     same-length-9
+    same-length-10
+    same-length-11
+    same-length-12
     returns-3)

@@ -6,9 +6,10 @@ use native.Mathlib.Nat.{sub-zero}
 use borrow.Author.Needs.{needs}
 use denote.Ref.{now}
 use lib.ListN.{length, drop}
-use Rattle.listing_text.proofs.Written.{Left, left-first, left-piece, left-none}
-use Rattle.listing_text.specs.Listing.{linesText, attributeLines}
-use Rattle.listing_text.proofs.Turns.{attributeLines-stop, attributeLines-short, attributeLines-step}
+use Rattle.digits.proofs.Written.{Left, left-first, left-piece, left-none}
+use Rattle.records.specs.Words.{attributeWidth}
+use Rattle.listing_text.specs.Listing.{linesText, attributeLine, attributeLines}
+use Rattle.listing_text.proofs.Turns.{recordLines-stop, recordLines-short, recordLines-step}
 use Rattle.listing_text.proofs.put_attributes.Statement.{statement}
 use Rattle.listing_text.proofs.put_attributes.Tie as tie
 
@@ -33,7 +34,7 @@ returns : tie.Need-returns Inv-loop μ-loop
 returns c =
     let a = c .before .before .before .before .before .args in
     let l = c .before .before .loop in
-    left-none _ (l .inv .4) (attributeLines-short (l .k) _ (l .i) (now (a .attributes)) (search needs)) (omega arith)
+    left-none _ (l .inv .4) (recordLines-short attributeWidth attributeLine (l .k) _ (l .i) (now (a .attributes)) (search needs)) (omega arith)
 
 put-attribute-requires : tie.Need-put-attribute-requires Inv-loop μ-loop
 put-attribute-requires c κs = search needs
@@ -54,7 +55,7 @@ loop-again c =
     let start = at-loop .before .before .before in
     let a = start .args in
     let l = at-loop .loop in
-    let turn = attributeLines-step (l .k) (a .count) (l .i) (now (a .attributes)) (search needs) (omega arith) in
+    let turn = recordLines-step attributeWidth attributeLine (l .k) (a .count) (l .i) (now (a .attributes)) (search needs) (omega arith) in
     (search needs, search needs, search needs, search needs, left-piece (l .inv .4) turn (call .put-attribute .ensures))
 
 same-length-2 : tie.Need-same-length-2 Inv-loop μ-loop
@@ -64,7 +65,7 @@ returns-2 : tie.Need-returns-2 Inv-loop μ-loop
 returns-2 c =
     let a = c .before .before .before .before .args in
     let l = c .before .loop in
-    left-none _ (l .inv .4) (attributeLines-stop (l .k) (a .count) (l .i) (now (a .attributes)) (search needs)) (omega arith)
+    left-none _ (l .inv .4) (recordLines-stop attributeWidth attributeLine (l .k) (a .count) (l .i) (now (a .attributes)) (search needs)) (omega arith)
 
 pub put-attributes-spec : {M : Type 1} → statement M
 put-attributes-spec =

@@ -1,6 +1,6 @@
 -- `listing_text::put_head` meets its contract: seven lines as three fields, three fields and one.
 use native.Mathlib.Omega.{arith}
-use Rattle.listing_text.proofs.Written.{wrote-more, wrote-append}
+use Rattle.digits.proofs.Written.{wrote-more, wrote-append}
 use Rattle.listing_text.proofs.Laws.{linesText-seven}
 use borrow.Author.Needs.{needs}
 use Rattle.listing_text.proofs.put_head.Statement.{statement}

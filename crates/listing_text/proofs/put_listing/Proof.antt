@@ -1,7 +1,7 @@
 -- `listing_text::put_listing` meets its contract: head, nodes, attributes and notes, one after the other.
 use native.Mathlib.Nat.{le-refl}
 use denote.Ref.{now}
-use Rattle.listing_text.proofs.Written.{wrote-more, wrote-append}
+use Rattle.digits.proofs.Written.{wrote-more, wrote-append}
 use Rattle.listing_text.proofs.Whole.{listingText-parts}
 use borrow.Author.Needs.{needs}
 use Rattle.listing_text.proofs.put_listing.Statement.{statement}

@@ -1,6 +1,6 @@
 -- `listing_text::put_node` meets its contract: a line as two times three fields.
 use native.Mathlib.Omega.{arith}
-use Rattle.listing_text.proofs.Written.{wrote-more, wrote-append}
+use Rattle.digits.proofs.Written.{wrote-more, wrote-append}
 use denote.Ref.{now}
 use Rattle.listing_text.proofs.Laws.{nodeLine-drop}
 use borrow.Author.Needs.{needs}
@@ -10,26 +10,14 @@ use Rattle.listing_text.proofs.put_node.Tie as tie
 word-requires : tie.Need-word-requires
 word-requires c κs = search needs
 
-add-word : tie.Need-add-word
-add-word c = search needs
-
 word-requires-2 : tie.Need-word-requires-2
 word-requires-2 c κs = search needs
-
-add-word-2 : tie.Need-add-word-2
-add-word-2 c = search needs
 
 word-requires-3 : tie.Need-word-requires-3
 word-requires-3 c κs = search needs
 
-add-word-3 : tie.Need-add-word-3
-add-word-3 c = search needs
-
 word-requires-4 : tie.Need-word-requires-4
 word-requires-4 c κs = search needs
-
-add-word-4 : tie.Need-add-word-4
-add-word-4 c = search needs
 
 word-requires-5 : tie.Need-word-requires-5
 word-requires-5 c κs = search needs
@@ -82,13 +70,9 @@ put-node-spec =
     tie.close
     (tie.spec
     word-requires
-    add-word
     word-requires-2
-    add-word-2
     word-requires-3
-    add-word-3
     word-requires-4
-    add-word-4
     word-requires-5
     slice-aggregate-put-three
     slice-aggregate-put-three-2

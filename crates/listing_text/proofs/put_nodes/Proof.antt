@@ -6,9 +6,10 @@ use native.Mathlib.Nat.{sub-zero}
 use borrow.Author.Needs.{needs}
 use denote.Ref.{now}
 use lib.ListN.{length, drop}
-use Rattle.listing_text.proofs.Written.{Left, left-first, left-piece, left-none}
-use Rattle.listing_text.specs.Listing.{linesText, nodeLines}
-use Rattle.listing_text.proofs.Turns.{nodeLines-stop, nodeLines-short, nodeLines-step}
+use Rattle.digits.proofs.Written.{Left, left-first, left-piece, left-none}
+use Rattle.records.specs.Words.{nodeWidth}
+use Rattle.listing_text.specs.Listing.{linesText, nodeLine, nodeLines}
+use Rattle.listing_text.proofs.Turns.{recordLines-stop, recordLines-short, recordLines-step}
 use Rattle.listing_text.proofs.put_nodes.Statement.{statement}
 use Rattle.listing_text.proofs.put_nodes.Tie as tie
 
@@ -33,7 +34,7 @@ returns : tie.Need-returns Inv-loop μ-loop
 returns c =
     let a = c .before .before .before .before .before .args in
     let l = c .before .before .loop in
-    left-none _ (l .inv .4) (nodeLines-short (l .k) _ (l .i) (now (a .nodes)) (search needs)) (omega arith)
+    left-none _ (l .inv .4) (recordLines-short nodeWidth nodeLine (l .k) _ (l .i) (now (a .nodes)) (search needs)) (omega arith)
 
 put-node-requires : tie.Need-put-node-requires Inv-loop μ-loop
 put-node-requires c κs = search needs
@@ -54,7 +55,7 @@ loop-again c =
     let start = at-loop .before .before .before in
     let a = start .args in
     let l = at-loop .loop in
-    let turn = nodeLines-step (l .k) (a .count) (l .i) (now (a .nodes)) (search needs) (omega arith) in
+    let turn = recordLines-step nodeWidth nodeLine (l .k) (a .count) (l .i) (now (a .nodes)) (search needs) (omega arith) in
     (search needs, search needs, search needs, search needs, left-piece (l .inv .4) turn (call .put-node .ensures))
 
 same-length-2 : tie.Need-same-length-2 Inv-loop μ-loop
@@ -64,7 +65,7 @@ returns-2 : tie.Need-returns-2 Inv-loop μ-loop
 returns-2 c =
     let a = c .before .before .before .before .args in
     let l = c .before .loop in
-    left-none _ (l .inv .4) (nodeLines-stop (l .k) (a .count) (l .i) (now (a .nodes)) (search needs)) (omega arith)
+    left-none _ (l .inv .4) (recordLines-stop nodeWidth nodeLine (l .k) (a .count) (l .i) (now (a .nodes)) (search needs)) (omega arith)
 
 pub put-nodes-spec : {M : Type 1} → statement M
 put-nodes-spec =

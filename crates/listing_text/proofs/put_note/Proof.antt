@@ -1,6 +1,6 @@
 -- `listing_text::put_note` meets its contract: a line as three fields and one.
 use native.Mathlib.Omega.{arith}
-use Rattle.listing_text.proofs.Written.{wrote-more, wrote-append}
+use Rattle.digits.proofs.Written.{wrote-more, wrote-append}
 use Rattle.listing_text.proofs.Laws.{lineText-four}
 use borrow.Author.Needs.{needs}
 use Rattle.listing_text.proofs.put_note.Statement.{statement}

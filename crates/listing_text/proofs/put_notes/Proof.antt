@@ -5,7 +5,8 @@ use native.Mathlib.Omega.{arith}
 use native.Mathlib.Nat.{sub-zero}
 use borrow.Author.Needs.{needs}
 use lib.ListN.{length, drop}
-use Rattle.listing_text.proofs.Written.{Left, left-first, left-piece, left-none}
+use Rattle.records.specs.Limits.{listedNotes}
+use Rattle.digits.proofs.Written.{Left, left-first, left-piece, left-none}
 use Rattle.listing_text.specs.Listing.{linesText, noteLines}
 use Rattle.listing_text.proofs.Turns.{noteLines-stop, noteLines-short, noteLines-step}
 use Rattle.listing_text.proofs.put_notes.Statement.{statement}
@@ -13,13 +14,13 @@ use Rattle.listing_text.proofs.put_notes.Tie as tie
 
 abbrev Inv-loop : tie.InvT-loop
 Inv-loop out₀ p count notes at₀ k₀ i₀ out at k i =
-    (i ≤ 104) × (k ≤ count) × (at ≤ p + 128 * i) × (length out ≡ length out₀) ×
+    (i ≤ listedNotes) × (k ≤ count) × (at ≤ p + 128 * i) × (length out ≡ length out₀) ×
     Left p (linesText (noteLines 0 count notes)) out₀ at (linesText (noteLines k (count - k) (drop i notes))) out
 
 abbrev μ-loop : tie.MeasureT-loop
 μ-loop out₀ p count notes at₀ k₀ i₀ out at k i = count - k
 
-length-notes : (c : tie.Start Inv-loop μ-loop) → length (c .args .t4) ≡ 104
+length-notes : (c : tie.Start Inv-loop μ-loop) → length (c .args .t4) ≡ listedNotes
 length-notes c = c .good .1 .1 .1 .0 .1 .0 .1
 
 loop-holds : tie.Need-loop-holds Inv-loop μ-loop
@@ -31,7 +32,7 @@ same-length c = search needs
 returns : tie.Need-returns Inv-loop μ-loop
 returns c =
     let l = c .before .before .loop in
-    left-none 13312 (l .inv .4) (noteLines-short (l .k) _ (l .i) _ (omega (arith, length-notes (c .before .before .before .before)))) (omega arith)
+    left-none (128 * listedNotes) (l .inv .4) (noteLines-short (l .k) _ (l .i) _ (omega (arith, length-notes (c .before .before .before .before)))) (omega arith)
 
 mul-o : tie.Need-mul-o Inv-loop μ-loop
 mul-o c = search needs
@@ -68,7 +69,7 @@ returns-2 : tie.Need-returns-2 Inv-loop μ-loop
 returns-2 c =
     let a = c .before .before .before .args in
     let l = c .before .loop in
-    left-none 13312 (l .inv .4) (noteLines-stop (l .k) (a .count) (l .i) (a .t4) (search needs)) (omega arith)
+    left-none (128 * listedNotes) (l .inv .4) (noteLines-stop (l .k) (a .count) (l .i) (a .t4) (search needs)) (omega arith)
 
 pub put-notes-spec : {M : Type 1} → statement M
 put-notes-spec =

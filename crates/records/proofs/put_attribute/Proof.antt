@@ -2,9 +2,13 @@
 use borrow.Author.Needs.{needs}
 use native.Mathlib.Omega.{arith}
 use lib.ListN.{length-set}
-use Rattle.records.proofs.Stores.{put-attribute}
+use Rattle.records.specs.Words.{attributeWords}
+use Rattle.records.proofs.Stores.{put-words}
 use Rattle.records.proofs.put_attribute.Statement.{statement}
 use Rattle.records.proofs.put_attribute.Tie as tie
+
+add-words : tie.Need-add-words
+add-words c = search needs
 
 mul-words : tie.Need-mul-words
 mul-words c = search needs
@@ -12,8 +16,8 @@ mul-words c = search needs
 slice-write-words : tie.Need-slice-write-words
 slice-write-words c = search needs
 
-add-words : tie.Need-add-words
-add-words c = search needs
+add-words-2 : tie.Need-add-words-2
+add-words-2 c = search needs
 
 mul-words-2 : tie.Need-mul-words-2
 mul-words-2 c = search needs
@@ -21,8 +25,8 @@ mul-words-2 c = search needs
 slice-write-words-2 : tie.Need-slice-write-words-2
 slice-write-words-2 c = simp length-set (omega arith)
 
-add-words-2 : tie.Need-add-words-2
-add-words-2 c = search needs
+add-words-3 : tie.Need-add-words-3
+add-words-3 c = search needs
 
 mul-words-3 : tie.Need-mul-words-3
 mul-words-3 c = search needs
@@ -30,8 +34,8 @@ mul-words-3 c = search needs
 slice-write-words-3 : tie.Need-slice-write-words-3
 slice-write-words-3 c = simp length-set (omega arith)
 
-add-words-3 : tie.Need-add-words-3
-add-words-3 c = search needs
+add-words-4 : tie.Need-add-words-4
+add-words-4 c = search needs
 
 mul-words-4 : tie.Need-mul-words-4
 mul-words-4 c = search needs
@@ -39,8 +43,8 @@ mul-words-4 c = search needs
 slice-write-words-4 : tie.Need-slice-write-words-4
 slice-write-words-4 c = simp length-set (omega arith)
 
-add-words-4 : tie.Need-add-words-4
-add-words-4 c = search needs
+add-words-5 : tie.Need-add-words-5
+add-words-5 c = search needs
 
 mul-words-5 : tie.Need-mul-words-5
 mul-words-5 c = search needs
@@ -54,24 +58,25 @@ same-length c = search needs
 returns : tie.Need-returns
 returns c =
     let a = c .args in
-    put-attribute (a .words .now) (a .i) (a .owner) (a .prefix) (a .name) (a .kind) (a .«data») (c .pre)
+    put-words (attributeWords (a .owner) (a .prefix) (a .name) (a .kind) (a .«data»)) (a .words .now) (a .i) (c .pre)
 
 pub put-attribute-spec : {M : Type 1} → statement M
 put-attribute-spec =
     tie.close
     (tie.spec
+    add-words
     mul-words
     slice-write-words
-    add-words
+    add-words-2
     mul-words-2
     slice-write-words-2
-    add-words-2
+    add-words-3
     mul-words-3
     slice-write-words-3
-    add-words-3
+    add-words-4
     mul-words-4
     slice-write-words-4
-    add-words-4
+    add-words-5
     mul-words-5
     slice-write-words-5
     same-length

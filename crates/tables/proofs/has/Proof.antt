@@ -7,18 +7,20 @@ use native.Mathlib.Nat.{sub-zero}
 use borrow.Author.Needs.{needs}
 use lib.ListN.{length, drop}
 use Rattle.utf.specs.Plain.{Known}
-use Rattle.text.specs.Content.{plainIn}
+use Rattle.records.specs.Words.{attributeWords}
+use Rattle.records.specs.Repeats.{byPrefix, isRepeat}
+use Rattle.text.specs.Content.{plainIn, sameName}
 use Rattle.text.specs.Found.{partOf, Finds}
 use Rattle.text.proofs.Plains.{known-of}
-use Rattle.tables.specs.Keep.{hasKey, sameIn}
-use Rattle.tables.proofs.Keys.{hasKey-end, hasKey-found, hasKey-prefix, hasKey-name, sameIn-found}
+use Rattle.tables.proofs.Keys.{repeat-end, repeat-found, repeat-prefix, repeat-name, same-found}
 use Rattle.tables.proofs.has.Statement.{statement}
 use Rattle.tables.proofs.has.Tie as tie
 
 abbrev Inv-loop : tie.InvT-loop
 Inv-loop t names area h words prefix wanted plain marks i₀ i =
-    (i ≤ length words) × Known plain (plainIn (partOf (h .wide) t area wanted)) × ((n : ℕ) → Finds t names area h n wanted
-    → hasKey (sameIn h t names area) prefix n words ≡ hasKey (sameIn h t names area) prefix n (drop i words))
+    (i ≤ length words) × Known plain (plainIn (partOf (h .wide) t area wanted)) × ((n owner kind value : ℕ) → Finds t names area h n wanted
+    → isRepeat (byPrefix (sameName h t names area)) (attributeWords owner prefix n kind value) words
+    ≡ isRepeat (byPrefix (sameName h t names area)) (attributeWords owner prefix n kind value) (drop i words))
 
 abbrev μ-loop : tie.MeasureT-loop
 μ-loop t names area h words prefix wanted plain marks i₀ i = length words - i
@@ -26,8 +28,9 @@ abbrev μ-loop : tie.MeasureT-loop
 returns : tie.Need-returns Inv-loop μ-loop
 returns c =
     let a = c .before .before .before .before .before .args in
-    let same = sameIn (a .h) (a .t .now) (a .names .now) (a .area .now) in
-    sym (hasKey-end same (a .prefix) (a .name .0) (a .words .now) 0 (rw sub-zero (c .if1 .taken)))
+    let same = sameName (a .h) (a .t .now) (a .names .now) (a .area .now) in
+    λ owner kind value.
+    sym (repeat-end (byPrefix same) (attributeWords owner (a .prefix) (a .name .0) kind value) (a .words .now) 0 (rw sub-zero (c .if1 .taken)))
 
 find-requires : tie.Need-find-requires Inv-loop μ-loop
 find-requires c κs = search needs
@@ -40,7 +43,7 @@ marks-of-requires c κs =
     (c .before .before .before .before .before .before .before .pre .fits, c .before .find .ensures .inside, known-of (c .is-plain-found .ensures))
 
 loop-holds : tie.Need-loop-holds Inv-loop μ-loop
-loop-holds c = (search needs, known-of (c .before .is-plain-found .ensures), λ _ _. refl)
+loop-holds c = (search needs, known-of (c .before .is-plain-found .ensures), λ _ _ _ _ _. refl)
 
 sub-loop : tie.Need-sub-loop Inv-loop μ-loop
 sub-loop c = search needs
@@ -76,15 +79,16 @@ returns-2 c =
     let at-loop = at-loop-test .before in
     let at-find = at-loop .before .before .before in
     let a = at-find .before .before .before .before .before .before .args in
-    let same = sameIn (a .h) (a .t .now) (a .names .now) (a .area .now) in
+    let same = sameName (a .h) (a .t .now) (a .names .now) (a .area .now) in
     let n = a .name .0 in
     let wanted = at-find .find in
     let equal =
-    sameIn-found (a .h) (a .t .now) (a .names .now) (a .area .now) _ n (wanted .result) (wanted .ensures) _ _
+    same-found (a .h) (a .t .now) (a .names .now) (a .area .now) _ n (wanted .result) (wanted .ensures) _ _
     (c .before .same-as-known .ensures) (c .if3 .taken) in
+    λ owner kind value.
     sym
-    (at-loop .loop .inv .2 n (wanted .ensures)
-    ∙ hasKey-found same (a .prefix) n (a .words .now) (at-loop .loop .i) (at-loop-test .loop-test .taken) (at-if2 .if2 .taken) equal)
+    (at-loop .loop .inv .2 n owner kind value (wanted .ensures)
+    ∙ repeat-found same owner (a .prefix) n kind value (a .words .now) (at-loop .loop .i) (at-loop-test .loop-test .taken) (at-if2 .if2 .taken) equal)
 
 add-i : tie.Need-add-i Inv-loop μ-loop
 add-i c = search needs
@@ -98,16 +102,16 @@ loop-again c =
     let at-start = at-loop .before .before .before .before .before .before .before .before .before in
     let a = at-start .args in
     let i = at-loop .loop .i in
-    let same = sameIn (a .h) (a .t .now) (a .names .now) (a .area .now) in
+    let same = sameName (a .h) (a .t .now) (a .names .now) (a .area .now) in
     let long = c .before .before .loop-test .taken in (
       search needs,
       at-loop .loop .inv .1,
-      λ n wanted.
-          (at-loop .loop .inv .2 n wanted
+      λ n owner kind value wanted.
+          (at-loop .loop .inv .2 n owner kind value wanted
           ∙ ⊎-elim
-          (λ w. hasKey-name same (a .prefix) n (a .words .now) i long (w .0 .taken)
-          (sameIn-found (a .h) (a .t .now) (a .names .now) (a .area .now) _ n _ wanted _ _ (w .2 .ensures) (w .3 .left)))
-          (λ w. hasKey-prefix same (a .prefix) n (a .words .now) i long (w .left))
+          (λ w. repeat-name same owner (a .prefix) n kind value (a .words .now) i long (w .0 .taken)
+          (same-found (a .h) (a .t .now) (a .names .now) (a .area .now) _ n _ wanted _ _ (w .2 .ensures) (w .3 .left)))
+          (λ w. repeat-prefix same owner (a .prefix) n kind value (a .words .now) i long (w .left))
           (c .if2 .came)),
     )
 
@@ -115,10 +119,11 @@ returns-3 : tie.Need-returns-3 Inv-loop μ-loop
 returns-3 c =
     let at-loop = c .before in
     let a = at-loop .before .before .before .before .before .before .before .before .before .args in
-    let same = sameIn (a .h) (a .t .now) (a .names .now) (a .area .now) in
+    let same = sameName (a .h) (a .t .now) (a .names .now) (a .area .now) in
     let n = a .name .0 in
-    sym (at-loop .loop .inv .2 n (at-loop .before .before .before .find .ensures) ∙ hasKey-end same (a .prefix) n (a .words .now) (at-loop .loop .i)
-    (c .loop-test .left))
+    λ owner kind value.
+    sym (at-loop .loop .inv .2 n owner kind value (at-loop .before .before .before .find .ensures)
+    ∙ repeat-end (byPrefix same) (attributeWords owner (a .prefix) n kind value) (a .words .now) (at-loop .loop .i) (c .loop-test .left))
 
 pub has-spec : {M : Type 1} → statement M
 has-spec =

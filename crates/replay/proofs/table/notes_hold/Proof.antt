@@ -1,14 +1,15 @@
 -- `replay::table::notes_hold` is safe and ends: the index stays within the notes.
 use Prim.Native.Nat.{_≤_, _-_}
 use borrow.Author.Needs.{needs}
+use Rattle.records.specs.Limits.{listedNotes}
 use Rattle.replay.proofs.table.notes_hold.Statement.{statement}
 use Rattle.replay.proofs.table.notes_hold.Tie as tie
 
 abbrev Inv-loop : tie.InvT-loop
-Inv-loop want notes i₀ i = i ≤ 104
+Inv-loop want notes i₀ i = i ≤ listedNotes
 
 abbrev μ-loop : tie.MeasureT-loop
-μ-loop want notes i₀ i = 104 - i
+μ-loop want notes i₀ i = listedNotes - i
 
 loop-holds : tie.Need-loop-holds Inv-loop μ-loop
 loop-holds c = search needs
