@@ -12,7 +12,7 @@ The function lends `read` a local array of zero notes, empty slices and fixed nu
 
 import sys
 
-from byhand.names import cons, low, refs_of, tup, uses_callee, uses_own, width
+from byhand.names import as_lent, cons, low, refs_of, tup, uses_callee, uses_own, width
 from byhand.page import Page
 from byhand.parts import closing, contracts, entry, parameters, rooms, stays
 from byhand.table import COUNT, CRATE, EMPTY, FIXED, NOTE_FIELDS, NOTES, NUMBERS, SHARED, TABLES
@@ -55,8 +55,8 @@ ARRAY_LAWS = f"array-lawful 𝓤 H A W N.the-row ({NOTE_LAWS}) count"
 
 
 def reads(answer, tables, notes):
-    lists = ["[]" if r in NON else "ys" if r is NOT else "xs-" + r.name for r in CALLED]
-    return " ".join(["Reads"] + lists + [str(v) for v in FIXED.values()] + [answer, tables, notes])
+    lists = as_lent({r.name: "[]" if r in NON else "ys" if r is NOT else "xs-" + r.name for r in CALLED})
+    return " ".join(["Reads", lists] + [str(v) for v in FIXED.values()] + [answer, tables, notes])
 
 
 def made(r, at):

@@ -19,7 +19,7 @@ The function has this shape, for any number of shared slices, word tables and nu
 
 import sys
 
-from byhand.names import cons, hyphens, low, part, refs_of, tup, uses_callee, uses_own, width
+from byhand.names import as_lent, cons, hyphens, low, part, refs_of, tup, uses_callee, uses_own, width
 from byhand.page import Page
 from byhand.parts import closing, contracts, entry, parameters, rooms, stays
 from byhand.table import ANSWERS, CORE, CRATE, NOTE_FIELDS, NOTES, NUMBERS, SHARED, STATE, TABLES
@@ -53,8 +53,8 @@ def names(prefix, refs):
 
 
 nt = NOT.name
-INDEX = " ".join([names("xs-", REFS)] + NUM)                 # what a point is indexed by
-XS = names("xs-", SHR)
+INDEX = " ".join([as_lent({r.name: "xs-" + r.name for r in REFS})] + NUM)  # what a point is indexed by
+XS = as_lent({r.name: "xs-" + r.name for r in SHR})
 WS, ZS, LZ = names("ws-", TAB), names("zs-", TAB), names("lz-", TAB)
 WSN = f"{WS} ws-{nt}"
 NU, DELTA = names("ν-", TAB), names("δ-", TAB)

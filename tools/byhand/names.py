@@ -3,7 +3,7 @@
 import re
 from dataclasses import dataclass
 
-from byhand.table import ANSWER, ANSWERS, CORE, CRATE, LIMITS, LISTED, NOTE, OUTCOME, READING, ZERO
+from byhand.table import ANSWER, ANSWERS, CORE, CRATE, LIMITS, LENT, LISTED, NOTE, OUTCOME, READING, ZERO
 
 # a generated file imports those of these names that it uses; x=y is x under the name y
 USES = """
@@ -60,6 +60,7 @@ Rattle.{CORE}.specs.declared.State: State
 Rattle.{CRATE}.specs.declared.{LISTED}: {LISTED}=Listed
 {": ".join(OUTCOME)} {ANSWERS[1] if ANSWERS else ""}
 {": ".join(ZERO)}
+{": ".join(LENT[:2])}
 {": ".join(LIMITS)}
 {": ".join(READING)}
 Rattle.{CRATE}.proofs.Fields: gets
@@ -114,6 +115,12 @@ def uses_own(fn):
 
 # ---- words
 
+
+def as_lent(values):
+    """What a definition takes for slices, by their names: those lent together are one record."""
+    _, record, parts = LENT
+    out = [f"({record} {' '.join(values[n] for n in parts)})" if n == parts[0] else v for n, v in values.items() if n not in parts[1:]]
+    return " ".join(out)
 
 def hyphens(fn):
     """A function's name in a proof."""

@@ -18,9 +18,10 @@ SHARED = [("file", "u8"), ("names", "u32"), ("area", "u8")]  # `&[T]`, the first
 TABLES = [("nodes", "u32"), ("attributes", "u32")]           # `&mut [T]`, the next
 NOTES = "notes"                                              # `&mut [Note]`
 NUMBERS = [("cap", "u32")]                                   # by value, the last
+LENT = ("Rattle.system_types.specs.Names", "lends", ["names", "area"])  # shared slices that the definitions take as one record, by this function
 
 # the definitions that the proofs name, and their modules; x=y is x under the name y, which the generators use
-OUTCOME = ("Rattle.walk.specs.Outcome", "Adv Good first")    # what `advance` leaves and asks, and what `begin` makes
+OUTCOME = ("Rattle.walk.specs.Inner.Outcome", "Adv Good first")    # what `advance` leaves and asks, and what `begin` makes
 READING = ("Rattle.walk.specs.Reading", "Reads")             # what `read` leaves
 ZERO = ("Rattle.walk.specs.Reading", "zeroNote")             # what the array of notes is made of
 

@@ -5,6 +5,7 @@
 ghost use mathlib.Core.List.{[]};
 ghost use lib.ListN.{replicate};
 ghost use Rattle.records.specs.Limits.{listedCap, listedNotes};
+ghost use Rattle.system_types.specs.Names.{lends};
 ghost use Rattle.walk.specs.Reading.{Reads, zeroNote};
 pub use anomaly::Note;
 pub use common::ResourceId;
@@ -40,7 +41,7 @@ pub fn read(
     notes: &mut [Note],
     cap: u32,
 ) -> ReadAnswer
-    ensures { λ r. ⌜ Reads (now (file .entry)) (now (names .entry)) (now (area .entry)) (now (nodes .entry)) (now (attributes .entry))
+    ensures { λ r. ⌜ Reads (now (file .entry)) (lends (now (names .entry)) (now (area .entry))) (now (nodes .entry)) (now (attributes .entry))
         (now (notes .entry)) cap r (now (nodes .exit)) (now (attributes .exit)) (now (notes .exit)) ⌝ }
 {
     let mut st = walk::begin(notes.len(), cap);
@@ -64,7 +65,7 @@ pub struct Listed {
 // The same with no system names and the cap of a listing, with places for all notes that it keeps, which come back by value.
 // Ruled out: notes of another cap, and a note past the count that is not zero.
 pub fn read_listed(file: &[u8], nodes: &mut [u32], attributes: &mut [u32]) -> Listed
-    ensures { λ r. ⌜ Reads (now (file .entry)) [] [] (now (nodes .entry)) (now (attributes .entry)) (replicate listedNotes zeroNote) listedCap
+    ensures { λ r. ⌜ Reads (now (file .entry)) (lends [] []) (now (nodes .entry)) (now (attributes .entry)) (replicate listedNotes zeroNote) listedCap
         (r .answer) (now (nodes .exit)) (now (attributes .exit)) (r .notes) ⌝ }
 {
     let mut notes = [Note {

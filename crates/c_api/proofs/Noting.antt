@@ -10,7 +10,7 @@ use lib.ListN.{length, take, set, replicate, length-append, replicate-append-rep
 use Rattle.anomaly.specs.declared.Note.{Note}
 use Rattle.records.specs.Words.{noteWidth, noteKind, noteA, noteB}
 use Rattle.walk.specs.Reading.{zeroNote}
-use Rattle.walk.specs.Outcome.{cleared}
+use Rattle.walk.specs.Inner.Outcome.{cleared}
 use Rattle.c_api.specs.Words.{wordsOf, putNote}
 
 -- ---- length

@@ -11,11 +11,12 @@ use lib.ListN.{length, take, drop, length-take, length-drop}
 use lib.Seq.{drop-drop, take-all}
 use lib.Dec.{eqb, ltb, leb}
 use Rattle.errors.specs.declared.Refusal.{Refusal}
+use Rattle.system_types.specs.Names.{Lent}
 use Rattle.text.specs.declared.Found.{Found}
 use Rattle.text.specs.declared.Found.the-variants.{Nothing, Cut, System, Pool}
 use Rattle.text.specs.declared.Head.{Head}
 use Rattle.text.specs.Content.{Content, none, contentOf, rawOf}
-use Rattle.text.specs.Found.{partOf, Inside, Stands}
+use Rattle.text.specs.Inner.Found.{partOf, Inside, Stands}
 use Rattle.text.proofs.Parts.{take-drop-part}
 use Rattle.head.specs.Head.{tablesIn, headLen}
 use Rattle.head.specs.Ask.{openOf, contentAsked, contentAnswer}
@@ -59,42 +60,42 @@ tells w f area m l (Pool at n) h = record { known = omega arith; there = refl; i
 
 -- ---- by whether the file is open
 
-module _ (f names area : List ℕ) (i : ℕ) where
-  asks-of : {c : Content} {r : AxmlContentAnswer} → contentAsked f names area i ≡ c → rawOf c ≡ contentAnswer f names area i → Tells f area c r
-      → AsksContent f names area i r
+module _ (f : List ℕ) (lent : Lent) (i : ℕ) where
+  asks-of : {c : Content} {r : AxmlContentAnswer} → contentAsked f lent i ≡ c → rawOf c ≡ contentAnswer f lent i → Tells f (lent .area) c r
+      → AsksContent f lent i r
   asks-of e q t = record { known = t .known; there = t .there ∙ ap isThere (sym e); inside = t .inside; bytes = t .bytes ∙ q }
 
   -- a file that is open has its header
-  open-long : {h : Head} → openOf f names area ≡ Open h → 8 ≤ length f
+  open-long : {h : Head} → openOf f lent ≡ Open h → 8 ≤ length f
   open-long e = go (ltb (length f) 8) refl
     where
       go : (b : Bool) → ltb (length f) 8 ≡ b → 8 ≤ length f
       go true p =
           let s = openedOf-small f (ltb-true (length f) 8 p) in
-          let w = openOf-open f names area e .whole in
+          let w = openOf-open f lent e .whole in
           let z : _≡_ {A = ℕ} 0 1 = cc in
           absurd (let y : ⊥ = omega arith in y)
       go false p = ltb-false (length f) 8 p
 
   pub place-open
       : {h : Head} {t : List ℕ} {g : Found} {r : AxmlContentAnswer}
-      → openOf f names area ≡ Open h
+      → openOf f lent ≡ Open h
       → t ≡ tablesIn f h
-      → Stands (h .wide) t area (contentOf h t names area i) g
+      → Stands (h .wide) t (lent .area) (contentOf h t lent i) g
       → r ≡ placeOf g
-      → AsksContent f names area i r
+      → AsksContent f lent i r
   place-open {h} {t} {g} {r} e q s p =
       let s′ = rw q at s in
-      let asked : contentAsked f names area i ≡ contentOf h (tablesIn f h) names area i = rw e in
+      let asked : contentAsked f lent i ≡ contentOf h (tablesIn f h) lent i = rw e in
       rw p
-      (asks-of asked (content-open f names area i e refl)
-      (rw (← s′ .same) (tells (h .wide) f area (headLen h) (open-long e) g (s′ .inside))))
+      (asks-of asked (content-open f lent i e refl)
+      (rw (← s′ .same) (tells (h .wide) f (lent .area) (headLen h) (open-long e) g (s′ .inside))))
 
   pub place-closed
       : {why : Refusal} {r : AxmlContentAnswer}
-      → openOf f names area ≡ Closed why
+      → openOf f lent ≡ Closed why
       → r ≡ placeOf Nothing
-      → AsksContent f names area i r
+      → AsksContent f lent i r
   place-closed e p =
-      let asked : contentAsked f names area i ≡ none = rw e in
-      rw p (asks-of asked (content-closed f names area i e) (record { known = omega arith; there = refl; inside = omega arith; bytes = refl }))
+      let asked : contentAsked f lent i ≡ none = rw e in
+      rw p (asks-of asked (content-closed f lent i e) (record { known = omega arith; there = refl; inside = omega arith; bytes = refl }))

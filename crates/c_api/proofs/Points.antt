@@ -20,11 +20,12 @@ use Rattle.errors.specs.declared.Numbers.{Numbers}
 use Rattle.errors.specs.declared.ReadAnswer.{ReadAnswer}
 use Rattle.errors.specs.Refusal.{numbersOf}
 use Rattle.records.specs.Words.{noteWidth}
+use Rattle.system_types.specs.Names.{Lent}
 use Rattle.walk.specs.declared.Mode.{Mode}
 use Rattle.walk.specs.declared.Mode.the-variants.{Fresh, Reading as InBody, Clearing}
 use Rattle.walk.specs.declared.State.{State}
 use Rattle.walk.specs.Reading.{Reading, reading}
-use Rattle.walk.specs.Outcome.{Adv, Advanced, Good, first, left, cleared, outcome}
+use Rattle.walk.specs.Inner.Outcome.{Adv, Advanced, Good, first, left, cleared, outcome}
 use Rattle.walk.proofs.Clearing.{false-true}
 use Rattle.walk.proofs.Opening.{first-good}
 use Rattle.c_api.specs.declared.AxmlAnswer.{AxmlAnswer}
@@ -36,7 +37,7 @@ clearing-of Fresh e = absurd (false-true e)
 clearing-of InBody e = absurd (false-true e)
 clearing-of Clearing e = refl
 
-module _ (f names area ns₀ ats₀ ws₀ : List ℕ) (cap : ℕ) where
+module _ (f : List ℕ) (lent : Lent) (ns₀ ats₀ ws₀ : List ℕ) (cap : ℕ) where
   pub record Point (ns ats ws : List ℕ) (st : State) : Type 0 where
     pub notes : List Note
     pub tail : List ℕ
@@ -46,8 +47,8 @@ module _ (f names area ns₀ ats₀ ws₀ : List ℕ) (cap : ℕ) where
     pub long-nodes : length ns ≡ length ns₀
     pub long-attributes : length ats ≡ length ats₀
     pub long-words : length ws ≡ length ws₀
-    pub good : Good f names area ns ats st
-    pub same : outcome f names area ns ats notes st (good .stack) ≡ reading (wordRoom ns₀ ats₀ ws₀ cap) f names area
+    pub good : Good f lent ns ats st
+    pub same : outcome f lent ns ats notes st (good .stack) ≡ reading (wordRoom ns₀ ats₀ ws₀ cap) f lent
 
   pub point-first : (st : State) → st ≡ first (length ws₀ / noteWidth) cap → Point ns₀ ats₀ ws₀ st
   point-first st e =
@@ -61,7 +62,7 @@ module _ (f names area ns₀ ats₀ ws₀ : List ℕ) (cap : ℕ) where
         long-nodes = refl;
         long-attributes = refl;
         long-words = refl;
-        good = first-good f names area ns₀ ats₀ (length ws₀ / noteWidth) cap;
+        good = first-good f lent ns₀ ats₀ (length ws₀ / noteWidth) cap;
         same = refl;
       })
 
@@ -70,9 +71,9 @@ module _ (f names area ns₀ ats₀ ws₀ : List ℕ) (cap : ℕ) where
   abbrev gives : ReadAnswer → List ℕ → List ℕ → List Note → Reading
   gives a ns ats os = record { answer = a; nodes = ns; attributes = ats; notes = os }
 
-  reads-of : (x : Reading) → x ≡ reading (wordRoom ns₀ ats₀ ws₀ cap) f names area → (ws′ : List ℕ)
+  reads-of : (x : Reading) → x ≡ reading (wordRoom ns₀ ats₀ ws₀ cap) f lent → (ws′ : List ℕ)
       → ws′ ≡ wordsOf (x .notes) ++ replicate (length ws₀ % noteWidth) 0
-      → ReadsWords f names area ns₀ ats₀ ws₀ cap (answerOf (numbersOf (x .answer))) (x .nodes) (x .attributes) ws′
+      → ReadsWords f lent ns₀ ats₀ ws₀ cap (answerOf (numbersOf (x .answer))) (x .nodes) (x .attributes) ws′
   reads-of x e ws′ w = record {
     answer = ap (λ (y : Reading). answerOf (numbersOf (y .answer))) e;
     nodes = ap (λ (y : Reading). y .nodes) e;
@@ -86,11 +87,11 @@ module _ (f names area ns₀ ats₀ ws₀ : List ℕ) (cap : ℕ) where
   -- the answer is known, the note is written, and zeros are from the next place on
   pub point-cleared : (ns ats ws : List ℕ) (st : State) → Point ns ats ws st → isClearing (st .mode) ≡ true → st .slot < st .room
       → (ws′ : List ℕ) → ws′ ≡ take (noteWidth * st .slot + noteWidth) ws ++ replicate (length ws - (noteWidth * st .slot + noteWidth)) 0
-      → ReadsWords f names area ns₀ ats₀ ws₀ cap (answerOf (numbersOf (st .answer))) ns ats ws′
+      → ReadsWords f lent ns₀ ats₀ ws₀ cap (answerOf (numbersOf (st .answer))) ns ats ws′
   point-cleared ns ats ws st p m h ws′ z =
       let mode : st .mode ≡ Clearing = clearing-of (st .mode) m in
       let all : length (p .notes) ≡ st .room = p .places ∙ sym (p .room) in
-      let here : outcome f names area ns ats (p .notes) st (p .good .stack) ≡ gives (st .answer) ns ats (cleared (p .notes) (st .slot + 1) (st .room)) =
+      let here : outcome f lent ns ats (p .notes) st (p .good .stack) ≡ gives (st .answer) ns ats (cleared (p .notes) (st .slot + 1) (st .room)) =
       rw mode in
       let next : noteWidth * st .slot + noteWidth ≡ noteWidth * (st .slot + 1) = omega arith in
       reads-of (gives (st .answer) ns ats (cleared (p .notes) (st .slot + 1) (st .room))) (sym here ∙ p .same) ws′
@@ -100,8 +101,8 @@ module _ (f names area ns₀ ats₀ ws₀ : List ℕ) (cap : ℕ) where
 
   -- ---- a turn
 
-  module _ (ns ats ws : List ℕ) (st : State) (p : Point ns ats ws st) (r : State) (ns′ ats′ : List ℕ) (e : Adv f names area ns ats st r ns′ ats′) where
-    advanced : Advanced f names area ns ats st (p .good) r ns′ ats′
+  module _ (ns ats ws : List ℕ) (st : State) (p : Point ns ats ws st) (r : State) (ns′ ats′ : List ℕ) (e : Adv f lent ns ats st r ns′ ats′) where
+    advanced : Advanced f lent ns ats st (p .good) r ns′ ats′
     advanced = e (p .good)
 
     all-places : length (p .notes) ≡ st .room
@@ -116,7 +117,7 @@ module _ (f names area ns₀ ats₀ ws₀ : List ℕ) (cap : ℕ) where
     pub point-slot : r .done ≡ false → r .slot < r .room
     point-slot d = advanced .due d .0
 
-    pub point-less : r .done ≡ false → left f names area r < left f names area st
+    pub point-less : r .done ≡ false → left f lent r < left f lent st
     point-less d = advanced .due d .1
 
     pub point-next : r .done ≡ false → length ns′ ≡ length ns → length ats′ ≡ length ats → (ws′ : List ℕ) → ws′ ≡ putNote ws (r .slot) (r .note)
@@ -136,7 +137,7 @@ module _ (f names area ns₀ ats₀ ws₀ : List ℕ) (cap : ℕ) where
 
     -- all places are written, and zeros are behind the last
     pub point-last : r .done ≡ true → (ws′ : List ℕ) → ws′ ≡ take (noteWidth * (length ws / noteWidth)) ws ++ replicate (length ws - noteWidth * (length ws / noteWidth)) 0
-        → ReadsWords f names area ns₀ ats₀ ws₀ cap (answerOf (numbersOf (r .answer))) ns′ ats′ ws′
+        → ReadsWords f lent ns₀ ats₀ ws₀ cap (answerOf (numbersOf (r .answer))) ns′ ats′ ws′
     point-last d ws′ z =
         let all : noteWidth * (length ws / noteWidth) ≡ noteWidth * length (p .notes) = rw (p .long-words, p .places) in
         let none : length (p .notes) - length (p .notes) ≡ 0 = omega arith in
@@ -149,6 +150,6 @@ module _ (f names area ns₀ ats₀ ws₀ : List ℕ) (cap : ℕ) where
 
   -- ---- the answer in numbers
 
-  pub reads-by : (a : ReadAnswer) (ns ats ws : List ℕ) → ReadsWords f names area ns₀ ats₀ ws₀ cap (answerOf (numbersOf a)) ns ats ws
-      → (m : Numbers) → m ≡ numbersOf a → (r : AxmlAnswer) → r ≡ answerOf m → ReadsWords f names area ns₀ ats₀ ws₀ cap r ns ats ws
+  pub reads-by : (a : ReadAnswer) (ns ats ws : List ℕ) → ReadsWords f lent ns₀ ats₀ ws₀ cap (answerOf (numbersOf a)) ns ats ws
+      → (m : Numbers) → m ≡ numbersOf a → (r : AxmlAnswer) → r ≡ answerOf m → ReadsWords f lent ns₀ ats₀ ws₀ cap r ns ats ws
   reads-by a ns ats ws h m em r er = record { answer = er ∙ ap answerOf em ∙ h .answer; nodes = h .nodes; attributes = h .attributes; notes = h .notes }

@@ -11,6 +11,7 @@ use Rattle.errors.specs.declared.TextNumbers.{TextNumbers}
 use Rattle.errors.specs.Refusal.{numbersOf, textNumbersOf}
 use Rattle.head.specs.Ask.{TextReads}
 use Rattle.records.specs.Words.{noteWidth}
+use Rattle.system_types.specs.Names.{Lent}
 use Rattle.walk.specs.Settle.{Room}
 use Rattle.walk.specs.Reading.{Reading, Reads, reading, roomIn}
 use Rattle.c_api.specs.declared.AxmlAnswer.{AxmlAnswer}
@@ -26,14 +27,14 @@ pub record OneReading (a : ReadAnswer) (ns₁ ats₁ : List ℕ) (os₁ : List N
   pub notes : ws₂ ≡ wordsOf os₁ ++ replicate (length ws % noteWidth) 0
 
 -- with as many places as the words have whole threes
-pub same-reading : (f names area ns ats : List ℕ) (os : List Note) (ws : List ℕ) (cap : ℕ) → length os ≡ length ws / noteWidth
-    → (a : ReadAnswer) (ns₁ ats₁ : List ℕ) (os₁ : List Note) → Reads f names area ns ats os cap a ns₁ ats₁ os₁
-    → (r : AxmlAnswer) (ns₂ ats₂ ws₂ : List ℕ) → ReadsWords f names area ns ats ws cap r ns₂ ats₂ ws₂
+pub same-reading : (f : List ℕ) (lent : Lent) (ns ats : List ℕ) (os : List Note) (ws : List ℕ) (cap : ℕ) → length os ≡ length ws / noteWidth
+    → (a : ReadAnswer) (ns₁ ats₁ : List ℕ) (os₁ : List Note) → Reads f lent ns ats os cap a ns₁ ats₁ os₁
+    → (r : AxmlAnswer) (ns₂ ats₂ ws₂ : List ℕ) → ReadsWords f lent ns ats ws cap r ns₂ ats₂ ws₂
     → OneReading a ns₁ ats₁ os₁ ws r ns₂ ats₂ ws₂
-same-reading f names area ns ats os ws cap places a ns₁ ats₁ os₁ h r ns₂ ats₂ ws₂ k =
+same-reading f lent ns ats os ws cap places a ns₁ ats₁ os₁ h r ns₂ ats₂ ws₂ k =
     let room : roomIn ns ats os cap ≡ wordRoom ns ats ws cap = rw places in
-    let e : reading (wordRoom ns ats ws cap) f names area ≡ reading (roomIn ns ats os cap) f names area =
-    ap (λ (x : Room). reading x f names area) (sym room) in
+    let e : reading (wordRoom ns ats ws cap) f lent ≡ reading (roomIn ns ats os cap) f lent =
+    ap (λ (x : Room). reading x f lent) (sym room) in
     record {
       answer = k .answer ∙ ap (λ (x : Reading). answerOf (numbersOf (x .answer))) e ∙ ap answerOf (sym (h .answer));
       nodes = k .nodes ∙ ap (λ (x : Reading). x .nodes) e ∙ sym (h .nodes);
@@ -43,6 +44,6 @@ same-reading f names area ns ats os ws cap places a ns₁ ats₁ os₁ h r ns₂
           ∙ ap (λ (o : List Note). wordsOf o ++ replicate (length ws % noteWidth) 0) (sym (h .notes));
     }
 
-pub asks-of-reads : (f names area before : List ℕ) (i : ℕ) (a : TextAnswer) (after : List ℕ) → TextReads f names area before i a after
-    → (m : TextNumbers) → m ≡ textNumbersOf a → (r : AxmlTextAnswer) → r ≡ textAnswerOf m → AsksText f names area before i r after
-asks-of-reads f names area before i a after h m em r er = record { answer = er ∙ ap textAnswerOf (em ∙ h .answer); out = h .out }
+pub asks-of-reads : (f : List ℕ) (lent : Lent) (before : List ℕ) (i : ℕ) (a : TextAnswer) (after : List ℕ) → TextReads f lent before i a after
+    → (m : TextNumbers) → m ≡ textNumbersOf a → (r : AxmlTextAnswer) → r ≡ textAnswerOf m → AsksText f lent before i r after
+asks-of-reads f lent before i a after h m em r er = record { answer = er ∙ ap textAnswerOf (em ∙ h .answer); out = h .out }

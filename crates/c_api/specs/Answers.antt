@@ -9,6 +9,7 @@ use lib.ListN.{length}
 use Rattle.errors.specs.declared.FirstNumbers.{FirstNumbers}
 use Rattle.errors.specs.declared.TextNumbers.{TextNumbers}
 use Rattle.errors.specs.Refusal.{textNumbersOf}
+use Rattle.system_types.specs.Names.{Lent}
 use Rattle.head.specs.Ask.{textAnswer, textBuffer}
 use Rattle.c_api.specs.declared.AxmlFirstAnswer.{AxmlFirstAnswer}
 use Rattle.c_api.specs.declared.AxmlTextAnswer.{AxmlTextAnswer}
@@ -19,6 +20,6 @@ textAnswerOf n = record { refusal = n .refusal; value = n .value; length = n .le
 abbrev pub firstAnswerOf : FirstNumbers → AxmlFirstAnswer
 firstAnswerOf n = record { refusal = n .refusal; value = n .value; kind = n .kind; «data» = n .«data»; reference = n .reference }
 
-pub record AsksText (f names area before : List ℕ) (i : ℕ) (r : AxmlTextAnswer) (after : List ℕ) : Type 0 where
-  pub answer : r ≡ textAnswerOf (textNumbersOf (textAnswer f names area (length before) i))
-  pub out : after ≡ textBuffer f names area (length before) i
+pub record AsksText (f : List ℕ) (lent : Lent) (before : List ℕ) (i : ℕ) (r : AxmlTextAnswer) (after : List ℕ) : Type 0 where
+  pub answer : r ≡ textAnswerOf (textNumbersOf (textAnswer f lent (length before) i))
+  pub out : after ≡ textBuffer f lent (length before) i

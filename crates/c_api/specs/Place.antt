@@ -12,6 +12,7 @@ use mathlib.Core.Bool.{Bool, true, false, cond, not}
 use mathlib.Core.List.{List, []}
 use lib.ListN.{length, take, drop}
 use lib.Dec.{eqb}
+use Rattle.system_types.specs.Names.{Lent}
 use Rattle.text.specs.Content.{Content, none, cut, some}
 use Rattle.head.specs.Ask.{contentAsked, contentAnswer}
 use Rattle.c_api.specs.declared.content.AxmlContentAnswer.{AxmlContentAnswer}
@@ -24,8 +25,8 @@ isThere none = false
 isThere cut = false
 isThere (some w s) = true
 
-pub record AsksContent (f names area : List ℕ) (i : ℕ) (r : AxmlContentAnswer) : Type 0 where
+pub record AsksContent (f : List ℕ) (lent : Lent) (i : ℕ) (r : AxmlContentAnswer) : Type 0 where
   pub known : r .slice ≤ 2
-  pub there : not (eqb (r .slice) 0) ≡ isThere (contentAsked f names area i)
-  pub inside : r .start + r .length ≤ length (sliceOf f area (r .slice))
-  pub bytes : take (r .length) (drop (r .start) (sliceOf f area (r .slice))) ≡ contentAnswer f names area i
+  pub there : not (eqb (r .slice) 0) ≡ isThere (contentAsked f lent i)
+  pub inside : r .start + r .length ≤ length (sliceOf f (lent .area) (r .slice))
+  pub bytes : take (r .length) (drop (r .start) (sliceOf f (lent .area) (r .slice))) ≡ contentAnswer f lent i

@@ -14,6 +14,7 @@ use Rattle.anomaly.specs.declared.Note.{Note}
 use Rattle.errors.specs.declared.Numbers.{Numbers}
 use Rattle.errors.specs.Refusal.{numbersOf}
 use Rattle.records.specs.Words.{noteWidth, noteKind, noteA, noteB, noteWords}
+use Rattle.system_types.specs.Names.{Lent}
 use Rattle.walk.specs.declared.Mode.{Mode}
 use Rattle.walk.specs.declared.Mode.the-variants.{Fresh, Reading as InBody, Clearing}
 use Rattle.walk.specs.Settle.{Room}
@@ -37,11 +38,11 @@ answerOf n = record {
   notes = n .notes;
 }
 
-pub record ReadsWords (f names area ns ats ws : List ℕ) (cap : ℕ) (r : AxmlAnswer) (ns′ ats′ ws′ : List ℕ) : Type 0 where
-  pub answer : r ≡ answerOf (numbersOf (reading (wordRoom ns ats ws cap) f names area .answer))
-  pub nodes : ns′ ≡ reading (wordRoom ns ats ws cap) f names area .nodes
-  pub attributes : ats′ ≡ reading (wordRoom ns ats ws cap) f names area .attributes
-  pub notes : ws′ ≡ wordsOf (reading (wordRoom ns ats ws cap) f names area .notes) ++ replicate (length ws % noteWidth) 0
+pub record ReadsWords (f : List ℕ) (lent : Lent) (ns ats ws : List ℕ) (cap : ℕ) (r : AxmlAnswer) (ns′ ats′ ws′ : List ℕ) : Type 0 where
+  pub answer : r ≡ answerOf (numbersOf (reading (wordRoom ns ats ws cap) f lent .answer))
+  pub nodes : ns′ ≡ reading (wordRoom ns ats ws cap) f lent .nodes
+  pub attributes : ats′ ≡ reading (wordRoom ns ats ws cap) f lent .attributes
+  pub notes : ws′ ≡ wordsOf (reading (wordRoom ns ats ws cap) f lent .notes) ++ replicate (length ws % noteWidth) 0
 
 -- ---- on the way
 

@@ -5,7 +5,9 @@
 ghost use mathlib.Core.Path.{_≡_};
 ghost use Prim.Native.Nat.{_≤_};
 ghost use lib.ListN.{length};
-ghost use Rattle.text.specs.Found.{Inside};
+ghost use Rattle.records.specs.Limits.{fileLimit};
+ghost use Rattle.system_types.specs.Names.{lends};
+ghost use Rattle.text.specs.Inner.Found.{Inside};
 ghost use Rattle.c_api.specs.Place.{AsksContent};
 ghost use Rattle.c_api.specs.Inner.Placed.{placeOf};
 use common::StringIndex;
@@ -25,7 +27,7 @@ pub struct AxmlContentAnswer {
 
 // What was found in the bytes behind the file's header, t, told as a part of the file.
 fn place_of(t: &[u8], area: &[u8], f: Found) -> AxmlContentAnswer
-    requires { ⌜ Inside (now t) (now area) f × (length (now t) ≤ 16777216) ⌝ }
+    requires { ⌜ Inside (now t) (now area) f × (length (now t) ≤ fileLimit) ⌝ }
     ensures { λ r. ⌜ r ≡ placeOf f ⌝ }
 {
     match f {
@@ -62,7 +64,7 @@ pub extern "C" fn axml_content(
     area: &[u8],
     index: u32,
 ) -> AxmlContentAnswer
-    ensures { λ r. ⌜ AsksContent (now (file .entry)) (now (names .entry)) (now (area .entry)) index r ⌝ }
+    ensures { λ r. ⌜ AsksContent (now (file .entry)) (lends (now (names .entry)) (now (area .entry))) index r ⌝ }
 {
     let opened = open_file(file, names, area);
     match opened {

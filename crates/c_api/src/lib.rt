@@ -21,6 +21,7 @@ ghost use Rattle.errors.specs.Refusal.{numbersOf, firstNumbersOf};
 ghost use Rattle.first_value.specs.Question.{firstAnswer};
 ghost use Rattle.records.specs.Words.{noteWidth};
 ghost use Rattle.xml.specs.NCName.{validName};
+ghost use Rattle.system_types.specs.Names.{lends};
 ghost use Rattle.c_api.specs.Words.{putNote, isClearing, answerOf, ReadsWords};
 ghost use Rattle.c_api.specs.Answers.{textAnswerOf, firstAnswerOf, AsksText};
 use anomaly::Note;
@@ -84,7 +85,7 @@ fn read_words(
     notes: &mut [u32],
     cap: u32,
 ) -> ReadAnswer
-    ensures { λ r. ⌜ ReadsWords (now (file .entry)) (now (names .entry)) (now (area .entry)) (now (nodes .entry)) (now (attributes .entry))
+    ensures { λ r. ⌜ ReadsWords (now (file .entry)) (lends (now (names .entry)) (now (area .entry))) (now (nodes .entry)) (now (attributes .entry))
         (now (notes .entry)) cap (answerOf (numbersOf r)) (now (nodes .exit)) (now (attributes .exit)) (now (notes .exit)) ⌝ }
 {
     let mut st = walk::begin(notes.len() / NOTE_WORDS, cap);
@@ -131,7 +132,7 @@ pub extern "C" fn axml_read(
     notes: &mut [u32],
     cap: u32,
 ) -> AxmlAnswer
-    ensures { λ r. ⌜ ReadsWords (now (file .entry)) (now (names .entry)) (now (area .entry)) (now (nodes .entry)) (now (attributes .entry))
+    ensures { λ r. ⌜ ReadsWords (now (file .entry)) (lends (now (names .entry)) (now (area .entry))) (now (nodes .entry)) (now (attributes .entry))
         (now (notes .entry)) cap r (now (nodes .exit)) (now (attributes .exit)) (now (notes .exit)) ⌝ }
 {
     let answer = read_words(file, names, area, nodes, attributes, notes, cap);
@@ -168,7 +169,7 @@ pub extern "C" fn axml_text(
     out: &mut [u8],
     index: u32,
 ) -> AxmlTextAnswer
-    ensures { λ r. ⌜ AsksText (now (file .entry)) (now (names .entry)) (now (area .entry)) (now (out .entry)) index r (now (out .exit)) ⌝ }
+    ensures { λ r. ⌜ AsksText (now (file .entry)) (lends (now (names .entry)) (now (area .entry))) (now (out .entry)) index r (now (out .exit)) ⌝ }
 {
     let answer = head::text(file, names, area, out, StringIndex(index));
     text_answer_of(text_numbers(answer))
@@ -210,7 +211,7 @@ pub extern "C" fn axml_first_value(
     node_count: u32,
     attribute_count: u32,
 ) -> AxmlFirstAnswer
-    ensures { λ r. ⌜ r ≡ firstAnswerOf (firstNumbersOf (firstAnswer (now (file .entry)) (now (names .entry)) (now (area .entry))
+    ensures { λ r. ⌜ r ≡ firstAnswerOf (firstNumbersOf (firstAnswer (now (file .entry)) (lends (now (names .entry)) (now (area .entry)))
         (now (nodes .entry)) (now (attributes .entry)) (now (tag .entry)) (now (name .entry)) «node_count» «attribute_count»)) ⌝ }
 {
     let answer = first_value::first_value(

@@ -1,4 +1,4 @@
--- Laws of specs/Bare.antt. No contract cites this file.
+-- Laws of specs/Inner/Bare.antt. No contract cites this file.
 -- In order: what a bare header takes (`isXml-bare`, `runUsed-bare`), what `doubt_at` computes (`doubt-here`), what a row of bare headers takes
 -- (`skipRun-bare`), what `bare_block` counts (`allBare-step`, `allBare-stop`).
 use Prim.Native.Nat.{ℕ, zero, suc, _+_, _-_, _*_, _/_, _≤_, _<_}
@@ -16,8 +16,8 @@ use Rattle.common.proofs.Laws.{headerHere, headerOf-whole}
 use Rattle.field.specs.Le.{u16le, u32le}
 use Rattle.field.proofs.Laws.{u32le-drop}
 use Rattle.chunk.specs.Sort.{isXml, sortOf, foreignLen}
-use Rattle.chunk.specs.Run.{runUsed, skipRun}
-use Rattle.chunk.specs.Bare.{isBare, allBare}
+use Rattle.chunk.specs.Inner.Run.{runUsed, skipRun}
+use Rattle.chunk.specs.Inner.Bare.{isBare, allBare}
 use Rattle.chunk.proofs.Laws.{contentOf-whole, runUsed-same, skipRun-step}
 
 -- ---- one header

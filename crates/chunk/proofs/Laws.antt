@@ -1,4 +1,4 @@
--- Laws of specs/Sort.antt and specs/Run.antt. No contract cites this file.
+-- Laws of specs/Sort.antt and specs/Inner/Run.antt. No contract cites this file.
 -- In order: bounds (`contentOf-le`, `foreignLen-le`), what a chunk of a sort takes (`runUsed-..`), the two equations of a run
 -- (`skipRun-stop`, `skipRun-step`), what the code computes at a place (`-here`). Not here: laws of headers (common).
 use Prim.Native.Nat.{ℕ, zero, suc, _+_, _-_, _≤_, _<_, zero-le}
@@ -15,7 +15,7 @@ use Rattle.common.specs.declared.ResChunkHeader.{ResChunkHeader}
 use Rattle.common.specs.declared.HeaderRead.the-variants.{Whole, Short}
 use Rattle.common.proofs.Laws.{headerHere, headerOf-short, headerOf-whole, headerOf-long-at}
 use Rattle.chunk.specs.Sort.{sortOf, contentOf, foreignLen}
-use Rattle.chunk.specs.Run.{runUsed, skipRun}
+use Rattle.chunk.specs.Inner.Run.{runUsed, skipRun}
 use Rattle.chunk.proofs.Walk.{walk-stop, walk-step}
 
 -- ---- bounds

@@ -1,5 +1,4 @@
 -- The root of the crate's definitions.
 pub mod Sort
 pub mod Walk
-pub mod Run
-pub mod Bare
+pub mod Inner

@@ -1,16 +1,16 @@
 // What sort of chunk a header begins, how many bytes a chunk that is not looked into takes, and a run of such chunks.
 //
 // Mirrors axml.rs (apk-info 13770539b8): `is_xml_node`, `skip_run`. A sort number stands for the closure that `skip_run` takes there.
-// Definitions: specs/Sort.antt, specs/Run.antt; the walk down a list of bytes that a run is, and every walk above: specs/Walk.antt;
-// bare headers, which a run passes eight at once: specs/Bare.antt.
+// Definitions: specs/Sort.antt, specs/Inner/Run.antt; the walk down a list of bytes that a run is, and every walk above: specs/Walk.antt;
+// bare headers, which a run passes eight at once: specs/Inner/Bare.antt.
 // Differs from the Rust: `skip_run` starts at the first chunk's header and not behind it, and gives a position, not how many were passed.
 ghost use mathlib.Core.Path.{_≡_};
 ghost use mathlib.Core.Bool.{cond};
 ghost use Prim.Native.Nat.{_+_, _-_, _≤_};
 ghost use lib.ListN.{length, drop};
 ghost use Rattle.chunk.specs.Sort.{isXml, sortOf, contentOf};
-ghost use Rattle.chunk.specs.Run.{runUsed, skipRun};
-ghost use Rattle.chunk.specs.Bare.{isBare, allBare};
+ghost use Rattle.chunk.specs.Inner.Run.{runUsed, skipRun};
+ghost use Rattle.chunk.specs.Inner.Bare.{isBare, allBare};
 use common::HeaderRead;
 use common::ResChunkHeader;
 use common::header_at;

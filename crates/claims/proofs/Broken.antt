@@ -28,11 +28,11 @@ use Rattle.errors.specs.declared.ReadAnswer.the-variants.{Done, Refused}
 use Rattle.errors.specs.declared.ReadCounts.{ReadCounts}
 use Rattle.records.specs.Words.{nodeParent, attributePrefix}
 use Rattle.records.specs.Limits.{fileLimit}
-use Rattle.system_types.specs.Names.{namesOf}
+use Rattle.system_types.specs.Names.{Lent, lends, namesOf}
 use Rattle.system_types.specs.declared.NamesRead.{NamesRead}
 use Rattle.system_types.specs.declared.NamesRead.the-variants.{Good, Bad}
 use Rattle.head.specs.Head.{openedOf}
-use Rattle.head.specs.Ask.{firstOf, lengthCheck, namesCheckBy}
+use Rattle.head.specs.Entry.{firstOf, lengthCheck, namesCheckBy}
 use Rattle.events.specs.Events.{fileEvents}
 use Rattle.walk.specs.Settle.{Room, Out, settle}
 use Rattle.walk.specs.Reading.{Reading, refuses, reading, readingBy, settledIn, zeroNote, roomIn, Reads}
@@ -46,8 +46,8 @@ use Rattle.claims.proofs.Structure.{starts-right, notes-many, notes-kep
 use Rattle.claims.proofs.BrokenSample.{call-S, call-88, call-with-end, call-without}
 use Rattle.claims.proofs.BrokenSample.{read-S, read-88, ends-S, read-with-end, read-without}
 
-pub meets-some : Meets (λ f names area ns ats os cap. reading (roomIn ns ats os cap) f names area)
-meets-some f names area ns ats os cap call = record { answer = refl; nodes = refl; attributes = refl; notes = refl }
+pub meets-some : Meets (λ f lent ns ats os cap. reading (roomIn ns ats os cap) f lent)
+meets-some f lent ns ats os cap call = record { answer = refl; nodes = refl; attributes = refl; notes = refl }
 
 -- ---- the witnesses
 
@@ -56,16 +56,16 @@ zeros-below zero = refl
 zeros-below (suc n) = zeros-below n
 
 -- a file past the limit, and the empty one, have different answers, whatever is lent
-long-number : (r : Room) (f names area : List ℕ) → fileLimit < length f → _≡_ {A = ℕ} (numbersOf (reading r f names area .answer) .refusal) 2
+long-number : (r : Room) (f : List ℕ) (lent : Lent) → fileLimit < length f → _≡_ {A = ℕ} (numbersOf (reading r f lent .answer) .refusal) 2
 unfolding reading lengthCheck numbersOf numberOf
-long-number r f names area h = rw (lt-ltb fileLimit (length f) h)
+long-number r f lent h = rw (lt-ltb fileLimit (length f) h)
 
-empty-number : (r : Room) (names area : List ℕ) → _≡_ {A = ℕ} (numbersOf (reading r [] names area .answer) .refusal) 2 → ⊥
+empty-number : (r : Room) (lent : Lent) → _≡_ {A = ℕ} (numbersOf (reading r [] lent .answer) .refusal) 2 → ⊥
 unfolding reading lengthCheck numbersOf numberOf openedOf fileEvents settle
-empty-number r names area = go (namesOf area names)
+empty-number r lent = go (namesOf lent)
   where
     out : Out
-    out = settledIn r [] names area (openedOf [])
+    out = settledIn r [] lent (openedOf [])
 
     go : (n : NamesRead) → _≡_ {A = ℕ} (numbersOf (readingBy r out (firstOf (lengthCheck [] ∷ namesCheckBy n ∷ [])) .answer) .refusal) 2 → ⊥
     go Good e = let z : _≡_ {A = ℕ} 1 2 = e in omega arith
@@ -73,157 +73,157 @@ empty-number r names area = go (namesOf area names)
 
 -- ---- what the promise says of starts and notes
 
-module _ (f names area ns ats : List ℕ) (os : List Note) (cap : ℕ) where
-  starts-le : (a : ReadAnswer) (ns′ ats′ : List ℕ) (os′ : List Note) → Reads f names area ns ats os cap a ns′ ats′ os′
-      → numbersOf a .starts ≤ opensIn (eventsOf f names area)
+module _ (f : List ℕ) (lent : Lent) (ns ats : List ℕ) (os : List Note) (cap : ℕ) where
+  starts-le : (a : ReadAnswer) (ns′ ats′ : List ℕ) (os′ : List Note) → Reads f lent ns ats os cap a ns′ ats′ os′
+      → numbersOf a .starts ≤ opensIn (eventsOf f lent)
   unfolding numbersOf
   starts-le (Refused x) ns′ ats′ os′ m = omega arith
-  starts-le (Done c) ns′ ats′ os′ m = omega (arith, starts-right f names area ns ats os cap c ns′ ats′ os′ m)
+  starts-le (Done c) ns′ ats′ os′ m = omega (arith, starts-right f lent ns ats os cap c ns′ ats′ os′ m)
 
-  notes-le : (a : ReadAnswer) (ns′ ats′ : List ℕ) (os′ : List Note) → Reads f names area ns ats os cap a ns′ ats′ os′
-      → numbersOf a .notes ≤ length (keptNotes cap (notesIn (eventsOf f names area)))
+  notes-le : (a : ReadAnswer) (ns′ ats′ : List ℕ) (os′ : List Note) → Reads f lent ns ats os cap a ns′ ats′ os′
+      → numbersOf a .notes ≤ length (keptNotes cap (notesIn (eventsOf f lent)))
   unfolding numbersOf
   notes-le (Refused x) ns′ ats′ os′ m = omega arith
-  notes-le (Done c) ns′ ats′ os′ m = omega (arith, notes-many f names area ns ats os cap c ns′ ats′ os′ m)
+  notes-le (Done c) ns′ ats′ os′ m = omega (arith, notes-many f lent ns ats os cap c ns′ ats′ os′ m)
 
 -- ---- the readers
 
 module _ (R : Reader) (meets : Meets R) where
   -- of S, and of S without its end
-  of-S : R fileS [] [] (noNodes 3) (noAttributes 3) none 8 ≡ oneNode 1 0 none
-  of-S = left-reading fileS [] [] (noNodes 3) (noAttributes 3) none 8 _ _ _ _ (meets fileS [] [] (noNodes 3) (noAttributes 3) none 8 call-S) ∙ read-S
+  of-S : R fileS (lends [] []) (noNodes 3) (noAttributes 3) none 8 ≡ oneNode 1 0 none
+  of-S = left-reading fileS (lends [] []) (noNodes 3) (noAttributes 3) none 8 _ _ _ _ (meets fileS (lends [] []) (noNodes 3) (noAttributes 3) none 8 call-S) ∙ read-S
 
-  of-88 : R (take 88 fileS) [] [] (noNodes 3) (noAttributes 3) none 8 ≡ oneNode 1 1 (note 12 1 ∷ zeroNote ∷ zeroNote ∷ zeroNote ∷ [])
-  of-88 = left-reading (take 88 fileS) [] [] (noNodes 3) (noAttributes 3) none 8 _ _ _ _ (meets (take 88 fileS) [] [] (noNodes 3) (noAttributes 3) none 8 call-88) ∙ read-88
+  of-88 : R (take 88 fileS) (lends [] []) (noNodes 3) (noAttributes 3) none 8 ≡ oneNode 1 1 (note 12 1 ∷ zeroNote ∷ zeroNote ∷ zeroNote ∷ [])
+  of-88 = left-reading (take 88 fileS) (lends [] []) (noNodes 3) (noAttributes 3) none 8 _ _ _ _ (meets (take 88 fileS) (lends [] []) (noNodes 3) (noAttributes 3) none 8 call-88) ∙ read-88
 
   pub refuses-all-broken : RefusesAll R → ⊥
   unfolding numbersOf
-  refuses-all-broken h = h fileS [] [] (noNodes 3) (noAttributes 3) none 8 call-S (ap (λ (x : Reading). numbersOf (x .answer) .refusal) of-S)
+  refuses-all-broken h = h fileS (lends [] []) (noNodes 3) (noAttributes 3) none 8 call-S (ap (λ (x : Reading). numbersOf (x .answer) .refusal) of-S)
 
   -- none of the witnesses' tables holds zeros alone afterwards, as it did before
-  nodes-stored : R fileS [] [] (noNodes 3) (noAttributes 3) none 8 .nodes ≡ noNodes 3 → ⊥
+  nodes-stored : R fileS (lends [] []) (noNodes 3) (noAttributes 3) none 8 .nodes ≡ noNodes 3 → ⊥
   nodes-stored h = let z = ap (λ (l : List ℕ). getD l nodeParent 0) (sym h ∙ ap (λ (x : Reading). x .nodes) of-S) in omega arith
 
-  attributes-stored : R fileS [] [] (noNodes 3) (noAttributes 3) none 8 .attributes ≡ noAttributes 3 → ⊥
+  attributes-stored : R fileS (lends [] []) (noNodes 3) (noAttributes 3) none 8 .attributes ≡ noAttributes 3 → ⊥
   attributes-stored h = let z = ap (λ (l : List ℕ). getD l attributePrefix 0) (sym h ∙ ap (λ (x : Reading). x .attributes) of-S) in omega arith
 
-  notes-stored : R (take 88 fileS) [] [] (noNodes 3) (noAttributes 3) none 8 .notes ≡ none → ⊥
+  notes-stored : R (take 88 fileS) (lends [] []) (noNodes 3) (noAttributes 3) none 8 .notes ≡ none → ⊥
   notes-stored h = let z = ap (λ (l : List Note). getD l 0 zeroNote .kind) (sym h ∙ ap (λ (x : Reading). x .notes) of-88) in omega arith
 
   pub leaves-nodes-broken : LeavesNodes R → ⊥
-  leaves-nodes-broken h = nodes-stored (h fileS [] [] (noNodes 3) (noAttributes 3) none 8 call-S)
+  leaves-nodes-broken h = nodes-stored (h fileS (lends [] []) (noNodes 3) (noAttributes 3) none 8 call-S)
 
   pub leaves-attributes-broken : LeavesAttributes R → ⊥
-  leaves-attributes-broken h = attributes-stored (h fileS [] [] (noNodes 3) (noAttributes 3) none 8 call-S)
+  leaves-attributes-broken h = attributes-stored (h fileS (lends [] []) (noNodes 3) (noAttributes 3) none 8 call-S)
 
   pub leaves-notes-broken : LeavesNotes R → ⊥
-  leaves-notes-broken h = notes-stored (h (take 88 fileS) [] [] (noNodes 3) (noAttributes 3) none 8 call-88)
+  leaves-notes-broken h = notes-stored (h (take 88 fileS) (lends [] []) (noNodes 3) (noAttributes 3) none 8 call-88)
 
   pub clears-nodes-broken : ClearsNodes R → ⊥
-  clears-nodes-broken h = nodes-stored (h fileS [] [] (noNodes 3) (noAttributes 3) none 8 call-S)
+  clears-nodes-broken h = nodes-stored (h fileS (lends [] []) (noNodes 3) (noAttributes 3) none 8 call-S)
 
   pub clears-attributes-broken : ClearsAttributes R → ⊥
-  clears-attributes-broken h = attributes-stored (h fileS [] [] (noNodes 3) (noAttributes 3) none 8 call-S)
+  clears-attributes-broken h = attributes-stored (h fileS (lends [] []) (noNodes 3) (noAttributes 3) none 8 call-S)
 
   pub clears-notes-broken : ClearsNotes R → ⊥
-  clears-notes-broken h = notes-stored (h (take 88 fileS) [] [] (noNodes 3) (noAttributes 3) none 8 call-88)
+  clears-notes-broken h = notes-stored (h (take 88 fileS) (lends [] []) (noNodes 3) (noAttributes 3) none 8 call-88)
 
-  pub constant-broken : (names area ns ats : List ℕ) (os : List Note) (cap : ℕ) → Call [] names area ns ats os cap → Constant R names area ns ats os cap → ⊥
-  constant-broken names area ns ats os cap lent h = go (fileLimit + 1) refl
+  pub constant-broken : (lent : Lent) (ns ats : List ℕ) (os : List Note) (cap : ℕ) → Call [] lent ns ats os cap → Constant R lent ns ats os cap → ⊥
+  constant-broken lent ns ats os cap call h = go (fileLimit + 1) refl
     where
       go : (n : ℕ) → n ≡ fileLimit + 1 → ⊥
       go n e =
           let many : length {A = ℕ} (replicate n 0) ≡ n = length-replicate {A = ℕ} n 0 in
-          let long : Call (replicate n 0) names area ns ats os cap = record {
+          let long : Call (replicate n 0) lent ns ats os cap = record {
             file = record { below = zeros-below n; short = omega (arith, many) };
-            nameWords = lent .nameWords;
-            areaBytes = lent .areaBytes;
-            nodeWords = lent .nodeWords;
-            attributeWords = lent .attributeWords;
-            kinds = lent .kinds;
-            firsts = lent .firsts;
-            seconds = lent .seconds;
-            capWord = lent .capWord;
+            nameWords = call .nameWords;
+            areaBytes = call .areaBytes;
+            nodeWords = call .nodeWords;
+            attributeWords = call .attributeWords;
+            kinds = call .kinds;
+            firsts = call .firsts;
+            seconds = call .seconds;
+            capWord = call .capWord;
           } in
           let r = roomIn ns ats os cap in
-          let same = ap (λ (x : Reading). numbersOf (x .answer) .refusal) (h [] (replicate n 0) lent long) in
-          let a = ap (λ (x : Numbers). x .refusal) (meets [] names area ns ats os cap lent .answer) in
-          let b = ap (λ (x : Numbers). x .refusal) (meets (replicate n 0) names area ns ats os cap long .answer) in
-          empty-number r names area (sym a ∙ same ∙ b ∙ long-number r (replicate n 0) names area (omega (arith, many)))
+          let same = ap (λ (x : Reading). numbersOf (x .answer) .refusal) (h [] (replicate n 0) call long) in
+          let a = ap (λ (x : Numbers). x .refusal) (meets [] lent ns ats os cap call .answer) in
+          let b = ap (λ (x : Numbers). x .refusal) (meets (replicate n 0) lent ns ats os cap long .answer) in
+          empty-number r lent (sym a ∙ same ∙ b ∙ long-number r (replicate n 0) lent (omega (arith, many)))
 
   pub constant-on-read-broken : ConstantOnRead R → ⊥
   unfolding numbersOf
   constant-on-read-broken h =
       let read : Reading → ℕ = λ x. numbersOf (x .answer) .refusal in
-      let same = h fileS (take 88 fileS) [] [] (noNodes 3) (noAttributes 3) none 8 call-S call-88 (ap read read-S) (ap read read-88) in
+      let same = h fileS (take 88 fileS) (lends [] []) (noNodes 3) (noAttributes 3) none 8 call-S call-88 (ap read read-S) (ap read read-88) in
       let e = ap (λ (x : Reading). numbersOf (x .answer) .notes) (sym of-S ∙ same ∙ of-88) in
       omega arith
 
   pub first-start-broken : StopsAtStart R → ⊥
   unfolding numbersOf
   first-start-broken h =
-      let same = h (headS ++ startS) endS [] [] [] (noNodes 3) (noAttributes 3) none 8 call-with-end call-without ends-S in
-      let a = meets ((headS ++ startS) ++ endS) [] [] (noNodes 3) (noAttributes 3) none 8 call-with-end .answer ∙ ap (λ (x : Reading). numbersOf (x .answer)) read-with-end in
-      let b = meets ((headS ++ startS) ++ []) [] [] (noNodes 3) (noAttributes 3) none 8 call-without .answer ∙ ap (λ (x : Reading). numbersOf (x .answer)) read-without in
+      let same = h (headS ++ startS) endS [] (lends [] []) (noNodes 3) (noAttributes 3) none 8 call-with-end call-without ends-S in
+      let a = meets ((headS ++ startS) ++ endS) (lends [] []) (noNodes 3) (noAttributes 3) none 8 call-with-end .answer ∙ ap (λ (x : Reading). numbersOf (x .answer)) read-with-end in
+      let b = meets ((headS ++ startS) ++ []) (lends [] []) (noNodes 3) (noAttributes 3) none 8 call-without .answer ∙ ap (λ (x : Reading). numbersOf (x .answer)) read-without in
       let e = ap (λ (x : Numbers). x .notes) (sym a ∙ ap (λ (x : Reading). numbersOf (x .answer)) same ∙ b) in
       omega arith
 
   -- some file: one that has fewer than it is given, or notes of other kinds
-  module _ (f names area ns ats : List ℕ) (os : List Note) (cap : ℕ) (lent : Call f names area ns ats os cap) where
-    pub invents-starts-broken : opensIn (eventsOf f names area) < numbersOf (R f names area ns ats os cap .answer) .starts → ⊥
-    invents-starts-broken h = omega (arith, starts-le f names area ns ats os cap _ _ _ _ (meets f names area ns ats os cap lent))
+  module _ (f : List ℕ) (lent : Lent) (ns ats : List ℕ) (os : List Note) (cap : ℕ) (call : Call f lent ns ats os cap) where
+    pub invents-starts-broken : opensIn (eventsOf f lent) < numbersOf (R f lent ns ats os cap .answer) .starts → ⊥
+    invents-starts-broken h = omega (arith, starts-le f lent ns ats os cap _ _ _ _ (meets f lent ns ats os cap call))
 
-    pub invents-notes-broken : length (keptNotes cap (notesIn (eventsOf f names area))) < numbersOf (R f names area ns ats os cap .answer) .notes → ⊥
-    invents-notes-broken h = omega (arith, notes-le f names area ns ats os cap _ _ _ _ (meets f names area ns ats os cap lent))
+    pub invents-notes-broken : length (keptNotes cap (notesIn (eventsOf f lent))) < numbersOf (R f lent ns ats os cap .answer) .notes → ⊥
+    invents-notes-broken h = omega (arith, notes-le f lent ns ats os cap _ _ _ _ (meets f lent ns ats os cap call))
 
-    pub wrong-kinds-broken : (c : ReadCounts) → R f names area ns ats os cap .answer ≡ Done c
-        → (kindsOf (take (c .notes) (R f names area ns ats os cap .notes)) ≡ kindsOf (map noteOf (keptNotes cap (notesIn (eventsOf f names area)))) → ⊥) → ⊥
+    pub wrong-kinds-broken : (c : ReadCounts) → R f lent ns ats os cap .answer ≡ Done c
+        → (kindsOf (take (c .notes) (R f lent ns ats os cap .notes)) ≡ kindsOf (map noteOf (keptNotes cap (notesIn (eventsOf f lent)))) → ⊥) → ⊥
     wrong-kinds-broken c e h =
-        h (ap kindsOf (notes-kept f names area ns ats os cap c _ _ _ (rw e at (meets f names area ns ats os cap lent))))
+        h (ap kindsOf (notes-kept f lent ns ats os cap c _ _ _ (rw e at (meets f lent ns ats os cap call))))
 
 -- ---- there are readers of each sort
 
 -- refuses all
 abbrev refuser : Reader
-refuser f names area ns ats os cap = refuses (roomIn ns ats os cap) TooLargeError
+refuser f lent ns ats os cap = refuses (roomIn ns ats os cap) TooLargeError
 
-pub refuser-sorts : RefusesAll refuser × Constant refuser [] [] [] [] [] 0 × ConstantOnRead refuser × StopsAtStart refuser
+pub refuser-sorts : RefusesAll refuser × Constant refuser (lends [] []) [] [] [] 0 × ConstantOnRead refuser × StopsAtStart refuser
     × ClearsNodes refuser × ClearsAttributes refuser × ClearsNotes refuser
 unfolding numbersOf numberOf
 refuser-sorts = (
-  λ f names area ns ats os cap lent e. (let z : _≡_ {A = ℕ} 2 0 = e in omega arith),
-  λ f f′ lent lent′. refl,
-  λ f f′ names area ns ats os cap lent lent′ r r′. refl,
-  λ p x y names area ns ats os cap lent lent′ first. refl,
-  λ f names area ns ats os cap lent. refl,
-  λ f names area ns ats os cap lent. refl,
-  λ f names area ns ats os cap lent. refl,
+  λ f lent ns ats os cap call e. (let z : _≡_ {A = ℕ} 2 0 = e in omega arith),
+  λ f f′ call call′. refl,
+  λ f f′ lent ns ats os cap call call′ r r′. refl,
+  λ p x y lent ns ats os cap call call′ first. refl,
+  λ f lent ns ats os cap call. refl,
+  λ f lent ns ats os cap call. refl,
+  λ f lent ns ats os cap call. refl,
 )
 
 -- leaves all as it was, and counts more than there is
 abbrev inventor : Reader
-inventor f names area ns ats os cap =
-    let es = eventsOf f names area in
+inventor f lent ns ats os cap =
+    let es = eventsOf f lent in
     left (Done (record { starts = suc (opensIn es); nodes = 0; attributes = 0; notes = suc (length (keptNotes cap (notesIn es))) })) ns ats os
 
-module _ (f names area ns ats : List ℕ) (os : List Note) (cap : ℕ) where
+module _ (f : List ℕ) (lent : Lent) (ns ats : List ℕ) (os : List Note) (cap : ℕ) where
   pub inventor-sorts : LeavesNodes inventor × LeavesAttributes inventor × LeavesNotes inventor
-      × (opensIn (eventsOf f names area) < numbersOf (inventor f names area ns ats os cap .answer) .starts)
-      × (length (keptNotes cap (notesIn (eventsOf f names area))) < numbersOf (inventor f names area ns ats os cap .answer) .notes)
+      × (opensIn (eventsOf f lent) < numbersOf (inventor f lent ns ats os cap .answer) .starts)
+      × (length (keptNotes cap (notesIn (eventsOf f lent))) < numbersOf (inventor f lent ns ats os cap .answer) .notes)
   unfolding numbersOf
   inventor-sorts = (
-    λ f names area ns ats os cap lent. refl,
-    λ f names area ns ats os cap lent. refl,
-    λ f names area ns ats os cap lent. refl,
+    λ f lent ns ats os cap call. refl,
+    λ f lent ns ats os cap call. refl,
+    λ f lent ns ats os cap call. refl,
     omega arith,
     omega arith,
   )
 
 -- the right numbers, and 0 for the kind of each note
 abbrev blurred : Reader
-blurred f names area ns ats os cap =
-    let r = reading (roomIn ns ats os cap) f names area in
+blurred f lent ns ats os cap =
+    let r = reading (roomIn ns ats os cap) f lent in
     left (r .answer) (r .nodes) (r .attributes) (map (λ (x : Note). record { kind = 0; a = x .a; b = x .b }) (r .notes))
 
-pub blurred-kinds : kindsOf (take 1 (blurred (take 88 fileS) [] [] (noNodes 3) (noAttributes 3) none 8 .notes)) ≡ 0 ∷ []
+pub blurred-kinds : kindsOf (take 1 (blurred (take 88 fileS) (lends [] []) (noNodes 3) (noAttributes 3) none 8 .notes)) ≡ 0 ∷ []
 blurred-kinds = ap (λ (x : Reading). kindsOf (take 1 (map (λ (x : Note). record { kind = 0; a = x .a; b = x .b }) (x .notes)))) read-88

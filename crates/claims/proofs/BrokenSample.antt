@@ -21,10 +21,10 @@ use Rattle.res_string_pool.specs.Pool.{countOf, numbered, endOf, poolFrom, behi
 use Rattle.res_string_pool.specs.Content.{split8, split16}
 use Rattle.resource_map.specs.Map.{idsIn, idsBy, mapOf, idOf}
 use Rattle.utf.specs.Plain.{isAscii}
-use Rattle.system_types.specs.Names.{isGood, namesFrom, nameOf}
+use Rattle.system_types.specs.Names.{lends, isGood, namesFrom, nameOf}
 use Rattle.text.specs.Content.{systemOf, stringAt, stringOf, contentOf}
 use Rattle.head.specs.Head.{tablesOf, openedOf, outsideIn}
-use Rattle.head.specs.Ask.{lengthCheck}
+use Rattle.head.specs.Entry.{lengthCheck}
 use Rattle.xml_elements.specs.Chunk.{startOf, attributeAt, startTurn, xmlTurn, numberOf, turnOf}
 use Rattle.events.specs.Events.{attributeEvent, attributesOf, fromLead, fromOpen, fromName, fromTrailing, fromSize, fromGap, eventsOn, bodyEvents, fileEvents}
 use Rattle.records.specs.Repeats.{repeatsOne}
@@ -34,15 +34,15 @@ use Rattle.claims.specs.Readers.{Bytes, Call, FirstStart, eventsOf}
 use Rattle.claims.specs.Counts.{opensIn}
 use Rattle.claims.proofs.Cases.{fileS, headS, startS, endS, room, noNodes, noAttributes, none, note, oneNode, cases, cases-right}
 
-pub read-S : reading room fileS [] [] ≡ oneNode 1 0 none
+pub read-S : reading room fileS (lends [] []) ≡ oneNode 1 0 none
 unfolding cases
 read-S = ap (λ (l : List Reading). getD l 0 (oneNode 1 0 none)) cases-right
 
-pub read-88 : reading room (take 88 fileS) [] [] ≡ oneNode 1 1 (note 12 1 ∷ zeroNote ∷ zeroNote ∷ zeroNote ∷ [])
+pub read-88 : reading room (take 88 fileS) (lends [] []) ≡ oneNode 1 1 (note 12 1 ∷ zeroNote ∷ zeroNote ∷ zeroNote ∷ [])
 unfolding cases
 read-88 = ap (λ (l : List Reading). getD l 3 (oneNode 1 0 none)) cases-right
 
-no-start : _≡_ {A = ℕ} (opensIn (eventsOf headS [] [])) 0
+no-start : _≡_ {A = ℕ} (opensIn (eventsOf headS (lends [] []))) 0
 unfolding fileS headS startS endS settle u16le u32le headerOf isXml sortOf contentLen foreignLen walk walkFrom trace traceFrom
     countOf numbered endOf poolFrom behindGarbage poolOf offsetOf outsideOf split8 split16 idsIn idsBy mapOf idOf isAscii isGood namesFrom
     nameOf systemOf stringAt stringOf contentOf tablesOf openedOf outsideIn lengthCheck startOf attributeAt startTurn xmlTurn numberOf
@@ -51,7 +51,7 @@ unfolding fileS headS startS endS settle u16le u32le headerOf isXml sortOf conte
     nameSort allChar isNameOf validName
 no-start = refl
 
-one-start : _≡_ {A = ℕ} (opensIn (eventsOf (headS ++ startS) [] [])) 1
+one-start : _≡_ {A = ℕ} (opensIn (eventsOf (headS ++ startS) (lends [] []))) 1
 unfolding fileS headS startS endS settle u16le u32le headerOf isXml sortOf contentLen foreignLen walk walkFrom trace traceFrom
     countOf numbered endOf poolFrom behindGarbage poolOf offsetOf outsideOf split8 split16 idsIn idsBy mapOf idOf isAscii isGood namesFrom
     nameOf systemOf stringAt stringOf contentOf tablesOf openedOf outsideIn lengthCheck startOf attributeAt startTurn xmlTurn numberOf
@@ -60,7 +60,7 @@ unfolding fileS headS startS endS settle u16le u32le headerOf isXml sortOf conte
     nameSort allChar isNameOf validName
 one-start = refl
 
-pub ends-S : FirstStart [] [] (headS ++ startS)
+pub ends-S : FirstStart (lends [] []) (headS ++ startS)
 unfolding fileS headS startS endS settle u16le u32le headerOf isXml sortOf contentLen foreignLen walk walkFrom trace traceFrom
     countOf numbered endOf poolFrom behindGarbage poolOf offsetOf outsideOf split8 split16 idsIn idsBy mapOf idOf isAscii isGood namesFrom
     nameOf systemOf stringAt stringOf contentOf tablesOf openedOf outsideIn lengthCheck startOf attributeAt startTurn xmlTurn numberOf
@@ -77,16 +77,16 @@ without : take 88 fileS ≡ (headS ++ startS) ++ []
 unfolding fileS headS startS endS
 without = refl
 
-pub read-with-end : reading room ((headS ++ startS) ++ endS) [] [] ≡ oneNode 1 0 none
-read-with-end = ap (λ (f : List ℕ). reading room f [] []) (sym with-end) ∙ read-S
+pub read-with-end : reading room ((headS ++ startS) ++ endS) (lends [] []) ≡ oneNode 1 0 none
+read-with-end = ap (λ (f : List ℕ). reading room f (lends [] [])) (sym with-end) ∙ read-S
 
-pub read-without : reading room ((headS ++ startS) ++ []) [] [] ≡ oneNode 1 1 (note 12 1 ∷ zeroNote ∷ zeroNote ∷ zeroNote ∷ [])
-read-without = ap (λ (f : List ℕ). reading room f [] []) (sym without) ∙ read-88
+pub read-without : reading room ((headS ++ startS) ++ []) (lends [] []) ≡ oneNode 1 1 (note 12 1 ∷ zeroNote ∷ zeroNote ∷ zeroNote ∷ [])
+read-without = ap (λ (f : List ℕ). reading room f (lends [] [])) (sym without) ∙ read-88
 
 -- ---- calls
 
 -- tables of zeros, with the room of the cases
-call : (f : List ℕ) → Bytes f → Call f [] [] (noNodes 3) (noAttributes 3) none 8
+call : (f : List ℕ) → Bytes f → Call f (lends [] []) (noNodes 3) (noAttributes 3) none 8
 call f b = record {
   file = b;
   nameWords = record { below = refl; short = omega arith };
@@ -99,18 +99,18 @@ call f b = record {
   capWord = omega arith;
 }
 
-pub call-S : Call fileS [] [] (noNodes 3) (noAttributes 3) none 8
+pub call-S : Call fileS (lends [] []) (noNodes 3) (noAttributes 3) none 8
 unfolding fileS headS startS endS
 call-S = call fileS (record { below = refl; short = omega arith })
 
-pub call-88 : Call (take 88 fileS) [] [] (noNodes 3) (noAttributes 3) none 8
+pub call-88 : Call (take 88 fileS) (lends [] []) (noNodes 3) (noAttributes 3) none 8
 unfolding fileS headS startS endS
 call-88 = call (take 88 fileS) (record { below = refl; short = omega arith })
 
-pub call-with-end : Call ((headS ++ startS) ++ endS) [] [] (noNodes 3) (noAttributes 3) none 8
+pub call-with-end : Call ((headS ++ startS) ++ endS) (lends [] []) (noNodes 3) (noAttributes 3) none 8
 unfolding fileS headS startS endS
 call-with-end = call ((headS ++ startS) ++ endS) (record { below = refl; short = omega arith })
 
-pub call-without : Call ((headS ++ startS) ++ []) [] [] (noNodes 3) (noAttributes 3) none 8
+pub call-without : Call ((headS ++ startS) ++ []) (lends [] []) (noNodes 3) (noAttributes 3) none 8
 unfolding fileS headS startS endS
 call-without = call ((headS ++ startS) ++ []) (record { below = refl; short = omega arith })

@@ -24,10 +24,10 @@ use Rattle.res_string_pool.specs.Pool.{countOf, numbered, endOf, poolFrom, behi
 use Rattle.res_string_pool.specs.Content.{split8, split16}
 use Rattle.resource_map.specs.Map.{idsIn, idsBy, mapOf, idOf}
 use Rattle.utf.specs.Plain.{isAscii}
-use Rattle.system_types.specs.Names.{isGood, namesFrom, nameOf}
+use Rattle.system_types.specs.Names.{lends, isGood, namesFrom, nameOf}
 use Rattle.text.specs.Content.{systemOf, stringAt, stringOf, contentOf}
 use Rattle.head.specs.Head.{tablesOf, openedOf, outsideIn}
-use Rattle.head.specs.Ask.{lengthCheck}
+use Rattle.head.specs.Entry.{lengthCheck}
 use Rattle.xml_elements.specs.Chunk.{startOf, attributeAt, startTurn, xmlTurn, numberOf, turnOf}
 use Rattle.events.specs.Events.{attributeEvent, attributesOf, fromLead, fromOpen, fromName, fromTrailing, fromSize, fromGap, eventsOn, bodyEvents, fileEvents}
 use Rattle.records.specs.Words.{nodeWidth, nodeWords, noParent, attributeWidth, attributeWords}
@@ -131,7 +131,7 @@ cases =
 
 abbrev pub readings : List Case → List Reading
 readings [] = []
-readings (c ∷ cs) = reading room (c .file) [] [] ∷ readings cs
+readings (c ∷ cs) = reading room (c .file) (lends [] []) ∷ readings cs
 
 abbrev pub results : List Case → List Reading
 results [] = []

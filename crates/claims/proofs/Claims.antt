@@ -48,6 +48,7 @@ use Rattle.head.specs.Ask.{TextReads, contentAnswer}
 use Rattle.head.specs.Head.{openedOf, headLen}
 use Rattle.first_value.specs.Question.{firstAnswer, FirstReads}
 use Rattle.records.specs.Words.{nodeWidth, attributeWidth, noteWidth}
+use Rattle.system_types.specs.Names.{Lent, lends}
 use Rattle.walk.specs.Settle.{Room}
 use Rattle.walk.specs.Reading.{reading, roomIn, zeroNote, Reads}
 use Rattle.claims.specs.Insertion.{ForeignChunk, noteFor, stretchNotes, placesIn, insertedFile, placeNotes, AllOf, BeginsOther, withNotes, left}
@@ -74,23 +75,23 @@ use Rattle.claims.proofs.Structure as tree
 use Rattle.claims.proofs.Broken as broken
 use Rattle.claims.proofs.InC as inC
 
-module _ (f names area ns ats : List ℕ) (os : List Note) (cap : ℕ) where
-  pub read-unique : (r r′ : ReadAnswer) (ns₁ ns₂ ats₁ ats₂ : List ℕ) (os₁ os₂ : List Note) → Reads f names area ns ats os cap r ns₁ ats₁ os₁
-      → Reads f names area ns ats os cap r′ ns₂ ats₂ os₂ → (r ≡ r′) × (ns₁ ≡ ns₂) × (ats₁ ≡ ats₂) × (os₁ ≡ os₂)
+module _ (f : List ℕ) (lent : Lent) (ns ats : List ℕ) (os : List Note) (cap : ℕ) where
+  pub read-unique : (r r′ : ReadAnswer) (ns₁ ns₂ ats₁ ats₂ : List ℕ) (os₁ os₂ : List Note) → Reads f lent ns ats os cap r ns₁ ats₁ os₁
+      → Reads f lent ns ats os cap r′ ns₂ ats₂ os₂ → (r ≡ r′) × (ns₁ ≡ ns₂) × (ats₁ ≡ ats₂) × (os₁ ≡ os₂)
   read-unique r r′ ns₁ ns₂ ats₁ ats₂ os₁ os₂ p q =
       (numbersOf-unique r r′ (p .answer ∙ sym (q .answer)), p .nodes ∙ sym (q .nodes), p .attributes ∙ sym (q .attributes), p .notes ∙ sym (q .notes))
 
-module _ (f names area before : List ℕ) (i : ℕ) where
-  pub text-unique : (r r′ : TextAnswer) (after after′ : List ℕ) → TextReads f names area before i r after → TextReads f names area before i r′ after′
+module _ (f : List ℕ) (lent : Lent) (before : List ℕ) (i : ℕ) where
+  pub text-unique : (r r′ : TextAnswer) (after after′ : List ℕ) → TextReads f lent before i r after → TextReads f lent before i r′ after′
       → (r ≡ r′) × (after ≡ after′)
   text-unique r r′ after after′ p q = (textNumbersOf-unique r r′ (p .answer ∙ sym (q .answer)), p .out ∙ sym (q .out))
 
-pub content-unique : (f names area : List ℕ) (i : ℕ) (s s′ : List ℕ) → s ≡ contentAnswer f names area i → s′ ≡ contentAnswer f names area i → s ≡ s′
-content-unique f names area i s s′ p q = p ∙ sym q
+pub content-unique : (f : List ℕ) (lent : Lent) (i : ℕ) (s s′ : List ℕ) → s ≡ contentAnswer f lent i → s′ ≡ contentAnswer f lent i → s ≡ s′
+content-unique f lent i s s′ p q = p ∙ sym q
 
-module _ (f names area ns ats tag name : List ℕ) (nodes attributes : ℕ) where
-  pub first-unique : (r r′ : FirstAnswer) → FirstReads f names area ns ats tag name nodes attributes r
-      → FirstReads f names area ns ats tag name nodes attributes r′ → r ≡ r′
+module _ (f : List ℕ) (lent : Lent) (ns ats tag name : List ℕ) (nodes attributes : ℕ) where
+  pub first-unique : (r r′ : FirstAnswer) → FirstReads f lent ns ats tag name nodes attributes r
+      → FirstReads f lent ns ats tag name nodes attributes r′ → r ≡ r′
   first-unique r r′ p q = firstNumbersOf-unique r r′ (p .answer ∙ sym (q .answer))
 
 pub listing-unique : (text before : List ℕ) (r r′ : TextAnswer) (after after′ : List ℕ) → Printed text before r after → Printed text before r′ after′
@@ -116,65 +117,65 @@ first-numbers-unique a b e = firstNumbersOf-unique a b e
 
 -- A file reads with no refusal and no note, at a cap of at least 1; `places` are lists of complete foreign chunks: the first list stands before the
 -- first chunk that the walk meets behind the map, the next before the next, and one more at the end if the last chunk is whole and nothing follows it.
-module _ (r : Room) (f names area : List ℕ) (c : ReadCounts) (one : 1 ≤ r .cap) (done : reading r f names area .answer ≡ Done c) (none : c .notes ≡ 0)
+module _ (r : Room) (f : List ℕ) (lent : Lent) (c : ReadCounts) (one : 1 ≤ r .cap) (done : reading r f lent .answer ≡ Done c) (none : c .notes ≡ 0)
     (places : List (List ForeignChunk)) (few : length places ≤ placesIn f) (limit : length (insertedFile places f) ≤ fileLimit) (r′ : Room) where
   -- Every table has room: starts, kept nodes and attributes are the same, word for word, and the notes are one for each stretch, up to the cap of each kind.
-  pub insertion : HasRoom (reading r′ (insertedFile places f) names area .answer)
-      → reading r′ (insertedFile places f) names area ≡ withNotes r′ (reading r f names area) c (keptNotes (r′ .cap) (placeNotes places))
-  insertion room = proved.insertion r f names area c one done none places few limit r′ room
+  pub insertion : HasRoom (reading r′ (insertedFile places f) lent .answer)
+      → reading r′ (insertedFile places f) lent ≡ withNotes r′ (reading r f lent) c (keptNotes (r′ .cap) (placeNotes places))
+  insertion room = proved.insertion r f lent c one done none places few limit r′ room
 
   -- in tables of the same lengths, the tables are the same, whole
-  pub insertion-same : r′ .nodes ≡ r .nodes → r′ .attributes ≡ r .attributes → HasRoom (reading r′ (insertedFile places f) names area .answer)
-      → (reading r′ (insertedFile places f) names area .nodes ≡ reading r f names area .nodes)
-      × (reading r′ (insertedFile places f) names area .attributes ≡ reading r f names area .attributes)
-  insertion-same n a room = proved.insertion-same r f names area c one done none places few limit r′ n a room
+  pub insertion-same : r′ .nodes ≡ r .nodes → r′ .attributes ≡ r .attributes → HasRoom (reading r′ (insertedFile places f) lent .answer)
+      → (reading r′ (insertedFile places f) lent .nodes ≡ reading r f lent .nodes)
+      × (reading r′ (insertedFile places f) lent .attributes ≡ reading r f lent .attributes)
+  insertion-same n a room = proved.insertion-same r f lent c one done none places few limit r′ n a room
 
   -- places for the kept records and for the notes are room
   pub insertion-room : nodeWidth * c .nodes ≤ r′ .nodes → attributeWidth * c .attributes ≤ r′ .attributes
-      → length (keptNotes (r′ .cap) (placeNotes places)) ≤ r′ .notes → HasRoom (reading r′ (insertedFile places f) names area .answer)
-  insertion-room n a m = proved.insertion-room r f names area c one done none places few limit r′ n a m
+      → length (keptNotes (r′ .cap) (placeNotes places)) ≤ r′ .notes → HasRoom (reading r′ (insertedFile places f) lent .answer)
+  insertion-room n a m = proved.insertion-room r f lent c one done none places few limit r′ n a m
 
   -- the head is untouched
   pub insertion-head : (openedOf (insertedFile places f) ≡ openedOf f)
       × (take (8 + headLen (openedOf f .head)) (insertedFile places f) ≡ take (8 + headLen (openedOf f .head)) f)
-  insertion-head = proved.insertion-head r f names area c one done none places
+  insertion-head = proved.insertion-head r f lent c one done none places
 
   -- nothing was dropped
   pub insertion-kept : c .nodes ≡ c .starts
-  insertion-kept = proved.nothing-dropped r f names area c one done none
+  insertion-kept = proved.nothing-dropped r f lent c one done none
 
 -- The same of two calls, whatever results the promise allows: `left` is an answer and what stands in the three tables.
-module _ (f names area ns ats : List ℕ) (os : List Note) (cap : ℕ) (c : ReadCounts) (ns₁ ats₁ : List ℕ) (os₁ : List Note) (one : 1 ≤ cap)
-    (first : Reads f names area ns ats os cap (Done c) ns₁ ats₁ os₁) (none : c .notes ≡ 0) (places : List (List ForeignChunk))
+module _ (f : List ℕ) (lent : Lent) (ns ats : List ℕ) (os : List Note) (cap : ℕ) (c : ReadCounts) (ns₁ ats₁ : List ℕ) (os₁ : List Note) (one : 1 ≤ cap)
+    (first : Reads f lent ns ats os cap (Done c) ns₁ ats₁ os₁) (none : c .notes ≡ 0) (places : List (List ForeignChunk))
     (few : length places ≤ placesIn f) (limit : length (insertedFile places f) ≤ fileLimit) (ns′ ats′ : List ℕ) (os′ : List Note) (cap′ : ℕ)
-    (a : ReadAnswer) (ns₂ ats₂ : List ℕ) (os₂ : List Note) (second : Reads (insertedFile places f) names area ns′ ats′ os′ cap′ a ns₂ ats₂ os₂) where
+    (a : ReadAnswer) (ns₂ ats₂ : List ℕ) (os₂ : List Note) (second : Reads (insertedFile places f) lent ns′ ats′ os′ cap′ a ns₂ ats₂ os₂) where
   pub insertion-read : HasRoom a
       → left a ns₂ ats₂ os₂ ≡ withNotes (roomIn ns′ ats′ os′ cap′) (left (Done c) ns₁ ats₁ os₁) c (keptNotes cap′ (placeNotes places))
   insertion-read room =
-      calls.insertion-read f names area ns ats os cap c ns₁ ats₁ os₁ one first none places few limit ns′ ats′ os′ cap′ a ns₂ ats₂ os₂ second room
+      calls.insertion-read f lent ns ats os cap c ns₁ ats₁ os₁ one first none places few limit ns′ ats′ os′ cap′ a ns₂ ats₂ os₂ second room
 
   pub insertion-read-same : length ns′ ≡ length ns → length ats′ ≡ length ats → HasRoom a → (ns₂ ≡ ns₁) × (ats₂ ≡ ats₁)
   insertion-read-same n m room =
-      calls.insertion-read-same f names area ns ats os cap c ns₁ ats₁ os₁ one first none places few limit ns′ ats′ os′ cap′ a ns₂ ats₂ os₂ second n m room
+      calls.insertion-read-same f lent ns ats os cap c ns₁ ats₁ os₁ one first none places few limit ns′ ats′ os′ cap′ a ns₂ ats₂ os₂ second n m room
 
   pub insertion-read-room : nodeWidth * c .nodes ≤ length ns′ → attributeWidth * c .attributes ≤ length ats′ → 2 * cap′ ≤ length os′ → HasRoom a
   insertion-read-room n m k =
-      calls.insertion-read-room f names area ns ats os cap c ns₁ ats₁ os₁ one first none places few limit ns′ ats′ os′ cap′ a ns₂ ats₂ os₂ second n m k
+      calls.insertion-read-room f lent ns ats os cap c ns₁ ats₁ os₁ one first none places few limit ns′ ats′ os′ cap′ a ns₂ ats₂ os₂ second n m k
 
 -- Text, content and first value, asked of the longer file, are those of the file: of any two results that the promises allow.
-module _ (r : Room) (f names area : List ℕ) (c : ReadCounts) (one : 1 ≤ r .cap) (done : reading r f names area .answer ≡ Done c) (none : c .notes ≡ 0)
+module _ (r : Room) (f : List ℕ) (lent : Lent) (c : ReadCounts) (one : 1 ≤ r .cap) (done : reading r f lent .answer ≡ Done c) (none : c .notes ≡ 0)
     (places : List (List ForeignChunk)) (limit : length (insertedFile places f) ≤ fileLimit) where
-  pub insertion-text : (before : List ℕ) (i : ℕ) (a a′ : TextAnswer) (after after′ : List ℕ) → TextReads f names area before i a after
-      → TextReads (insertedFile places f) names area before i a′ after′ → (a′ ≡ a) × (after′ ≡ after)
-  insertion-text = values.insertion-text r f names area c one done none places limit
+  pub insertion-text : (before : List ℕ) (i : ℕ) (a a′ : TextAnswer) (after after′ : List ℕ) → TextReads f lent before i a after
+      → TextReads (insertedFile places f) lent before i a′ after′ → (a′ ≡ a) × (after′ ≡ after)
+  insertion-text = values.insertion-text r f lent c one done none places limit
 
-  pub insertion-content : (i : ℕ) (s s′ : List ℕ) → s ≡ contentAnswer f names area i → s′ ≡ contentAnswer (insertedFile places f) names area i → s′ ≡ s
-  insertion-content = values.insertion-content r f names area c one done none places limit
+  pub insertion-content : (i : ℕ) (s s′ : List ℕ) → s ≡ contentAnswer f lent i → s′ ≡ contentAnswer (insertedFile places f) lent i → s′ ≡ s
+  insertion-content = values.insertion-content r f lent c one done none places limit
 
   pub insertion-first : (ns ats tag name : List ℕ) (nodes attributes : ℕ) (a a′ : FirstAnswer)
-      → FirstReads f names area ns ats tag name nodes attributes a → FirstReads (insertedFile places f) names area ns ats tag name nodes attributes a′
+      → FirstReads f lent ns ats tag name nodes attributes a → FirstReads (insertedFile places f) lent ns ats tag name nodes attributes a′
       → a′ ≡ a
-  insertion-first = values.insertion-first r f names area c one done none places limit
+  insertion-first = values.insertion-first r f lent c one done none places limit
 
 -- with nothing put in it is the same file
 pub insertion-none : (f : List ℕ) → insertedFile [] f ≡ f
@@ -198,14 +199,14 @@ insertion-cap cap k places = (keptNotes-of-kind cap k (placeNotes places), place
 -- ---- room that always suffices (L1): none is refused with 8, 9 or 10
 
 -- a file of any length, with any names and any cap
-pub suffices : (r : Room) (f names area : List ℕ) → nodesFor (length f) ≤ r .nodes → attributesFor (length f) ≤ r .attributes → placesFor (r .cap) ≤ r .notes
-    → HasRoom (reading r f names area .answer)
+pub suffices : (r : Room) (f : List ℕ) (lent : Lent) → nodesFor (length f) ≤ r .nodes → attributesFor (length f) ≤ r .attributes → placesFor (r .cap) ≤ r .notes
+    → HasRoom (reading r f lent .answer)
 suffices = room.suffices
 
 -- the same of a call
-pub read-suffices : (f names area ns ats : List ℕ) (os : List Note) (cap : ℕ) (a : ReadAnswer) (ns′ ats′ : List ℕ) (os′ : List Note)
+pub read-suffices : (f : List ℕ) (lent : Lent) (ns ats : List ℕ) (os : List Note) (cap : ℕ) (a : ReadAnswer) (ns′ ats′ : List ℕ) (os′ : List Note)
     → nodesFor (length f) ≤ length ns → attributesFor (length f) ≤ length ats → placesFor cap ≤ length os
-    → Reads f names area ns ats os cap a ns′ ats′ os′ → HasRoom a
+    → Reads f lent ns ats os cap a ns′ ats′ os′ → HasRoom a
 read-suffices = room.read-suffices
 
 -- the room of a listing is such for all the lengths that it reads
@@ -215,85 +216,85 @@ listing-suffices = room.listing-suffices
 
 pub read-listed-suffices : (f ns ats : List ℕ) (a : ReadAnswer) (ns′ ats′ : List ℕ) (os′ : List Note) → length f ≤ listedFile
     → length ns ≡ listingRoom .nodes → length ats ≡ listingRoom .attributes
-    → Reads f [] [] ns ats (replicate (listingRoom .notes) zeroNote) (listingRoom .cap) a ns′ ats′ os′ → HasRoom a
+    → Reads f (lends [] []) ns ats (replicate (listingRoom .notes) zeroNote) (listingRoom .cap) a ns′ ats′ os′ → HasRoom a
 read-listed-suffices = room.read-listed-suffices
 
 -- ---- zeros (B7, B8), and the structure of a success (W25 to W29, B9 to B15)
 
-module _ (f names area ns ats : List ℕ) (os : List Note) (cap : ℕ) (ns′ ats′ : List ℕ) (os′ : List Note) where
-  pub refused-zeros : (x : Refusal) → Reads f names area ns ats os cap (Refused x) ns′ ats′ os′ → RefusedZero (numbersOf (Refused x)) ns ats os ns′ ats′ os′
-  refused-zeros x h = zeros.refused-zeros f names area ns ats os cap x ns′ ats′ os′ h
+module _ (f : List ℕ) (lent : Lent) (ns ats : List ℕ) (os : List Note) (cap : ℕ) (ns′ ats′ : List ℕ) (os′ : List Note) where
+  pub refused-zeros : (x : Refusal) → Reads f lent ns ats os cap (Refused x) ns′ ats′ os′ → RefusedZero (numbersOf (Refused x)) ns ats os ns′ ats′ os′
+  refused-zeros x h = zeros.refused-zeros f lent ns ats os cap x ns′ ats′ os′ h
 
-  pub done-zeros : (c : ReadCounts) → Reads f names area ns ats os cap (Done c) ns′ ats′ os′ → DoneZero (numbersOf (Done c)) ns ats os ns′ ats′ os′
-  done-zeros c h = zeros.done-zeros f names area ns ats os cap c ns′ ats′ os′ h
+  pub done-zeros : (c : ReadCounts) → Reads f lent ns ats os cap (Done c) ns′ ats′ os′ → DoneZero (numbersOf (Done c)) ns ats os ns′ ats′ os′
+  done-zeros c h = zeros.done-zeros f lent ns ats os cap c ns′ ats′ os′ h
 
-  pub structured : (c : ReadCounts) → Reads f names area ns ats os cap (Done c) ns′ ats′ os′ → Structured (eventsOf f names area) cap c ns′ ats′ os′
-  structured c h = tree.structured f names area ns ats os cap c ns′ ats′ os′ h
+  pub structured : (c : ReadCounts) → Reads f lent ns ats os cap (Done c) ns′ ats′ os′ → Structured (eventsOf f lent) cap c ns′ ats′ os′
+  structured c h = tree.structured f lent ns ats os cap c ns′ ats′ os′ h
 
   -- its notes are exactly the file's, of each kind the first `cap` (B13, B14)
-  pub notes-kept : (c : ReadCounts) → Reads f names area ns ats os cap (Done c) ns′ ats′ os′
-      → take (c .notes) os′ ≡ map noteOf (keptNotes cap (notesIn (eventsOf f names area)))
-  notes-kept c h = tree.notes-kept f names area ns ats os cap c ns′ ats′ os′ h
+  pub notes-kept : (c : ReadCounts) → Reads f lent ns ats os cap (Done c) ns′ ats′ os′
+      → take (c .notes) os′ ≡ map noteOf (keptNotes cap (notesIn (eventsOf f lent)))
+  notes-kept c h = tree.notes-kept f lent ns ats os cap c ns′ ats′ os′ h
 
-module _ (f names area before : List ℕ) (i : ℕ) (after : List ℕ) where
-  pub text-refused-zeros : (x : Refusal) → TextReads f names area before i (textIs.Refused x) after
+module _ (f : List ℕ) (lent : Lent) (before : List ℕ) (i : ℕ) (after : List ℕ) where
+  pub text-refused-zeros : (x : Refusal) → TextReads f lent before i (textIs.Refused x) after
       → TextRefusedZero (textNumbersOf (textIs.Refused x)) before after
-  text-refused-zeros x h = zeros.text-refused-zeros f names area before i x after h
+  text-refused-zeros x h = zeros.text-refused-zeros f lent before i x after h
 
-  pub text-done-zeros : (k : ℕ) → TextReads f names area before i (textIs.Text k) after → TextDoneZero (textNumbersOf (textIs.Text k)) before after
-  text-done-zeros k h = zeros.text-done-zeros f names area before i k after h
+  pub text-done-zeros : (k : ℕ) → TextReads f lent before i (textIs.Text k) after → TextDoneZero (textNumbersOf (textIs.Text k)) before after
+  text-done-zeros k h = zeros.text-done-zeros f lent before i k after h
 
 -- ---- the C interface: the same of its words and of its structs of numbers
 
 -- one answer
-module _ (f names area ns ats ws : List ℕ) (cap : ℕ) (a a′ : AxmlAnswer) (ns₁ ns₂ ats₁ ats₂ ws₁ ws₂ : List ℕ) where
-  pub c-read-unique : ReadsWords f names area ns ats ws cap a ns₁ ats₁ ws₁ → ReadsWords f names area ns ats ws cap a′ ns₂ ats₂ ws₂
+module _ (f : List ℕ) (lent : Lent) (ns ats ws : List ℕ) (cap : ℕ) (a a′ : AxmlAnswer) (ns₁ ns₂ ats₁ ats₂ ws₁ ws₂ : List ℕ) where
+  pub c-read-unique : ReadsWords f lent ns ats ws cap a ns₁ ats₁ ws₁ → ReadsWords f lent ns ats ws cap a′ ns₂ ats₂ ws₂
       → (a ≡ a′) × (ns₁ ≡ ns₂) × (ats₁ ≡ ats₂) × (ws₁ ≡ ws₂)
   c-read-unique p q =
       (p .answer ∙ sym (q .answer), p .nodes ∙ sym (q .nodes), p .attributes ∙ sym (q .attributes), p .notes ∙ sym (q .notes))
 
-pub c-text-unique : (f names area before : List ℕ) (i : ℕ) (a a′ : AxmlTextAnswer) (after after′ : List ℕ) → AsksText f names area before i a after
-    → AsksText f names area before i a′ after′ → (a ≡ a′) × (after ≡ after′)
-c-text-unique f names area before i a a′ after after′ p q = (p .answer ∙ sym (q .answer), p .out ∙ sym (q .out))
+pub c-text-unique : (f : List ℕ) (lent : Lent) (before : List ℕ) (i : ℕ) (a a′ : AxmlTextAnswer) (after after′ : List ℕ) → AsksText f lent before i a after
+    → AsksText f lent before i a′ after′ → (a ≡ a′) × (after ≡ after′)
+c-text-unique f lent before i a a′ after after′ p q = (p .answer ∙ sym (q .answer), p .out ∙ sym (q .out))
 
-module _ (f names area ns ats tag name : List ℕ) (nodes attributes : ℕ) (a a′ : AxmlFirstAnswer) where
-  pub c-first-unique : a ≡ firstAnswerOf (firstNumbersOf (firstAnswer f names area ns ats tag name nodes attributes))
-      → a′ ≡ firstAnswerOf (firstNumbersOf (firstAnswer f names area ns ats tag name nodes attributes)) → a ≡ a′
+module _ (f : List ℕ) (lent : Lent) (ns ats tag name : List ℕ) (nodes attributes : ℕ) (a a′ : AxmlFirstAnswer) where
+  pub c-first-unique : a ≡ firstAnswerOf (firstNumbersOf (firstAnswer f lent ns ats tag name nodes attributes))
+      → a′ ≡ firstAnswerOf (firstNumbersOf (firstAnswer f lent ns ats tag name nodes attributes)) → a ≡ a′
   c-first-unique p q = p ∙ sym q
 
 -- insertion, of two calls of `axml_read`
-module _ (f names area ns ats ws : List ℕ) (cap : ℕ) (a : AxmlAnswer) (ns₁ ats₁ ws₁ : List ℕ) (one : 1 ≤ cap)
-    (first : ReadsWords f names area ns ats ws cap a ns₁ ats₁ ws₁) (done : a .refusal ≡ 0) (none : a .notes ≡ 0) (places : List (List ForeignChunk))
+module _ (f : List ℕ) (lent : Lent) (ns ats ws : List ℕ) (cap : ℕ) (a : AxmlAnswer) (ns₁ ats₁ ws₁ : List ℕ) (one : 1 ≤ cap)
+    (first : ReadsWords f lent ns ats ws cap a ns₁ ats₁ ws₁) (done : a .refusal ≡ 0) (none : a .notes ≡ 0) (places : List (List ForeignChunk))
     (few : length places ≤ placesIn f) (limit : length (insertedFile places f) ≤ fileLimit) (ns′ ats′ ws′ : List ℕ) (cap′ : ℕ) (a′ : AxmlAnswer)
-    (ns₂ ats₂ ws₂ : List ℕ) (second : ReadsWords (insertedFile places f) names area ns′ ats′ ws′ cap′ a′ ns₂ ats₂ ws₂) where
+    (ns₂ ats₂ ws₂ : List ℕ) (second : ReadsWords (insertedFile places f) lent ns′ ats′ ws′ cap′ a′ ns₂ ats₂ ws₂) where
   pub c-insertion : isFullNumber (a′ .refusal) ≡ false
       → leftInC a′ ns₂ ats₂ ws₂ ≡ withNotesInC (length ns′) (length ats′) (length ws′) (leftInC a ns₁ ats₁ ws₁) (keptNotes cap′ (placeNotes places))
   c-insertion =
-      inC.insertion f names area ns ats ws cap a ns₁ ats₁ ws₁ one first done none places few limit ns′ ats′ ws′ cap′ a′ ns₂ ats₂ ws₂ second
+      inC.insertion f lent ns ats ws cap a ns₁ ats₁ ws₁ one first done none places few limit ns′ ats′ ws′ cap′ a′ ns₂ ats₂ ws₂ second
 
   pub c-insertion-same : length ns′ ≡ length ns → length ats′ ≡ length ats → isFullNumber (a′ .refusal) ≡ false → (ns₂ ≡ ns₁) × (ats₂ ≡ ats₁)
   c-insertion-same =
-      inC.insertion-same f names area ns ats ws cap a ns₁ ats₁ ws₁ one first done none places few limit ns′ ats′ ws′ cap′ a′ ns₂ ats₂ ws₂ second
+      inC.insertion-same f lent ns ats ws cap a ns₁ ats₁ ws₁ one first done none places few limit ns′ ats′ ws′ cap′ a′ ns₂ ats₂ ws₂ second
 
   pub c-insertion-room : nodeWidth * a .nodes ≤ length ns′ → attributeWidth * a .attributes ≤ length ats′ → noteWidth * (2 * cap′) ≤ length ws′
       → isFullNumber (a′ .refusal) ≡ false
   c-insertion-room =
-      inC.insertion-room f names area ns ats ws cap a ns₁ ats₁ ws₁ one first done none places few limit ns′ ats′ ws′ cap′ a′ ns₂ ats₂ ws₂ second
+      inC.insertion-room f lent ns ats ws cap a ns₁ ats₁ ws₁ one first done none places few limit ns′ ats′ ws′ cap′ a′ ns₂ ats₂ ws₂ second
 
 -- zeros
-module _ (f names area ns ats ws : List ℕ) (cap : ℕ) (a : AxmlAnswer) (ns′ ats′ ws′ : List ℕ) where
-  pub c-refused-zeros : ReadsWords f names area ns ats ws cap a ns′ ats′ ws′ → (a .refusal ≡ 0 → ⊥) → RefusedInC a ns ats ws ns′ ats′ ws′
-  c-refused-zeros = inC.refused-zeros f names area ns ats ws cap a ns′ ats′ ws′
+module _ (f : List ℕ) (lent : Lent) (ns ats ws : List ℕ) (cap : ℕ) (a : AxmlAnswer) (ns′ ats′ ws′ : List ℕ) where
+  pub c-refused-zeros : ReadsWords f lent ns ats ws cap a ns′ ats′ ws′ → (a .refusal ≡ 0 → ⊥) → RefusedInC a ns ats ws ns′ ats′ ws′
+  c-refused-zeros = inC.refused-zeros f lent ns ats ws cap a ns′ ats′ ws′
 
-  pub c-done-zeros : ReadsWords f names area ns ats ws cap a ns′ ats′ ws′ → a .refusal ≡ 0 → DoneInC a ns ats ws ns′ ats′ ws′
-  c-done-zeros = inC.done-zeros f names area ns ats ws cap a ns′ ats′ ws′
+  pub c-done-zeros : ReadsWords f lent ns ats ws cap a ns′ ats′ ws′ → a .refusal ≡ 0 → DoneInC a ns ats ws ns′ ats′ ws′
+  c-done-zeros = inC.done-zeros f lent ns ats ws cap a ns′ ats′ ws′
 
-module _ (f names area before : List ℕ) (i : ℕ) (a : AxmlTextAnswer) (after : List ℕ) where
-  pub c-text-refused-zeros : AsksText f names area before i a after → (a .refusal ≡ 0 → ⊥) → TextRefusedInC a before after
-  c-text-refused-zeros = inC.text-refused-zeros f names area before i a after
+module _ (f : List ℕ) (lent : Lent) (before : List ℕ) (i : ℕ) (a : AxmlTextAnswer) (after : List ℕ) where
+  pub c-text-refused-zeros : AsksText f lent before i a after → (a .refusal ≡ 0 → ⊥) → TextRefusedInC a before after
+  c-text-refused-zeros = inC.text-refused-zeros f lent before i a after
 
-  pub c-text-done-zeros : AsksText f names area before i a after → a .refusal ≡ 0 → TextDoneInC a before after
-  c-text-done-zeros = inC.text-done-zeros f names area before i a after
+  pub c-text-done-zeros : AsksText f lent before i a after → a .refusal ≡ 0 → TextDoneInC a before after
+  c-text-done-zeros = inC.text-done-zeros f lent before i a after
 
 pub c-first-refused-zeros : (b : FirstAnswer) (a : AxmlFirstAnswer) → a ≡ firstAnswerOf (firstNumbersOf b) → (a .refusal ≡ 0 → ⊥) → FirstRefusedInC a
 c-first-refused-zeros = inC.first-refused-zeros
@@ -305,7 +306,7 @@ module _ (R : Reader) (meets : Meets R) where
   pub refuses-all-broken : RefusesAll R → ⊥
   refuses-all-broken = broken.refuses-all-broken R meets
 
-  pub constant-broken : (names area ns ats : List ℕ) (os : List Note) (cap : ℕ) → Call [] names area ns ats os cap → Constant R names area ns ats os cap → ⊥
+  pub constant-broken : (lent : Lent) (ns ats : List ℕ) (os : List Note) (cap : ℕ) → Call [] lent ns ats os cap → Constant R lent ns ats os cap → ⊥
   constant-broken = broken.constant-broken R meets
 
   pub constant-on-read-broken : ConstantOnRead R → ⊥
@@ -334,17 +335,17 @@ module _ (R : Reader) (meets : Meets R) where
   first-start-broken = broken.first-start-broken R meets
 
   -- one that gives a file, be it one alone, more starts than open in it, more notes than its cap keeps, or notes of other kinds
-  module _ (f names area ns ats : List ℕ) (os : List Note) (cap : ℕ) (lent : Call f names area ns ats os cap) where
-    pub invents-starts-broken : opensIn (eventsOf f names area) < numbersOf (R f names area ns ats os cap .answer) .starts → ⊥
-    invents-starts-broken = broken.invents-starts-broken R meets f names area ns ats os cap lent
+  module _ (f : List ℕ) (lent : Lent) (ns ats : List ℕ) (os : List Note) (cap : ℕ) (call : Call f lent ns ats os cap) where
+    pub invents-starts-broken : opensIn (eventsOf f lent) < numbersOf (R f lent ns ats os cap .answer) .starts → ⊥
+    invents-starts-broken = broken.invents-starts-broken R meets f lent ns ats os cap call
 
-    pub invents-notes-broken : length (keptNotes cap (notesIn (eventsOf f names area))) < numbersOf (R f names area ns ats os cap .answer) .notes → ⊥
-    invents-notes-broken = broken.invents-notes-broken R meets f names area ns ats os cap lent
+    pub invents-notes-broken : length (keptNotes cap (notesIn (eventsOf f lent))) < numbersOf (R f lent ns ats os cap .answer) .notes → ⊥
+    invents-notes-broken = broken.invents-notes-broken R meets f lent ns ats os cap call
 
-    pub wrong-kinds-broken : (c : ReadCounts) → R f names area ns ats os cap .answer ≡ Done c
-        → (kindsOf (take (c .notes) (R f names area ns ats os cap .notes)) ≡ kindsOf (map noteOf (keptNotes cap (notesIn (eventsOf f names area)))) → ⊥) → ⊥
-    wrong-kinds-broken = broken.wrong-kinds-broken R meets f names area ns ats os cap lent
+    pub wrong-kinds-broken : (c : ReadCounts) → R f lent ns ats os cap .answer ≡ Done c
+        → (kindsOf (take (c .notes) (R f lent ns ats os cap .notes)) ≡ kindsOf (map noteOf (keptNotes cap (notesIn (eventsOf f lent)))) → ⊥) → ⊥
+    wrong-kinds-broken = broken.wrong-kinds-broken R meets f lent ns ats os cap call
 
 -- and the promise can be met: by the definition itself
-pub meets-some : Meets (λ f names area ns ats os cap. reading (roomIn ns ats os cap) f names area)
+pub meets-some : Meets (λ f lent ns ats os cap. reading (roomIn ns ats os cap) f lent)
 meets-some = broken.meets-some

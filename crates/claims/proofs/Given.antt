@@ -9,6 +9,7 @@ use mathlib.Core.List.{List, [], _∷_}
 use lib.ListN.{length}
 use Rattle.anomaly.specs.declared.Note.{Note}
 use Rattle.errors.specs.declared.ReadAnswer.{ReadAnswer}
+use Rattle.system_types.specs.Names.{lends}
 use Rattle.walk.specs.Settle.{Room}
 use Rattle.walk.specs.Reading.{Reading, reading, roomIn, Reads}
 use Rattle.claims.specs.Insertion.{left}
@@ -17,7 +18,7 @@ use Rattle.claims.proofs.Cases.{Case, room, cases, readings, results, c
 
 abbrev pub Gives : Case → Type 0
 Gives c = (ns ats : List ℕ) (os : List Note) (a : ReadAnswer) (ns′ ats′ : List ℕ) (os′ : List Note) → length ns ≡ room .nodes → length ats ≡ room .attributes
-    → length os ≡ room .notes → Reads (c .file) [] [] ns ats os (room .cap) a ns′ ats′ os′ → left a ns′ ats′ os′ ≡ c .result
+    → length os ≡ room .notes → Reads (c .file) (lends [] []) ns ats os (room .cap) a ns′ ats′ os′ → left a ns′ ats′ os′ ≡ c .result
 
 abbrev pub AllGive : List Case → Type 0
 AllGive [] = Unit {0}
@@ -39,10 +40,10 @@ gives : (cs : List Case) → readings cs ≡ results cs → AllGive cs
 gives [] e = tt
 gives (c ∷ cs) e = (
   λ ns ats os a ns′ ats′ os′ n m k p.
-      left-reading (c .file) [] [] ns ats os (room .cap) a ns′ ats′ os′ p
-      ∙ ap (λ (x : ℕ). reading (of-lengths x (length ats) (length os)) (c .file) [] []) n
-      ∙ ap (λ (x : ℕ). reading (of-lengths (room .nodes) x (length os)) (c .file) [] []) m
-      ∙ ap (λ (x : ℕ). reading (of-lengths (room .nodes) (room .attributes) x) (c .file) [] []) k
+      left-reading (c .file) (lends [] []) ns ats os (room .cap) a ns′ ats′ os′ p
+      ∙ ap (λ (x : ℕ). reading (of-lengths x (length ats) (length os)) (c .file) (lends [] [])) n
+      ∙ ap (λ (x : ℕ). reading (of-lengths (room .nodes) x (length os)) (c .file) (lends [] [])) m
+      ∙ ap (λ (x : ℕ). reading (of-lengths (room .nodes) (room .attributes) x) (c .file) (lends [] [])) k
       ∙ ap (firstOr (c .result)) e,
   gives cs (ap restOf e),
 )

@@ -25,6 +25,7 @@ use Rattle.errors.specs.declared.FirstAnswer.the-variants as firstIs
 use Rattle.records.specs.Limits.{fileLimit}
 use Rattle.head.specs.Ask.{TextReads, textAnswer}
 use Rattle.records.specs.Words.{nodeWidth, attributeWidth, noteWidth}
+use Rattle.system_types.specs.Names.{Lent}
 use Rattle.walk.specs.Settle.{Room}
 use Rattle.walk.specs.Reading.{Reading, reading, roomIn, zeroNote, Reads}
 use Rattle.c_api.specs.Words.{wordsOf, wordRoom, answerOf, ReadsWords}
@@ -90,18 +91,18 @@ room-in (Refused x) h = h
 
 -- ---- a call of `axml_read` as one of `read`
 
-module _ (f names area ns ats ws : List ℕ) (cap : ℕ) where
+module _ (f : List ℕ) (lent : Lent) (ns ats ws : List ℕ) (cap : ℕ) where
   abbrev room : Room
   room = wordRoom ns ats ws cap
 
   abbrev places : List Note
   places = replicate (length ws / noteWidth) zeroNote
 
-  as-reads : (a : ReadAnswer) → reading room f names area .answer ≡ a
-      → Reads f names area ns ats places cap a (reading room f names area .nodes) (reading room f names area .attributes) (reading room f names area .notes)
+  as-reads : (a : ReadAnswer) → reading room f lent .answer ≡ a
+      → Reads f lent ns ats places cap a (reading room f lent .nodes) (reading room f lent .attributes) (reading room f lent .notes)
   as-reads a e =
-      let same : reading (roomIn ns ats places cap) f names area ≡ reading room f names area =
-      ap (λ (n : ℕ). reading (record { nodes = length ns; attributes = length ats; notes = n; cap = cap }) f names area)
+      let same : reading (roomIn ns ats places cap) f lent ≡ reading room f lent =
+      ap (λ (n : ℕ). reading (record { nodes = length ns; attributes = length ats; notes = n; cap = cap }) f lent)
       (length-replicate (length ws / noteWidth) zeroNote) in
       record {
         answer = sym (ap (λ (x : Reading). numbersOf (x .answer)) same ∙ ap numbersOf e);
@@ -113,15 +114,15 @@ module _ (f names area ns ats ws : List ℕ) (cap : ℕ) where
   many : length places ≡ length ws / noteWidth
   many = length-replicate (length ws / noteWidth) zeroNote
 
-  module _ (a : AxmlAnswer) (ns′ ats′ ws′ : List ℕ) (h : ReadsWords f names area ns ats ws cap a ns′ ats′ ws′) where
+  module _ (a : AxmlAnswer) (ns′ ats′ ws′ : List ℕ) (h : ReadsWords f lent ns ats ws cap a ns′ ats′ ws′) where
     pub refused-zeros : (a .refusal ≡ 0 → ⊥) → RefusedInC a ns ats ws ns′ ats′ ws′
     unfolding numbersOf wordsOf
-    refused-zeros some = go (reading room f names area .answer) refl
+    refused-zeros some = go (reading room f lent .answer) refl
       where
-        go : (b : ReadAnswer) → reading room f names area .answer ≡ b → RefusedInC a ns ats ws ns′ ats′ ws′
+        go : (b : ReadAnswer) → reading room f lent .answer ≡ b → RefusedInC a ns ats ws ns′ ats′ ws′
         go (Done c) e = absurd (some (ap (λ (x : AxmlAnswer). x .refusal) (h .answer ∙ ap (λ (b : ReadAnswer). answerOf (numbersOf b)) e)))
         go (Refused x) e =
-            let z = zeros.refused-zeros f names area ns ats places cap x _ _ _ (as-reads (Refused x) e) in
+            let z = zeros.refused-zeros f lent ns ats places cap x _ _ _ (as-reads (Refused x) e) in
             let q = h .answer ∙ ap (λ (b : ReadAnswer). answerOf (numbersOf b)) e in
             record {
               starts = ap (λ (x : AxmlAnswer). x .starts) q;
@@ -137,11 +138,11 @@ module _ (f names area ns ats ws : List ℕ) (cap : ℕ) where
     pub done-zeros : a .refusal ≡ 0 → DoneInC a ns ats ws ns′ ats′ ws′
     unfolding numbersOf wordsOf
     done-zeros none =
-        let d = done-of (reading room f names area .answer) (sym (ap (λ (x : AxmlAnswer). x .refusal) (h .answer)) ∙ none) in
+        let d = done-of (reading room f lent .answer) (sym (ap (λ (x : AxmlAnswer). x .refusal) (h .answer)) ∙ none) in
         let c = d .0 in
         let q = h .answer ∙ ap (λ (b : ReadAnswer). answerOf (numbersOf b)) (d .1) in
-        let z = zeros.done-zeros f names area ns ats places cap c _ _ _ (as-reads (Done c) (d .1)) in
-        let os = reading room f names area .notes in
+        let z = zeros.done-zeros f lent ns ats places cap c _ _ _ (as-reads (Done c) (d .1)) in
+        let os = reading room f lent .notes in
         let k : a .notes ≡ c .notes = ap (λ (x : AxmlAnswer). x .notes) q in
         let t : List ℕ = replicate (length ws % noteWidth) 0 in
         record {
@@ -162,10 +163,10 @@ module _ (f names area ns ats ws : List ℕ) (cap : ℕ) where
 
 -- ---- insertion
 
-module _ (f names area ns ats ws : List ℕ) (cap : ℕ) (a : AxmlAnswer) (ns₁ ats₁ ws₁ : List ℕ) (one : 1 ≤ cap)
-    (first : ReadsWords f names area ns ats ws cap a ns₁ ats₁ ws₁) (done : a .refusal ≡ 0) (none : a .notes ≡ 0) where
+module _ (f : List ℕ) (lent : Lent) (ns ats ws : List ℕ) (cap : ℕ) (a : AxmlAnswer) (ns₁ ats₁ ws₁ : List ℕ) (one : 1 ≤ cap)
+    (first : ReadsWords f lent ns ats ws cap a ns₁ ats₁ ws₁) (done : a .refusal ≡ 0) (none : a .notes ≡ 0) where
   abbrev shorter : Reading
-  shorter = reading (wordRoom ns ats ws cap) f names area
+  shorter = reading (wordRoom ns ats ws cap) f lent
 
   counted : (c : ReadCounts) × (shorter .answer ≡ Done c)
   counted = done-of (shorter .answer) (sym (ap (λ (x : AxmlAnswer). x .refusal) (first .answer)) ∙ done)
@@ -182,9 +183,9 @@ module _ (f names area ns ats ws : List ℕ) (cap : ℕ) (a : AxmlAnswer) (ns₁
 
   module _ (places : List (List ForeignChunk)) (few : length places ≤ placesIn f) (limit : length (insertedFile places f) ≤ fileLimit)
       (ns′ ats′ ws′ : List ℕ) (cap′ : ℕ) (a′ : AxmlAnswer) (ns₂ ats₂ ws₂ : List ℕ)
-      (second : ReadsWords (insertedFile places f) names area ns′ ats′ ws′ cap′ a′ ns₂ ats₂ ws₂) where
+      (second : ReadsWords (insertedFile places f) lent ns′ ats′ ws′ cap′ a′ ns₂ ats₂ ws₂) where
     abbrev longer : Reading
-    longer = reading (wordRoom ns′ ats′ ws′ cap′) (insertedFile places f) names area
+    longer = reading (wordRoom ns′ ats′ ws′ cap′) (insertedFile places f) lent
 
     abbrev ks : List ResAnomaly
     ks = keptNotes cap′ (placeNotes places)
@@ -193,7 +194,7 @@ module _ (f names area ns ats ws : List ℕ) (cap : ℕ) (a : AxmlAnswer) (ns₁
     has h = room-of (longer .answer) (sym (ap (λ (x : AxmlAnswer). isFullNumber (x .refusal)) (second .answer)) ∙ h)
 
     is : isFullNumber (a′ .refusal) ≡ false → longer ≡ withNotes (wordRoom ns′ ats′ ws′ cap′) shorter c ks
-    is h = proved.insertion (wordRoom ns ats ws cap) f names area c one (counted .1) no-notes places few limit (wordRoom ns′ ats′ ws′ cap′) (has h)
+    is h = proved.insertion (wordRoom ns ats ws cap) f lent c one (counted .1) no-notes places few limit (wordRoom ns′ ats′ ws′ cap′) (has h)
 
     pub insertion : isFullNumber (a′ .refusal) ≡ false
         → leftInC a′ ns₂ ats₂ ws₂ ≡ withNotesInC (length ns′) (length ats′) (length ws′) (leftInC a ns₁ ats₁ ws₁) ks
@@ -201,9 +202,9 @@ module _ (f names area ns ats ws : List ℕ) (cap : ℕ) (a : AxmlAnswer) (ns₁
     insertion h =
         let e = is h in
         let done′ = ap (λ (x : Reading). x .answer) e in
-        let z = zeros.done-zeros (insertedFile places f) names area ns′ ats′ _ cap′ _ _ _ _ (as-reads (insertedFile places f) names area ns′ ats′ ws′ cap′ _ done′) in
+        let z = zeros.done-zeros (insertedFile places f) lent ns′ ats′ _ cap′ _ _ _ _ (as-reads (insertedFile places f) lent ns′ ats′ ws′ cap′ _ done′) in
         let fits : length ks ≤ length ws′ / noteWidth =
-        omega (arith, z .noteRecords .there, many (insertedFile places f) names area ns′ ats′ ws′ cap′) in
+        omega (arith, z .noteRecords .there, many (insertedFile places f) lent ns′ ats′ ws′ cap′) in
         let q : a′ ≡ _ = second .answer ∙ ap (λ (b : ReadAnswer). answerOf (numbersOf b)) done′ in
         let n : ns₂ ≡ _ = second .nodes ∙ ap (λ (x : Reading). x .nodes) e in
         let m : ats₂ ≡ _ = second .attributes ∙ ap (λ (x : Reading). x .attributes) e in
@@ -219,7 +220,7 @@ module _ (f names area ns ats ws : List ℕ) (cap : ℕ) (a : AxmlAnswer) (ns₁
 
     pub insertion-same : length ns′ ≡ length ns → length ats′ ≡ length ats → isFullNumber (a′ .refusal) ≡ false → (ns₂ ≡ ns₁) × (ats₂ ≡ ats₁)
     insertion-same n m h =
-        let e = proved.insertion-same (wordRoom ns ats ws cap) f names area c one (counted .1) no-notes places few limit (wordRoom ns′ ats′ ws′ cap′) n m
+        let e = proved.insertion-same (wordRoom ns ats ws cap) f lent c one (counted .1) no-notes places few limit (wordRoom ns′ ats′ ws′ cap′) n m
         (has h) in
         (second .nodes ∙ e .0 ∙ sym (first .nodes), second .attributes ∙ e .1 ∙ sym (first .attributes))
 
@@ -229,41 +230,41 @@ module _ (f names area ns ats ws : List ℕ) (cap : ℕ) (a : AxmlAnswer) (ns₁
     insertion-room n m k =
         let rn : nodeWidth * c .nodes ≤ length ns′ = rw (ap (λ (x : AxmlAnswer). x .nodes) told) at n in
         let rm : attributeWidth * c .attributes ≤ length ats′ = rw (ap (λ (x : AxmlAnswer). x .attributes) told) at m in
-        let h = proved.insertion-room (wordRoom ns ats ws cap) f names area c one (counted .1) no-notes places few limit (wordRoom ns′ ats′ ws′ cap′) rn rm
+        let h = proved.insertion-room (wordRoom ns ats ws cap) f lent c one (counted .1) no-notes places few limit (wordRoom ns′ ats′ ws′ cap′) rn rm
         (omega (arith, placeNotes-room cap′ places, k)) in
         ap (λ (x : AxmlAnswer). isFullNumber (x .refusal)) (second .answer) ∙ room-in (longer .answer) h
 
 -- ---- the questions
 
-module _ (f names area before : List ℕ) (i : ℕ) (a : AxmlTextAnswer) (after : List ℕ) (h : AsksText f names area before i a after) where
-  as-text : (b : TextAnswer) → textAnswer f names area (length before) i ≡ b → TextReads f names area before i b after
+module _ (f : List ℕ) (lent : Lent) (before : List ℕ) (i : ℕ) (a : AxmlTextAnswer) (after : List ℕ) (h : AsksText f lent before i a after) where
+  as-text : (b : TextAnswer) → textAnswer f lent (length before) i ≡ b → TextReads f lent before i b after
   as-text b e = record { answer = ap textNumbersOf (sym e); out = h .out }
 
   pub text-refused-zeros : (a .refusal ≡ 0 → ⊥) → TextRefusedInC a before after
   unfolding textNumbersOf
-  text-refused-zeros some = go (textAnswer f names area (length before) i) refl
+  text-refused-zeros some = go (textAnswer f lent (length before) i) refl
     where
-      go : (b : TextAnswer) → textAnswer f names area (length before) i ≡ b → TextRefusedInC a before after
+      go : (b : TextAnswer) → textAnswer f lent (length before) i ≡ b → TextRefusedInC a before after
       go (textIs.Text k) e = absurd (some (ap (λ (x : AxmlTextAnswer). x .refusal) (h .answer ∙ ap (λ (b : TextAnswer). textAnswerOf (textNumbersOf b)) e)))
       go (textIs.Refused x) e =
           let q = h .answer ∙ ap (λ (b : TextAnswer). textAnswerOf (textNumbersOf b)) e in
           record {
             long = ap (λ (x : AxmlTextAnswer). x .length) q;
-            buffer = zeros.text-refused-zeros f names area before i x after (as-text (textIs.Refused x) e) .buffer;
+            buffer = zeros.text-refused-zeros f lent before i x after (as-text (textIs.Refused x) e) .buffer;
           }
 
   pub text-done-zeros : a .refusal ≡ 0 → TextDoneInC a before after
   unfolding textNumbersOf
-  text-done-zeros none = go (textAnswer f names area (length before) i) refl
+  text-done-zeros none = go (textAnswer f lent (length before) i) refl
     where
-      go : (b : TextAnswer) → textAnswer f names area (length before) i ≡ b → TextDoneInC a before after
+      go : (b : TextAnswer) → textAnswer f lent (length before) i ≡ b → TextDoneInC a before after
       go (textIs.Refused x) e =
           absurd (some-number x (sym (ap (λ (x : AxmlTextAnswer). x .refusal) (h .answer ∙ ap (λ (b : TextAnswer). textAnswerOf (textNumbersOf b)) e)) ∙ none))
       go (textIs.Text k) e =
           let q = h .answer ∙ ap (λ (b : TextAnswer). textAnswerOf (textNumbersOf b)) e in
           record {
             value = ap (λ (x : AxmlTextAnswer). x .value) q;
-            buffer = rw (ap (λ (x : AxmlTextAnswer). x .length) q) (zeros.text-done-zeros f names area before i k after (as-text (textIs.Text k) e) .buffer);
+            buffer = rw (ap (λ (x : AxmlTextAnswer). x .length) q) (zeros.text-done-zeros f lent before i k after (as-text (textIs.Text k) e) .buffer);
           }
 
 pub first-refused-zeros : (b : FirstAnswer) (a : AxmlFirstAnswer) → a ≡ firstAnswerOf (firstNumbersOf b) → (a .refusal ≡ 0 → ⊥) → FirstRefusedInC a

@@ -21,6 +21,7 @@ use Rattle.events.specs.declared.Event.{Event}
 use Rattle.events.specs.Events.{Names, namesIn, fileEvents}
 use Rattle.walk.specs.Settle.{Room, Tables, Out, going, refused, settle, nothingYet}
 use Rattle.records.specs.Words.{nodeWidth, attributeWidth}
+use Rattle.system_types.specs.Names.{Lent}
 use Rattle.walk.specs.Reading.{Reading, secondOf, nodesKept, attributesKept, succeeds, finalOf, settledIn, reading}
 use Rattle.claims.specs.Insertion.{ForeignChunk, placesIn, inserted, insertedFile, placeNotes, withNotes}
 use Rattle.claims.specs.Room.{HasRoom}
@@ -37,9 +38,9 @@ use Rattle.claims.proofs.Success.{Success, KeptThere, success, reading-
 true-false : true ≡ false → ⊥
 true-false e = let z : _≡_ {A = ℕ} 0 1 = cc in omega arith
 
-module _ (r : Room) (f names area : List ℕ) (c : ReadCounts) (one : 1 ≤ r .cap) (done : reading r f names area .answer ≡ Done c) (none : c .notes ≡ 0) where
-  abbrev s : Success r f names area c
-  s = success r f names area c done
+module _ (r : Room) (f : List ℕ) (lent : Lent) (c : ReadCounts) (one : 1 ≤ r .cap) (done : reading r f lent .answer ≡ Done c) (none : c .notes ≡ 0) where
+  abbrev s : Success r f lent c
+  s = success r f lent c done
 
   -- the head, its tables, its names, and the body
   abbrev o : Opened
@@ -49,7 +50,7 @@ module _ (r : Room) (f names area : List ℕ) (c : ReadCounts) (one : 1 ≤ r .c
   t = tablesIn f (o .head)
 
   abbrev N : Names
-  N = namesIn (o .head) t names area
+  N = namesIn (o .head) t lent
 
   abbrev l : List ℕ
   l = bodyIn f (o .head)
@@ -110,10 +111,10 @@ module _ (r : Room) (f names area : List ℕ) (c : ReadCounts) (one : 1 ≤ r .c
     abbrev ns : List ResAnomaly
     ns = keptNotes (r′ .cap) (placeNotes places)
 
-    longer : reading r′ (insertedFile places f) names area ≡ finalOf r′ (settle (N .repeats) r′ nothingYet es′)
-    longer = reading-of r′ (insertedFile places f) names area limit (s .good) ∙ ap (finalOf r′) same
+    longer : reading r′ (insertedFile places f) lent ≡ finalOf r′ (settle (N .repeats) r′ nothingYet es′)
+    longer = reading-of r′ (insertedFile places f) lent limit (s .good) ∙ ap (finalOf r′) same
       where
-        same : settledIn r′ (insertedFile places f) names area (openedOf (insertedFile places f)) ≡ settle (N .repeats) r′ nothingYet es′
+        same : settledIn r′ (insertedFile places f) lent (openedOf (insertedFile places f)) ≡ settle (N .repeats) r′ nothingYet es′
         same =
             rw (
               longer-opened f (s .short) head-whole places,
@@ -128,13 +129,13 @@ module _ (r : Room) (f names area : List ℕ) (c : ReadCounts) (one : 1 ≤ r .c
     notes = longer-notes N o t head-whole l no-notes places few
 
     -- THE THEOREM
-    pub insertion : HasRoom (reading r′ (insertedFile places f) names area .answer)
-        → reading r′ (insertedFile places f) names area ≡ withNotes r′ (reading r f names area) c ns
+    pub insertion : HasRoom (reading r′ (insertedFile places f) lent .answer)
+        → reading r′ (insertedFile places f) lent ≡ withNotes r′ (reading r f lent) c ns
     insertion room =
         go (settle (N .repeats) r′ nothingYet es′) longer (settle-beside (N .repeats) r es (s .tables) (s .settles) r′ es′ others)
       where
-        go : (x : Out) → reading r′ (insertedFile places f) names area ≡ finalOf r′ x → Comes (N .repeats) r es (s .tables) (s .settles) r′ es′ others x
-            → reading r′ (insertedFile places f) names area ≡ withNotes r′ (reading r f names area) c ns
+        go : (x : Out) → reading r′ (insertedFile places f) lent ≡ finalOf r′ x → Comes (N .repeats) r es (s .tables) (s .settles) r′ es′ others x
+            → reading r′ (insertedFile places f) lent ≡ withNotes r′ (reading r f lent) c ns
         go (refused x) e full = absurd (true-false (sym full ∙ (rw e at room)))
         go (going u) e b =
             e ∙ succeeds-beside r r′ (s .tables) u ns (b .tree) (b .notes ∙ rw notes) there
@@ -142,7 +143,7 @@ module _ (r : Room) (f names area : List ℕ) (c : ReadCounts) (one : 1 ≤ r .c
 
     -- places for the records that the first reading kept, and for the notes, are room
     pub insertion-room : nodeWidth * c .nodes ≤ r′ .nodes → attributeWidth * c .attributes ≤ r′ .attributes → length ns ≤ r′ .notes
-        → HasRoom (reading r′ (insertedFile places f) names area .answer)
+        → HasRoom (reading r′ (insertedFile places f) lent .answer)
     insertion-room n a m =
         rw longer
         (go (settle (N .repeats) r′ nothingYet es′)
@@ -153,16 +154,16 @@ module _ (r : Room) (f names area : List ℕ) (c : ReadCounts) (one : 1 ≤ r .c
         go (refused x) g = absurd g
 
     -- in tables as long as the first ones, every word is the same
-    pub insertion-same : r′ .nodes ≡ r .nodes → r′ .attributes ≡ r .attributes → HasRoom (reading r′ (insertedFile places f) names area .answer)
-        → (reading r′ (insertedFile places f) names area .nodes ≡ reading r f names area .nodes)
-        × (reading r′ (insertedFile places f) names area .attributes ≡ reading r f names area .attributes)
+    pub insertion-same : r′ .nodes ≡ r .nodes → r′ .attributes ≡ r .attributes → HasRoom (reading r′ (insertedFile places f) lent .answer)
+        → (reading r′ (insertedFile places f) lent .nodes ≡ reading r f lent .nodes)
+        × (reading r′ (insertedFile places f) lent .attributes ≡ reading r f lent .attributes)
     insertion-same n a room =
         let e = insertion room in (
-          ap (λ (x : Reading). x .nodes) e ∙ ap (λ (m : ℕ). keptNodes m (reading r f names area) c) n
+          ap (λ (x : Reading). x .nodes) e ∙ ap (λ (m : ℕ). keptNodes m (reading r f lent) c) n
               ∙ ap (λ (x : Reading). keptNodes (r .nodes) x c) (s .whole)
               ∙ ap (keptNodes (r .nodes) (succeeds r (s .tables))) (sym (s .counts)) ∙ again-nodes r (s .tables) there
               ∙ sym (ap (λ (x : Reading). x .nodes) (s .whole)),
-          ap (λ (x : Reading). x .attributes) e ∙ ap (λ (m : ℕ). keptAttributes m (reading r f names area) c) a
+          ap (λ (x : Reading). x .attributes) e ∙ ap (λ (m : ℕ). keptAttributes m (reading r f lent) c) a
               ∙ ap (λ (x : Reading). keptAttributes (r .attributes) x c) (s .whole)
               ∙ ap (keptAttributes (r .attributes) (succeeds r (s .tables))) (sym (s .counts)) ∙ again-attributes r (s .tables) there
               ∙ sym (ap (λ (x : Reading). x .attributes) (s .whole)),

@@ -30,10 +30,11 @@ use Rattle.res_string_pool.specs.Pool.{countOf, numbered, endOf, poolFrom, behi
 use Rattle.res_string_pool.specs.Content.{split8, split16}
 use Rattle.resource_map.specs.Map.{idsIn, idsBy, mapOf, idOf}
 use Rattle.utf.specs.Plain.{isAscii}
-use Rattle.system_types.specs.Names.{isGood, namesFrom, nameOf}
+use Rattle.system_types.specs.Names.{lends, isGood, namesFrom, nameOf}
 use Rattle.text.specs.Content.{systemOf, stringAt, stringOf, contentOf}
 use Rattle.head.specs.Head.{tablesOf, openedOf, outsideIn}
-use Rattle.head.specs.Ask.{lengthCheck, headCheck, openOf, textAnswer, textBuffer, contentAnswer}
+use Rattle.head.specs.Entry.{lengthCheck}
+use Rattle.head.specs.Ask.{openOf, textAnswer, textBuffer, contentAnswer}
 use Rattle.first_value.specs.Question.{androidName, runsFrom, fitOf, findNode, findValue, firstAnswer}
 use Rattle.xml_elements.specs.Chunk.{startOf, attributeAt, startTurn, xmlTurn, numberOf, turnOf}
 use Rattle.events.specs.Events.{attributeEvent, attributesOf, fromLead, fromOpen, fromName, fromTrailing, fromSize, fromGap, eventsOn, bodyEvents, fileEvents}
@@ -58,7 +59,7 @@ counts = record { starts = 1; nodes = 1; attributes = 1; notes = 0 }
 abbrev expected : Reading
 expected = oneNode 1 4 (note 3 261 ∷ note 4 8 ∷ note 3 261 ∷ note 4 8 ∷ [])
 
-s-reads : reading room fileS [] [] ≡ oneNode 1 0 none
+s-reads : reading room fileS (lends [] []) ≡ oneNode 1 0 none
 unfolding fileS headS startS endS reading settle u16le u32le headerOf isXml sortOf contentLen foreignLen walk walkFrom trace traceFrom
     countOf numbered endOf poolFrom behindGarbage poolOf offsetOf outsideOf split8 split16 idsIn idsBy mapOf idOf isAscii isGood namesFrom
     nameOf systemOf stringAt stringOf contentOf tablesOf openedOf outsideIn lengthCheck startOf attributeAt startTurn xmlTurn numberOf
@@ -67,17 +68,17 @@ unfolding fileS headS startS endS reading settle u16le u32le headerOf isXml sort
     nameSort allChar isNameOf validName
 s-reads = refl
 
-pub s-by-theorem : reading room (insertedFile some fileS) [] [] ≡ expected
+pub s-by-theorem : reading room (insertedFile some fileS) (lends [] []) ≡ expected
 unfolding noteOf
 s-by-theorem =
-    let done : reading room fileS [] [] .answer ≡ Done counts = ap (λ (x : Reading). x .answer) s-reads in
+    let done : reading room fileS (lends [] []) .answer ≡ Done counts = ap (λ (x : Reading). x .answer) s-reads in
     let few : length some ≤ placesIn fileS = rw (s-places .0) (omega arith) in
     let limit : length (insertedFile some fileS) ≤ fileLimit = rw s-limit (omega arith) in
-    insertion room fileS [] [] counts (omega arith) done refl some few limit room
-    (insertion-room room fileS [] [] counts (omega arith) done refl some few limit room (omega arith) (omega arith) (rw s-kept (omega arith)))
+    insertion room fileS (lends [] []) counts (omega arith) done refl some few limit room
+    (insertion-room room fileS (lends [] []) counts (omega arith) done refl some few limit room (omega arith) (omega arith) (rw s-kept (omega arith)))
     ∙ rw (s-reads, s-kept)
 
-pub s-by-computing : reading room (insertedFile some fileS) [] [] ≡ expected
+pub s-by-computing : reading room (insertedFile some fileS) (lends [] []) ≡ expected
 unfolding fileS headS startS endS insertedFile inserted chunksOf restOf reading settle u16le u32le headerOf isXml sortOf contentLen foreignLen walk
     walkFrom trace traceFrom countOf numbered endOf poolFrom behindGarbage poolOf offsetOf outsideOf split8 split16 idsIn idsBy mapOf idOf isAscii
     isGood namesFrom nameOf systemOf stringAt stringOf contentOf tablesOf openedOf outsideIn lengthCheck startOf attributeAt startTurn xmlTurn
@@ -87,19 +88,19 @@ unfolding fileS headS startS endS insertedFile inserted chunksOf restOf reading 
 s-by-computing = refl
 
 -- the questions of the longer file: the text and the content of index 0, and the first value of `android` on `a`
-pub s-asked : (textAnswer (insertedFile some fileS) [] [] 2 0 ≡ Text 1) × (textBuffer (insertedFile some fileS) [] [] 2 0 ≡ 0x61 ∷ 0 ∷ [])
-    × (contentAnswer (insertedFile some fileS) [] [] 0 ≡ 0x61 ∷ [])
-    × (firstAnswer (insertedFile some fileS) [] [] firstNode lead (0x61 ∷ []) androidName 1 1 ≡ Found 3 0 false)
+pub s-asked : (textAnswer (insertedFile some fileS) (lends [] []) 2 0 ≡ Text 1) × (textBuffer (insertedFile some fileS) (lends [] []) 2 0 ≡ 0x61 ∷ 0 ∷ [])
+    × (contentAnswer (insertedFile some fileS) (lends [] []) 0 ≡ 0x61 ∷ [])
+    × (firstAnswer (insertedFile some fileS) (lends [] []) firstNode lead (0x61 ∷ []) androidName 1 1 ≡ Found 3 0 false)
 unfolding fileS headS startS endS insertedFile inserted chunksOf restOf u16le u32le headerOf isXml sortOf contentLen foreignLen walk walkFrom
     countOf numbered endOf poolFrom behindGarbage poolOf offsetOf split8 split16 idsIn idsBy mapOf idOf isAscii isGood namesFrom nameOf systemOf
-    stringAt stringOf contentOf tablesOf openedOf lengthCheck headCheck openOf textAnswer textBuffer contentAnswer firstAnswer fitOf runsFrom
+    stringAt stringOf contentOf tablesOf openedOf lengthCheck openOf textAnswer textBuffer contentAnswer firstAnswer fitOf runsFrom
     findNode findValue startOf startTurn xmlTurn numberOf turnOf matched isWhole longest anyWhole spelt encode step8 stepsAfter bytesOf
     allSound textOf eqBytes f105 f102 isReference valueTypeNumber valueTypeOf
 s-asked = (refl, refl, refl, refl)
 
 -- ---- room
 
-pub s-full : reading (record { nodes = nodeWidth - 1; attributes = attributeWidth; notes = 4; cap = 2 }) fileS [] [] .answer ≡ Refused (NodesFull 0)
+pub s-full : reading (record { nodes = nodeWidth - 1; attributes = attributeWidth; notes = 4; cap = 2 }) fileS (lends [] []) .answer ≡ Refused (NodesFull 0)
 unfolding fileS headS startS endS reading settle u16le u32le headerOf isXml sortOf contentLen foreignLen walk walkFrom trace traceFrom
     countOf numbered endOf poolFrom behindGarbage poolOf offsetOf outsideOf split8 split16 idsIn idsBy mapOf idOf isAscii isGood namesFrom
     nameOf systemOf stringAt stringOf contentOf tablesOf openedOf outsideIn lengthCheck startOf attributeAt startTurn xmlTurn numberOf
@@ -111,7 +112,7 @@ s-full = refl
 -- ---- behind a chunk that is cut
 
 -- twelve foreign bytes: five are taken for the end's, seven are left
-pub swallowed : reading room (take 107 fileS ++ (0x05 ∷ 0x01 ∷ 0x08 ∷ 0x00 ∷ 0x0c ∷ 0x00 ∷ 0x00 ∷ 0x00 ∷ 1 ∷ 2 ∷ 3 ∷ 4 ∷ [])) [] [] ≡ oneNode 1 0 none
+pub swallowed : reading room (take 107 fileS ++ (0x05 ∷ 0x01 ∷ 0x08 ∷ 0x00 ∷ 0x0c ∷ 0x00 ∷ 0x00 ∷ 0x00 ∷ 1 ∷ 2 ∷ 3 ∷ 4 ∷ [])) (lends [] []) ≡ oneNode 1 0 none
 unfolding fileS headS startS endS reading settle u16le u32le headerOf isXml sortOf contentLen foreignLen walk walkFrom trace traceFrom
     countOf numbered endOf poolFrom behindGarbage poolOf offsetOf outsideOf split8 split16 idsIn idsBy mapOf idOf isAscii isGood namesFrom
     nameOf systemOf stringAt stringOf contentOf tablesOf openedOf outsideIn lengthCheck startOf attributeAt startTurn xmlTurn numberOf

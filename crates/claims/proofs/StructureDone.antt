@@ -11,8 +11,9 @@ use Rattle.anomaly.specs.declared.Note.{Note}
 use Rattle.errors.specs.declared.ReadAnswer.the-variants.{Done}
 use Rattle.errors.specs.declared.ReadCounts.{ReadCounts}
 use Rattle.errors.proofs.Laws.{numbersOf-unique}
-use Rattle.head.specs.Ask.{Check, passes, fails, firstOf, lengthCheck, namesCheck}
+use Rattle.head.specs.Entry.{Check, passes, fails, firstOf, entryChecks}
 use Rattle.records.specs.Words.{nodeWidth}
+use Rattle.system_types.specs.Names.{Lent}
 use Rattle.walk.specs.Settle.{Room, Tables, Out, going, refused, settle, nothingYet}
 use Rattle.walk.specs.Reading.{Reading, reading, readingBy, succeeds, nodesKept, attributesKept, roomIn, Reads}
 use Rattle.claims.specs.Readers.{namesFor, eventsOf}
@@ -46,17 +47,17 @@ final-by r (going t) passes c e =
 final-by r (refused y) passes c e = let z : _≡_ {A = ℕ} 0 1 = cc in absurd (let y : ⊥ = omega arith in y)
 final-by r o (fails y) c e = let z : _≡_ {A = ℕ} 0 1 = cc in absurd (let y : ⊥ = omega arith in y)
 
-module _ (f names area ns ats : List ℕ) (os : List Note) (cap : ℕ) where
+module _ (f : List ℕ) (lent : Lent) (ns ats : List ℕ) (os : List Note) (cap : ℕ) where
   abbrev pub room : Room
   room = roomIn ns ats os cap
 
   abbrev pub outOf : Out
-  outOf = settle (namesFor f names area .repeats) room nothingYet (eventsOf f names area)
+  outOf = settle (namesFor f lent .repeats) room nothingYet (eventsOf f lent)
 
-  pub done-by : (c : ReadCounts) (ns′ ats′ : List ℕ) (os′ : List Note) → Reads f names area ns ats os cap (Done c) ns′ ats′ os′
-      → DoneBy room outOf c (reading room f names area)
+  pub done-by : (c : ReadCounts) (ns′ ats′ : List ℕ) (os′ : List Note) → Reads f lent ns ats os cap (Done c) ns′ ats′ os′
+      → DoneBy room outOf c (reading room f lent)
   unfolding reading
-  done-by c ns′ ats′ os′ h = final-by room outOf (firstOf (lengthCheck f ∷ namesCheck area names ∷ [])) c (numbersOf-unique _ _ (h .answer))
+  done-by c ns′ ats′ os′ h = final-by room outOf (firstOf (entryChecks f lent)) c (numbersOf-unique _ _ (h .answer))
 
   pub done-shaped : (t : Tables) → outOf ≡ going t → Shaped room t
-  done-shaped t e = rw e at (settled-shaped room (namesFor f names area .repeats) (eventsOf f names area))
+  done-shaped t e = rw e at (settled-shaped room (namesFor f lent .repeats) (eventsOf f lent))

@@ -5,26 +5,27 @@ use Prim.Native.Nat.{ℕ, zero, suc, _+_, _-_, _*_, _/_, _≤_}
 use native.Mathlib.Omega.{arith}
 use mathlib.Core.Path.{_≡_, refl, sym, _∙_, ap, subst}
 use mathlib.Core.List.{List, [], _∷_, _++_, map}
-use mathlib.Core.Bool.{Bool, true, false}
-use borrow.Author.Tests.{ltb-false, le-ltb, lt-ltb}
+use mathlib.Core.Bool.{true}
+use borrow.Author.Tests.{lt-ltb}
 use lib.ListN.{length, take, getD, replicate, length-map}
 use lib.Seq.{length-take-le, take-at}
-use lib.Dec.{ltb}
 use Rattle.anomaly.specs.Note.{kinds, kindIndex, noteOf}
 use Rattle.anomaly.specs.Kept.{isDue, none, keptNotes}
 use Rattle.anomaly.specs.declared.ResAnomaly.{ResAnomaly}
 use Rattle.anomaly.proofs.Laws.{keptFrom-due}
 use Rattle.errors.specs.declared.Refusal.{Refusal}
-use Rattle.errors.specs.declared.Refusal.the-variants.{TooLargeError}
 use Rattle.errors.specs.declared.ReadAnswer.{ReadAnswer}
 use Rattle.errors.specs.declared.ReadAnswer.the-variants.{Done, Refused}
 use Rattle.errors.specs.declared.ReadCounts.{ReadCounts}
-use Rattle.records.specs.Limits.{fileLimit}
+use Rattle.system_types.specs.Names.{Lent, namesOf}
+use Rattle.system_types.specs.declared.NamesRead.the-variants.{Good}
 use Rattle.head.specs.Head.{openedOf}
-use Rattle.head.specs.Ask.{Check, passes, fails, lengthCheck, namesCheck}
+use Rattle.head.specs.Entry.{Check, passes, fails, firstOf, entryChecks}
+use Rattle.head.proofs.Entering.{Passed, passed, passes-all}
+use Rattle.records.specs.Limits.{fileLimit}
 use Rattle.records.specs.Words.{nodeWidth, attributeWidth}
 use Rattle.walk.specs.Settle.{Room, Tables, Out, going, refused}
-use Rattle.walk.specs.Reading.{Reading, nodesKept, attributesKept, refuses, succeeds, finalOf, settledIn, reading}
+use Rattle.walk.specs.Reading.{Reading, nodesKept, attributesKept, refuses, succeeds, finalOf, settledIn, readingBy, reading}
 use Rattle.claims.specs.Insertion.{withNotes}
 use Rattle.claims.proofs.Grown.{bare}
 
@@ -41,49 +42,40 @@ countsIn d (Refused x) = d
 abbrev pub countsOf : Tables → ReadCounts
 countsOf t = record { starts = length (t .nodes) / nodeWidth; nodes = nodesKept t; attributes = attributesKept t; notes = length (t .notes) }
 
-pub record Success (r : Room) (f names area : List ℕ) (c : ReadCounts) : Type 0 where
+pub record Success (r : Room) (f : List ℕ) (lent : Lent) (c : ReadCounts) : Type 0 where
   pub short : length f ≤ fileLimit
-  pub good : namesCheck area names ≡ passes
+  pub good : namesOf lent ≡ Good
   pub tables : Tables
-  pub settles : settledIn r f names area (openedOf f) ≡ going tables
-  pub whole : reading r f names area ≡ succeeds r tables
+  pub settles : settledIn r f lent (openedOf f) ≡ going tables
+  pub whole : reading r f lent ≡ succeeds r tables
   pub counts : countsOf tables ≡ c
 
-module _ (r : Room) (f names area : List ℕ) where
-  pub reading-of : length f ≤ fileLimit → namesCheck area names ≡ passes → reading r f names area ≡ finalOf r (settledIn r f names area (openedOf f))
-  unfolding reading lengthCheck
-  reading-of short good = rw (le-ltb fileLimit (length f) short, good)
+module _ (r : Room) (f : List ℕ) (lent : Lent) where
+  reading-by : (k : Check) → firstOf (entryChecks f lent) ≡ k → reading r f lent ≡ readingBy r (settledIn r f lent (openedOf f)) k
+  unfolding reading
+  reading-by k q = ap (readingBy r (settledIn r f lent (openedOf f))) q
 
-  reading-long : ltb fileLimit (length f) ≡ true → reading r f names area ≡ refuses r TooLargeError
-  unfolding reading lengthCheck
-  reading-long q = rw q
+  pub reading-of : length f ≤ fileLimit → namesOf lent ≡ Good → reading r f lent ≡ finalOf r (settledIn r f lent (openedOf f))
+  reading-of short good = reading-by passes (passes-all f lent short good)
 
-  reading-names : length f ≤ fileLimit → (x : Refusal) → namesCheck area names ≡ fails x → reading r f names area ≡ refuses r x
-  unfolding reading lengthCheck
-  reading-names short x q = rw (le-ltb fileLimit (length f) short, q)
-
-  pub success : (c : ReadCounts) → reading r f names area .answer ≡ Done c → Success r f names area c
-  success c e = long (ltb fileLimit (length f)) refl
+  pub success : (c : ReadCounts) → reading r f lent .answer ≡ Done c → Success r f lent c
+  success c e = checked (firstOf (entryChecks f lent)) refl
     where
       answer : Reading → ReadAnswer
       answer x = x .answer
 
-      no-done : {A : Type 0} (x : Refusal) → reading r f names area ≡ refuses r x → A
+      no-done : {A : Type 0} (x : Refusal) → reading r f lent ≡ refuses r x → A
       no-done x z = absurd (subst IsDone (sym (sym (ap answer z) ∙ e)) tt)
 
-      out : length f ≤ fileLimit → namesCheck area names ≡ passes → (o : Out) → settledIn r f names area (openedOf f) ≡ o → Success r f names area c
-      out short good (refused x) q = no-done x (reading-of short good ∙ ap (finalOf r) q)
-      out short good (going t) q =
-          let w : reading r f names area ≡ succeeds r t = reading-of short good ∙ ap (finalOf r) q in
-          record { short = short; good = good; tables = t; settles = q; whole = w; counts = ap (countsIn c) (sym (ap answer w) ∙ e) }
+      out : Passed f lent → (o : Out) → settledIn r f lent (openedOf f) ≡ o → Success r f lent c
+      out p (refused x) q = no-done x (reading-of (p .short) (p .good) ∙ ap (finalOf r) q)
+      out p (going t) q =
+          let w : reading r f lent ≡ succeeds r t = reading-of (p .short) (p .good) ∙ ap (finalOf r) q in
+          record { short = p .short; good = p .good; tables = t; settles = q; whole = w; counts = ap (countsIn c) (sym (ap answer w) ∙ e) }
 
-      named : length f ≤ fileLimit → (k : Check) → namesCheck area names ≡ k → Success r f names area c
-      named short passes q = out short q (settledIn r f names area (openedOf f)) refl
-      named short (fails x) q = no-done x (reading-names short x q)
-
-      long : (b : Bool) → ltb fileLimit (length f) ≡ b → Success r f names area c
-      long true q = no-done TooLargeError (reading-long q)
-      long false q = named (ltb-false fileLimit (length f) q) (namesCheck area names) refl
+      checked : (k : Check) → firstOf (entryChecks f lent) ≡ k → Success r f lent c
+      checked passes q = out (passed f lent q) (settledIn r f lent (openedOf f)) refl
+      checked (fails x) q = no-done x (reading-by (fails x) q)
 
 -- ---- two successes
 

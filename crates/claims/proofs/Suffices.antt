@@ -24,12 +24,12 @@ use Rattle.errors.specs.Refusal.{numberOf}
 use Rattle.errors.specs.declared.Refusal.{Refusal}
 use Rattle.errors.specs.declared.ReadAnswer.{ReadAnswer}
 use Rattle.records.specs.Limits.{fileLimit, listedFile}
-use Rattle.system_types.specs.Names.{namesOf}
+use Rattle.system_types.specs.Names.{Lent, lends, namesOf}
 use Rattle.system_types.specs.declared.NamesRead.{NamesRead}
 use Rattle.system_types.specs.declared.NamesRead.the-variants.{Good, Bad}
 use Rattle.head.specs.declared.Opened.{Opened}
 use Rattle.head.specs.Head.{openedOf, tablesIn, bodyIn, headLen}
-use Rattle.head.specs.Ask.{Check, passes, fails, firstOf, lengthCheck, namesCheck, namesCheckBy}
+use Rattle.head.specs.Entry.{Check, passes, fails, firstOf, lengthCheck, namesCheckBy, entryChecks}
 use Rattle.xml_elements.proofs.Laws.{cond-by}
 use Rattle.events.specs.declared.Event.{Event}
 use Rattle.events.specs.Events.{namesIn, fileEvents}
@@ -118,22 +118,37 @@ unfolding numberOf
 names-under Good = tt
 names-under (Bad k) = refl
 
-first-under : (a b : Check) → Under a → Under b → Under (firstOf (a ∷ b ∷ []))
-first-under passes passes p q = tt
-first-under passes (fails y) p q = q
-first-under (fails x) b p q = p
+abbrev AllUnder : List Check → Type 0
+AllUnder [] = Unit {0}
+AllUnder (c ∷ cs) = Under c × AllUnder cs
+
+first-under : (cs : List Check) → AllUnder cs → Under (firstOf cs)
+first-under [] p = tt
+first-under (passes ∷ cs) p = first-under cs (p .1)
+first-under (fails x ∷ cs) p = p .0
+
+-- a line for each check
+entry-under : (f : List ℕ) (lent : Lent) → Under (firstOf (entryChecks f lent))
+entry-under f lent =
+    first-under (entryChecks f lent) (
+      length-under f,
+      (
+        names-under (namesOf lent),
+        tt,
+      ),
+    )
 
 final-under : (r : Room) (o : Out) (c : Check) → InOut (Enough r []) Other o → Under c → HasRoom (readingBy r o c .answer)
 final-under r (going t) passes p q = tt
 final-under r (refused y) passes p q = p
 final-under r o (fails y) p q = q
 
-module _ (r : Room) (f names area : List ℕ) (nodes : nodesFor (length f) ≤ r .nodes) (attributes : attributesFor (length f) ≤ r .attributes)
+module _ (r : Room) (f : List ℕ) (lent : Lent) (nodes : nodesFor (length f) ≤ r .nodes) (attributes : attributesFor (length f) ≤ r .attributes)
     (notes : placesFor (r .cap) ≤ r .notes) where
-  settled : (o : Opened) → InOut (Enough r []) Other (settledIn r f names area o)
+  settled : (o : Opened) → InOut (Enough r []) Other (settledIn r f lent o)
   settled o =
       let t = tablesIn f (o .head) in
-      let N = namesIn (o .head) t names area in
+      let N = namesIn (o .head) t lent in
       let b = bodyIn f (o .head) in
       let few = file-few N o t b in
       let l : length b ≡ length f - (8 + headLen (o .head)) = length-drop (8 + headLen (o .head)) f in
@@ -144,19 +159,18 @@ module _ (r : Room) (f names area : List ℕ) (nodes : nodesFor (length f) ≤ r
         notes = omega (arith, keptNotes-length-le (r .cap) (notesIn (fileEvents N o t b)));
       })
 
-  pub suffices : HasRoom (reading r f names area .answer)
+  pub suffices : HasRoom (reading r f lent .answer)
   unfolding reading
   suffices =
-      final-under r (settledIn r f names area (openedOf f)) (firstOf (lengthCheck f ∷ namesCheck area names ∷ []))
-      (settled (openedOf f)) (first-under (lengthCheck f) (namesCheck area names) (length-under f) (names-under (namesOf area names)))
+      final-under r (settledIn r f lent (openedOf f)) (firstOf (entryChecks f lent)) (settled (openedOf f)) (entry-under f lent)
 
 -- ---- a call
 
-pub read-suffices : (f names area ns ats : List ℕ) (os : List NoteOf) (cap : ℕ) (a : ReadAnswer) (ns′ ats′ : List ℕ) (os′ : List NoteOf)
+pub read-suffices : (f : List ℕ) (lent : Lent) (ns ats : List ℕ) (os : List NoteOf) (cap : ℕ) (a : ReadAnswer) (ns′ ats′ : List ℕ) (os′ : List NoteOf)
     → nodesFor (length f) ≤ length ns → attributesFor (length f) ≤ length ats → placesFor cap ≤ length os
-    → Reads f names area ns ats os cap a ns′ ats′ os′ → HasRoom a
-read-suffices f names area ns ats os cap a ns′ ats′ os′ n m o h =
-    subst HasRoom (sym (numbersOf-unique _ _ (h .answer))) (suffices (roomIn ns ats os cap) f names area n m o)
+    → Reads f lent ns ats os cap a ns′ ats′ os′ → HasRoom a
+read-suffices f lent ns ats os cap a ns′ ats′ os′ n m o h =
+    subst HasRoom (sym (numbersOf-unique _ _ (h .answer))) (suffices (roomIn ns ats os cap) f lent n m o)
 
 -- ---- a listing
 
@@ -166,8 +180,8 @@ listing-suffices n short = (omega arith, omega arith, omega arith)
 
 pub read-listed-suffices : (f ns ats : List ℕ) (a : ReadAnswer) (ns′ ats′ : List ℕ) (os′ : List NoteOf)
     → length f ≤ listedFile → length ns ≡ listingRoom .nodes → length ats ≡ listingRoom .attributes
-    → Reads f [] [] ns ats (replicate (listingRoom .notes) zeroNote) (listingRoom .cap) a ns′ ats′ os′ → HasRoom a
+    → Reads f (lends [] []) ns ats (replicate (listingRoom .notes) zeroNote) (listingRoom .cap) a ns′ ats′ os′ → HasRoom a
 read-listed-suffices f ns ats a ns′ ats′ os′ short n m h =
     let s = listing-suffices (length f) short in
-    read-suffices f [] [] ns ats _ (listingRoom .cap) a ns′ ats′ os′ (omega (arith, s .0)) (omega (arith, s .1))
+    read-suffices f (lends [] []) ns ats _ (listingRoom .cap) a ns′ ats′ os′ (omega (arith, s .0)) (omega (arith, s .1))
     (omega (arith, s .2, length-replicate (listingRoom .notes) zeroNote)) h

@@ -12,8 +12,11 @@ use Rattle.errors.specs.declared.FirstAnswer.{FirstAnswer}
 use Rattle.errors.specs.Refusal.{textNumbersOf, firstNumbersOf}
 use Rattle.errors.proofs.Laws.{textNumbersOf-unique, firstNumbersOf-unique}
 use Rattle.records.specs.Limits.{fileLimit}
+use Rattle.system_types.specs.Names.{Lent}
+use Rattle.head.specs.declared.HeadEnd.the-variants.{Whole}
 use Rattle.head.specs.Head.{openedOf, tablesIn}
-use Rattle.head.specs.Ask.{Check, passes, fails, firstOf, checks, lengthCheck, headCheck, openBy, openOf, askedBy}
+use Rattle.head.specs.Entry.{Check, passes, fails, firstOf, lengthCheck, entryChecks}
+use Rattle.head.specs.Ask.{openBy, openOf, askedBy}
 use Rattle.head.specs.Ask.{textAnswer, textBuffer, contentAnswer, TextReads}
 use Rattle.first_value.specs.Question as first
 use Rattle.first_value.specs.Question.{firstAnswer, FirstReads}
@@ -24,60 +27,63 @@ use Rattle.claims.proofs.Success.{success}
 use Rattle.claims.proofs.Insertion.{head-whole, insertion-head}
 use Rattle.claims.proofs.Longer.{longer-tables}
 
-module _ (r : Room) (f names area : List ℕ) (c : ReadCounts) (one : 1 ≤ r .cap) (done : reading r f names area .answer ≡ Done c) (none : c .notes ≡ 0)
+module _ (r : Room) (f : List ℕ) (lent : Lent) (c : ReadCounts) (one : 1 ≤ r .cap) (done : reading r f lent .answer ≡ Done c) (none : c .notes ≡ 0)
     (places : List (List ForeignChunk)) (limit : length (insertedFile places f) ≤ fileLimit) where
   abbrev g : List ℕ
   g = insertedFile places f
 
   short : length f ≤ fileLimit
-  short = success r f names area c done .short
+  short = success r f lent c done .short
+
+  whole : openedOf f .end ≡ Whole
+  whole = head-whole r f lent c one done none
 
   opened-same : openedOf g ≡ openedOf f
-  opened-same = insertion-head r f names area c one done none places .0
+  opened-same = insertion-head r f lent c one done none places .0
 
   tables-same : tablesIn g (openedOf f .head) ≡ tablesIn f (openedOf f .head)
-  tables-same = longer-tables f short (head-whole r f names area c one done none) places
+  tables-same = longer-tables f short whole places
 
   -- the head is opened as that of f, and it is that of f
-  open-same : openOf g names area ≡ openOf f names area
-  unfolding openOf lengthCheck headCheck
+  open-same : openOf g lent ≡ openOf f lent
+  unfolding openOf lengthCheck
   open-same = rw (le-ltb fileLimit (length g) limit, le-ltb fileLimit (length f) short, opened-same)
 
-  asked-same : (i : ℕ) → askedBy g names area i (openOf g names area) ≡ askedBy f names area i (openOf f names area)
+  asked-same : (i : ℕ) → askedBy g lent i (openOf g lent) ≡ askedBy f lent i (openOf f lent)
   unfolding openOf
-  asked-same i = ap (askedBy g names area i) open-same ∙ go (firstOf (checks f names area))
+  asked-same i = ap (askedBy g lent i) open-same ∙ go (firstOf (entryChecks f lent))
     where
-      go : (x : Check) → askedBy g names area i (openBy (openedOf f .head) x) ≡ askedBy f names area i (openBy (openedOf f .head) x)
-      go passes = rw tables-same
+      go : (x : Check) → askedBy g lent i (openBy (openedOf f) x) ≡ askedBy f lent i (openBy (openedOf f) x)
+      go passes = rw (whole, tables-same)
       go (fails y) = refl
 
-  text-same : (n i : ℕ) → (textAnswer g names area n i ≡ textAnswer f names area n i) × (textBuffer g names area n i ≡ textBuffer f names area n i)
+  text-same : (n i : ℕ) → (textAnswer g lent n i ≡ textAnswer f lent n i) × (textBuffer g lent n i ≡ textBuffer f lent n i)
   unfolding textAnswer textBuffer
   text-same n i = (rw (asked-same i, open-same), rw (asked-same i, open-same))
 
-  pub insertion-text : (before : List ℕ) (i : ℕ) (a a′ : TextAnswer) (after after′ : List ℕ) → TextReads f names area before i a after
-      → TextReads g names area before i a′ after′ → (a′ ≡ a) × (after′ ≡ after)
+  pub insertion-text : (before : List ℕ) (i : ℕ) (a a′ : TextAnswer) (after after′ : List ℕ) → TextReads f lent before i a after
+      → TextReads g lent before i a′ after′ → (a′ ≡ a) × (after′ ≡ after)
   insertion-text before i a a′ after after′ p q =
       let e = text-same (length before) i in
       (textNumbersOf-unique a′ a (q .answer ∙ ap textNumbersOf (e .0) ∙ sym (p .answer)), q .out ∙ e .1 ∙ sym (p .out))
 
-  content-same : (i : ℕ) → contentAnswer g names area i ≡ contentAnswer f names area i
+  content-same : (i : ℕ) → contentAnswer g lent i ≡ contentAnswer f lent i
   unfolding contentAnswer
   content-same i = rw (asked-same i)
 
-  pub insertion-content : (i : ℕ) (s s′ : List ℕ) → s ≡ contentAnswer f names area i → s′ ≡ contentAnswer g names area i → s′ ≡ s
+  pub insertion-content : (i : ℕ) (s s′ : List ℕ) → s ≡ contentAnswer f lent i → s′ ≡ contentAnswer g lent i → s′ ≡ s
   insertion-content i s s′ p q = q ∙ content-same i ∙ sym p
 
   module _ (ns ats tag name : List ℕ) (nodes attributes : ℕ) where
-    asked-first : (x : Check) → first.askedBy g names area ns ats tag name nodes attributes (openBy (openedOf f .head) x)
-        ≡ first.askedBy f names area ns ats tag name nodes attributes (openBy (openedOf f .head) x)
-    asked-first passes = rw tables-same
+    asked-first : (x : Check) → first.askedBy g lent ns ats tag name nodes attributes (openBy (openedOf f) x)
+        ≡ first.askedBy f lent ns ats tag name nodes attributes (openBy (openedOf f) x)
+    asked-first passes = rw (whole, tables-same)
     asked-first (fails y) = refl
 
-    first-same : firstAnswer g names area ns ats tag name nodes attributes ≡ firstAnswer f names area ns ats tag name nodes attributes
+    first-same : firstAnswer g lent ns ats tag name nodes attributes ≡ firstAnswer f lent ns ats tag name nodes attributes
     unfolding firstAnswer openOf
-    first-same = ap (first.askedBy g names area ns ats tag name nodes attributes) open-same ∙ asked-first (firstOf (checks f names area))
+    first-same = ap (first.askedBy g lent ns ats tag name nodes attributes) open-same ∙ asked-first (firstOf (entryChecks f lent))
 
-    pub insertion-first : (a a′ : FirstAnswer) → FirstReads f names area ns ats tag name nodes attributes a
-        → FirstReads g names area ns ats tag name nodes attributes a′ → a′ ≡ a
+    pub insertion-first : (a a′ : FirstAnswer) → FirstReads f lent ns ats tag name nodes attributes a
+        → FirstReads g lent ns ats tag name nodes attributes a′ → a′ ≡ a
     insertion-first a a′ p q = firstNumbersOf-unique a′ a (q .answer ∙ ap firstNumbersOf first-same ∙ sym (p .answer))

@@ -24,12 +24,14 @@ use Rattle.errors.specs.declared.TextAnswer.the-variants as textIs
 use Rattle.errors.specs.declared.FirstAnswer.the-variants as firstIs
 use Rattle.errors.proofs.Laws.{numbersOf-unique, textNumbersOf-unique}
 use Rattle.head.specs.Head.{openedOf}
-use Rattle.head.specs.Ask.{Check, passes, fails, firstOf, lengthCheck, namesCheck, openOf, contentAsked}
+use Rattle.head.specs.Entry.{Check, passes, fails, firstOf, entryChecks}
+use Rattle.head.specs.Ask.{openOf, contentAsked}
 use Rattle.head.specs.Ask.{textAnswerBy, textAnswer, textBuffer, TextReads}
 use Rattle.head.specs.declared.OpenRead.{OpenRead}
 use Rattle.head.specs.declared.OpenRead.the-variants.{Open, Closed}
 use Rattle.text.specs.Content.{Content, none, cut, some, textIn}
 use Rattle.records.specs.Words.{nodeWidth, attributeWidth}
+use Rattle.system_types.specs.Names.{Lent}
 use Rattle.walk.specs.Settle.{Room, Out, going, refused}
 use Rattle.walk.specs.Reading.{Reading, zeroNote, reading, readingBy, settledIn, roomIn, nodesKept, attributesKept, Reads}
 use Rattle.claims.specs.Cleared.{ZeroBehind, RefusedZero, DoneZero, TextRefusedZero, TextDoneZero}
@@ -55,14 +57,14 @@ final-zeros r (going t) passes x e = let z : _≡_ {A = ℕ} 0 1 = cc in absurd 
 final-zeros r (refused y) passes x e = (refl, refl, refl)
 final-zeros r o (fails y) x e = (refl, refl, refl)
 
-module _ (f names area ns ats : List ℕ) (os : List Note) (cap : ℕ) where
-  pub refused-zeros : (x : Refusal) (ns′ ats′ : List ℕ) (os′ : List Note) → Reads f names area ns ats os cap (Refused x) ns′ ats′ os′
+module _ (f : List ℕ) (lent : Lent) (ns ats : List ℕ) (os : List Note) (cap : ℕ) where
+  pub refused-zeros : (x : Refusal) (ns′ ats′ : List ℕ) (os′ : List Note) → Reads f lent ns ats os cap (Refused x) ns′ ats′ os′
       → RefusedZero (numbersOf (Refused x)) ns ats os ns′ ats′ os′
   unfolding reading numbersOf
   refused-zeros x ns′ ats′ os′ h =
       let r = roomIn ns ats os cap in
-      let c = firstOf (lengthCheck f ∷ namesCheck area names ∷ []) in
-      let o = settledIn r f names area (openedOf f) in
+      let c = firstOf (entryChecks f lent) in
+      let o = settledIn r f lent (openedOf f) in
       let z = final-zeros r o c x (numbersOf-unique _ _ (h .answer)) in
       record {
         starts = refl;
@@ -74,13 +76,13 @@ module _ (f names area ns ats : List ℕ) (os : List Note) (cap : ℕ) where
         noteRecords = h .notes ∙ z .2;
       }
 
-  pub done-zeros : (c : ReadCounts) (ns′ ats′ : List ℕ) (os′ : List Note) → Reads f names area ns ats os cap (Done c) ns′ ats′ os′
+  pub done-zeros : (c : ReadCounts) (ns′ ats′ : List ℕ) (os′ : List Note) → Reads f lent ns ats os cap (Done c) ns′ ats′ os′
       → DoneZero (numbersOf (Done c)) ns ats os ns′ ats′ os′
   unfolding numbersOf
   done-zeros c ns′ ats′ os′ h =
-      let d = done-by f names area ns ats os cap c ns′ ats′ os′ h in
+      let d = done-by f lent ns ats os cap c ns′ ats′ os′ h in
       let t = d .tables in
-      let s = done-shaped f names area ns ats os cap t (d .out) in
+      let s = done-shaped f lent ns ats os cap t (d .out) in
       let k = kept-in (roomIn ns ats os cap) t s in
       let wn : nodesKept t ≤ s .n = k .nodes in
       let wm : attributesKept t ≤ s .m = k .attributes in
@@ -102,12 +104,12 @@ module _ (f names area ns ats : List ℕ) (os : List Note) (cap : ℕ) where
 
 -- ---- the text question
 
-module _ (f names area before : List ℕ) (i : ℕ) where
-  pub text-refused-zeros : (x : Refusal) (after : List ℕ) → TextReads f names area before i (textIs.Refused x) after
+module _ (f : List ℕ) (lent : Lent) (before : List ℕ) (i : ℕ) where
+  pub text-refused-zeros : (x : Refusal) (after : List ℕ) → TextReads f lent before i (textIs.Refused x) after
       → TextRefusedZero (textNumbersOf (textIs.Refused x)) before after
   unfolding textNumbersOf textBuffer
   text-refused-zeros x after h =
-      let e : textIs.Refused x ≡ textAnswer f names area (length before) i = textNumbersOf-unique _ _ (h .answer) in
+      let e : textIs.Refused x ≡ textAnswer f lent (length before) i = textNumbersOf-unique _ _ (h .answer) in
       record { length = refl; buffer = h .out ∙ rw (← e) }
 
   -- a text that is answered is as long as the answer says, and fits
@@ -122,13 +124,13 @@ module _ (f names area before : List ℕ) (i : ℕ) where
   answer-fits n k cut (Open h) q = fits-by n k (textIn cut) (leb (length (textIn cut)) n) refl q
   answer-fits n k (some w s) (Open h) q = fits-by n k (textIn (some w s)) (leb (length (textIn (some w s))) n) refl q
 
-  pub text-done-zeros : (k : ℕ) (after : List ℕ) → TextReads f names area before i (textIs.Text k) after
+  pub text-done-zeros : (k : ℕ) (after : List ℕ) → TextReads f lent before i (textIs.Text k) after
       → TextDoneZero (textNumbersOf (textIs.Text k)) before after
   unfolding textNumbersOf textBuffer textAnswer
   text-done-zeros k after h =
-      let c = contentAsked f names area i in
-      let e : textIs.Text k ≡ textAnswer f names area (length before) i = textNumbersOf-unique _ _ (h .answer) in
-      let q = answer-fits (length before) k c (openOf f names area) e in
+      let c = contentAsked f lent i in
+      let e : textIs.Text k ≡ textAnswer f lent (length before) i = textNumbersOf-unique _ _ (h .answer) in
+      let q = answer-fits (length before) k c (openOf f lent) e in
       record {
         refusal = refl;
         value = refl;

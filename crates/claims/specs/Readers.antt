@@ -16,6 +16,7 @@ use lib.ListN.{length, replicate}
 use lib.Dec.{ltb}
 use Rattle.anomaly.specs.declared.Note.{Note}
 use Rattle.errors.specs.Refusal.{numbersOf}
+use Rattle.system_types.specs.Names.{Lent}
 use Rattle.xml_elements.specs.declared.XmlStartElement.{XmlStartElement}
 use Rattle.xml_elements.specs.declared.Chunk.the-variants.{Start}
 use Rattle.xml_elements.specs.declared.Turn.the-variants.{Met}
@@ -28,11 +29,11 @@ use Rattle.claims.specs.Counts.{opensIn}
 
 -- ---- what a file makes
 
-abbrev pub namesFor : List ℕ → List ℕ → List ℕ → Names
-namesFor f names area = namesIn (openedOf f .head) (tablesIn f (openedOf f .head)) names area
+abbrev pub namesFor : List ℕ → Lent → Names
+namesFor f lent = namesIn (openedOf f .head) (tablesIn f (openedOf f .head)) lent
 
-abbrev pub eventsOf : List ℕ → List ℕ → List ℕ → List Event
-eventsOf f names area = fileEvents (namesFor f names area) (openedOf f) (tablesIn f (openedOf f .head)) (bodyIn f (openedOf f .head))
+abbrev pub eventsOf : List ℕ → Lent → List Event
+eventsOf f lent = fileEvents (namesFor f lent) (openedOf f) (tablesIn f (openedOf f .head)) (bodyIn f (openedOf f .head))
 
 -- ---- what can be lent
 
@@ -54,10 +55,10 @@ Words l = Slice 4294967296 l
 abbrev pub kindsOf : List Note → List ℕ
 kindsOf os = map (λ (x : Note). x .kind) os
 
-pub record Call (f names area ns ats : List ℕ) (os : List Note) (cap : ℕ) : Type 0 where
+pub record Call (f : List ℕ) (lent : Lent) (ns ats : List ℕ) (os : List Note) (cap : ℕ) : Type 0 where
   pub file : Bytes f
-  pub nameWords : Words names
-  pub areaBytes : Bytes area
+  pub nameWords : Words (lent .names)
+  pub areaBytes : Bytes (lent .area)
   pub nodeWords : Words ns
   pub attributeWords : Words ats
   pub kinds : Words (kindsOf os)
@@ -69,74 +70,74 @@ pub record Call (f names area ns ats : List ℕ) (os : List Note) (cap : ℕ) : 
 
 -- from file, names and their area, the tables of nodes, attributes and notes, and the cap
 abbrev pub Reader : Type 0
-Reader = List ℕ → List ℕ → List ℕ → List ℕ → List ℕ → List Note → ℕ → Reading
+Reader = List ℕ → Lent → List ℕ → List ℕ → List Note → ℕ → Reading
 
 abbrev pub Meets : Reader → Type 0
 Meets R =
-    (f names area ns ats : List ℕ) (os : List Note) (cap : ℕ) → Call f names area ns ats os cap
-    → Reads f names area ns ats os cap (R f names area ns ats os cap .answer) (R f names area ns ats os cap .nodes) (R f names area ns ats os cap .attributes)
-    (R f names area ns ats os cap .notes)
+    (f : List ℕ) (lent : Lent) (ns ats : List ℕ) (os : List Note) (cap : ℕ) → Call f lent ns ats os cap
+    → Reads f lent ns ats os cap (R f lent ns ats os cap .answer) (R f lent ns ats os cap .nodes) (R f lent ns ats os cap .attributes)
+    (R f lent ns ats os cap .notes)
 
 -- ---- sorts of readers
 
 abbrev pub RefusesAll : Reader → Type 0
 RefusesAll R =
-    (f names area ns ats : List ℕ) (os : List Note) (cap : ℕ) → Call f names area ns ats os cap
-    → _≡_ {A = ℕ} (numbersOf (R f names area ns ats os cap .answer) .refusal) 0 → ⊥
+    (f : List ℕ) (lent : Lent) (ns ats : List ℕ) (os : List Note) (cap : ℕ) → Call f lent ns ats os cap
+    → _≡_ {A = ℕ} (numbersOf (R f lent ns ats os cap .answer) .refusal) 0 → ⊥
 
 -- the same result for every file
-abbrev pub Constant : Reader → List ℕ → List ℕ → List ℕ → List ℕ → List Note → ℕ → Type 0
-Constant R names area ns ats os cap =
-    (f f′ : List ℕ) → Call f names area ns ats os cap → Call f′ names area ns ats os cap → R f names area ns ats os cap ≡ R f′ names area ns ats os cap
+abbrev pub Constant : Reader → Lent → List ℕ → List ℕ → List Note → ℕ → Type 0
+Constant R lent ns ats os cap =
+    (f f′ : List ℕ) → Call f lent ns ats os cap → Call f′ lent ns ats os cap → R f lent ns ats os cap ≡ R f′ lent ns ats os cap
 
-abbrev pub IsRead : List ℕ → List ℕ → List ℕ → List ℕ → List ℕ → List Note → ℕ → Type 0
-IsRead f names area ns ats os cap = _≡_ {A = ℕ} (numbersOf (reading (roomIn ns ats os cap) f names area .answer) .refusal) 0
+abbrev pub IsRead : List ℕ → Lent → List ℕ → List ℕ → List Note → ℕ → Type 0
+IsRead f lent ns ats os cap = _≡_ {A = ℕ} (numbersOf (reading (roomIn ns ats os cap) f lent .answer) .refusal) 0
 
 -- the same result for every file that can be read
 abbrev pub ConstantOnRead : Reader → Type 0
 ConstantOnRead R =
-    (f f′ names area ns ats : List ℕ) (os : List Note) (cap : ℕ) → Call f names area ns ats os cap → Call f′ names area ns ats os cap
-    → IsRead f names area ns ats os cap → IsRead f′ names area ns ats os cap → R f names area ns ats os cap ≡ R f′ names area ns ats os cap
+    (f f′ : List ℕ) (lent : Lent) (ns ats : List ℕ) (os : List Note) (cap : ℕ) → Call f lent ns ats os cap → Call f′ lent ns ats os cap
+    → IsRead f lent ns ats os cap → IsRead f′ lent ns ats os cap → R f lent ns ats os cap ≡ R f′ lent ns ats os cap
 
 -- a table as it was
 abbrev pub LeavesNodes : Reader → Type 0
-LeavesNodes R = (f names area ns ats : List ℕ) (os : List Note) (cap : ℕ) → Call f names area ns ats os cap → R f names area ns ats os cap .nodes ≡ ns
+LeavesNodes R = (f : List ℕ) (lent : Lent) (ns ats : List ℕ) (os : List Note) (cap : ℕ) → Call f lent ns ats os cap → R f lent ns ats os cap .nodes ≡ ns
 
 abbrev pub LeavesAttributes : Reader → Type 0
 LeavesAttributes R =
-    (f names area ns ats : List ℕ) (os : List Note) (cap : ℕ) → Call f names area ns ats os cap → R f names area ns ats os cap .attributes ≡ ats
+    (f : List ℕ) (lent : Lent) (ns ats : List ℕ) (os : List Note) (cap : ℕ) → Call f lent ns ats os cap → R f lent ns ats os cap .attributes ≡ ats
 
 abbrev pub LeavesNotes : Reader → Type 0
-LeavesNotes R = (f names area ns ats : List ℕ) (os : List Note) (cap : ℕ) → Call f names area ns ats os cap → R f names area ns ats os cap .notes ≡ os
+LeavesNotes R = (f : List ℕ) (lent : Lent) (ns ats : List ℕ) (os : List Note) (cap : ℕ) → Call f lent ns ats os cap → R f lent ns ats os cap .notes ≡ os
 
 -- or zeros in it
 abbrev pub ClearsNodes : Reader → Type 0
 ClearsNodes R =
-    (f names area ns ats : List ℕ) (os : List Note) (cap : ℕ) → Call f names area ns ats os cap
-    → R f names area ns ats os cap .nodes ≡ replicate (length ns) 0
+    (f : List ℕ) (lent : Lent) (ns ats : List ℕ) (os : List Note) (cap : ℕ) → Call f lent ns ats os cap
+    → R f lent ns ats os cap .nodes ≡ replicate (length ns) 0
 
 abbrev pub ClearsAttributes : Reader → Type 0
 ClearsAttributes R =
-    (f names area ns ats : List ℕ) (os : List Note) (cap : ℕ) → Call f names area ns ats os cap
-    → R f names area ns ats os cap .attributes ≡ replicate (length ats) 0
+    (f : List ℕ) (lent : Lent) (ns ats : List ℕ) (os : List Note) (cap : ℕ) → Call f lent ns ats os cap
+    → R f lent ns ats os cap .attributes ≡ replicate (length ats) 0
 
 abbrev pub ClearsNotes : Reader → Type 0
 ClearsNotes R =
-    (f names area ns ats : List ℕ) (os : List Note) (cap : ℕ) → Call f names area ns ats os cap
-    → R f names area ns ats os cap .notes ≡ replicate (length os) zeroNote
+    (f : List ℕ) (lent : Lent) (ns ats : List ℕ) (os : List Note) (cap : ℕ) → Call f lent ns ats os cap
+    → R f lent ns ats os cap .notes ≡ replicate (length os) zeroNote
 
-pub record FirstStart (names area p : List ℕ) : Type 0 where
+pub record FirstStart (lent : Lent) (p : List ℕ) : Type 0 where
   pub before : List ℕ
   pub chunk : List ℕ
   pub start : XmlStartElement
   pub split : p ≡ before ++ chunk
-  pub none : _≡_ {A = ℕ} (opensIn (eventsOf before names area)) 0
-  pub one : _≡_ {A = ℕ} (opensIn (eventsOf p names area)) 1
+  pub none : _≡_ {A = ℕ} (opensIn (eventsOf before lent)) 0
+  pub one : _≡_ {A = ℕ} (opensIn (eventsOf p lent)) 1
   pub reads : turnOf chunk ≡ Met (Start start)
   pub long : startLen start ≡ length chunk
 
 -- the same result for two files that agree up to the end of the first start
 abbrev pub StopsAtStart : Reader → Type 0
 StopsAtStart R =
-    (p x y names area ns ats : List ℕ) (os : List Note) (cap : ℕ) → Call (p ++ x) names area ns ats os cap → Call (p ++ y) names area ns ats os cap
-    → FirstStart names area p → R (p ++ x) names area ns ats os cap ≡ R (p ++ y) names area ns ats os cap
+    (p x y : List ℕ) (lent : Lent) (ns ats : List ℕ) (os : List Note) (cap : ℕ) → Call (p ++ x) lent ns ats os cap → Call (p ++ y) lent ns ats os cap
+    → FirstStart lent p → R (p ++ x) lent ns ats os cap ≡ R (p ++ y) lent ns ats os cap

@@ -1,11 +1,11 @@
--- Laws of specs/HeaderType.antt and specs/ValueType.antt: a type's number is the number that named it (`-back`), and which numbers
+-- Laws of specs/Inner/HeaderType.antt and specs/ValueType.antt: a type's number is the number that named it (`-back`), and which numbers
 -- name a reference. No contract cites this file.
 use Prim.Native.Nat.{ℕ}
 use mathlib.Core.Path.{_≡_, refl, sym, _∙_}
 use mathlib.Core.Bool.{Bool, true, false, cond, _||_}
 use borrow.Author.Tests.{eqb-true}
 use lib.Dec.{eqb}
-use Rattle.common.specs.HeaderType.{headerTypeOf, headerTypeNumber}
+use Rattle.common.specs.Inner.HeaderType.{headerTypeOf, headerTypeNumber}
 use Rattle.common.specs.ValueType.{valueTypeOf, valueTypeNumber, isReference}
 
 -- a number that a function gives for either choice, it gives for the choice

@@ -1,13 +1,13 @@
 // What every chunk of an AXML file has: its header and the type in it; and the two sorts of number that name things in it.
 //
 // Mirrors structs/common.rs (apk-info 13770539b8): `ResChunkHeader`, `ResourceHeaderType`; the values of attributes are in value.rt.
-// Definitions: specs/Header.antt, specs/HeaderType.antt.
+// Definitions: specs/Header.antt, specs/Inner/HeaderType.antt.
 // Differs from the Rust: a header keeps the number of its type, since notes and the test for XML speak of numbers.
 ghost use mathlib.Core.Path.{_≡_};
 ghost use Prim.Native.Nat.{_≤_};
 ghost use lib.ListN.{length, drop};
 ghost use Rattle.common.specs.Header.{headerOf, contentSize};
-ghost use Rattle.common.specs.HeaderType.{headerTypeOf, headerTypeNumber};
+ghost use Rattle.common.specs.Inner.HeaderType.{headerTypeOf, headerTypeNumber};
 use field::u16_at;
 use field::u32_at;
 

@@ -1,13 +1,13 @@
 // The value of an attribute: its type, its 8 bytes, and the number that a dimension or a fraction holds.
 //
 // Mirrors structs/common.rs (apk-info 13770539b8): `ResourceValueType`, `ResourceValue`, `complex_to_float`.
-// Definitions: specs/ValueType.antt, specs/Value.antt, specs/Complex.antt.
+// Definitions: specs/ValueType.antt, specs/Inner/Value.antt, specs/Complex.antt.
 // Differs from the Rust: a type's number may be over 255, since a lent table holds it as a u32; the text of a value is not made.
 ghost use mathlib.Core.Path.{_≡_};
 ghost use Prim.Native.Nat.{_+_, _≤_};
 ghost use lib.ListN.{length, drop};
 ghost use Rattle.common.specs.ValueType.{valueTypeOf, valueTypeNumber, isReference};
-ghost use Rattle.common.specs.Value.{valueOf};
+ghost use Rattle.common.specs.Inner.Value.{valueOf};
 ghost use Rattle.common.specs.Complex.{Complex};
 use field::u8_at;
 use field::u16_at;

@@ -10,7 +10,7 @@ use native.Mathlib.Nat.{mod-eq-of-lt, pow-suc}
 use borrow.Author.Tests.{ltb-true, ltb-false}
 use lib.Dec.{ltb}
 use lib.ListN.{length, getD, length-append, List·getD-append}
-use Rattle.digits.specs.Back.{numberFrom}
+use Rattle.digits.specs.Inner.Back.{numberFrom}
 use Rattle.digits.specs.Digits.{digits, decimal}
 use Rattle.digits.proofs.Laws.{digits-lt, digits-suc, digits-step}
 

@@ -8,7 +8,7 @@ use native.Mathlib.Nat.{pow-suc}
 use borrow.Author.Tests.{lt-ltb, le-ltb, ltb-true, ltb-false}
 use lib.Dec.{ltb}
 use lib.ListN.{length, length-append}
-use Rattle.digits.specs.Back.{hexValue, hexFrom}
+use Rattle.digits.specs.Inner.Back.{hexValue, hexFrom}
 use Rattle.digits.specs.Digits.{hexDigit, hexDigits, hexText}
 use Rattle.digits.proofs.Laws.{hexDigits-suc}
 

@@ -11,7 +11,7 @@ use lib.ListN.{getD}
 use lib.IntN.{ℤ, pos, negsuc}
 use mir.Syntax.{w32}
 use mir.Val.{toZ}
-use Rattle.digits.specs.Back.{numberFrom, minus, signedOf}
+use Rattle.digits.specs.Inner.Back.{numberFrom, minus, signedOf}
 use Rattle.digits.specs.Digits.{digits, decimal, signed, signedText}
 use Rattle.digits.proofs.Decimal.{getD-digits-digit, decimal-back}
 

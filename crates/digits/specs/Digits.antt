@@ -5,7 +5,7 @@
 --   signedText   a word of 32 bits read as an i32: from 2 ^ 31 on it is negative, 2 ^ 32 - 1 is `-1`
 --   hexText      a word of 32 bits in eight hexadecimal digits, lower case, leading zeros among them
 --
--- What number a text stands for: specs/Back.antt. That each text stands for its number: proofs/Decimal.antt, proofs/Signed.antt, proofs/Hex.antt.
+-- What number a text stands for: specs/Inner/Back.antt. That each text stands for its number: proofs/Decimal.antt, proofs/Signed.antt, proofs/Hex.antt.
 use Prim.Native.Nat.{ℕ, zero, suc, _+_, _/_, _%_}
 use mathlib.Core.Bool.{cond}
 use mathlib.Core.List.{List, [], _∷_, _++_}

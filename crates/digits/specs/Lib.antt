@@ -1,4 +1,4 @@
 -- The root of the crate's definitions.
-pub mod Back
+pub mod Inner
 pub mod Digits
 pub mod Written

@@ -4,30 +4,32 @@ use native.Mathlib.Omega.{arith}
 use mathlib.Core.Path.{_≡_}
 use mathlib.Core.List.{List}
 use lib.ListN.{length}
-use Rattle.text.specs.Found.{Fits, Asks}
+use Rattle.records.specs.Limits.{fileLimit}
+use Rattle.system_types.specs.Names.{Lent}
+use Rattle.text.specs.Inner.Found.{Fits, Asks}
 use Rattle.head.specs.declared.Opened.{Opened}
 use Rattle.head.specs.Head.{PoolThere}
 use Rattle.xml_elements.specs.Chunk.{strideOf, trailingOf}
 use Rattle.events.specs.declared.Phase.{Phase}
 use Rattle.events.specs.Events.{Names}
-use Rattle.events.specs.Steps.{stepBy, stepOf}
+use Rattle.events.specs.Inner.Steps.{stepBy, stepOf}
 use Rattle.events.specs.declared.Phase.the-variants.{AtOffsets, AtName, AtAttribute}
 use Rattle.events.specs.declared.Cursor.{Cursor}
-use Rattle.events.specs.Pending.{Ready, Within}
+use Rattle.events.specs.Inner.Pending.{Ready, Within}
 use Rattle.events.proofs.Model.{fit-here}
 
-module _ {t names area b : List ℕ} {o : Opened} {c : Cursor} (r : Ready t names area o) (w : Within o b c) where
-  asks-of : PoolThere (o .end) → Asks t names area (o .head)
+module _ {t : List ℕ} {lent : Lent} {b : List ℕ} {o : Opened} {c : Cursor} (r : Ready t lent o) (w : Within o b c) where
+  asks-of : PoolThere (o .end) → Asks t lent (o .head)
   asks-of p = record { fits = r .fits p; good = r .good }
 
   pub offsets-asked : c .phase ≡ AtOffsets → Fits t (o .head)
   offsets-asked e = let h = rw e at (w .held) in r .fits (h .1)
 
-  pub name-asked : c .phase ≡ AtName → Asks t names area (o .head) × (c .at ≤ 16777216) × (c .depth ≤ 16777216) × (c .starts ≤ 16777216)
+  pub name-asked : c .phase ≡ AtName → Asks t lent (o .head) × (c .at ≤ fileLimit) × (c .depth ≤ fileLimit) × (c .starts ≤ fileLimit)
   name-asked e = let h = rw e at (w .held) in (asks-of (h .0), omega arith, omega arith, omega arith)
 
   pub attribute-asked : c .phase ≡ AtAttribute
-      → Asks t names area (o .head) × (c .at + 20 ≤ length b) × (length b ≤ 16777216) × (0 < c .left)
+      → Asks t lent (o .head) × (c .at + 20 ≤ length b) × (length b ≤ fileLimit) × (0 < c .left)
   attribute-asked e =
       let h = rw e at (w .held) in
       let f = fit-here (c .at) (c .left) (strideOf (c .start)) (trailingOf (c .start)) (length b) (h .1) (h .2) in

@@ -7,7 +7,7 @@ use mathlib.Core.List.{List, [], _∷_, _++_}
 use mathlib.Core.Bool.{Bool, true, false, cond, not}
 use lib.ListN.{length, drop, length-drop}
 use lib.Dec.{eqb}
-use Rattle.chunk.specs.Run.{skipRun}
+use Rattle.chunk.specs.Inner.Run.{skipRun}
 use Rattle.anomaly.specs.declared.ResAnomaly.the-variants.{UnknownChunk}
 use Rattle.head.specs.declared.Opened.{Opened}
 use Rattle.xml_elements.specs.declared.XmlStartElement.{XmlStartElement}
@@ -24,8 +24,8 @@ use Rattle.events.specs.declared.Phase.{Phase}
 use Rattle.events.specs.declared.Phase.the-variants.{AtChunk, AtGap, AtName, AtShort, AtLast}
 use Rattle.events.specs.declared.Cursor.{Cursor}
 use Rattle.events.specs.Events.{Names, foreignNote, chunkYield, cutYield, chunkNext, cutNext, lastOf, eventsOn}
-use Rattle.events.specs.Steps.{begunBy, passedTo, closedTo, isPlain, chunkStep, cutStep, foreignStep, turnStep}
-use Rattle.events.specs.Pending.{Within, spotOf, behind, pending}
+use Rattle.events.specs.Inner.Steps.{begunBy, passedTo, closedTo, isPlain, chunkStep, cutStep, foreignStep, turnStep}
+use Rattle.events.specs.Inner.Pending.{Within, spotOf, behind, pending}
 use Rattle.events.proofs.Model.{eventsOn-stop, eventsOn-turn, eventsOn-end, fromGap-plain, the-unless, goes, goes-unless}
 use Rattle.events.proofs.Runs.{Passed, run-passed}
 use Rattle.events.proofs.Here.{Here, SteppedBy, made, stays}

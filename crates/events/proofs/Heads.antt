@@ -20,8 +20,8 @@ use Rattle.events.specs.declared.Event.the-variants.{Note, Refuse, Finis
 use Rattle.events.specs.declared.Phase.the-variants.{AtGarbage, AtCount, AtOffsets, AtRefuse, AtChunk, AtShort, AtLast, AtRoot, Over}
 use Rattle.events.specs.declared.Cursor.{Cursor}
 use Rattle.events.specs.Events.{Names, fromRoot, eventsOn, bodyEvents, notesOf, afterPool, fileEvents}
-use Rattle.events.specs.Steps.{toPhase, toStep, noteIf, garbageStep, poolNext, countStep, mapNext, offsetsStep, lastStep, rootStep}
-use Rattle.events.specs.Pending.{Unmoved, spotOf, afterMap, pending, the}
+use Rattle.events.specs.Inner.Steps.{toPhase, toStep, noteIf, garbageStep, poolNext, countStep, mapNext, offsetsStep, lastStep, rootStep}
+use Rattle.events.specs.Inner.Pending.{Unmoved, spotOf, afterMap, pending, the}
 use Rattle.events.proofs.Model.{the-if, Goes, goes, goes-if}
 use Rattle.events.proofs.Here.{Here, SteppedBy, made, stays, unmoved}
 

@@ -8,18 +8,19 @@ use Prim.Native.Nat.{ℕ, _+_, _-_, _*_, _≤_, _<_}
 use mathlib.Core.Path.{_≡_}
 use mathlib.Core.List.{List, [], _++_}
 use lib.ListN.{length}
+use Rattle.records.specs.Limits.{fileLimit}
 use Rattle.head.specs.declared.Opened.{Opened}
 use Rattle.events.specs.declared.Event.the-variants.{Finish}
 use Rattle.events.specs.declared.Phase.{Phase}
 use Rattle.events.specs.declared.Cursor.{Cursor}
 use Rattle.events.specs.declared.Step.{Step}
 use Rattle.events.specs.Events.{Names}
-use Rattle.events.specs.Steps.{toPhase}
-use Rattle.events.specs.Pending.{Held, Within, Unmoved, pendBy, pending, rank, steps, the}
+use Rattle.events.specs.Inner.Steps.{toPhase}
+use Rattle.events.specs.Inner.Pending.{Held, Within, Unmoved, pendBy, pending, rank, steps, the}
 use Rattle.events.proofs.Model.{Goes}
 
 pub record Here (o : Opened) (b : List ℕ) (c : Cursor) (p : Phase) : Type 0 where
-  pub short : length b ≤ 16777216
+  pub short : length b ≤ fileLimit
   pub inside : c .at ≤ length b
   pub deep : c .depth ≤ c .starts
   pub few : c .starts ≤ c .at

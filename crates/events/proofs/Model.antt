@@ -25,8 +25,8 @@ use Rattle.events.specs.declared.Event.{Event}
 use Rattle.events.specs.declared.Event.the-variants.{Nothing, Open, Attribute, LeftOut, Close, Note, Refuse, Finish}
 use Rattle.events.specs.Events.{Names, when, attributeBy, attributeEvent, attributesOf, fromName, fromTrailing, fromSize, fromGap}
 use Rattle.events.specs.Events.{Spot, yieldOf, nextOf, lastOf, used, out, next, eventsOn}
-use Rattle.events.specs.Steps.{isPlain, noteIf}
-use Rattle.events.specs.Pending.{the}
+use Rattle.events.specs.Inner.Steps.{isPlain, noteIf}
+use Rattle.events.specs.Inner.Pending.{the}
 
 -- ---- the walk
 

@@ -10,7 +10,7 @@ use borrow.Author.Tests.{eq-eqb}
 use lib.ListN.{length, drop, length-drop}
 use lib.Seq.{drop-drop}
 use Rattle.common.proofs.Laws.{headerHere}
-use Rattle.chunk.specs.Run.{runUsed, skipRun}
+use Rattle.chunk.specs.Inner.Run.{runUsed, skipRun}
 use Rattle.chunk.proofs.Walk.{walk-ind}
 use Rattle.chunk.proofs.Laws.{runUsed-fits, skipRun-stop, skipRun-step}
 use Rattle.xml_elements.specs.declared.Turn.the-variants.{Foreign}

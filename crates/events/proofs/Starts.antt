@@ -23,9 +23,9 @@ use Rattle.events.specs.declared.Phase.the-variants.{AtGap, AtSize, AtTr
 use Rattle.events.specs.declared.Cursor.{Cursor}
 use Rattle.events.specs.Events.{Names, when, leading, attributeEvent, attributesOf, started, eventsOn}
 use Rattle.events.specs.Events.{fromGap, fromSize, fromTrailing, fromName, fromOpen, fromLead}
-use Rattle.events.specs.Steps.{toPhase, leftNext, behindOf, openedBy, movedBy, afterOpen}
-use Rattle.events.specs.Steps.{toStep, noteIf, gapStep, sizeStep, trailingStep, openStep, nameStep}
-use Rattle.events.specs.Pending.{There, Held, Within, spotOf, behind, pendBy, pending, rank, steps, the}
+use Rattle.events.specs.Inner.Steps.{toPhase, leftNext, behindOf, openedBy, movedBy, afterOpen}
+use Rattle.events.specs.Inner.Steps.{toStep, noteIf, gapStep, sizeStep, trailingStep, openStep, nameStep}
+use Rattle.events.specs.Inner.Pending.{There, Held, Within, spotOf, behind, pendBy, pending, rank, steps, the}
 use Rattle.events.proofs.Model.{the-if, the-attribute, Goes, goes, goes-if, goes-attribute, attributesOf-step, fit-next, fit-same, fit-here}
 use Rattle.events.proofs.Here.{Here, SteppedBy, made, stays}
 

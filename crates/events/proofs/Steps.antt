@@ -5,14 +5,15 @@ use native.Mathlib.Omega.{arith}
 use mathlib.Core.Path.{_≡_, refl}
 use mathlib.Core.List.{List}
 use lib.ListN.{length}
+use Rattle.records.specs.Limits.{fileLimit}
 use Rattle.head.specs.declared.Opened.{Opened}
 use Rattle.events.specs.declared.Phase.{Phase}
 use Rattle.events.specs.declared.Phase.the-variants.{AtGarbage, AtCount, AtOffsets, AtRefuse, AtChunk, AtGap, AtSize, AtTrailing}
 use Rattle.events.specs.declared.Phase.the-variants.{AtShort, AtName, AtOpen, AtLead, AtAttribute, AtLast, AtRoot, Over}
 use Rattle.events.specs.declared.Cursor.{Cursor}
 use Rattle.events.specs.Events.{Names, fileEvents}
-use Rattle.events.specs.Steps.{firstCursor, stepBy, stepOf}
-use Rattle.events.specs.Pending.{Within, Stepped, pending, steps}
+use Rattle.events.specs.Inner.Steps.{firstCursor, stepBy, stepOf}
+use Rattle.events.specs.Inner.Pending.{Within, Stepped, pending, steps}
 use Rattle.events.proofs.Here.{Here, SteppedBy}
 use Rattle.events.proofs.Heads.{garbage-step, count-step, offsets-step, refuse-step, short-step, last-step, root-step, over-step}
 use Rattle.events.proofs.Starts.{gap-step, size-step, trailing-step, name-step, open-step, lead-step, attribute-step}
@@ -51,10 +52,10 @@ pub pending-first : (N : Names) (o : Opened) (t b : List ℕ) → pending N o t 
 unfolding pending
 pending-first N o t b = refl
 
-pub within-first : (o : Opened) (b : List ℕ) → length b ≤ 16777216 → Within o b firstCursor
+pub within-first : (o : Opened) (b : List ℕ) → length b ≤ fileLimit → Within o b firstCursor
 within-first o b h =
     record { short = h; inside = zero-le; deep = zero-le; few = zero-le; held = record { place = refl; run = refl; depth = refl; starts = refl } }
 
 -- and so many steps suffice
-pub steps-first : (b : List ℕ) → length b ≤ 16777216 → steps b firstCursor ≤ 335544335
+pub steps-first : (b : List ℕ) → length b ≤ fileLimit → steps b firstCursor ≤ 335544335
 steps-first b h = omega arith

@@ -21,6 +21,7 @@ use Rattle.anomaly.specs.declared.ResAnomaly.the-variants.{NonXmlChunk, XmlNode
 use Rattle.anomaly.specs.declared.ResAnomaly.the-variants.{AttributeStartShifted, AttributeSizeMismatch, ElementTrailingBytes}
 use Rattle.anomaly.specs.declared.ResAnomaly.the-variants.{InvalidElementName, InvalidAttributeName}
 use Rattle.records.specs.Repeats.{Rule, byPrefix}
+use Rattle.system_types.specs.Names.{Lent}
 use Rattle.text.specs.Content.{contentOf, hasText, stateIn, sameName}
 use Rattle.text.specs.declared.Head.{Head}
 use Rattle.text.specs.declared.NameState.{NameState}
@@ -51,11 +52,11 @@ pub record Names : Type 0 where
   pub repeats : Rule
 
 -- the names of a head: prefix 1 (android) for a namespace index with any text; a repeat has the same prefix and a name of the same text
-abbrev pub namesIn : Head → List ℕ → List ℕ → List ℕ → Names
-namesIn h t names area = record {
-  state = λ i. stateIn (contentOf h t names area i);
-  prefixOf = λ i. cond (hasText (contentOf h t names area i)) 1 0;
-  repeats = byPrefix (sameName h t names area);
+abbrev pub namesIn : Head → List ℕ → Lent → Names
+namesIn h t lent = record {
+  state = λ i. stateIn (contentOf h t lent i);
+  prefixOf = λ i. cond (hasText (contentOf h t lent i)) 1 0;
+  repeats = byPrefix (sameName h t lent);
 }
 
 abbrev pub when : Bool → Event → List Event

@@ -1,4 +1,3 @@
 -- The root of the crate's definitions.
 pub mod Events
-pub mod Steps
-pub mod Pending
+pub mod Inner

@@ -1,14 +1,15 @@
 // What a file makes, one step at a time: elements that open and close, attributes, notes, refusals.
 //
 // Mirrors axml.rs (apk-info 13770539b8): `get_xml_tree`, without its stack. Each step makes one event, or none, and hands the cursor on.
-// Answers: `Step`. Definitions: specs/Events.antt (what a file makes), specs/Steps.antt and specs/Pending.antt (how the code goes).
+// Answers: `Step`. Definitions: specs/Events.antt (what a file makes), specs/Inner/Steps.antt and specs/Inner/Pending.antt (how the code goes).
 // That the steps make what the file makes, one by one and to the end, is the law `stepped` (proofs/Steps.antt).
 // In moves.rt: where the cursor goes; in notes.rt: notes that a test lets pass; in turns.rt: a chunk; in naming.rt: elements and attributes.
 ghost use mathlib.Core.Path.{_≡_};
 ghost use Prim.Native.Nat.{_+_, _≤_, _<_};
+ghost use Rattle.system_types.specs.Names.{lends};
 ghost use Rattle.events.specs.Events.{namesIn};
-ghost use Rattle.events.specs.Steps.{firstCursor, stepOf};
-ghost use Rattle.events.specs.Pending.{Ready, Within};
+ghost use Rattle.events.specs.Inner.Steps.{firstCursor, stepOf};
+ghost use Rattle.events.specs.Inner.Pending.{Ready, Within};
 use anomaly::ResAnomaly;
 use common::StringIndex;
 use errors::Refusal;
@@ -124,8 +125,8 @@ pub fn first_cursor() -> Cursor
 // One step of a file whose head is o: t is the bytes behind its header, b its body, names and area the lent system names.
 // Ruled out: a second note for a stretch of foreign chunks of one sort, and an end whose 8 bytes are cut that closes nothing.
 pub fn step_at(t: &[u8], names: &[u32], area: &[u8], o: Opened, b: &[u8], c: Cursor) -> Step
-    requires { ⌜ Ready (now t) (now names) (now area) o × Within o (now b) c ⌝ }
-    ensures { λ r. ⌜ r ≡ stepOf (namesIn (o .head) (now (t .entry)) (now (names .entry)) (now (area .entry))) o (now (t .entry)) (now (b .entry)) c ⌝ }
+    requires { ⌜ Ready (now t) (lends (now names) (now area)) o × Within o (now b) c ⌝ }
+    ensures { λ r. ⌜ r ≡ stepOf (namesIn (o .head) (now (t .entry)) (lends (now (names .entry)) (now (area .entry)))) o (now (t .entry)) (now (b .entry)) c ⌝ }
 {
     let h = o.head;
     let phase = c.phase;

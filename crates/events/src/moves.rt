@@ -1,7 +1,8 @@
-// Where the cursor goes, and steps that only change its phase. Each function gives what the definition of its name in specs/Steps.antt gives.
+// Where the cursor goes, and steps that only change its phase. Each function gives what the definition of its name in specs/Inner/Steps.antt gives.
 ghost use mathlib.Core.Path.{_≡_};
 ghost use Prim.Native.Nat.{_-_, _≤_, _<_};
-ghost use Rattle.events.specs.Steps.{toPhase, begunBy, passedTo, closedTo, leftNext, behindOf, openedBy, movedBy, afterOpen, toStep};
+ghost use Rattle.records.specs.Limits.{fileLimit};
+ghost use Rattle.events.specs.Inner.Steps.{toPhase, begunBy, passedTo, closedTo, leftNext, behindOf, openedBy, movedBy, afterOpen, toStep};
 ghost use Rattle.events.specs.declared.Event.the-variants.{Nothing, Finish};
 ghost use Rattle.events.specs.declared.Phase.the-variants.{Over};
 use crate::Cursor;
@@ -107,7 +108,7 @@ fn behind_of(s: XmlStartElement, left: u32) -> usize
 
 // Past the start's own bytes, at its attributes.
 pub fn opened_by(c: Cursor) -> Cursor
-    requires { ⌜ (c .at ≤ 16777216) × (c .depth ≤ 16777216) × (c .starts ≤ 16777216) ⌝ }
+    requires { ⌜ (c .at ≤ fileLimit) × (c .depth ≤ fileLimit) × (c .starts ≤ fileLimit) ⌝ }
     ensures { λ r. ⌜ r ≡ openedBy c ⌝ }
 {
     let start = c.start;
@@ -126,7 +127,7 @@ pub fn opened_by(c: Cursor) -> Cursor
 
 // Past one attribute.
 pub fn moved_by(c: Cursor) -> Cursor
-    requires { ⌜ (c .at ≤ 16777216) × (0 < c .left) ⌝ }
+    requires { ⌜ (c .at ≤ fileLimit) × (0 < c .left) ⌝ }
     ensures { λ r. ⌜ r ≡ movedBy c ⌝ }
 {
     let start = c.start;
@@ -145,7 +146,7 @@ pub fn moved_by(c: Cursor) -> Cursor
 
 // Behind the element: the first has a leading attribute.
 pub fn after_open(c: Cursor) -> Cursor
-    requires { ⌜ (c .at ≤ 16777216) × (c .depth ≤ 16777216) × (c .starts ≤ 16777216) ⌝ }
+    requires { ⌜ (c .at ≤ fileLimit) × (c .depth ≤ fileLimit) × (c .starts ≤ fileLimit) ⌝ }
     ensures { λ r. ⌜ r ≡ afterOpen c ⌝ }
 {
     if c.starts == 0 {

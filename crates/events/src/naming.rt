@@ -1,14 +1,16 @@
 // Steps that ask for names: an element that opens, and its attributes one by one.
-// Each function follows the definition of its name in specs/Steps.antt; t, names and area are what texts are read from.
+// Each function follows the definition of its name in specs/Inner/Steps.antt; t, names and area are what texts are read from.
 ghost use mathlib.Core.Path.{_≡_};
 ghost use Prim.Native.Nat.{_+_, _≤_, _<_};
 ghost use lib.ListN.{length, drop};
-ghost use Rattle.text.specs.Found.{Asks};
+ghost use Rattle.records.specs.Limits.{fileLimit};
+ghost use Rattle.text.specs.Inner.Found.{Asks};
 ghost use Rattle.events.specs.Events.{namesIn, leading, attributeBy, attributeEvent};
-ghost use Rattle.events.specs.Steps.{openedBy, movedBy, openStep, nameStep, toStep};
+ghost use Rattle.events.specs.Inner.Steps.{openedBy, movedBy, openStep, nameStep, toStep};
 ghost use Rattle.events.specs.declared.Event.the-variants.{Note, Attribute};
 ghost use Rattle.events.specs.declared.Phase.the-variants.{AtOpen};
 ghost use Rattle.anomaly.specs.declared.ResAnomaly.the-variants.{InvalidElementName, InvalidAttributeName};
+ghost use Rattle.system_types.specs.Names.{lends};
 use crate::Cursor;
 use crate::Event;
 use crate::Phase;
@@ -30,7 +32,7 @@ use xml_elements::attribute_at;
 
 // The element opens: `fixed` is 1 for `invalid-element`.
 pub fn open_step(c: Cursor, fixed: u32) -> Step
-    requires { ⌜ (c .at ≤ 16777216) × (c .depth ≤ 16777216) × (c .starts ≤ 16777216) ⌝ }
+    requires { ⌜ (c .at ≤ fileLimit) × (c .depth ≤ fileLimit) × (c .starts ≤ fileLimit) ⌝ }
     ensures { λ r. ⌜ r ≡ openStep c fixed ⌝ }
 {
     let s = c.start;
@@ -56,8 +58,8 @@ fn invalid_step(c: Cursor, text: u32) -> Step
 }
 
 pub fn name_step(t: &[u8], names: &[u32], area: &[u8], h: Head, c: Cursor) -> Step
-    requires { ⌜ Asks (now t) (now names) (now area) h × (c .at ≤ 16777216) × (c .depth ≤ 16777216) × (c .starts ≤ 16777216) ⌝ }
-    ensures { λ r. ⌜ r ≡ nameStep c (namesIn h (now (t .entry)) (now (names .entry)) (now (area .entry)) .state (c .start .name .0)) ⌝ }
+    requires { ⌜ Asks (now t) (lends (now names) (now area)) h × (c .at ≤ fileLimit) × (c .depth ≤ fileLimit) × (c .starts ≤ fileLimit) ⌝ }
+    ensures { λ r. ⌜ r ≡ nameStep c (namesIn h (now (t .entry)) (lends (now (names .entry)) (now (area .entry))) .state (c .start .name .0)) ⌝ }
 {
     let s = c.start;
     let name = s.name;
@@ -73,7 +75,7 @@ pub fn name_step(t: &[u8], names: &[u32], area: &[u8], h: Head, c: Cursor) -> St
 
 // The leading attribute of the first element.
 pub fn lead_step(c: Cursor) -> Step
-    requires { ⌜ (c .at ≤ 16777216) × (c .depth ≤ 16777216) × (c .starts ≤ 16777216) ⌝ }
+    requires { ⌜ (c .at ≤ fileLimit) × (c .depth ≤ fileLimit) × (c .starts ≤ fileLimit) ⌝ }
     ensures { λ r. ⌜ r ≡ record { event = leading; cur = openedBy c } ⌝ }
 {
     let namespace_uri = StringIndex(0);
@@ -93,8 +95,8 @@ pub fn lead_step(c: Cursor) -> Step
 
 // 1 (android) for a namespace index with any text.
 fn prefix_of(t: &[u8], names: &[u32], area: &[u8], h: Head, index: StringIndex) -> u32
-    requires { ⌜ Asks (now t) (now names) (now area) h ⌝ }
-    ensures { λ r. ⌜ r ≡ namesIn h (now (t .entry)) (now (names .entry)) (now (area .entry)) .prefixOf (index .0) ⌝ }
+    requires { ⌜ Asks (now t) (lends (now names) (now area)) h ⌝ }
+    ensures { λ r. ⌜ r ≡ namesIn h (now (t .entry)) (lends (now (names .entry)) (now (area .entry))) .prefixOf (index .0) ⌝ }
 {
     if has_text(t, names, area, h, index) {
         return 1;
@@ -103,8 +105,8 @@ fn prefix_of(t: &[u8], names: &[u32], area: &[u8], h: Head, index: StringIndex) 
 }
 
 fn valid_attribute(t: &[u8], names: &[u32], area: &[u8], h: Head, a: XmlAttributeElement) -> Event
-    requires { ⌜ Asks (now t) (now names) (now area) h ⌝ }
-    ensures { λ r. ⌜ r ≡ Attribute (namesIn h (now (t .entry)) (now (names .entry)) (now (area .entry)) .prefixOf (a .«namespace_uri» .0)) a ⌝ }
+    requires { ⌜ Asks (now t) (lends (now names) (now area)) h ⌝ }
+    ensures { λ r. ⌜ r ≡ Attribute (namesIn h (now (t .entry)) (lends (now (names .entry)) (now (area .entry))) .prefixOf (a .«namespace_uri» .0)) a ⌝ }
 {
     let index = a.namespace_uri;
     let prefix = prefix_of(t, names, area, h, index);
@@ -119,9 +121,9 @@ fn invalid_attribute(name: StringIndex) -> Event
 
 // What an attribute makes: its name is looked up once.
 fn attribute_event(t: &[u8], names: &[u32], area: &[u8], h: Head, a: XmlAttributeElement) -> Event
-    requires { ⌜ Asks (now t) (now names) (now area) h ⌝ }
-    ensures { λ r. ⌜ r ≡ attributeBy (namesIn h (now (t .entry)) (now (names .entry)) (now (area .entry))) a
-        (namesIn h (now (t .entry)) (now (names .entry)) (now (area .entry)) .state (a .name .0)) ⌝ }
+    requires { ⌜ Asks (now t) (lends (now names) (now area)) h ⌝ }
+    ensures { λ r. ⌜ r ≡ attributeBy (namesIn h (now (t .entry)) (lends (now (names .entry)) (now (area .entry)))) a
+        (namesIn h (now (t .entry)) (lends (now (names .entry)) (now (area .entry))) .state (a .name .0)) ⌝ }
 {
     let name = a.name;
     let state = name_state(t, names, area, h, name);
@@ -133,9 +135,9 @@ fn attribute_event(t: &[u8], names: &[u32], area: &[u8], h: Head, a: XmlAttribut
 }
 
 pub fn attribute_step(t: &[u8], names: &[u32], area: &[u8], h: Head, b: &[u8], c: Cursor) -> Step
-    requires { ⌜ Asks (now t) (now names) (now area) h × (c .at + 20 ≤ length (now b)) × (length (now b) ≤ 16777216) × (0 < c .left) ⌝ }
+    requires { ⌜ Asks (now t) (lends (now names) (now area)) h × (c .at + 20 ≤ length (now b)) × (length (now b) ≤ fileLimit) × (0 < c .left) ⌝ }
     ensures { λ r. ⌜ r ≡ record {
-      event = attributeEvent (namesIn h (now (t .entry)) (now (names .entry)) (now (area .entry))) (drop (c .at) (now (b .entry)));
+      event = attributeEvent (namesIn h (now (t .entry)) (lends (now (names .entry)) (now (area .entry)))) (drop (c .at) (now (b .entry)));
       cur = movedBy c;
     } ⌝ }
 {

@@ -1,12 +1,12 @@
 // Steps that make a note or a refusal where a test says so: of the head, of a start's numbers, and behind the walk.
-// Each `.._note` gives the event, each `.._next` the phase that follows; specs/Steps.antt has the steps by the same names.
+// Each `.._note` gives the event, each `.._next` the phase that follows; specs/Inner/Steps.antt has the steps by the same names.
 ghost use mathlib.Core.Path.{_≡_};
 ghost use mathlib.Core.Bool.{cond, _&&_, not};
 ghost use lib.Dec.{ltb, eqb};
-ghost use Rattle.text.specs.Found.{Fits};
+ghost use Rattle.text.specs.Inner.Found.{Fits};
 ghost use Rattle.head.specs.Head.{refusalOf};
-ghost use Rattle.events.specs.Steps.{toStep, noteIf, garbageStep, poolNext, countStep, mapNext, offsetsStep};
-ghost use Rattle.events.specs.Steps.{gapStep, sizeStep, trailingStep, lastStep, rootStep};
+ghost use Rattle.events.specs.Inner.Steps.{toStep, noteIf, garbageStep, poolNext, countStep, mapNext, offsetsStep};
+ghost use Rattle.events.specs.Inner.Steps.{gapStep, sizeStep, trailingStep, lastStep, rootStep};
 ghost use Rattle.events.specs.declared.Event.the-variants.{Note, Refuse};
 ghost use Rattle.events.specs.declared.Phase.the-variants.{AtShort, AtSize, AtTrailing, AtName, AtLast, Over};
 ghost use Rattle.anomaly.specs.declared.ResAnomaly.the-variants.{StringPoolGarbageChunk, StringCountMismatch, StringOffsetsOutOfBounds};

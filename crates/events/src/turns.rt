@@ -1,14 +1,15 @@
 // The step at a chunk: a start is begun, an end closes, a stretch of foreign chunks is passed whole, what is cut ends the walk.
-// Each function follows the definition of its name in specs/Steps.antt.
+// Each function follows the definition of its name in specs/Inner/Steps.antt.
 ghost use mathlib.Core.Path.{_≡_};
 ghost use mathlib.Core.Bool.{cond};
 ghost use Prim.Native.Nat.{_+_, _≤_, _<_};
 ghost use lib.ListN.{length, drop};
 ghost use lib.Dec.{eqb};
+ghost use Rattle.records.specs.Limits.{fileLimit};
 ghost use Rattle.xml_elements.specs.Chunk.{turnOf, lenOf};
 ghost use Rattle.xml_elements.specs.declared.Chunk.the-variants.{Start, End, Other, Last};
 ghost use Rattle.events.specs.Events.{foreignNote};
-ghost use Rattle.events.specs.Steps.{begunBy, passedTo, closedTo, plainNext, chunkStep, cutStep, foreignStep, turnStep};
+ghost use Rattle.events.specs.Inner.Steps.{begunBy, passedTo, closedTo, plainNext, chunkStep, cutStep, foreignStep, turnStep};
 ghost use Rattle.events.specs.declared.Event.the-variants.{Nothing, Close, Note};
 ghost use Rattle.events.specs.declared.Phase.the-variants.{AtGap};
 use crate::Cursor;
@@ -80,14 +81,14 @@ fn skip_step(c: Cursor, at: usize) -> Step
 }
 
 fn end_step(c: Cursor) -> Step
-    requires { ⌜ c .at + 24 ≤ 16777216 ⌝ }
+    requires { ⌜ c .at + 24 ≤ fileLimit ⌝ }
     ensures { λ r. ⌜ r ≡ chunkStep c End ⌝ }
 {
     close_step(c, c.at + 24)
 }
 
 fn other_step(c: Cursor, n: usize) -> Step
-    requires { ⌜ c .at + n ≤ 16777216 ⌝ }
+    requires { ⌜ c .at + n ≤ fileLimit ⌝ }
     ensures { λ r. ⌜ r ≡ chunkStep c (Other n) ⌝ }
 {
     skip_step(c, c.at + n)
@@ -95,14 +96,14 @@ fn other_step(c: Cursor, n: usize) -> Step
 
 // Beyond line and comment nothing of type 0x17f is passed.
 fn unknown_step(c: Cursor) -> Step
-    requires { ⌜ c .at + 16 ≤ 16777216 ⌝ }
+    requires { ⌜ c .at + 16 ≤ fileLimit ⌝ }
     ensures { λ r. ⌜ r ≡ chunkStep c Last ⌝ }
 {
     pass_step(c, Event::Note(ResAnomaly::UnknownChunk(0x17f)), c.at + 16)
 }
 
 fn chunk_step(c: Cursor, x: Chunk) -> Step
-    requires { ⌜ c .at + lenOf x ≤ 16777216 ⌝ }
+    requires { ⌜ c .at + lenOf x ≤ fileLimit ⌝ }
     ensures { λ r. ⌜ r ≡ chunkStep c x ⌝ }
 {
     match x {
@@ -161,7 +162,7 @@ fn foreign_note(run: u32, sort: u32, number: u32) -> Event
 }
 
 fn foreign_step(b: &[u8], c: Cursor, sort: u32, number: u32, n: usize) -> Step
-    requires { ⌜ (c .at + n ≤ length (now b)) × (length (now b) ≤ 16777216) ⌝ }
+    requires { ⌜ (c .at + n ≤ length (now b)) × (length (now b) ≤ fileLimit) ⌝ }
     ensures { λ r. ⌜ r ≡ foreignStep (now (b .entry)) c sort number n ⌝ }
 {
     let at = skip_run(b, c.at + n, sort);
@@ -174,7 +175,7 @@ fn foreign_step(b: &[u8], c: Cursor, sort: u32, number: u32, n: usize) -> Step
 // ---- what stands here
 
 pub fn turn_step(b: &[u8], c: Cursor) -> Step
-    requires { ⌜ (c .at ≤ length (now b)) × (length (now b) ≤ 16777216) ⌝ }
+    requires { ⌜ (c .at ≤ length (now b)) × (length (now b) ≤ fileLimit) ⌝ }
     ensures { λ r. ⌜ r ≡ turnStep (now (b .entry)) c (turnOf (drop (c .at) (now (b .entry)))) ⌝ }
 {
     let at = c.at;

@@ -17,13 +17,14 @@ use Rattle.res_string_pool.specs.Pool.{countOf, numbered, endOf, poolFrom, behi
 use Rattle.res_string_pool.specs.Content.{split8, split16}
 use Rattle.resource_map.specs.Map.{idsIn, idsBy, mapOf, idOf}
 use Rattle.utf.specs.Plain.{isAscii}
-use Rattle.system_types.specs.Names.{isGood, namesFrom, nameOf}
+use Rattle.system_types.specs.Names.{lends, isGood, namesFrom, nameOf}
 use Rattle.errors.specs.declared.Refusal.the-variants.{NothingFound, TablesError}
 use Rattle.errors.specs.declared.FirstAnswer.{FirstAnswer}
 use Rattle.errors.specs.declared.FirstAnswer.the-variants.{Found, Refused}
 use Rattle.text.specs.Content.{systemOf, stringAt, stringOf, contentOf}
 use Rattle.head.specs.Head.{tablesOf, openedOf}
-use Rattle.head.specs.Ask.{lengthCheck, headCheck, openOf}
+use Rattle.head.specs.Entry.{lengthCheck}
+use Rattle.head.specs.Ask.{openOf}
 use Rattle.first_value.specs.Question.{invalidElement, androidName, runsFrom, fitOf, findNode, findValue, firstAnswer}
 
 unfoldable pub head : List ℕ
@@ -69,7 +70,7 @@ cases =
 
 abbrev pub answers : List Case → List FirstAnswer
 answers [] = []
-answers (asked ns ats tag name n a r ∷ cs) = firstAnswer head [] [] ns ats tag name n a ∷ answers cs
+answers (asked ns ats tag name n a r ∷ cs) = firstAnswer head (lends [] []) ns ats tag name n a ∷ answers cs
 
 abbrev pub results : List Case → List FirstAnswer
 results [] = []
@@ -78,6 +79,6 @@ results (asked ns ats tag name n a r ∷ cs) = r ∷ results cs
 pub cases-right : answers cases ≡ results cases
 unfolding cases head two three u16le u32le headerOf valueTypeOf valueTypeNumber isReference matched isWhole longest anyWhole spelt encode step8
     stepsAfter bytesOf allSound textOf eqBytes countOf numbered endOf poolFrom behindGarbage poolOf offsetOf split8 split16 idsIn idsBy mapOf
-    idOf isAscii isGood namesFrom nameOf systemOf stringAt stringOf contentOf tablesOf openedOf lengthCheck headCheck openOf runsFrom fitOf
+    idOf isAscii isGood namesFrom nameOf systemOf stringAt stringOf contentOf tablesOf openedOf lengthCheck openOf runsFrom fitOf
     findNode findValue firstAnswer
 cases-right = refl

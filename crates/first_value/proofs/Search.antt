@@ -26,6 +26,7 @@ use Rattle.head.proofs.Cases.{rest-all}
 use Rattle.records.specs.Words.{nodeWidth, nodeName, nodeFixed, nodeFirst, nodeCount}
 use Rattle.records.specs.Words.{attributeWidth, attributePrefix, attributeName, attributeType, attributeData}
 use Rattle.records.proofs.Places.{drop-record}
+use Rattle.system_types.specs.Names.{Lent}
 use Rattle.first_value.specs.Question.{runsFrom, fitOf, tagIs, nameIs, foundBy, findNode, findValue}
 use Rattle.first_value.specs.Question.{valueBy, firstBy, firstAnswer, FirstReads}
 use Rattle.first_value.specs.declared.Fit.the-variants.{Fitting, Unfit}
@@ -35,16 +36,16 @@ use Rattle.first_value.proofs.Laws.{fitOf-fits}
 
 -- ---- record by record
 
-module _ (h : Head) (t names area s : List ℕ) (n : ℕ) (w : List ℕ) (k : ℕ) where
-  pub findNode-end : n ≤ k → findNode h t names area s (n - k) (drop (nodeWidth * k) w) ≡ NoNode
+module _ (h : Head) (t : List ℕ) (lent : Lent) (s : List ℕ) (n : ℕ) (w : List ℕ) (k : ℕ) where
+  pub findNode-end : n ≤ k → findNode h t lent s (n - k) (drop (nodeWidth * k) w) ≡ NoNode
   unfolding findNode
   findNode-end p = let e : n - k ≡ 0 = omega arith in rw e
 
   findNode-step
       : k < n
-      → findNode h t names area s (n - k) (drop (nodeWidth * k) w)
-      ≡ cond (tagIs h t names area s (getD w (nodeWidth * k + nodeFixed) 0) (getD w (nodeWidth * k + nodeName) 0)) (Run (getD w (nodeWidth * k + nodeFirst) 0) (getD w (nodeWidth * k + nodeCount) 0))
-      (findNode h t names area s (n - (k + 1)) (drop (nodeWidth * (k + 1)) w))
+      → findNode h t lent s (n - k) (drop (nodeWidth * k) w)
+      ≡ cond (tagIs h t lent s (getD w (nodeWidth * k + nodeFixed) 0) (getD w (nodeWidth * k + nodeName) 0)) (Run (getD w (nodeWidth * k + nodeFirst) 0) (getD w (nodeWidth * k + nodeCount) 0))
+      (findNode h t lent s (n - (k + 1)) (drop (nodeWidth * (k + 1)) w))
   unfolding findNode
   findNode-step p =
       let e : n - k ≡ suc (n - (k + 1)) = omega arith in
@@ -54,30 +55,30 @@ module _ (h : Head) (t names area s : List ℕ) (n : ℕ) (w : List ℕ) (k : �
       : {j : ℕ} {b : Bool}
       → k < n
       → j ≡ nodeWidth * k
-      → b ≡ tagIs h t names area s (getD w (j + nodeFixed) 0) (getD w (j + nodeName) 0)
+      → b ≡ tagIs h t lent s (getD w (j + nodeFixed) 0) (getD w (j + nodeName) 0)
       → b ≡ true
-      → findNode h t names area s (n - k) (drop (nodeWidth * k) w) ≡ Run (getD w (j + nodeFirst) 0) (getD w (j + nodeCount) 0)
+      → findNode h t lent s (n - k) (drop (nodeWidth * k) w) ≡ Run (getD w (j + nodeFirst) 0) (getD w (j + nodeCount) 0)
   findNode-found p i e q = let e′ = rw i at e in rw i (findNode-step p ∙ rw (← e′, q))
 
   pub findNode-next
       : {j : ℕ} {b : Bool}
       → k < n
       → j ≡ nodeWidth * k
-      → b ≡ tagIs h t names area s (getD w (j + nodeFixed) 0) (getD w (j + nodeName) 0)
+      → b ≡ tagIs h t lent s (getD w (j + nodeFixed) 0) (getD w (j + nodeName) 0)
       → b ≡ false
-      → findNode h t names area s (n - k) (drop (nodeWidth * k) w) ≡ findNode h t names area s (n - (k + 1)) (drop (nodeWidth * (k + 1)) w)
+      → findNode h t lent s (n - k) (drop (nodeWidth * k) w) ≡ findNode h t lent s (n - (k + 1)) (drop (nodeWidth * (k + 1)) w)
   findNode-next p i e q = let e′ = rw i at e in findNode-step p ∙ rw (← e′, q)
 
-module _ (h : Head) (t names area s : List ℕ) (n : ℕ) (w : List ℕ) (k : ℕ) where
-  pub findValue-end : n ≤ k → findValue h t names area s (n - k) (drop (attributeWidth * k) w) ≡ Refused NothingFound
+module _ (h : Head) (t : List ℕ) (lent : Lent) (s : List ℕ) (n : ℕ) (w : List ℕ) (k : ℕ) where
+  pub findValue-end : n ≤ k → findValue h t lent s (n - k) (drop (attributeWidth * k) w) ≡ Refused NothingFound
   unfolding findValue
   findValue-end p = let e : n - k ≡ 0 = omega arith in rw e
 
   findValue-step
       : k < n
-      → findValue h t names area s (n - k) (drop (attributeWidth * k) w)
-      ≡ cond (nameIs h t names area s (getD w (attributeWidth * k + attributePrefix) 0) (getD w (attributeWidth * k + attributeName) 0)) (foundBy (getD w (attributeWidth * k + attributeType) 0) (getD w (attributeWidth * k + attributeData) 0))
-      (findValue h t names area s (n - (k + 1)) (drop (attributeWidth * (k + 1)) w))
+      → findValue h t lent s (n - k) (drop (attributeWidth * k) w)
+      ≡ cond (nameIs h t lent s (getD w (attributeWidth * k + attributePrefix) 0) (getD w (attributeWidth * k + attributeName) 0)) (foundBy (getD w (attributeWidth * k + attributeType) 0) (getD w (attributeWidth * k + attributeData) 0))
+      (findValue h t lent s (n - (k + 1)) (drop (attributeWidth * (k + 1)) w))
   unfolding findValue
   findValue-step p =
       let e : n - k ≡ suc (n - (k + 1)) = omega arith in
@@ -87,10 +88,10 @@ module _ (h : Head) (t names area s : List ℕ) (n : ℕ) (w : List ℕ) (k : �
       : {j : ℕ} {b : Bool} {r : FirstAnswer}
       → k < n
       → j ≡ attributeWidth * k
-      → b ≡ nameIs h t names area s (getD w (j + attributePrefix) 0) (getD w (j + attributeName) 0)
+      → b ≡ nameIs h t lent s (getD w (j + attributePrefix) 0) (getD w (j + attributeName) 0)
       → b ≡ true
       → r ≡ foundBy (getD w (j + attributeType) 0) (getD w (j + attributeData) 0)
-      → findValue h t names area s (n - k) (drop (attributeWidth * k) w) ≡ r
+      → findValue h t lent s (n - k) (drop (attributeWidth * k) w) ≡ r
   findValue-found p i e q f =
       let e′ = rw i at e in
       let f′ = rw i at f in
@@ -100,30 +101,30 @@ module _ (h : Head) (t names area s : List ℕ) (n : ℕ) (w : List ℕ) (k : �
       : {j : ℕ} {b : Bool}
       → k < n
       → j ≡ attributeWidth * k
-      → b ≡ nameIs h t names area s (getD w (j + attributePrefix) 0) (getD w (j + attributeName) 0)
+      → b ≡ nameIs h t lent s (getD w (j + attributePrefix) 0) (getD w (j + attributeName) 0)
       → b ≡ false
-      → findValue h t names area s (n - k) (drop (attributeWidth * k) w) ≡ findValue h t names area s (n - (k + 1)) (drop (attributeWidth * (k + 1)) w)
+      → findValue h t lent s (n - k) (drop (attributeWidth * k) w) ≡ findValue h t lent s (n - (k + 1)) (drop (attributeWidth * (k + 1)) w)
   findValue-next p i e q = let e′ = rw i at e in findValue-step p ∙ rw (← e′, q)
 
 -- the attributes of a node that is found do not pass the count
 pub run-inside
-    : (h : Head) (t names area tag : List ℕ) (attributes k n : ℕ) (w : List ℕ) {first number : ℕ}
+    : (h : Head) (t : List ℕ) (lent : Lent) (tag : List ℕ) (attributes k n : ℕ) (w : List ℕ) {first number : ℕ}
     → runsFrom attributes k n w ≡ Fitting
-    → findNode h t names area tag n w ≡ Run first number
+    → findNode h t lent tag n w ≡ Run first number
     → first + number ≤ attributes
 unfolding runsFrom findNode
-run-inside h t names area tag attributes k zero w f e = let z : _≡_ {A = ℕ} 0 1 = cc in absurd (let y : ⊥ = omega arith in y)
-run-inside h t names area tag attributes k (suc n) w {first} {number} f e =
-    go (ltb attributes (getD w nodeFirst 0 + getD w nodeCount 0)) refl f (tagIs h t names area tag (getD w nodeFixed 0) (getD w nodeName 0)) e
-    (run-inside h t names area tag attributes (k + 1) n (drop nodeWidth w))
+run-inside h t lent tag attributes k zero w f e = let z : _≡_ {A = ℕ} 0 1 = cc in absurd (let y : ⊥ = omega arith in y)
+run-inside h t lent tag attributes k (suc n) w {first} {number} f e =
+    go (ltb attributes (getD w nodeFirst 0 + getD w nodeCount 0)) refl f (tagIs h t lent tag (getD w nodeFixed 0) (getD w nodeName 0)) e
+    (run-inside h t lent tag attributes (k + 1) n (drop nodeWidth w))
   where
     go
         : (b : Bool)
         → ltb attributes (getD w nodeFirst 0 + getD w nodeCount 0) ≡ b
         → cond b (Unfit k) (runsFrom attributes (k + 1) n (drop nodeWidth w)) ≡ Fitting
         → (c : Bool)
-        → cond c (Run (getD w nodeFirst 0) (getD w nodeCount 0)) (findNode h t names area tag n (drop nodeWidth w)) ≡ Run first number
-        → (runsFrom attributes (k + 1) n (drop nodeWidth w) ≡ Fitting → findNode h t names area tag n (drop nodeWidth w) ≡ Run first number → first + number ≤ attributes)
+        → cond c (Run (getD w nodeFirst 0) (getD w nodeCount 0)) (findNode h t lent tag n (drop nodeWidth w)) ≡ Run first number
+        → (runsFrom attributes (k + 1) n (drop nodeWidth w) ≡ Fitting → findNode h t lent tag n (drop nodeWidth w) ≡ Run first number → first + number ≤ attributes)
         → first + number ≤ attributes
     go true p f′ c e′ ind = let z : _≡_ {A = ℕ} 0 1 = cc in absurd (let y : ⊥ = omega arith in y)
     go false p f′ true e′ ind =
@@ -135,48 +136,48 @@ run-inside h t names area tag attributes k (suc n) w {first} {number} f e =
 
 -- in words, j being where they begin
 pub run-words
-    : (h : Head) (t names area tag ns ats : List ℕ) (n a : ℕ) {r : NodeFound} {first number j : ℕ}
+    : (h : Head) (t : List ℕ) (lent : Lent) (tag ns ats : List ℕ) (n a : ℕ) {r : NodeFound} {first number j : ℕ}
     → fitOf ns ats n a ≡ Fitting
-    → r ≡ findNode h t names area tag n ns
+    → r ≡ findNode h t lent tag n ns
     → r ≡ Run first number
     → j ≡ attributeWidth * first
     → j + attributeWidth * number ≤ length ats
-run-words h t names area tag ns ats n a f e q i =
+run-words h t lent tag ns ats n a f e q i =
     let g = fitOf-fits ns ats n a f in
-    let p = run-inside h t names area tag a 0 n ns (g .runs) (sym e ∙ q) in
+    let p = run-inside h t lent tag a 0 n ns (g .runs) (sym e ∙ q) in
     omega arith
 
 -- its values, in the table from there on
 pub value-run
-    : (h : Head) (t names area tag ns name ats : List ℕ) (n : ℕ) {f : NodeFound} {r : FirstAnswer} {first number j : ℕ}
-    → f ≡ findNode h t names area tag n ns
+    : (h : Head) (t : List ℕ) (lent : Lent) (tag ns name ats : List ℕ) (n : ℕ) {f : NodeFound} {r : FirstAnswer} {first number j : ℕ}
+    → f ≡ findNode h t lent tag n ns
     → f ≡ Run first number
     → j ≡ attributeWidth * first
-    → r ≡ findValue h t names area name number (take (length ats - j) (drop j ats))
-    → r ≡ valueBy h t names area name ats (findNode h t names area tag n ns)
-value-run h t names area tag ns name ats n {j = j} e q i g = let g′ = rw (rest-all j ats, i) at g in rw (← e, q) g′
+    → r ≡ findValue h t lent name number (take (length ats - j) (drop j ats))
+    → r ≡ valueBy h t lent name ats (findNode h t lent tag n ns)
+value-run h t lent tag ns name ats n {j = j} e q i g = let g′ = rw (rest-all j ats, i) at g in rw (← e, q) g′
 
 -- ---- the question
 
-module _ (f names area ns ats tag name : List ℕ) (nodes attributes : ℕ) where
+module _ (f : List ℕ) (lent : Lent) (ns ats tag name : List ℕ) (nodes attributes : ℕ) where
   pub first-open
       : {h : Head} {t : List ℕ} {r : FirstAnswer}
-      → openOf f names area ≡ Open h
+      → openOf f lent ≡ Open h
       → t ≡ tablesIn f h
-      → r ≡ firstBy h t names area ns ats tag name nodes (fitOf ns ats nodes attributes)
-      → FirstReads f names area ns ats tag name nodes attributes r
+      → r ≡ firstBy h t lent ns ats tag name nodes (fitOf ns ats nodes attributes)
+      → FirstReads f lent ns ats tag name nodes attributes r
   unfolding firstAnswer
   first-open {r = r} e q g =
-      let same : r ≡ firstAnswer f names area ns ats tag name nodes attributes = rw e (rw q at g) in record { answer = ap firstNumbersOf same }
+      let same : r ≡ firstAnswer f lent ns ats tag name nodes attributes = rw e (rw q at g) in record { answer = ap firstNumbersOf same }
 
-  pub first-closed : {why : Refusal} → openOf f names area ≡ Closed why → FirstReads f names area ns ats tag name nodes attributes (Refused why)
+  pub first-closed : {why : Refusal} → openOf f lent ≡ Closed why → FirstReads f lent ns ats tag name nodes attributes (Refused why)
   unfolding firstAnswer
   first-closed e = record { answer = rw e }
 
   -- P4
   pub first-unique
       : {r r′ : FirstAnswer}
-      → FirstReads f names area ns ats tag name nodes attributes r
-      → FirstReads f names area ns ats tag name nodes attributes r′
+      → FirstReads f lent ns ats tag name nodes attributes r
+      → FirstReads f lent ns ats tag name nodes attributes r′
       → r ≡ r′
   first-unique a b = firstNumbersOf-unique _ _ (a .answer ∙ sym (b .answer))

@@ -29,6 +29,7 @@ use Rattle.head.specs.declared.OpenRead.{OpenRead}
 use Rattle.head.specs.declared.OpenRead.the-variants.{Open, Closed}
 use Rattle.records.specs.Words.{nodeWidth, nodeName, nodeFixed, nodeFirst, nodeCount}
 use Rattle.records.specs.Words.{attributeWidth, attributePrefix, attributeName, attributeType, attributeData}
+use Rattle.system_types.specs.Names.{Lent}
 use Rattle.first_value.specs.declared.Fit.{Fit}
 use Rattle.first_value.specs.declared.Fit.the-variants.{Fitting, Unfit}
 use Rattle.first_value.specs.declared.NodeFound.{NodeFound}
@@ -69,10 +70,10 @@ fitOf ns ats nodes attributes = firstUnfit (countsFit ns ats nodes attributes) (
 abbrev pub foundBy : ℕ → ℕ → FirstAnswer
 foundBy kind value = Found kind value (isReference (valueTypeOf kind))
 
-module _ (h : Head) (t names area : List ℕ) where
+module _ (h : Head) (t : List ℕ) (lent : Lent) where
   -- whether the text of an index is these bytes; an index without a text is never
   abbrev pub textIs : ℕ → List ℕ → Bool
-  textIs index s = isText (contentOf h t names area index) s
+  textIs index s = isText (contentOf h t lent index) s
 
   -- Q7: a fixed word of 1 alone means `invalid-element`
   abbrev pub tagIs : List ℕ → ℕ → ℕ → Bool
@@ -104,12 +105,12 @@ module _ (h : Head) (t names area : List ℕ) where
 
 -- ---- the answer: Q4
 
-abbrev pub askedBy : List ℕ → List ℕ → List ℕ → List ℕ → List ℕ → List ℕ → List ℕ → ℕ → ℕ → OpenRead → FirstAnswer
-askedBy f names area ns ats tag name nodes attributes (Closed r) = Refused r
-askedBy f names area ns ats tag name nodes attributes (Open h) = firstBy h (tablesIn f h) names area ns ats tag name nodes (fitOf ns ats nodes attributes)
+abbrev pub askedBy : List ℕ → Lent → List ℕ → List ℕ → List ℕ → List ℕ → ℕ → ℕ → OpenRead → FirstAnswer
+askedBy f lent ns ats tag name nodes attributes (Closed r) = Refused r
+askedBy f lent ns ats tag name nodes attributes (Open h) = firstBy h (tablesIn f h) lent ns ats tag name nodes (fitOf ns ats nodes attributes)
 
-unfoldable pub firstAnswer : List ℕ → List ℕ → List ℕ → List ℕ → List ℕ → List ℕ → List ℕ → ℕ → ℕ → FirstAnswer
-firstAnswer f names area ns ats tag name nodes attributes = askedBy f names area ns ats tag name nodes attributes (openOf f names area)
+unfoldable pub firstAnswer : List ℕ → Lent → List ℕ → List ℕ → List ℕ → List ℕ → ℕ → ℕ → FirstAnswer
+firstAnswer f lent ns ats tag name nodes attributes = askedBy f lent ns ats tag name nodes attributes (openOf f lent)
 
-pub record FirstReads (f names area ns ats tag name : List ℕ) (nodes attributes : ℕ) (r : FirstAnswer) : Type 0 where
-  pub answer : firstNumbersOf r ≡ firstNumbersOf (firstAnswer f names area ns ats tag name nodes attributes)
+pub record FirstReads (f : List ℕ) (lent : Lent) (ns ats tag name : List ℕ) (nodes attributes : ℕ) (r : FirstAnswer) : Type 0 where
+  pub answer : firstNumbersOf r ≡ firstNumbersOf (firstAnswer f lent ns ats tag name nodes attributes)

@@ -2,7 +2,8 @@
 //
 // Mirrors axml.rs (apk-info 13770539b8), `get_attribute_value`, its two comparisons. Definitions: specs/Question.antt, docs/FORMAT.md, Q7 and Q8.
 ghost use mathlib.Core.Path.{_≡_};
-ghost use Rattle.text.specs.Found.{Asks};
+ghost use Rattle.system_types.specs.Names.{lends};
+ghost use Rattle.text.specs.Inner.Found.{Asks};
 ghost use Rattle.first_value.specs.Question.{tagIs, nameIs};
 use common::StringIndex;
 use text::Head;
@@ -20,8 +21,8 @@ pub fn is_tagged(
     fixed: u32,
     index: StringIndex,
 ) -> bool
-    requires { ⌜ Asks (now t) (now names) (now area) h ⌝ }
-    ensures { λ r. ⌜ r ≡ tagIs h (now (t .entry)) (now (names .entry)) (now (area .entry)) (now (tag .entry)) fixed (index .0) ⌝ }
+    requires { ⌜ Asks (now t) (lends (now names) (now area)) h ⌝ }
+    ensures { λ r. ⌜ r ≡ tagIs h (now (t .entry)) (lends (now (names .entry)) (now (area .entry))) (now (tag .entry)) fixed (index .0) ⌝ }
 {
     if fixed == 1 {
         return same_bytes(tag, b"invalid-element");
@@ -40,8 +41,8 @@ pub fn is_named(
     prefix: u32,
     index: StringIndex,
 ) -> bool
-    requires { ⌜ Asks (now t) (now names) (now area) h ⌝ }
-    ensures { λ r. ⌜ r ≡ nameIs h (now (t .entry)) (now (names .entry)) (now (area .entry)) (now (name .entry)) «prefix» (index .0) ⌝ }
+    requires { ⌜ Asks (now t) (lends (now names) (now area)) h ⌝ }
+    ensures { λ r. ⌜ r ≡ nameIs h (now (t .entry)) (lends (now (names .entry)) (now (area .entry))) (now (name .entry)) «prefix» (index .0) ⌝ }
 {
     if prefix == 2 {
         return same_bytes(name, b"android");

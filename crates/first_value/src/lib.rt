@@ -13,7 +13,8 @@ ghost use mathlib.Core.Path.{_≡_};
 ghost use Prim.Native.Nat.{_*_, _≤_};
 ghost use lib.ListN.{length};
 ghost use Rattle.records.specs.Words.{nodeWidth, attributeWidth};
-ghost use Rattle.text.specs.Found.{Asks};
+ghost use Rattle.system_types.specs.Names.{lends};
+ghost use Rattle.text.specs.Inner.Found.{Asks};
 ghost use Rattle.first_value.specs.declared.Fit.the-variants.{Fitting};
 ghost use Rattle.first_value.specs.Question.{fitOf, foundBy, findNode, findValue, valueBy, firstBy, FirstReads};
 use common::StringIndex;
@@ -59,8 +60,8 @@ fn find_node(
     nodes: &[u32],
     count: u32,
 ) -> NodeFound
-    requires { ⌜ Asks (now t) (now names) (now area) h × (nodeWidth * count ≤ length (now nodes)) ⌝ }
-    ensures { λ r. ⌜ r ≡ findNode h (now (t .entry)) (now (names .entry)) (now (area .entry)) (now (tag .entry)) count (now (nodes .entry)) ⌝ }
+    requires { ⌜ Asks (now t) (lends (now names) (now area)) h × (nodeWidth * count ≤ length (now nodes)) ⌝ }
+    ensures { λ r. ⌜ r ≡ findNode h (now (t .entry)) (lends (now (names .entry)) (now (area .entry))) (now (tag .entry)) count (now (nodes .entry)) ⌝ }
 {
     let mut k = 0;
     while k < count {
@@ -102,8 +103,8 @@ fn find_value(
     attributes: &[u32],
     count: u32,
 ) -> FirstAnswer
-    requires { ⌜ Asks (now t) (now names) (now area) h × (attributeWidth * count ≤ length (now attributes)) ⌝ }
-    ensures { λ r. ⌜ r ≡ findValue h (now (t .entry)) (now (names .entry)) (now (area .entry)) (now (name .entry)) count (now (attributes .entry)) ⌝ }
+    requires { ⌜ Asks (now t) (lends (now names) (now area)) h × (attributeWidth * count ≤ length (now attributes)) ⌝ }
+    ensures { λ r. ⌜ r ≡ findValue h (now (t .entry)) (lends (now (names .entry)) (now (area .entry))) (now (name .entry)) count (now (attributes .entry)) ⌝ }
 {
     let mut k = 0;
     while k < count {
@@ -140,9 +141,9 @@ fn value_in(
     node_count: u32,
     attribute_count: u32,
 ) -> FirstAnswer
-    requires { ⌜ Asks (now t) (now names) (now area) h × (fitOf (now nodes) (now attributes) «node_count» «attribute_count» ≡ Fitting) ⌝ }
-    ensures { λ r. ⌜ r ≡ valueBy h (now (t .entry)) (now (names .entry)) (now (area .entry)) (now (name .entry)) (now (attributes .entry))
-        (findNode h (now (t .entry)) (now (names .entry)) (now (area .entry)) (now (tag .entry)) «node_count» (now (nodes .entry))) ⌝ }
+    requires { ⌜ Asks (now t) (lends (now names) (now area)) h × (fitOf (now nodes) (now attributes) «node_count» «attribute_count» ≡ Fitting) ⌝ }
+    ensures { λ r. ⌜ r ≡ valueBy h (now (t .entry)) (lends (now (names .entry)) (now (area .entry))) (now (name .entry)) (now (attributes .entry))
+        (findNode h (now (t .entry)) (lends (now (names .entry)) (now (area .entry))) (now (tag .entry)) «node_count» (now (nodes .entry))) ⌝ }
 {
     let node = find_node(t, names, area, h, tag, nodes, node_count);
     match node {
@@ -171,8 +172,8 @@ fn first_in(
     node_count: u32,
     attribute_count: u32,
 ) -> FirstAnswer
-    requires { ⌜ Asks (now t) (now names) (now area) h ⌝ }
-    ensures { λ r. ⌜ r ≡ firstBy h (now (t .entry)) (now (names .entry)) (now (area .entry)) (now (nodes .entry)) (now (attributes .entry))
+    requires { ⌜ Asks (now t) (lends (now names) (now area)) h ⌝ }
+    ensures { λ r. ⌜ r ≡ firstBy h (now (t .entry)) (lends (now (names .entry)) (now (area .entry))) (now (nodes .entry)) (now (attributes .entry))
         (now (tag .entry)) (now (name .entry)) «node_count» (fitOf (now (nodes .entry)) (now (attributes .entry)) «node_count» «attribute_count») ⌝ }
 {
     let fit = fit_of(nodes, attributes, node_count, attribute_count);
@@ -209,7 +210,7 @@ pub fn first_value(
     node_count: u32,
     attribute_count: u32,
 ) -> FirstAnswer
-    ensures { λ r. ⌜ FirstReads (now (file .entry)) (now (names .entry)) (now (area .entry)) (now (nodes .entry)) (now (attributes .entry))
+    ensures { λ r. ⌜ FirstReads (now (file .entry)) (lends (now (names .entry)) (now (area .entry))) (now (nodes .entry)) (now (attributes .entry))
         (now (tag .entry)) (now (name .entry)) «node_count» «attribute_count» r ⌝ }
 {
     let opened = open_file(file, names, area);

@@ -23,7 +23,7 @@ use Rattle.res_string_pool.proofs.Laws.{poolOf-fits}
 use Rattle.resource_map.specs.Map.{mapOf}
 use Rattle.resource_map.specs.declared.MapRead.{MapRead}
 use Rattle.text.specs.declared.Head.{Head}
-use Rattle.text.specs.Found.{Fits}
+use Rattle.text.specs.Inner.Found.{Fits}
 use Rattle.head.specs.Head.{cutPool, mappedBy, pooledBy, unopened, tablesOf, openedOf, headLen, tablesIn, bodyIn, outsideIn}
 use Rattle.head.specs.declared.HeadEnd.the-variants.{TooSmall, HeaderSize}
 

@@ -11,6 +11,7 @@ use borrow.Author.Tests.{ltb-true, ltb-false, eqb-true, eqb-false}
 use lib.ListN.{length, take, drop, length-drop, length-append}
 use lib.Seq.{take-append-le, drop-append-le, length-take-le}
 use lib.Dec.{ltb, eqb}
+use Rattle.records.specs.Limits.{fileLimit}
 use Rattle.field.specs.Le.{u16le}
 use Rattle.field.proofs.Laws.{u16le-append}
 use Rattle.res_string_pool.specs.Pool.{poolOf}
@@ -25,7 +26,7 @@ use Rattle.resource_map.specs.declared.MapRead.{MapRead}
 use Rattle.resource_map.specs.declared.MapRead.the-variants.{Ids, HeaderShort as MapHeaderShort, IdsShort}
 use Rattle.resource_map.proofs.Laws.{mapOf-fits, mapOf-append}
 use Rattle.text.specs.declared.Head.{Head}
-use Rattle.text.specs.Found.{Fits}
+use Rattle.text.specs.Inner.Found.{Fits}
 use Rattle.head.specs.Head.{headBy, mappedBy, pooledBy, tablesOf, openedOf, headLen, tablesIn, bodyIn, PoolThere}
 use Rattle.head.specs.declared.HeadEnd.the-variants.{Whole}
 use Rattle.head.specs.declared.Opened.{Opened}
@@ -46,7 +47,7 @@ openedOf-same f f′ l h d = rw (l, h, d)
 
 fits-by
     : (t : List ℕ) (p : Pool) (map ids : ℕ)
-    → length t ≤ 16777216
+    → length t ≤ fileLimit
     → Parts p 0 (length t)
     → p .strings + p .size ≤ map
     → map + 4 * ids ≤ length t
@@ -61,7 +62,7 @@ FitsIn t o = PoolThere (o .end) → Fits (take (headLen (o .head)) t) (o .head)
 
 mappedBy-fits
     : (t : List ℕ) (g : Garbage) (p : Pool)
-    → length t ≤ 16777216
+    → length t ≤ fileLimit
     → Parts p 0 (length t)
     → (m : MapRead)
     → mapOf (drop (p .strings + p .size) t) ≡ m
@@ -74,7 +75,7 @@ mappedBy-fits t g p short parts (Ids n) e there =
 mappedBy-fits t g p short parts (MapHeaderShort k) e there = fits-by t p (p .strings + p .size) 0 short parts (omega arith) (omega arith)
 mappedBy-fits t g p short parts (IdsShort k) e there = fits-by t p (p .strings + p .size) 0 short parts (omega arith) (omega arith)
 
-tablesOf-fits : (t : List ℕ) → length t ≤ 16777216 → FitsIn t (tablesOf t)
+tablesOf-fits : (t : List ℕ) → length t ≤ fileLimit → FitsIn t (tablesOf t)
 unfolding tablesOf
 tablesOf-fits t short = go (poolOf t .end) refl
   where
@@ -94,7 +95,7 @@ tablesOf-fits t short = go (poolOf t .end) refl
 
 pub openedOf-fits
     : (f : List ℕ)
-    → length f ≤ 16777216
+    → length f ≤ fileLimit
     → PoolThere (openedOf f .end)
     → Fits (tablesIn f (openedOf f .head)) (openedOf f .head)
 openedOf-fits f short there = go (ltb (length f) 8) refl (eqb (u16le f 2) 8) refl
@@ -108,7 +109,7 @@ openedOf-fits f short there = go (ltb (length f) 8) refl (eqb (u16le f 2) 8) ref
     go false p true q =
         let e = openedOf-tables f (ltb-false (length f) 8 p) (eqb-true (u16le f 2) 8 q) in
         let there′ = rw e at there in
-        let l : length (drop 8 f) ≤ 16777216 = rw length-drop (omega arith) in
+        let l : length (drop 8 f) ≤ fileLimit = rw length-drop (omega arith) in
         rw e (tablesOf-fits (drop 8 f) l there′)
 
 -- ---- a whole head looks at nothing behind its map

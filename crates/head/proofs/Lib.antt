@@ -2,5 +2,6 @@
 pub mod Cases
 pub mod Laws
 pub mod Zeros
+pub mod Entering
 pub mod Questions
 pub mod Unique

@@ -1,5 +1,5 @@
 -- Laws of specs/Ask.antt, for the questions and for the crates above. No contract cites this file.
--- In order: the checks (`openBy-whole`, `openOf-long`, `-names`, `-good`); what an open file tells (`openOf-open`, `openOf-asks`);
+-- In order: the head, or the first refusal (`headRead-..`, `openOf-in`, `openOf-out`); what an open file tells (`openOf-open`, `openOf-asks`);
 -- the text question (`gives-..`, `reads-open`, `reads-closed`) and the content question (`content-open`, `content-closed`). What
 -- follows from the promises: proofs/Unique.antt.
 use Prim.Native.Nat.{ℕ, _-_, _≤_, _<_}
@@ -7,66 +7,56 @@ use native.Mathlib.Omega.{arith}
 use mathlib.Core.Path.{_≡_, refl, sym, ap, _∙_}
 use mathlib.Core.List.{List, [], _∷_, _++_}
 use mathlib.Core.Bool.{Bool, true, false}
-use borrow.Author.Tests.{ltb-true, ltb-false, lt-ltb, le-ltb, le-leb, lt-leb}
+use borrow.Author.Tests.{le-leb, lt-leb}
 use lib.ListN.{length, take, replicate}
-use lib.Dec.{ltb, leb}
+use lib.Dec.{leb}
 use Rattle.utf.proofs.Filled.{putText-whole, putText-length}
 use Rattle.errors.specs.Refusal.{textNumbersOf}
 use Rattle.errors.specs.declared.Refusal.{Refusal}
-use Rattle.errors.specs.declared.Refusal.the-variants.{TooLargeError, SystemNamesError, NothingFound, TextShort}
+use Rattle.errors.specs.declared.Refusal.the-variants.{NothingFound, TextShort}
 use Rattle.errors.specs.declared.TextAnswer.{TextAnswer}
 use Rattle.errors.specs.declared.TextAnswer.the-variants.{Text, Refused}
-use Rattle.system_types.specs.Names.{namesOf}
-use Rattle.system_types.specs.declared.NamesRead.{NamesRead}
-use Rattle.system_types.specs.declared.NamesRead.the-variants.{Good, Bad}
+use Rattle.system_types.specs.Names.{Lent}
 use Rattle.text.specs.declared.Head.{Head}
 use Rattle.text.specs.declared.Found.{Found}
 use Rattle.text.specs.declared.Found.the-variants.{Nothing, Cut, System, Pool}
 use Rattle.text.specs.Content.{Content, none, contentOf, textIn, rawOf}
-use Rattle.text.specs.Found.{partOf, isFound, Asks, Wrote}
-use Rattle.head.specs.Head.{openedOf, tablesIn, refusalOf, PoolThere}
-use Rattle.head.specs.Ask.{Check, passes, fails, firstOf, isWhole, lengthCheck, headCheck, openBy, openOf, fitted, textBy, textAnswer}
+use Rattle.text.specs.Inner.Found.{partOf, isFound, Asks, Wrote}
+use Rattle.head.specs.Head.{openedOf, tablesIn, isWhole, refusalOf, PoolThere}
+use Rattle.head.specs.Entry.{Check, passes, fails, firstOf, entryChecks}
+use Rattle.head.specs.Inner.Entered.{enteredOf}
+use Rattle.head.specs.Ask.{headRead, openBy, openOf, fitted, textBy, textAnswer}
 use Rattle.head.specs.Ask.{textBuffer, contentAnswer, Gives, TextReads}
 use Rattle.head.specs.declared.HeadEnd.{HeadEnd}
 use Rattle.head.specs.declared.HeadEnd.the-variants.{Whole, TooSmall, HeaderSize, PoolShort, MapShort}
 use Rattle.head.specs.declared.Opened.{Opened}
 use Rattle.head.specs.declared.OpenRead.the-variants.{Open, Closed}
+use Rattle.head.specs.declared.Entered.the-variants.{In, Out}
 use Rattle.head.proofs.Laws.{openedOf-fits}
+use Rattle.head.proofs.Entering.{Passed, passed, entered-in, entered-out}
 use Rattle.head.proofs.Zeros.{zero-behind}
 
--- ---- the checks
+-- ---- the head, or the first refusal
 
-firstOf-one : (c : Check) → firstOf (c ∷ []) ≡ c
-firstOf-one passes = refl
-firstOf-one (fails r) = refl
+pub headRead-whole : (o : Opened) → isWhole (o .end) ≡ true → Open (o .head) ≡ headRead o
+headRead-whole o w = rw w
 
-module _ (f : List ℕ) {o : Opened} (e : o ≡ openedOf f) where
-  pub openBy-whole : isWhole (o .end) ≡ true → Open (o .head) ≡ openBy (openedOf f .head) (headCheck f)
-  unfolding headCheck
-  openBy-whole w = rw (← e, w)
+pub headRead-cut : (o : Opened) → isWhole (o .end) ≡ false → Closed (refusalOf (o .end)) ≡ headRead o
+headRead-cut o w = rw w
 
-  pub openBy-closed : isWhole (o .end) ≡ false → Closed (refusalOf (o .end)) ≡ openBy (openedOf f .head) (headCheck f)
-  unfolding headCheck
-  openBy-closed w = rw (← e, w)
+module _ (f : List ℕ) (lent : Lent) where
+  pub openOf-in : {o : Opened} → enteredOf f lent ≡ In o → headRead o ≡ openOf f lent
+  unfolding openOf
+  openOf-in {o} e = let q = entered-in f lent e in rw (q .1, q .0)
 
-module _ (f names area : List ℕ) where
-  pub openOf-long : 16777216 < length f → openOf f names area ≡ Closed TooLargeError
-  unfolding openOf lengthCheck
-  openOf-long p = rw (lt-ltb 16777216 (length f) p)
-
-  pub openOf-names : length f ≤ 16777216 → {k : ℕ} → namesOf area names ≡ Bad k → openOf f names area ≡ Closed (SystemNamesError k)
-  unfolding openOf lengthCheck
-  openOf-names p e = rw (le-ltb 16777216 (length f) p, e)
-
-  pub openOf-good : length f ≤ 16777216 → namesOf area names ≡ Good → openOf f names area ≡ openBy (openedOf f .head) (headCheck f)
-  unfolding openOf lengthCheck
-  openOf-good p e = rw (le-ltb 16777216 (length f) p, e) (ap (openBy (openedOf f .head)) (firstOf-one (headCheck f)))
+  pub openOf-out : {why : Refusal} → enteredOf f lent ≡ Out why → Closed why ≡ openOf f lent
+  unfolding openOf
+  openOf-out {why} e = rw (entered-out f lent e)
 
 -- ---- what an open file tells
 
-pub record Opens (f names area : List ℕ) (h : Head) : Type 0 where
-  pub short : length f ≤ 16777216
-  pub good : namesOf area names ≡ Good
+pub record Opens (f : List ℕ) (lent : Lent) (h : Head) : Type 0 where
+  pub passed : Passed f lent
   pub whole : isWhole (openedOf f .end) ≡ true
   pub head : openedOf f .head ≡ h
 
@@ -77,37 +67,28 @@ there-of-whole (TooSmall n) w = let z : _≡_ {A = ℕ} 0 1 = cc in absurd (let 
 there-of-whole (HeaderSize n) w = let z : _≡_ {A = ℕ} 0 1 = cc in absurd (let y : ⊥ = omega arith in y)
 there-of-whole (PoolShort p) w = let z : _≡_ {A = ℕ} 0 1 = cc in absurd (let y : ⊥ = omega arith in y)
 
-module _ (f names area : List ℕ) {h : Head} (open′ : openOf f names area ≡ Open h) where
-  pub openOf-open : Opens f names area h
-  openOf-open = go (ltb 16777216 (length f)) refl (namesOf area names) refl (isWhole (openedOf f .end)) refl
+module _ (f : List ℕ) (lent : Lent) {h : Head} (open′ : openOf f lent ≡ Open h) where
+  pub openOf-open : Opens f lent h
+  unfolding openOf
+  openOf-open = go (firstOf (entryChecks f lent)) refl (isWhole (openedOf f .end)) refl open′
     where
       go
-          : (b : Bool) → ltb 16777216 (length f) ≡ b
-          → (n : NamesRead) → namesOf area names ≡ n
+          : (c : Check) → firstOf (entryChecks f lent) ≡ c
           → (w : Bool) → isWhole (openedOf f .end) ≡ w
-          → Opens f names area h
-      go true p n q w r =
-          let e = openOf-long f names area (ltb-true 16777216 (length f) p) in
+          → openBy (openedOf f) c ≡ Open h
+          → Opens f lent h
+      go (fails r) p w q e = let z : _≡_ {A = ℕ} 0 1 = cc in absurd (let y : ⊥ = omega arith in y)
+      go passes p false q e =
+          let e′ = headRead-cut (openedOf f) q ∙ e in
           let z : _≡_ {A = ℕ} 0 1 = cc in
           absurd (let y : ⊥ = omega arith in y)
-      go false p (Bad k) q w r =
-          let e = openOf-names f names area (ltb-false 16777216 (length f) p) q in
-          let z : _≡_ {A = ℕ} 0 1 = cc in
-          absurd (let y : ⊥ = omega arith in y)
-      go false p Good q false r =
-          let e = openOf-good f names area (ltb-false 16777216 (length f) p) q ∙ sym (openBy-closed f refl r) in
-          let z : _≡_ {A = ℕ} 0 1 = cc in
-          absurd (let y : ⊥ = omega arith in y)
-      go false p Good q true r =
-          let s = ltb-false 16777216 (length f) p in
-          let e = openOf-good f names area s q ∙ sym (openBy-whole f refl r) in
-          record { short = s; good = q; whole = r; head = cc }
+      go passes p true q e = let e′ = headRead-whole (openedOf f) q ∙ e in record { passed = passed f lent p; whole = q; head = cc }
 
-  pub openOf-asks : Asks (tablesIn f h) names area h
+  pub openOf-asks : Asks (tablesIn f h) lent h
   openOf-asks =
       let o = openOf-open in
-      let fits = openedOf-fits f (o .short) (there-of-whole (openedOf f .end) (o .whole)) in
-      record { fits = rw (← o .head) fits; good = o .good }
+      let fits = openedOf-fits f (o .passed .short) (there-of-whole (openedOf f .end) (o .whole)) in
+      record { fits = rw (← o .head) fits; good = o .passed .good }
 
 -- ---- the text question
 
@@ -161,35 +142,35 @@ module _ (n : ℕ) (w : Bool) (t area : List ℕ) (f : Found) {c : Content} (e :
       → Gives n (textIn c) (textBy n c) r after
   gives-found p g = rw (← e, textBy-found n w t area f p) g
 
-module _ (f names area before after : List ℕ) (i : ℕ) {r : TextAnswer} where
+module _ (f : List ℕ) (lent : Lent) (before after : List ℕ) (i : ℕ) {r : TextAnswer} where
   pub reads-open
       : {h : Head} {t : List ℕ}
-      → openOf f names area ≡ Open h
+      → openOf f lent ≡ Open h
       → t ≡ tablesIn f h
-      → Gives (length before) (textIn (contentOf h t names area i)) (textBy (length before) (contentOf h t names area i)) r after
-      → TextReads f names area before i r after
+      → Gives (length before) (textIn (contentOf h t lent i)) (textBy (length before) (contentOf h t lent i)) r after
+      → TextReads f lent before i r after
   unfolding textAnswer textBuffer
   reads-open e q g = let g′ = rw q at g in record { answer = rw e (ap textNumbersOf (g′ .same)); out = rw e (g′ .out) }
 
   pub reads-closed
       : {why : Refusal}
-      → openOf f names area ≡ Closed why
+      → openOf f lent ≡ Closed why
       → Gives (length before) [] (Refused why) r after
-      → TextReads f names area before i r after
+      → TextReads f lent before i r after
   unfolding textAnswer textBuffer
   reads-closed e g = record { answer = rw e (ap textNumbersOf (g .same)); out = rw e (g .out) }
 
 -- ---- the content question
 
-module _ (f names area : List ℕ) (i : ℕ) where
+module _ (f : List ℕ) (lent : Lent) (i : ℕ) where
   pub content-open
       : {h : Head} {t : List ℕ}
-      → openOf f names area ≡ Open h
+      → openOf f lent ≡ Open h
       → t ≡ tablesIn f h
-      → rawOf (contentOf h t names area i) ≡ contentAnswer f names area i
+      → rawOf (contentOf h t lent i) ≡ contentAnswer f lent i
   unfolding contentAnswer
   content-open e q = rw (q, e)
 
-  pub content-closed : {why : Refusal} → openOf f names area ≡ Closed why → [] ≡ contentAnswer f names area i
+  pub content-closed : {why : Refusal} → openOf f lent ≡ Closed why → [] ≡ contentAnswer f lent i
   unfolding contentAnswer
   content-closed e = rw e

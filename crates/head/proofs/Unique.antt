@@ -14,6 +14,7 @@ use Rattle.errors.specs.declared.Refusal.the-variants.{TextShort}
 use Rattle.errors.specs.declared.TextAnswer.{TextAnswer}
 use Rattle.errors.specs.declared.TextAnswer.the-variants.{Text, Refused}
 use Rattle.errors.proofs.Laws.{textNumbersOf-unique}
+use Rattle.system_types.specs.Names.{Lent}
 use Rattle.text.specs.Content.{Content, none, cut, some, contentOf, textIn, rawOf}
 use Rattle.head.specs.Head.{tablesIn}
 use Rattle.head.specs.Ask.{openOf, askedBy, fitted, textBy, textAnswerBy, textAnswer, contentAnswer, TextReads}
@@ -23,11 +24,11 @@ use Rattle.head.specs.declared.OpenRead.the-variants.{Open, Closed}
 -- ---- the text question
 
 pub text-unique
-    : (f names area before : List ℕ) (i : ℕ) {r r′ : TextAnswer} {after after′ : List ℕ}
-    → TextReads f names area before i r after
-    → TextReads f names area before i r′ after′
+    : (f : List ℕ) (lent : Lent) (before : List ℕ) (i : ℕ) {r r′ : TextAnswer} {after after′ : List ℕ}
+    → TextReads f lent before i r after
+    → TextReads f lent before i r′ after′
     → (r ≡ r′) × (after ≡ after′)
-text-unique f names area before i {r} {r′} a b = (textNumbersOf-unique r r′ (a .answer ∙ sym (b .answer)), a .out ∙ sym (b .out))
+text-unique f lent before i {r} {r′} a b = (textNumbersOf-unique r r′ (a .answer ∙ sym (b .answer)), a .out ∙ sym (b .out))
 
 -- ---- the content question
 
@@ -46,13 +47,13 @@ textBy-refused n cut why e not-11 = refl
 textBy-refused n (some w s) why e not-11 = absurd (not-11 (fitted-short n (textIn (some w s)) why e))
 
 pub content-refused
-    : (f names area : List ℕ) (n i : ℕ) (why : Refusal)
-    → textAnswer f names area n i ≡ Refused why
+    : (f : List ℕ) (lent : Lent) (n i : ℕ) (why : Refusal)
+    → textAnswer f lent n i ≡ Refused why
     → (numberOf why ≡ 11 → ⊥)
-    → contentAnswer f names area i ≡ []
+    → contentAnswer f lent i ≡ []
 unfolding textAnswer contentAnswer
-content-refused f names area n i why e not-11 = go (openOf f names area) e
+content-refused f lent n i why e not-11 = go (openOf f lent) e
   where
-    go : (o : OpenRead) → textAnswerBy n (askedBy f names area i o) o ≡ Refused why → rawOf (askedBy f names area i o) ≡ []
+    go : (o : OpenRead) → textAnswerBy n (askedBy f lent i o) o ≡ Refused why → rawOf (askedBy f lent i o) ≡ []
     go (Closed r) q = refl
-    go (Open h) q = textBy-refused n (contentOf h (tablesIn f h) names area i) why q not-11
+    go (Open h) q = textBy-refused n (contentOf h (tablesIn f h) lent i) why q not-11

@@ -1,7 +1,6 @@
 -- The text question and the content question: docs/FORMAT.md, B2, B7, B8, Q1 to Q3.
 --
---   checks        what refuses before an index is looked at, in order: 2, 7, then the head's 1, 3, 4, 5
---   openOf        the head, or the first refusal
+--   openOf        the head, or the first refusal: what every entry point checks (specs/Entry.antt), then the head's 1, 3, 4, 5
 --   textAnswer    the answer of the text question; textBuffer what then stands in the lent buffer, whole
 --   TextReads     the promise of the text question: the numbers of its answer and every byte of the buffer
 --   contentAnswer the answer of the content question: empty on a refusal, for no text, and for a string cut or outside
@@ -10,67 +9,35 @@
 use Prim.Native.Nat.{ℕ, _-_}
 use mathlib.Core.Path.{_≡_}
 use mathlib.Core.List.{List, [], _∷_, _++_}
-use mathlib.Core.Bool.{Bool, true, false, cond}
+use mathlib.Core.Bool.{cond}
 use lib.ListN.{length, replicate}
-use lib.Dec.{ltb, leb}
+use lib.Dec.{leb}
 use Rattle.errors.specs.Refusal.{textNumbersOf}
 use Rattle.errors.specs.declared.Refusal.{Refusal}
-use Rattle.errors.specs.declared.Refusal.the-variants.{TooLargeError, SystemNamesError, NothingFound, TextShort}
+use Rattle.errors.specs.declared.Refusal.the-variants.{NothingFound, TextShort}
 use Rattle.errors.specs.declared.TextAnswer.{TextAnswer}
 use Rattle.errors.specs.declared.TextAnswer.the-variants.{Text, Refused}
-use Rattle.system_types.specs.Names.{namesOf}
-use Rattle.system_types.specs.declared.NamesRead.{NamesRead}
-use Rattle.system_types.specs.declared.NamesRead.the-variants.{Good, Bad}
+use Rattle.system_types.specs.Names.{Lent}
 use Rattle.text.specs.declared.Head.{Head}
 use Rattle.text.specs.Content.{Content, none, cut, some, contentOf, textIn, rawOf}
-use Rattle.head.specs.Head.{openedOf, refusalOf, tablesIn}
-use Rattle.head.specs.declared.HeadEnd.{HeadEnd}
-use Rattle.head.specs.declared.HeadEnd.the-variants.{Whole, TooSmall, HeaderSize, PoolShort, MapShort}
+use Rattle.head.specs.Head.{openedOf, isWhole, refusalOf, tablesIn}
+use Rattle.head.specs.Entry.{Check, passes, fails, firstOf, entryChecks}
 use Rattle.head.specs.declared.Opened.{Opened}
 use Rattle.head.specs.declared.OpenRead.{OpenRead}
 use Rattle.head.specs.declared.OpenRead.the-variants.{Open, Closed}
 
--- ---- the checks, each by itself
+-- ---- the head, or the first refusal
 
-pub data Check : Type 0 where
-  passes : Check
-  fails : Refusal → Check
+-- of a file that the entry checks pass
+abbrev pub headRead : Opened → OpenRead
+headRead o = cond (isWhole (o .end)) (Open (o .head)) (Closed (refusalOf (o .end)))
 
-unfoldable pub lengthCheck : List ℕ → Check
-lengthCheck f = cond (ltb 16777216 (length f)) (fails TooLargeError) passes
+abbrev pub openBy : Opened → Check → OpenRead
+openBy o passes = headRead o
+openBy o (fails r) = Closed r
 
-abbrev pub namesCheckBy : NamesRead → Check
-namesCheckBy Good = passes
-namesCheckBy (Bad k) = fails (SystemNamesError k)
-
-abbrev pub namesCheck : List ℕ → List ℕ → Check
-namesCheck area names = namesCheckBy (namesOf area names)
-
-abbrev pub isWhole : HeadEnd → Bool
-isWhole Whole = true
-isWhole (TooSmall n) = false
-isWhole (HeaderSize n) = false
-isWhole (PoolShort e) = false
-isWhole (MapShort e) = false
-
-unfoldable pub headCheck : List ℕ → Check
-headCheck f = cond (isWhole (openedOf f .end)) passes (fails (refusalOf (openedOf f .end)))
-
--- the first that fails
-abbrev pub firstOf : List Check → Check
-firstOf [] = passes
-firstOf (passes ∷ cs) = firstOf cs
-firstOf (fails r ∷ cs) = fails r
-
-abbrev pub checks : List ℕ → List ℕ → List ℕ → List Check
-checks f names area = lengthCheck f ∷ namesCheck area names ∷ headCheck f ∷ []
-
-abbrev pub openBy : Head → Check → OpenRead
-openBy h passes = Open h
-openBy h (fails r) = Closed r
-
-unfoldable pub openOf : List ℕ → List ℕ → List ℕ → OpenRead
-openOf f names area = openBy (openedOf f .head) (firstOf (checks f names area))
+unfoldable pub openOf : List ℕ → Lent → OpenRead
+openOf f lent = openBy (openedOf f) (firstOf (entryChecks f lent))
 
 -- ---- the text question
 
@@ -83,27 +50,27 @@ textBy n none = Refused NothingFound
 textBy n cut = fitted n (textIn cut)
 textBy n (some w s) = fitted n (textIn (some w s))
 
-abbrev pub askedBy : List ℕ → List ℕ → List ℕ → ℕ → OpenRead → Content
-askedBy f names area i (Closed r) = none
-askedBy f names area i (Open h) = contentOf h (tablesIn f h) names area i
+abbrev pub askedBy : List ℕ → Lent → ℕ → OpenRead → Content
+askedBy f lent i (Closed r) = none
+askedBy f lent i (Open h) = contentOf h (tablesIn f h) lent i
 
-abbrev pub contentAsked : List ℕ → List ℕ → List ℕ → ℕ → Content
-contentAsked f names area i = askedBy f names area i (openOf f names area)
+abbrev pub contentAsked : List ℕ → Lent → ℕ → Content
+contentAsked f lent i = askedBy f lent i (openOf f lent)
 
 abbrev pub textAnswerBy : ℕ → Content → OpenRead → TextAnswer
 textAnswerBy n c (Closed r) = Refused r
 textAnswerBy n c (Open h) = textBy n c
 
-unfoldable pub textAnswer : List ℕ → List ℕ → List ℕ → ℕ → ℕ → TextAnswer
-textAnswer f names area n i = textAnswerBy n (contentAsked f names area i) (openOf f names area)
+unfoldable pub textAnswer : List ℕ → Lent → ℕ → ℕ → TextAnswer
+textAnswer f lent n i = textAnswerBy n (contentAsked f lent i) (openOf f lent)
 
 -- the lent buffer of n bytes afterwards: the text and zeros, or zeros
 abbrev pub bufferBy : ℕ → List ℕ → TextAnswer → List ℕ
 bufferBy n text (Refused r) = replicate n 0
 bufferBy n text (Text k) = text ++ replicate (n - k) 0
 
-unfoldable pub textBuffer : List ℕ → List ℕ → List ℕ → ℕ → ℕ → List ℕ
-textBuffer f names area n i = bufferBy n (textIn (contentAsked f names area i)) (textAnswer f names area n i)
+unfoldable pub textBuffer : List ℕ → Lent → ℕ → ℕ → List ℕ
+textBuffer f lent n i = bufferBy n (textIn (contentAsked f lent i)) (textAnswer f lent n i)
 
 -- what the code returns and leaves behind, for an answer a
 pub record Gives (n : ℕ) (text : List ℕ) (a r : TextAnswer) (after : List ℕ) : Type 0 where
@@ -111,11 +78,11 @@ pub record Gives (n : ℕ) (text : List ℕ) (a r : TextAnswer) (after : List �
   pub out : after ≡ bufferBy n text a
 
 -- the promise of the text question: the numbers of its answer, and the whole buffer
-pub record TextReads (f names area before : List ℕ) (i : ℕ) (r : TextAnswer) (after : List ℕ) : Type 0 where
-  pub answer : textNumbersOf r ≡ textNumbersOf (textAnswer f names area (length before) i)
-  pub out : after ≡ textBuffer f names area (length before) i
+pub record TextReads (f : List ℕ) (lent : Lent) (before : List ℕ) (i : ℕ) (r : TextAnswer) (after : List ℕ) : Type 0 where
+  pub answer : textNumbersOf r ≡ textNumbersOf (textAnswer f lent (length before) i)
+  pub out : after ≡ textBuffer f lent (length before) i
 
 -- ---- the content question
 
-unfoldable pub contentAnswer : List ℕ → List ℕ → List ℕ → ℕ → List ℕ
-contentAnswer f names area i = rawOf (contentAsked f names area i)
+unfoldable pub contentAnswer : List ℕ → Lent → ℕ → List ℕ
+contentAnswer f lent i = rawOf (contentAsked f lent i)

@@ -3,7 +3,7 @@
 --   openedOf     what the head says, and whether all of it is there or what is amiss
 --   tablesIn     the bytes that texts are read from, pool and map; bodyIn all that is behind them, which is walked
 --   PoolThere    the pool is there whole, so that texts can be read; the map may be short
---   refusalOf    the refusal of a head that is not whole
+--   isWhole      all of it is there; refusalOf the refusal of a head that is not whole
 --   garbageNotes note 0, countNotes note 1: both fall due before the pool is known to be whole; offsetNotes note 2, before the map
 --
 -- The type and the total size of the file's header are not looked at. A number that the bytes do not reach is 0. A place is counted
@@ -95,6 +95,13 @@ PoolThere (TooSmall n) = ⊥
 PoolThere (HeaderSize n) = ⊥
 
 -- ---- its refusals and its notes
+
+abbrev pub isWhole : HeadEnd → Bool
+isWhole Whole = true
+isWhole (TooSmall n) = false
+isWhole (HeaderSize n) = false
+isWhole (PoolShort e) = false
+isWhole (MapShort e) = false
 
 abbrev pub refusalOf : HeadEnd → Refusal
 refusalOf (TooSmall n) = TooSmallError n

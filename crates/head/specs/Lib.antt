@@ -1,3 +1,5 @@
 -- The root of the crate's definitions.
 pub mod Head
+pub mod Entry
 pub mod Ask
+pub mod Inner

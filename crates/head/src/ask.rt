@@ -2,25 +2,26 @@
 //
 // Mirrors structs/res_string_pool.rs (apk-info 13770539b8), `get_with_resources`, for a caller who holds the file alone.
 // Answers: `TextAnswer`, the length of the text or a refusal. Definitions: specs/Ask.antt.
-use super::HeadEnd;
+use super::Entered;
 use super::OpenRead;
-use super::open_head;
+use super::Opened;
+use super::enter;
+use super::is_whole;
 use super::refusal_of;
 use super::tables_of;
 ghost use mathlib.Core.Path.{_≡_};
 ghost use mathlib.Core.List.{_++_, List};
 ghost use Prim.Native.Nat.{_-_, _≤_};
 ghost use lib.ListN.{length, take, replicate};
+ghost use Rattle.records.specs.Limits.{fileLimit};
 ghost use Rattle.errors.specs.declared.TextAnswer.the-variants.{Refused};
+ghost use Rattle.system_types.specs.Names.{lends};
 ghost use Rattle.text.specs.Content.{contentOf, rawOf, textIn};
-ghost use Rattle.text.specs.Found.{partOf, Inside, isFound, Asks};
-ghost use Rattle.head.specs.Head.{openedOf};
-ghost use Rattle.head.specs.Ask.{isWhole, headCheck, openBy, openOf, fitted, textBy, contentAnswer, Gives, TextReads};
+ghost use Rattle.text.specs.Inner.Found.{partOf, Inside, isFound, Asks};
+ghost use Rattle.head.specs.Ask.{headRead, openOf, fitted, textBy, contentAnswer, Gives, TextReads};
 use common::StringIndex;
 use errors::Refusal;
 use errors::TextAnswer;
-use system_types::NamesRead;
-use system_types::check_names;
 use text::Found;
 use text::Head;
 use text::content_of;
@@ -30,23 +31,9 @@ use text::is_found;
 
 // ---- what refuses before an index is looked at
 
-fn is_whole(e: HeadEnd) -> bool
-    ensures { λ r. ⌜ r ≡ isWhole e ⌝ }
+fn head_read(opened: Opened) -> OpenRead
+    ensures { λ r. ⌜ r ≡ headRead opened ⌝ }
 {
-    match e {
-        HeadEnd::Whole => true,
-        HeadEnd::TooSmall(_) => false,
-        HeadEnd::HeaderSize(_) => false,
-        HeadEnd::PoolShort(_) => false,
-        HeadEnd::MapShort(_) => false,
-    }
-}
-
-fn open_whole(file: &[u8]) -> OpenRead
-    requires { ⌜ length (now file) ≤ 16777216 ⌝ }
-    ensures { λ r. ⌜ r ≡ openBy (openedOf (now (file .entry)) .head) (headCheck (now (file .entry))) ⌝ }
-{
-    let opened = open_head(file);
     let end = opened.end;
     let head = opened.head;
     if is_whole(end) {
@@ -55,18 +42,15 @@ fn open_whole(file: &[u8]) -> OpenRead
     OpenRead::Closed(refusal_of(end))
 }
 
-// The head of a file, or the first refusal: the file's length, the lent names, the head.
-// Ruled out: 1 for a file of 7 bytes with names that break their rule, and a head for a file past the limit.
+// The head of a file, or the first refusal: what every entry point checks, then the head.
+// Ruled out: a head for a file of which a part of the pool is short.
 pub fn open_file(file: &[u8], names: &[u32], area: &[u8]) -> OpenRead
-    ensures { λ r. ⌜ r ≡ openOf (now (file .entry)) (now (names .entry)) (now (area .entry)) ⌝ }
+    ensures { λ r. ⌜ r ≡ openOf (now (file .entry)) (lends (now (names .entry)) (now (area .entry))) ⌝ }
 {
-    if 16777216 < file.len() {
-        return OpenRead::Closed(Refusal::TooLargeError);
-    }
-    let read = check_names(names, area);
-    match read {
-        NamesRead::Good => open_whole(file),
-        NamesRead::Bad(k) => OpenRead::Closed(Refusal::SystemNamesError(k)),
+    let entered = enter(file, names, area);
+    match entered {
+        Entered::In(opened) => head_read(opened),
+        Entered::Out(why) => OpenRead::Closed(why),
     }
 }
 
@@ -98,7 +82,7 @@ fn refuse(out: &mut [u8], why: Refusal) -> TextAnswer
 
 // The text of what was found, if the buffer holds it whole.
 fn write_found(t: &[u8], area: &[u8], wide: bool, f: Found, out: &mut [u8]) -> TextAnswer
-    requires { ⌜ Inside (now t) (now area) f × (length (now t) ≤ 16777216) ⌝ }
+    requires { ⌜ Inside (now t) (now area) f × (length (now t) ≤ fileLimit) ⌝ }
     ensures { λ r. ⌜ Gives (length (now (out .entry))) (textIn (partOf wide (now (t .entry)) (now (area .entry)) f))
         (fitted (length (now (out .entry))) (textIn (partOf wide (now (t .entry)) (now (area .entry)) f))) r (now (out .exit)) ⌝ }
 {
@@ -119,9 +103,9 @@ fn text_in(
     out: &mut [u8],
     index: StringIndex,
 ) -> TextAnswer
-    requires { ⌜ Asks (now t) (now names) (now area) h ⌝ }
-    ensures { λ r. ⌜ Gives (length (now (out .entry))) (textIn (contentOf h (now (t .entry)) (now (names .entry)) (now (area .entry)) (index .0)))
-        (textBy (length (now (out .entry))) (contentOf h (now (t .entry)) (now (names .entry)) (now (area .entry)) (index .0))) r (now (out .exit)) ⌝ }
+    requires { ⌜ Asks (now t) (lends (now names) (now area)) h ⌝ }
+    ensures { λ r. ⌜ Gives (length (now (out .entry))) (textIn (contentOf h (now (t .entry)) (lends (now (names .entry)) (now (area .entry))) (index .0)))
+        (textBy (length (now (out .entry))) (contentOf h (now (t .entry)) (lends (now (names .entry)) (now (area .entry))) (index .0))) r (now (out .exit)) ⌝ }
 {
     let f = find(t, names, area, h, index);
     if !is_found(f) {
@@ -140,7 +124,7 @@ pub fn text(
     out: &mut [u8],
     index: StringIndex,
 ) -> TextAnswer
-    ensures { λ r. ⌜ TextReads (now (file .entry)) (now (names .entry)) (now (area .entry)) (now (out .entry)) (index .0) r (now (out .exit)) ⌝ }
+    ensures { λ r. ⌜ TextReads (now (file .entry)) (lends (now (names .entry)) (now (area .entry))) (now (out .entry)) (index .0) r (now (out .exit)) ⌝ }
 {
     let opened = open_file(file, names, area);
     match opened {
@@ -158,8 +142,8 @@ fn content_in<'a>(
     h: Head,
     index: StringIndex,
 ) -> &'a [u8]
-    requires { ⌜ Asks (now t) (now names) (now area) h ⌝ }
-    ensures { λ r. ⌜ now r ≡ rawOf (contentOf h (now (t .entry)) (now (names .entry)) (now (area .entry)) (index .0)) ⌝ }
+    requires { ⌜ Asks (now t) (lends (now names) (now area)) h ⌝ }
+    ensures { λ r. ⌜ now r ≡ rawOf (contentOf h (now (t .entry)) (lends (now (names .entry)) (now (area .entry))) (index .0)) ⌝ }
 {
     let f = find(t, names, area, h, index);
     content_of(t, area, f)
@@ -170,7 +154,7 @@ fn content_in<'a>(
 // names are checked again at each call.
 // Ruled out: `android:attr/` in front of a system name, and the closing byte of a string among its content.
 pub fn content<'a>(file: &'a [u8], names: &[u32], area: &'a [u8], index: StringIndex) -> &'a [u8]
-    ensures { λ r. ⌜ now r ≡ contentAnswer (now (file .entry)) (now (names .entry)) (now (area .entry)) (index .0) ⌝ }
+    ensures { λ r. ⌜ now r ≡ contentAnswer (now (file .entry)) (lends (now (names .entry)) (now (area .entry))) (index .0) ⌝ }
 {
     let opened = open_file(file, names, area);
     match opened {

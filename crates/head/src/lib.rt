@@ -1,7 +1,8 @@
 // The head of an AXML file, and the two questions that need nothing more: the text and the content of a string index.
 //
 // Mirrors axml.rs (apk-info 13770539b8), `AXML::new` up to the tree. Answers: `Opened`, what the head says and what is amiss with it;
-// `OpenRead`, the head or the first refusal. Definitions: specs/Head.antt, specs/Ask.antt.
+// `Entered`, that or the first check that fails; `OpenRead`, the head or the first refusal. Definitions: specs/Head.antt,
+// specs/Entry.antt, specs/Ask.antt.
 pub mod ask;
 
 pub use ask::content;
@@ -10,12 +11,16 @@ pub use ask::text;
 ghost use mathlib.Core.Path.{_≡_};
 ghost use Prim.Native.Nat.{_+_, _*_, _≤_, min};
 ghost use lib.ListN.{length, drop};
+ghost use Rattle.records.specs.Limits.{fileLimit};
+ghost use Rattle.system_types.specs.Names.{lends};
 ghost use Rattle.resource_map.specs.Map.{mapOf};
-ghost use Rattle.text.specs.Found.{Fits};
+ghost use Rattle.text.specs.Inner.Found.{Fits};
 ghost use Rattle.head.specs.Head.{headBy, unopened, wholeHead, cutPool, cutMap, mappedBy, tablesOf, openedOf};
-ghost use Rattle.head.specs.Head.{headLen, tablesIn, bodyIn, refusalOf, outsideIn};
+ghost use Rattle.head.specs.Head.{headLen, tablesIn, bodyIn, isWhole, refusalOf, outsideIn};
+ghost use Rattle.head.specs.Inner.Entered.{enteredOf};
 use errors::Refusal;
 use field::u16_at;
+use records::FILE_LIMIT;
 use res_string_pool::Garbage;
 use res_string_pool::Pool;
 use res_string_pool::PoolEnd;
@@ -23,6 +28,8 @@ use res_string_pool::outside_of;
 use res_string_pool::pool_of;
 use resource_map::MapRead;
 use resource_map::map_of;
+use system_types::NamesRead;
+use system_types::check_names;
 use text::Head;
 
 // What is amiss with a head, or that it is whole.
@@ -44,6 +51,13 @@ pub struct Opened {
     pub declared: u32,
     pub end: HeadEnd,
     pub head: Head,
+}
+
+// A file behind what every entry point checks: its head, opened, which may still be amiss.
+pub enum Entered {
+    In(Opened),
+    // the first check that fails
+    Out(Refusal),
 }
 
 // The head of a file that is not refused before its body is looked at.
@@ -127,7 +141,7 @@ fn whole(garbage: Garbage, p: Pool, map: usize, ids: u32) -> Opened
 
 // Behind a whole pool the map.
 fn mapped(t: &[u8], garbage: Garbage, p: Pool) -> Opened
-    requires { ⌜ (p .strings + p .size ≤ length (now t)) × (length (now t) ≤ 16777216) ⌝ }
+    requires { ⌜ (p .strings + p .size ≤ length (now t)) × (length (now t) ≤ fileLimit) ⌝ }
     ensures { λ r. ⌜ r ≡ mappedBy garbage p (mapOf (drop (p .strings + p .size) (now (t .entry)))) ⌝ }
 {
     let at = p.strings + p.size;
@@ -141,7 +155,7 @@ fn mapped(t: &[u8], garbage: Garbage, p: Pool) -> Opened
 
 // Pool and map, t being the bytes behind the file's header.
 fn tables_at(t: &[u8]) -> Opened
-    requires { ⌜ length (now t) ≤ 16777216 ⌝ }
+    requires { ⌜ length (now t) ≤ fileLimit ⌝ }
     ensures { λ r. ⌜ r ≡ tablesOf (now (t .entry)) ⌝ }
 {
     let read = pool_of(t);
@@ -160,8 +174,8 @@ fn tables_at(t: &[u8]) -> Opened
 
 // The head of a file. Type and total size of its header are not looked at.
 // Ruled out: a refusal for a file of type 0, and a head that is whole where the last id of the map is cut.
-pub fn open_head(file: &[u8]) -> Opened
-    requires { ⌜ length (now file) ≤ 16777216 ⌝ }
+fn open_head(file: &[u8]) -> Opened
+    requires { ⌜ length (now file) ≤ fileLimit ⌝ }
     ensures { λ r. ⌜ r ≡ openedOf (now (file .entry)) ⌝ }
 {
     if file.len() < 8 {
@@ -172,6 +186,24 @@ pub fn open_head(file: &[u8]) -> Opened
         return not_opened(HeadEnd::HeaderSize(size));
     }
     tables_at(&file[8..])
+}
+
+// ---- the way in
+
+// The way into a file, for every entry point: its length, the lent names, then the head opened. What is amiss with the head is the
+// caller's to say, since notes can come before it.
+// Ruled out: 1 for a file of 7 bytes with names that break their rule, and a head for a file past the limit.
+pub fn enter(file: &[u8], names: &[u32], area: &[u8]) -> Entered
+    ensures { λ r. ⌜ r ≡ enteredOf (now (file .entry)) (lends (now (names .entry)) (now (area .entry))) ⌝ }
+{
+    if FILE_LIMIT < file.len() {
+        return Entered::Out(Refusal::TooLargeError);
+    }
+    let read = check_names(names, area);
+    match read {
+        NamesRead::Good => Entered::In(open_head(file)),
+        NamesRead::Bad(k) => Entered::Out(Refusal::SystemNamesError(k)),
+    }
 }
 
 // ---- its parts
@@ -221,6 +253,18 @@ pub fn body_of<'a>(file: &'a [u8], h: Head) -> &'a [u8]
 }
 
 // ---- what it says
+
+pub fn is_whole(e: HeadEnd) -> bool
+    ensures { λ r. ⌜ r ≡ isWhole e ⌝ }
+{
+    match e {
+        HeadEnd::Whole => true,
+        HeadEnd::TooSmall(_) => false,
+        HeadEnd::HeaderSize(_) => false,
+        HeadEnd::PoolShort(_) => false,
+        HeadEnd::MapShort(_) => false,
+    }
+}
 
 // The refusal of a head that is not whole. (Of one that is, the refusal that is left: no start.)
 // Ruled out: one number for a short pool and a short map, and 0 in place of the header size.

@@ -4,34 +4,34 @@
 --   reading-le        so a reading leaves no more words and notes than there is room for
 --   listedText-fits   so the buffer of `Roomy` takes every listing
 --   lists-answer      and the answer of `list_into` in that room is a text
-use Prim.Native.Nat.{ℕ, _+_, _-_, _*_, _/_, _≤_, _<_}
+use Prim.Native.Nat.{ℕ, _+_, _-_, _*_, _/_, _≤_}
 use native.Mathlib.Omega.{arith}
-use mathlib.Core.Path.{_≡_, refl, sym, _∙_, ap}
+use mathlib.Core.Path.{_≡_, sym, _∙_}
 use mathlib.Core.List.{List, [], _∷_, _++_}
-use mathlib.Core.Bool.{Bool, true, false, cond}
-use borrow.Author.Tests.{leb-true, ltb-true, ltb-false, le-leb, le-ltb, lt-ltb}
-use lib.ListN.{length, take, drop, set, getD, replicate, length-append, length-set, length-replicate, length-take}
+use mathlib.Core.Bool.{cond}
+use borrow.Author.Tests.{leb-true, ltb-true, le-leb}
+use lib.ListN.{length, take, getD, replicate, length-append, length-set, length-replicate, length-take}
 use lib.Dec.{ltb, leb, eqb}
-use Rattle.anomaly.specs.Note.{kindIndex, noteOf}
-use Rattle.anomaly.specs.declared.Note.{Note as NoteOf}
-use Rattle.errors.specs.Refusal.{numbersOf, textNumbersOf}
+use Rattle.anomaly.specs.Note.{kindIndex}
+use Rattle.errors.specs.Refusal.{numbersOf}
 use Rattle.errors.specs.declared.Refusal.{Refusal}
-use Rattle.errors.specs.declared.Refusal.the-variants.{NodesFull, AttributesFull, NotesFull, TooLargeError}
+use Rattle.errors.specs.declared.Refusal.the-variants.{AttributesFull, NotesFull, TooLargeError}
 use Rattle.errors.specs.declared.TextAnswer.{TextAnswer}
 use Rattle.errors.specs.declared.TextAnswer.the-variants.{Text, Refused}
 use Rattle.errors.proofs.Laws.{textNumbersOf-unique}
-use Rattle.head.specs.Ask.{Check, passes, fails, firstOf, lengthCheck, namesCheck}
+use Rattle.head.specs.Entry.{Check, passes, fails, firstOf, entryChecks}
 use Rattle.head.specs.Head.{openedOf}
 use Rattle.xml_elements.proofs.Laws.{cond-by}
 use Rattle.events.specs.declared.Event.{Event}
 use Rattle.events.specs.declared.Event.the-variants.{Nothing, Open, Attribute, LeftOut, Close, Note, Refuse, Finish}
 use Rattle.records.specs.Words.{nodeWidth, attributeWidth}
 use Rattle.records.specs.Limits.{listedFile, listedNodes, listedAttributes, listedNotes, listedCap}
-use Rattle.tables.specs.Keep.{hasKey}
-use Rattle.walk.specs.Settle.{Room, Tables, Out, going, refused, nodeWords, opened, closed, kept, noted, push, settle, nothingYet}
-use Rattle.walk.specs.Reading.{Reading, refuses, succeeds, nodesKept, attributesKept, zeroNote, finalOf, readingBy, settledIn, reading}
+use Rattle.system_types.specs.Names.{Lent, lends}
+use Rattle.records.specs.Repeats.{Rule}
+use Rattle.walk.specs.Settle.{Room, Tables, Out, going, refused, repeated, kept, noted, push, settle, nothingYet}
+use Rattle.walk.specs.Reading.{Reading, refuses, succeeds, nodesKept, attributesKept, zeroNote, readingBy, settledIn, reading}
 use Rattle.listing_text.specs.Size.{listedBytes}
-use Rattle.listing_text.specs.Printed.{Printed, listingAnswer}
+use Rattle.listing_text.specs.Printed.{listingAnswer}
 use Rattle.listing_text.proofs.Lengths.{listingText-fits}
 use Rattle.listed.specs.Lists.{listedRoom, listed, listedText, Lists, Roomy}
 
@@ -46,8 +46,8 @@ abbrev pub InHeld : Room → Out → Type 0
 InHeld r (going t) = Held r t
 InHeld r (refused x) = Unit {0}
 
-module _ (same : ℕ → ℕ → Bool) (r : Room) where
-  push-held : (t : Tables) (e : Event) → Held r t → InHeld r (push same r (going t) e)
+module _ (rule : Rule) (r : Room) where
+  push-held : (t : Tables) (e : Event) → Held r t → InHeld r (push rule r (going t) e)
   push-held t Nothing h = h
   push-held t Finish h = h
   push-held t (LeftOut n) h = h
@@ -63,7 +63,7 @@ module _ (same : ℕ → ℕ → Bool) (r : Room) where
       (λ e. tt)
   push-held t (Attribute p a) h =
       cond-by (InHeld r) (eqb (length (t .nodes)) 0) (λ e. h)
-      (λ n. cond-by (InHeld r) (hasKey same p (a .name .0) (drop (t .first) (t .attributes))) {x = going t}
+      (λ n. cond-by (InHeld r) (repeated rule t p a) {x = going t}
       {y = cond (leb (length (t .attributes) + attributeWidth) (r .attributes)) (going (kept t p a)) (refused (AttributesFull (r .attributes / attributeWidth)))}
       (λ e. h)
       (λ k. cond-by (InHeld r) (leb (length (t .attributes) + attributeWidth) (r .attributes)) {x = going (kept t p a)}
@@ -81,11 +81,11 @@ module _ (same : ℕ → ℕ → Bool) (r : Room) where
       (λ e. tt))
       (λ d. h)
 
-  settle-held : (o : Out) (es : List Event) → InHeld r o → InHeld r (settle same r o es)
+  settle-held : (o : Out) (es : List Event) → InHeld r o → InHeld r (settle rule r o es)
   unfolding settle
   settle-held o [] h = h
   settle-held (refused x) (e ∷ es) h = settle-held (refused x) es tt
-  settle-held (going t) (e ∷ es) h = settle-held (push same r (going t) e) es (push-held t e h)
+  settle-held (going t) (e ∷ es) h = settle-held (push rule r (going t) e) es (push-held t e h)
 
 -- ---- what a reading leaves
 
@@ -117,10 +117,10 @@ readingBy-le r (going t) passes h = succeeds-le r t h
 readingBy-le r (refused x) passes h = refuses-le r x
 readingBy-le r o (fails x) h = refuses-le r x
 
-pub reading-le : (r : Room) (f names area : List ℕ) → Left r (reading r f names area)
+pub reading-le : (r : Room) (f : List ℕ) (lent : Lent) → Left r (reading r f lent)
 unfolding reading
-reading-le r f names area =
-    readingBy-le r (settledIn r f names area (openedOf f)) (firstOf (lengthCheck f ∷ namesCheck area names ∷ []))
+reading-le r f lent =
+    readingBy-le r (settledIn r f lent (openedOf f)) (firstOf (entryChecks f lent))
     (settle-held _ r nothingYet _ (record { nodes = omega arith; attributes = omega arith; notes = omega arith }))
 
 -- ---- the text of a listing
@@ -129,7 +129,7 @@ listed-le : (f : List ℕ) (ns ats : ℕ) → Left (listedRoom ns ats) (listed f
 unfolding listed
 listed-le f ns ats =
     cond-by (Left (listedRoom ns ats)) (ltb listedFile (length f)) (λ e. refuses-le (listedRoom ns ats) TooLargeError)
-    (λ e. reading-le (listedRoom ns ats) f [] [])
+    (λ e. reading-le (listedRoom ns ats) f (lends [] []))
 
 pub listedText-fits :
     (f : List ℕ) (ns ats : ℕ) → ns ≤ nodeWidth * listedNodes → ats ≤ attributeWidth * listedAttributes → length (listedText f ns ats) ≤ listedBytes

@@ -18,6 +18,7 @@ use Rattle.errors.specs.declared.Refusal.the-variants.{TooLargeError}
 use Rattle.errors.specs.declared.TextAnswer.{TextAnswer}
 use Rattle.records.specs.Words.{nodeWidth, attributeWidth}
 use Rattle.records.specs.Limits.{listedFile, listedNodes, listedAttributes, listedNotes, listedCap}
+use Rattle.system_types.specs.Names.{lends}
 use Rattle.walk.specs.Settle.{Room}
 use Rattle.walk.specs.Reading.{Reading, refuses, reading}
 use Rattle.listing_text.specs.Listing.{listingText}
@@ -28,7 +29,7 @@ abbrev pub listedRoom : ℕ → ℕ → Room
 listedRoom ns ats = record { nodes = ns; attributes = ats; notes = listedNotes; cap = listedCap }
 
 unfoldable pub listed : List ℕ → ℕ → ℕ → Reading
-listed f ns ats = cond (ltb listedFile (length f)) (refuses (listedRoom ns ats) TooLargeError) (reading (listedRoom ns ats) f [] [])
+listed f ns ats = cond (ltb listedFile (length f)) (refuses (listedRoom ns ats) TooLargeError) (reading (listedRoom ns ats) f (lends [] []))
 
 -- the listing of a reading
 abbrev pub textIn : Reading → List ℕ

@@ -6,6 +6,7 @@
 ghost use mathlib.Core.Path.{_≡_};
 ghost use Prim.Native.Nat.{_+_, _-_, _*_, _/_, _≤_, _<_};
 ghost use lib.ListN.{length};
+ghost use Rattle.records.specs.Limits.{fileLimit};
 ghost use Rattle.common.specs.Header.{headerOf};
 ghost use Rattle.res_string_pool.specs.Pool.{capped, countOf, noGarbage, unread, endOf, numbered, poolFrom, secondBy};
 ghost use Rattle.res_string_pool.specs.Pool.{behindGarbage, poolOf, outsideOf};
@@ -138,7 +139,7 @@ fn no_garbage() -> Garbage
 
 // The numbers of the pool whose header h stands at the front of m, which begins at the place `at`.
 fn numbers_of(at: usize, h: ResChunkHeader, m: &[u8]) -> Pool
-    requires { ⌜ (28 ≤ length (now m)) × (at ≤ 16777216) ⌝ }
+    requires { ⌜ (28 ≤ length (now m)) × (at ≤ fileLimit) ⌝ }
     ensures { λ r. ⌜ r ≡ numbered at h (now (m .entry)) ⌝ }
 {
     let declared = u32_at(m, 8);
@@ -158,7 +159,7 @@ fn numbers_of(at: usize, h: ResChunkHeader, m: &[u8]) -> Pool
 
 // The pool whose header h stands at the front of m, which begins at the place `at`.
 fn pool_from(garbage: Garbage, at: usize, h: ResChunkHeader, m: &[u8]) -> PoolRead
-    requires { ⌜ (8 ≤ length (now m)) × (at ≤ 16777216) ⌝ }
+    requires { ⌜ (8 ≤ length (now m)) × (at ≤ fileLimit) ⌝ }
     ensures { λ r. ⌜ r ≡ poolFrom garbage at h (now (m .entry)) ⌝ }
 {
     if m.len() < 28 {
@@ -176,7 +177,7 @@ fn pool_from(garbage: Garbage, at: usize, h: ResChunkHeader, m: &[u8]) -> PoolRe
 
 // The second header, behind a chunk that was skipped: its type is not tested.
 fn second(garbage: Garbage, at: usize, m: &[u8]) -> PoolRead
-    requires { ⌜ at ≤ 16777216 ⌝ }
+    requires { ⌜ at ≤ fileLimit ⌝ }
     ensures { λ r. ⌜ r ≡ secondBy garbage at (now (m .entry)) (headerOf (now (m .entry))) ⌝ }
 {
     let read = header_at(m, 0);
@@ -188,7 +189,7 @@ fn second(garbage: Garbage, at: usize, m: &[u8]) -> PoolRead
 
 // The pool behind the chunk with the header h, which stands in its place and is skipped by its size.
 fn behind_garbage(h: ResChunkHeader, s: &[u8]) -> PoolRead
-    requires { ⌜ (8 ≤ length (now s)) × (length (now s) ≤ 16777216) ⌝ }
+    requires { ⌜ (8 ≤ length (now s)) × (length (now s) ≤ fileLimit) ⌝ }
     ensures { λ r. ⌜ r ≡ behindGarbage h (now (s .entry)) ⌝ }
 {
     let skipped = h.content_size();
@@ -209,7 +210,7 @@ fn behind_garbage(h: ResChunkHeader, s: &[u8]) -> PoolRead
 // The pool at the front of s, the bytes behind the file's header.
 // Ruled out: the data at strings_start (it begins right behind the styles), and the declared count for the count.
 pub fn pool_of(s: &[u8]) -> PoolRead
-    requires { ⌜ length (now s) ≤ 16777216 ⌝ }
+    requires { ⌜ length (now s) ≤ fileLimit ⌝ }
     ensures { λ r. ⌜ r ≡ poolOf (now (s .entry)) ⌝ }
 {
     let read = header_at(s, 0);
@@ -230,7 +231,7 @@ pub fn pool_of(s: &[u8]) -> PoolRead
 // How many of the offsets o are at or past the data's length; bytes left over at the end are not looked at.
 // Ruled out: an offset that equals the length taken for one inside, and 1 for any number of them.
 pub fn outside_of(o: &[u8], size: usize) -> u32
-    requires { ⌜ length (now o) ≤ 16777216 ⌝ }
+    requires { ⌜ length (now o) ≤ fileLimit ⌝ }
     ensures { λ r. ⌜ r ≡ outsideOf (now (o .entry)) size (length (now (o .entry)) / 4) ⌝ }
 {
     let n = o.len() / 4;

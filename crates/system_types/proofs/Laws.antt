@@ -11,7 +11,7 @@ use borrow.Author.Tests.{not-true, not-false, ltb-true, leb-true, eqb-true, lt-l
 use lib.ListN.{length, take, drop, getD}
 use lib.Seq.{drop-cons}
 use lib.Dec.{ltb, leb, eqb}
-use Rattle.system_types.specs.Names.{topByte, isGood, namesFrom, namesOf, Rising, nameOf, systemName}
+use Rattle.system_types.specs.Names.{Lent, topByte, isGood, namesFrom, namesOf, Rising, nameOf, systemName}
 use Rattle.system_types.specs.declared.NamesRead.{NamesRead}
 use Rattle.system_types.specs.declared.NamesRead.the-variants.{Good, Bad}
 use Rattle.system_types.specs.declared.Lookup.the-variants.{Name, Missing}
@@ -196,8 +196,8 @@ namesFrom-rises area last k (id ∷ start ∷ n ∷ w) e = go (isGood area last 
         record { above = above-more last id start n w (p .rises) (r .above); rising = rising-more id start n w (r .above) (r .rising) }
     go false t f more = let z : _≡_ {A = ℕ} 0 1 = cc in absurd (let y : ⊥ = omega arith in y)
 
-pub rising-of-good : (area w : List ℕ) → namesOf area w ≡ Good → Rising w
-rising-of-good area w e = namesFrom-rises area 0 0 w e .rising
+pub rising-of-good : (lent : Lent) → namesOf lent ≡ Good → Rising (lent .names)
+rising-of-good lent e = namesFrom-rises (lent .area) 0 0 (lent .names) e .rising
 
 -- ---- a name that is found
 
@@ -232,12 +232,15 @@ nameOf-of-good area last k (x ∷ start ∷ m ∷ w) id s n e f =
     go true t g false f more = more g f
 
 pub systemName-of-good
-    : (area w : List ℕ) (id s n : ℕ)
-    → namesOf area w ≡ Good
-    → systemName id w ≡ Name s n
-    → (s + n ≤ length area) × (1 ≤ n) × (isAscii (take n (drop s area)) ≡ true)
-systemName-of-good area w id s n e f = go (eqb (topByte id) 1) f
+    : (lent : Lent) (id s n : ℕ)
+    → namesOf lent ≡ Good
+    → systemName id (lent .names) ≡ Name s n
+    → (s + n ≤ length (lent .area)) × (1 ≤ n) × (isAscii (take n (drop s (lent .area))) ≡ true)
+systemName-of-good lent id s n e f = go (eqb (topByte id) 1) f
   where
-    go : (b : Bool) → cond b (nameOf id w) Missing ≡ Name s n → (s + n ≤ length area) × (1 ≤ n) × (isAscii (take n (drop s area)) ≡ true)
-    go true g = nameOf-of-good area 0 0 w id s n e g
+    go
+        : (b : Bool)
+        → cond b (nameOf id (lent .names)) Missing ≡ Name s n
+        → (s + n ≤ length (lent .area)) × (1 ≤ n) × (isAscii (take n (drop s (lent .area))) ≡ true)
+    go true g = nameOf-of-good (lent .area) 0 0 (lent .names) id s n e g
     go false g = let z : _≡_ {A = ℕ} 0 1 = cc in absurd (let y : ⊥ = omega arith in y)

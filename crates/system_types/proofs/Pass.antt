@@ -9,7 +9,7 @@ use mathlib.Core.Bool.{Bool, true, false, _&&_, and-false}
 use borrow.Author.Tests.{ltb-true, eqb-true, lt-ltb}
 use lib.ListN.{length, drop, getD, length-drop}
 use lib.Dec.{ltb, eqb}
-use Rattle.system_types.specs.Names.{topByte, isGood, namesFrom, namesOf}
+use Rattle.system_types.specs.Names.{lends, topByte, isGood, namesFrom, namesOf}
 use Rattle.system_types.specs.declared.NamesRead.the-variants.{Good}
 use Rattle.utf.specs.Plain.{isAscii}
 use Rattle.utf.proofs.Tables.{both-true}
@@ -45,7 +45,7 @@ pub record Kept (area : List ℕ) (falls last most : ℕ) : Type 0 where
 -- the entries before k were seen: if they keep what is asked, those left say what all say
 pub record Seen (area w : List ℕ) (k falls last most : ℕ) : Type 0 where
   pub fits : 3 * k ≤ length w
-  pub so : Kept area falls last most → (16777215 ≤ last) × (namesFrom area last k (drop (3 * k) w) ≡ namesOf area w)
+  pub so : Kept area falls last most → (16777215 ≤ last) × (namesFrom area last k (drop (3 * k) w) ≡ namesOf (lends w area))
 
 pub seen-first : (area w : List ℕ) → Seen area w 0 0 16777215 0
 seen-first area w = record { fits = omega arith; so = λ h. (omega arith, namesFrom-low area 0 w) }
@@ -68,7 +68,7 @@ module _ (area w : List ℕ) (k falls last most end far : ℕ)
     good
         : Kept area falls (getD w (3 * k) 0) far
         → (16777215 ≤ getD w (3 * k) 0)
-        × (namesFrom area (getD w (3 * k) 0) (k + 1) (drop (3 * (k + 1)) w) ≡ namesOf area w)
+        × (namesFrom area (getD w (3 * k) 0) (k + 1) (drop (3 * (k + 1)) w) ≡ namesOf (lends w area))
     good h =
         let i = h .inside in
         let t = h .top in
@@ -92,7 +92,7 @@ pub seen-done
     → Seen area w k falls last most
     → length w / 3 ≤ k
     → ((((eqb (length w % 3) 0 && eqb falls 0) && ltb last 33554432) && ltb most (length area)) && ltb (length area) 4294967296) ≡ true
-    → namesOf area w ≡ Good
+    → namesOf (lends w area) ≡ Good
 seen-done area w k falls last most seen p e =
     let none = eqb (length w % 3) 0 && eqb falls 0 in
     let a = both-true ((none && ltb last 33554432) && ltb most (length area)) (ltb (length area) 4294967296) e in

@@ -1,5 +1,6 @@
 -- The system names that the caller lends: three words each (id, start, length) over an area of bytes: docs/FORMAT.md, N4 to N7.
 --
+--   Lent         what is lent beside a file: the words of the names and the area of their bytes; lends the two as one
 --   namesOf      Good where every entry keeps the rule; else the first that breaks it, or the number of whole entries where words remain
 --   Rising       the ids of the whole entries strictly rise, which is what a search by halves needs; names that are Good do
 --   systemName   where the name with an id lies: the first entry that has it; Missing where none has, or the id's top byte is not 1
@@ -17,6 +18,15 @@ use Rattle.system_types.specs.declared.NamesRead.{NamesRead}
 use Rattle.system_types.specs.declared.NamesRead.the-variants.{Good, Bad}
 use Rattle.system_types.specs.declared.Lookup.{Lookup}
 use Rattle.system_types.specs.declared.Lookup.the-variants.{Name, Missing}
+
+-- ---- what is lent
+
+pub record Lent : Type 0 where
+  pub names : List ℕ
+  pub area : List ℕ
+
+abbrev pub lends : List ℕ → List ℕ → Lent
+lends names area = record { names = names; area = area }
 
 -- ---- the rule
 
@@ -39,8 +49,8 @@ namesFrom area last k (id ∷ []) = Bad k
 namesFrom area last k (id ∷ start ∷ []) = Bad k
 namesFrom area last k (id ∷ start ∷ n ∷ w) = cond (isGood area last id start n) (namesFrom area id (k + 1) w) (Bad k)
 
-abbrev pub namesOf : List ℕ → List ℕ → NamesRead
-namesOf area w = namesFrom area 0 0 w
+abbrev pub namesOf : Lent → NamesRead
+namesOf lent = namesFrom (lent .area) 0 0 (lent .names)
 
 -- ---- looking a name up
 

@@ -8,7 +8,7 @@ ghost use mathlib.Core.Bool.{true, false, cond};
 ghost use Prim.Native.Nat.{_+_, _/_, _≤_, _<_};
 ghost use lib.ListN.{length};
 ghost use lib.Dec.{ltb};
-ghost use Rattle.system_types.specs.Names.{isGood, namesOf, nameOf, systemName, startsWith, without, androidAttr};
+ghost use Rattle.system_types.specs.Names.{lends, isGood, namesOf, nameOf, systemName, startsWith, without, androidAttr};
 ghost use Rattle.system_types.specs.Names.{Rising};
 ghost use Rattle.system_types.specs.declared.NamesRead.the-variants.{Good};
 ghost use Rattle.utf.specs.Plain.{isAscii};
@@ -84,7 +84,7 @@ fn greater(a: usize, b: usize) -> usize
 // did not rise and the furthest last byte decide. Ids that rise from above 16777215 to below 33554432 have top byte 1.
 fn all_keep(names: &[u32], area: &[u8]) -> bool
     requires { ⌜ isAscii (now area) ≡ true ⌝ }
-    ensures { λ r. ⌜ (r ≡ true → namesOf (now (area .entry)) (now (names .entry)) ≡ Good) ⌝ }
+    ensures { λ r. ⌜ (r ≡ true → namesOf (lends (now (names .entry)) (now (area .entry))) ≡ Good) ⌝ }
 {
     let whole = names.len() / 3;
     let mut falls: usize = 0;
@@ -110,7 +110,7 @@ fn all_keep(names: &[u32], area: &[u8]) -> bool
 // What the names say, entry by entry up to the first that breaks the rule; `plain` where the area is known to be ASCII as a whole.
 fn check_each(names: &[u32], area: &[u8], plain: bool) -> NamesRead
     requires { ⌜ (plain ≡ true → isAscii (now area) ≡ true) ⌝ }
-    ensures { λ r. ⌜ r ≡ namesOf (now (area .entry)) (now (names .entry)) ⌝ }
+    ensures { λ r. ⌜ r ≡ namesOf (lends (now (names .entry)) (now (area .entry))) ⌝ }
 {
     let whole = names.len() / 3;
     let mut last = 0;
@@ -140,7 +140,7 @@ fn check_each(names: &[u32], area: &[u8], plain: bool) -> NamesRead
 // the one pass finds all good, no entry is asked by itself.
 // Ruled out: Good for a table with a word too many, and the earlier of two entries whose ids do not rise.
 pub fn check_names(names: &[u32], area: &[u8]) -> NamesRead
-    ensures { λ r. ⌜ r ≡ namesOf (now (area .entry)) (now (names .entry)) ⌝ }
+    ensures { λ r. ⌜ r ≡ namesOf (lends (now (names .entry)) (now (area .entry))) ⌝ }
 {
     let plain = is_plain(area, names.len() / 3);
     if plain {

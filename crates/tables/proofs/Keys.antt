@@ -12,8 +12,9 @@ use lib.Seq.{getD-drop, getD-take, drop-drop}
 use lib.Dec.{eqb}
 use Rattle.records.specs.Words.{attributeWidth, attributePrefix, attributeName, attributeWords}
 use Rattle.records.specs.Repeats.{Rule, byPrefix, repeatsOne, isRepeat}
+use Rattle.system_types.specs.Names.{Lent}
 use Rattle.text.specs.Content.{contentOf, sameText, sameName}
-use Rattle.text.specs.Found.{partOf, Finds}
+use Rattle.text.specs.Inner.Found.{partOf, Finds}
 use Rattle.text.specs.declared.Head.{Head}
 use Rattle.text.specs.declared.Found.{Found}
 
@@ -61,6 +62,6 @@ module _ (same : ℕ → ℕ → Bool) (owner p n kind value : ℕ) (l : List �
   repeat-name h e f = repeat-step (byPrefix same) new l i h ∙ rw (byPrefix-at, eq-eqb _ _ e, f)
 
 -- what the code compares is what the indices stand for
-pub same-found : (h : Head) (t names area : List ℕ) (i n : ℕ) (wanted : Found) → Finds t names area h n wanted
-    → (r b : Bool) → r ≡ sameText (contentOf h t names area i) (partOf (h .wide) t area wanted) → r ≡ b → sameName h t names area i n ≡ b
-same-found h t names area i n wanted g r b e q = sym (rw (g .same) at e) ∙ q
+pub same-found : (h : Head) (t : List ℕ) (lent : Lent) (i n : ℕ) (wanted : Found) → Finds t lent h n wanted
+    → (r b : Bool) → r ≡ sameText (contentOf h t lent i) (partOf (h .wide) t (lent .area) wanted) → r ≡ b → sameName h t lent i n ≡ b
+same-found h t lent i n wanted g r b e q = sym (rw (g .same) at e) ∙ q

@@ -8,8 +8,9 @@ ghost use Prim.Native.Nat.{ℕ, _-_, _≤_, _<_};
 ghost use lib.ListN.{length, take, replicate, set};
 ghost use Rattle.records.specs.Words.{attributeWords};
 ghost use Rattle.records.specs.Repeats.{byPrefix, isRepeat};
+ghost use Rattle.system_types.specs.Names.{lends};
 ghost use Rattle.text.specs.Content.{sameName};
-ghost use Rattle.text.specs.Found.{Asks};
+ghost use Rattle.text.specs.Inner.Found.{Asks};
 use common::StringIndex;
 use records::ATTRIBUTE_NAME;
 use records::ATTRIBUTE_PREFIX;
@@ -59,8 +60,8 @@ pub fn has(
     prefix: u32,
     name: StringIndex,
 ) -> bool
-    requires { ⌜ Asks (now t) (now names) (now area) h ⌝ }
-    ensures { λ r. ⌜ ((owner kind «data» : ℕ) → r ≡ isRepeat (byPrefix (sameName h (now (t .entry)) (now (names .entry)) (now (area .entry))))
+    requires { ⌜ Asks (now t) (lends (now names) (now area)) h ⌝ }
+    ensures { λ r. ⌜ ((owner kind «data» : ℕ) → r ≡ isRepeat (byPrefix (sameName h (now (t .entry)) (lends (now (names .entry)) (now (area .entry)))))
         (attributeWords owner prefix (name .0) kind «data») (now (words .entry))) ⌝ }
 {
     if words.len() < ATTRIBUTE_WORDS {

@@ -11,7 +11,7 @@ use borrow.Author.Tests.{lt-ltb, le-ltb}
 use lib.ListN.{length, take, drop, length-drop}
 use lib.Seq.{take-all}
 use Rattle.field.specs.Le.{u32le}
-use Rattle.system_types.specs.Names.{systemName}
+use Rattle.system_types.specs.Names.{Lent, systemName}
 use Rattle.system_types.specs.declared.Lookup.the-variants.{Name, Missing}
 use Rattle.resource_map.specs.Map.{idOf}
 use Rattle.res_string_pool.specs.Pool.{offsetOf}
@@ -20,7 +20,7 @@ use Rattle.text.specs.declared.Head.{Head}
 use Rattle.text.specs.declared.Found.{Found}
 use Rattle.text.specs.declared.Found.the-variants.{Nothing, Cut, System, Pool}
 use Rattle.text.specs.Content.{none, namedBy, systemOf, stringAt, stringOf, dataOf, contentOf}
-use Rattle.text.specs.Found.{Fits, Stands, isFound}
+use Rattle.text.specs.Inner.Found.{Fits, Stands, isFound}
 
 module _ (h : Head) (t : List ℕ) (i : ℕ) where
   pub stringOf-past : h .count ≤ i → stringOf h t i ≡ none
@@ -49,45 +49,45 @@ module _ (h : Head) (t : List ℕ) (i : ℕ) where
       let p : length (drop (h .map) t) ≤ length t - h .map = le-of-eq (length-drop (h .map) t) in
       e ∙ ap (λ (l : List ℕ). idOf l i) (take-all (length t - h .map) (drop (h .map) t) p)
 
-module _ (h : Head) (t names area : List ℕ) (i : ℕ) where
-  pub systemOf-past : h .ids ≤ i → systemOf h t names area i ≡ none
+module _ (h : Head) (t : List ℕ) (lent : Lent) (i : ℕ) where
+  pub systemOf-past : h .ids ≤ i → systemOf h t lent i ≡ none
   unfolding systemOf
   systemOf-past p = rw (le-ltb i (h .ids) p)
 
-  pub systemOf-in : i < h .ids → systemOf h t names area i ≡ namedBy area (systemName (idOf (drop (h .map) t) i) names)
+  pub systemOf-in : i < h .ids → systemOf h t lent i ≡ namedBy (lent .area) (systemName (idOf (drop (h .map) t) i) (lent .names))
   unfolding systemOf
   systemOf-in p = rw (lt-ltb i (h .ids) p)
 
-  pub system-past : h .ids ≤ i → Stands (h .wide) t area (systemOf h t names area i) Nothing
+  pub system-past : h .ids ≤ i → Stands (h .wide) t (lent .area) (systemOf h t lent i) Nothing
   system-past p = record { same = sym (systemOf-past p); inside = tt }
 
   pub system-missing
       : {id : ℕ}
       → i < h .ids
       → id ≡ idOf (drop (h .map) t) i
-      → systemName id names ≡ Missing
-      → Stands (h .wide) t area (systemOf h t names area i) Nothing
+      → systemName id (lent .names) ≡ Missing
+      → Stands (h .wide) t (lent .area) (systemOf h t lent i) Nothing
   system-missing p e m =
-      let q : systemName (idOf (drop (h .map) t) i) names ≡ Missing = rw (← e) m in
-      record { same = sym (systemOf-in p ∙ ap (namedBy area) q); inside = tt }
+      let q : systemName (idOf (drop (h .map) t) i) (lent .names) ≡ Missing = rw (← e) m in
+      record { same = sym (systemOf-in p ∙ ap (namedBy (lent .area)) q); inside = tt }
 
   pub system-name
       : {id start n : ℕ} {r : Found}
       → i < h .ids
       → id ≡ idOf (drop (h .map) t) i
-      → systemName id names ≡ Name start n
-      → Stands (h .wide) t area (namedBy area (Name start n)) r
-      → Stands (h .wide) t area (systemOf h t names area i) r
+      → systemName id (lent .names) ≡ Name start n
+      → Stands (h .wide) t (lent .area) (namedBy (lent .area) (Name start n)) r
+      → Stands (h .wide) t (lent .area) (systemOf h t lent i) r
   system-name {id} {start} {n} p e m s =
-      let q : systemName (idOf (drop (h .map) t) i) names ≡ Name start n = rw (← e) m in
-      record { same = s .same ∙ sym (systemOf-in p ∙ ap (namedBy area) q); inside = s .inside }
+      let q : systemName (idOf (drop (h .map) t) i) (lent .names) ≡ Name start n = rw (← e) m in
+      record { same = s .same ∙ sym (systemOf-in p ∙ ap (namedBy (lent .area)) q); inside = s .inside }
 
   -- a system name goes first
   pub contentOf-system
       : (w : Bool) (r : Found)
       → isFound r ≡ true
-      → Stands w t area (systemOf h t names area i) r
-      → Stands w t area (contentOf h t names area i) r
+      → Stands w t (lent .area) (systemOf h t lent i) r
+      → Stands w t (lent .area) (contentOf h t lent i) r
   unfolding contentOf
   contentOf-system w Nothing e s = absurd (let z : _≡_ {A = ℕ} 0 1 = cc in let y : ⊥ = omega arith in y)
   contentOf-system w Cut e s = record { same = rw (← s .same); inside = s .inside }
@@ -97,8 +97,8 @@ module _ (h : Head) (t names area : List ℕ) (i : ℕ) where
   -- without one, the pool's string
   pub contentOf-string
       : (w : Bool) (r : Found)
-      → Stands w t area (systemOf h t names area i) Nothing
-      → Stands w t area (stringOf h t i) r
-      → Stands w t area (contentOf h t names area i) r
+      → Stands w t (lent .area) (systemOf h t lent i) Nothing
+      → Stands w t (lent .area) (stringOf h t i) r
+      → Stands w t (lent .area) (contentOf h t lent i) r
   unfolding contentOf
   contentOf-string w r n s = record { same = rw (← n .same) (s .same); inside = s .inside }

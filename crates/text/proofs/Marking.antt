@@ -10,13 +10,14 @@ use lib.ListN.{length, take, drop, getD}
 use Rattle.field.specs.Le.{u16le}
 use Rattle.utf.specs.Text.{eqBytes}
 use Rattle.utf.specs.Plain.{Known}
+use Rattle.system_types.specs.Names.{Lent}
 use Rattle.text.specs.declared.Head.{Head}
 use Rattle.text.specs.declared.Found.{Found}
 use Rattle.text.specs.declared.Found.the-variants.{Pool}
 use Rattle.text.specs.declared.Marks.{Marks}
 use Rattle.text.specs.Content.{plainIn}
-use Rattle.text.specs.Found.{partOf}
-use Rattle.text.specs.Told.{Other, stringIn, Heads, Ends, Chosen, firstOf, Marked}
+use Rattle.text.specs.Inner.Found.{partOf}
+use Rattle.text.specs.Inner.Told.{Other, stringIn, Heads, Ends, Chosen, firstOf, Marked}
 use Rattle.text.proofs.Others.{other-at, narrow-in, wide-in, system-first}
 
 -- ---- a string of the same length
@@ -94,8 +95,8 @@ alike-room false t end p k e l = (omega (arith, e .room), omega (arith, e .room,
 
 -- ---- the marks
 
-module _ (t names area : List ℕ) (h : Head) (g : Found) (k : Marks) where
-  pub marked-none : k .first ≡ h .count → Marked t names area h g k
+module _ (t : List ℕ) (lent : Lent) (h : Head) (g : Found) (k : Marks) where
+  pub marked-none : k .first ≡ h .count → Marked t lent h g k
   marked-none e = record {
     bare = λ i p q. absurd (let z : ⊥ = omega (arith, e) in z);
     ends = λ p. absurd (let z : ⊥ = omega (arith, e) in z);
@@ -104,11 +105,11 @@ module _ (t names area : List ℕ) (h : Head) (g : Found) (k : Marks) where
   pub marked-pool
       : {at n : ℕ} {plain : Bool}
       → plain ≡ true
-      → Known plain (plainIn (partOf (h .wide) t area g))
+      → Known plain (plainIn (partOf (h .wide) t (lent .area) g))
       → g ≡ Pool at n
-      → Chosen (h .wide) t (h .count) (firstOf names (h .ids)) (h .strings + h .size) at n k
-      → Marked t names area h g k
+      → Chosen (h .wide) t (h .count) (firstOf (lent .names) (h .ids)) (h .strings + h .size) at n k
+      → Marked t lent h g k
   marked-pool {at} {n} y p e c = record {
-    bare = λ i l m. system-first h t names area i (c .later i l m);
+    bare = λ i l m. system-first h t lent i (c .later i l m);
     ends = λ l. let q = c .ends l in (e ∙ ap (λ (z : ℕ). Pool z n) (sym (q .0)) ∙ ap (Pool (k .at)) (sym (q .1)), p .holds y, q .2);
   }

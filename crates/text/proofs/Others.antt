@@ -16,7 +16,7 @@ use Rattle.utf.specs.Text.{textOf, eqBytes}
 use Rattle.utf.specs.Plain.{isPlain}
 use Rattle.utf.proofs.Equal.{eqBytes-length, eqBytes-here}
 use Rattle.utf.proofs.PlainLaws.{plain-same}
-use Rattle.system_types.specs.Names.{nameOf, systemName, topByte}
+use Rattle.system_types.specs.Names.{Lent, nameOf, systemName, topByte}
 use Rattle.system_types.specs.declared.Lookup.the-variants.{Missing}
 use Rattle.resource_map.specs.Map.{idOf}
 use Rattle.res_string_pool.specs.Pool.{offsetOf}
@@ -29,8 +29,8 @@ use Rattle.text.specs.declared.Found.{Found}
 use Rattle.text.specs.declared.Found.the-variants.{Pool}
 use Rattle.text.specs.Content.{Content, none, cut, some, namedBy, systemOf, splitBy, stringAt, dataOf, stringOf, orElse, contentOf}
 use Rattle.text.specs.Content.{plainIn, sameText}
-use Rattle.text.specs.Found.{Fits, partOf}
-use Rattle.text.specs.Told.{Other, stringIn, firstOf}
+use Rattle.text.specs.Inner.Found.{Fits, partOf}
+use Rattle.text.specs.Inner.Told.{Other, stringIn, firstOf}
 use Rattle.text.proofs.Parts.{take-drop-part, slice-of, data-from, length-data}
 use Rattle.text.proofs.Index.{stringOf-in, systemOf-past, systemOf-in}
 use Rattle.text.proofs.Read.{part-lt}
@@ -163,29 +163,29 @@ names-nil : (names : List ℕ) → length names ≡ 0 → names ≡ []
 names-nil [] e = refl
 names-nil (x ∷ l) e = absurd (let z : ⊥ = omega arith in z)
 
-module _ (h : Head) (t names area : List ℕ) (i : ℕ) where
-  system-nil : names ≡ [] → systemOf h t names area i ≡ none
+module _ (h : Head) (t : List ℕ) (lent : Lent) (i : ℕ) where
+  system-nil : (lent .names) ≡ [] → systemOf h t lent i ≡ none
   system-nil e = go (ltb i (h .ids)) refl
     where
-      go : (b : Bool) → ltb i (h .ids) ≡ b → systemOf h t names area i ≡ none
-      go true l = systemOf-in h t names area i (ltb-true i (h .ids) l) ∙ rw e (ap (namedBy area) (missing-nil (idOf (drop (h .map) t) i)))
-      go false l = systemOf-past h t names area i (ltb-false i (h .ids) l)
+      go : (b : Bool) → ltb i (h .ids) ≡ b → systemOf h t lent i ≡ none
+      go true l = systemOf-in h t lent i (ltb-true i (h .ids) l) ∙ rw e (ap (namedBy (lent .area)) (missing-nil (idOf (drop (h .map) t) i)))
+      go false l = systemOf-past h t lent i (ltb-false i (h .ids) l)
 
-  pub system-first : firstOf names (h .ids) ≤ i → systemOf h t names area i ≡ none
-  system-first p = go (eqb (length names) 0) refl
+  pub system-first : firstOf (lent .names) (h .ids) ≤ i → systemOf h t lent i ≡ none
+  system-first p = go (eqb (length (lent .names)) 0) refl
     where
-      go : (b : Bool) → eqb (length names) 0 ≡ b → systemOf h t names area i ≡ none
-      go true e = system-nil (names-nil names (eqb-true (length names) 0 e))
-      go false e = let q = rw e at p in systemOf-past h t names area i q
+      go : (b : Bool) → eqb (length (lent .names)) 0 ≡ b → systemOf h t lent i ≡ none
+      go true e = system-nil (names-nil (lent .names) (eqb-true (length (lent .names)) 0 e))
+      go false e = let q = rw e at p in systemOf-past h t lent i q
 
-module _ (h : Head) (t names area : List ℕ) (i : ℕ) (fits : Fits t h) where
+module _ (h : Head) (t : List ℕ) (lent : Lent) (i : ℕ) (fits : Fits t h) where
   pub other-index
       : (o : ℕ) (s : List ℕ)
-      → systemOf h t names area i ≡ none
+      → systemOf h t lent i ≡ none
       → i < h .count
       → o ≡ u32le t (h .offsets + 4 * i)
       → Other (h .wide) t (stringIn (h .wide) t (h .strings + h .size) (h .strings + o)) s
-      → Other (h .wide) t (contentOf h t names area i) s
+      → Other (h .wide) t (contentOf h t lent i) s
   unfolding contentOf stringAt
   other-index o s none-here p e r =
       let size = h .size in

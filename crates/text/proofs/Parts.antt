@@ -19,7 +19,7 @@ use Rattle.res_string_pool.specs.declared.Split.the-variants.{Content as Inner,
 use Rattle.res_string_pool.proofs.Strings.{splitOf-fits}
 use Rattle.text.specs.declared.Found.the-variants.{Cut, System, Pool}
 use Rattle.text.specs.Content.{cut, some, namedBy, stringAt}
-use Rattle.text.specs.Found.{Stands}
+use Rattle.text.specs.Inner.Found.{Stands}
 
 -- ---- a part of a part
 

@@ -8,7 +8,7 @@ use Rattle.utf.specs.Plain.{isPlain, Known}
 use Rattle.text.specs.declared.Found.{Found}
 use Rattle.text.specs.declared.Found.the-variants.{System, Pool}
 use Rattle.text.specs.Content.{plainIn}
-use Rattle.text.specs.Found.{partOf}
+use Rattle.text.specs.Inner.Found.{partOf}
 use Rattle.text.proofs.Read.{partOf-system, partOf-pool}
 
 -- nothing is said

@@ -10,6 +10,7 @@ use borrow.Author.Tests.{ltb-true, ltb-false}
 use lib.ListN.{length, take, drop, getD, length-take, length-drop, List·getD-eq-default}
 use lib.Seq.{getD-take, getD-drop, length-take-le}
 use lib.Dec.{ltb}
+use Rattle.records.specs.Limits.{fileLimit}
 use Rattle.utf.specs.Text.{textOf, putText, eqBytes, isSound, allSound, stepsAfter}
 use Rattle.utf.specs.Plain.{isAscii}
 use Rattle.utf.proofs.Filled.{putText-nil}
@@ -20,12 +21,13 @@ use Rattle.res_string_pool.specs.Pool.{offsetOf}
 use Rattle.res_string_pool.specs.Content.{splitOf}
 use Rattle.res_string_pool.specs.declared.Split.{Split}
 use Rattle.res_string_pool.specs.declared.Split.the-variants.{Content as Inner, Cut as SplitCut}
+use Rattle.system_types.specs.Names.{Lent}
 use Rattle.text.specs.declared.Head.{Head}
 use Rattle.text.specs.declared.Found.{Found}
 use Rattle.text.specs.declared.Found.the-variants.{Nothing, Cut, System, Pool}
 use Rattle.text.specs.Content.{Content, none, cut, some, systemOf, splitBy, stringAt, dataOf, stringOf, orElse, contentOf, textIn, hasText}
 use Rattle.text.specs.Content.{sameText, isText}
-use Rattle.text.specs.Found.{partOf, Inside, isFound, Wrote}
+use Rattle.text.specs.Inner.Found.{partOf, Inside, isFound, Wrote}
 use Rattle.text.proofs.Index.{stringOf-in, stringOf-past}
 use Rattle.text.proofs.Parts.{slice-of}
 
@@ -78,22 +80,22 @@ hasText-string : (w : Bool) (d : List ℕ) (o : ℕ) → hasText (stringAt w d o
 unfolding stringAt
 hasText-string w d o = hasText-split w (drop o d) (ltb o (length d)) (splitOf w (drop o d))
 
-module _ (h : Head) (t names area : List ℕ) (i : ℕ) where
+module _ (h : Head) (t : List ℕ) (lent : Lent) (i : ℕ) where
   -- where the pool has a string there is a text
-  pub hasText-in : i < h .count → hasText (contentOf h t names area i) ≡ true
+  pub hasText-in : i < h .count → hasText (contentOf h t lent i) ≡ true
   unfolding contentOf
   hasText-in p =
       let d = dataOf h t in
       let o = offsetOf (drop (h .offsets) t) i in
       let e : hasText (stringOf h t i) ≡ true = ap hasText (stringOf-in h t i p) ∙ hasText-string (h .wide) d o in
-      hasText-orElse (systemOf h t names area i) (stringOf h t i) e
+      hasText-orElse (systemOf h t lent i) (stringOf h t i) e
 
   -- past the pool a system name alone
-  pub hasText-past : h .count ≤ i → hasText (contentOf h t names area i) ≡ hasText (systemOf h t names area i)
+  pub hasText-past : h .count ≤ i → hasText (contentOf h t lent i) ≡ hasText (systemOf h t lent i)
   unfolding contentOf
   hasText-past p =
-      ap (λ (b : Content). hasText (orElse (systemOf h t names area i) b)) (stringOf-past h t i p)
-      ∙ hasText-orElse-none (systemOf h t names area i)
+      ap (λ (b : Content). hasText (orElse (systemOf h t lent i) b)) (stringOf-past h t i p)
+      ∙ hasText-orElse-none (systemOf h t lent i)
 
 -- ---- two texts, and lent bytes
 
@@ -182,5 +184,5 @@ pub wrote-none : {y : List ℕ} (before : List ℕ) → [] ≡ y → Wrote y bef
 wrote-none before e = rw (← e) (record { count = refl; bytes = sym (putText-nil before) })
 
 -- the text of a part of no more bytes than a file has
-pub textOf-held : (w : Bool) (s : List ℕ) {y : List ℕ} → textOf w s ≡ y → length s ≤ 16777216 → length y ≤ 0xffffffffffffffff
+pub textOf-held : (w : Bool) (s : List ℕ) {y : List ℕ} → textOf w s ≡ y → length s ≤ fileLimit → length y ≤ 0xffffffffffffffff
 textOf-held w s e l = omega (arith, textOf-length-le w s, ap length e)

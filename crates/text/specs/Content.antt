@@ -22,7 +22,7 @@ use Rattle.res_string_pool.specs.Pool.{offsetOf}
 use Rattle.res_string_pool.specs.Content.{splitOf}
 use Rattle.res_string_pool.specs.declared.Split.{Split}
 use Rattle.res_string_pool.specs.declared.Split.the-variants.{Content as Inner, Cut}
-use Rattle.system_types.specs.Names.{systemName, without, androidAttr}
+use Rattle.system_types.specs.Names.{Lent, systemName, without, androidAttr}
 use Rattle.system_types.specs.declared.Lookup.{Lookup}
 use Rattle.system_types.specs.declared.Lookup.the-variants.{Name, Missing}
 use Rattle.resource_map.specs.Map.{idOf}
@@ -42,8 +42,8 @@ abbrev pub namedBy : List ℕ → Lookup → Content
 namedBy area Missing = none
 namedBy area (Name start n) = some false (without androidAttr (take n (drop start area)))
 
-unfoldable pub systemOf : Head → List ℕ → List ℕ → List ℕ → ℕ → Content
-systemOf h t names area i = cond (ltb i (h .ids)) (namedBy area (systemName (idOf (drop (h .map) t) i) names)) none
+unfoldable pub systemOf : Head → List ℕ → Lent → ℕ → Content
+systemOf h t lent i = cond (ltb i (h .ids)) (namedBy (lent .area) (systemName (idOf (drop (h .map) t) i) (lent .names))) none
 
 -- ---- the pool string
 
@@ -68,8 +68,8 @@ orElse none b = b
 orElse cut b = cut
 orElse (some w s) b = some w s
 
-unfoldable pub contentOf : Head → List ℕ → List ℕ → List ℕ → ℕ → Content
-contentOf h t names area i = orElse (systemOf h t names area i) (stringOf h t i)
+unfoldable pub contentOf : Head → List ℕ → Lent → ℕ → Content
+contentOf h t lent i = orElse (systemOf h t lent i) (stringOf h t i)
 
 -- the content bytes before decoding
 abbrev pub rawOf : Content → List ℕ
@@ -116,8 +116,8 @@ abbrev pub sameText : Content → Content → Bool
 sameText a b = hasText a && (hasText b && eqBytes (textIn a) (textIn b))
 
 -- whether two string indices have equal texts; an index without a text equals nothing, not even itself
-abbrev pub sameName : Head → List ℕ → List ℕ → List ℕ → ℕ → ℕ → Bool
-sameName h t names area i j = sameText (contentOf h t names area i) (contentOf h t names area j)
+abbrev pub sameName : Head → List ℕ → Lent → ℕ → ℕ → Bool
+sameName h t lent i j = sameText (contentOf h t lent i) (contentOf h t lent j)
 
 abbrev pub isText : Content → List ℕ → Bool
 isText a s = hasText a && eqBytes (textIn a) s

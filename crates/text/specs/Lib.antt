@@ -1,4 +1,3 @@
 -- The root of the crate's definitions.
 pub mod Content
-pub mod Found
-pub mod Told
+pub mod Inner

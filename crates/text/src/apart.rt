@@ -2,7 +2,7 @@
 // `find` does.
 //
 // Stands for the hash in the Rust's `HashSet` of attribute names, which tells most names apart. An answer of no says nothing: the string
-// may be cut, or have lengths of two parts. Definitions: specs/Told.antt, specs/Content.antt, specs/Found.antt.
+// may be cut, or have lengths of two parts. Definitions: specs/Inner/Told.antt, specs/Content.antt, specs/Inner/Found.antt.
 use super::Found;
 use super::Head;
 use super::Marks;
@@ -12,9 +12,10 @@ ghost use Prim.Native.Nat.{_+_, _≤_, _<_};
 ghost use lib.ListN.{length, take, drop};
 ghost use Rattle.utf.specs.Text.{eqBytes};
 ghost use Rattle.utf.specs.Plain.{Known};
+ghost use Rattle.system_types.specs.Names.{lends};
 ghost use Rattle.text.specs.Content.{contentOf, plainIn, sameText};
-ghost use Rattle.text.specs.Found.{Fits, Asks, Inside, partOf};
-ghost use Rattle.text.specs.Told.{Other, stringIn, Ends, Chosen, Marked, firstOf};
+ghost use Rattle.text.specs.Inner.Found.{Fits, Asks, Inside, partOf};
+ghost use Rattle.text.specs.Inner.Told.{Other, stringIn, Ends, Chosen, Marked, firstOf};
 use common::StringIndex;
 use field::u16_at;
 use field::u32_at;
@@ -125,8 +126,8 @@ pub fn told_apart(
     index: StringIndex,
     g: Found,
 ) -> bool
-    requires { ⌜ Asks (now t) (now names) (now area) h × Marked (now t) (now names) (now area) h g k ⌝ }
-    ensures { λ r. ⌜ (r ≡ true → sameText (contentOf h (now (t .entry)) (now (names .entry)) (now (area .entry)) (index .0))
+    requires { ⌜ Asks (now t) (lends (now names) (now area)) h × Marked (now t) (lends (now names) (now area)) h g k ⌝ }
+    ensures { λ r. ⌜ (r ≡ true → sameText (contentOf h (now (t .entry)) (lends (now (names .entry)) (now (area .entry))) (index .0))
         (partOf (h .wide) (now (t .entry)) (now (area .entry)) g) ≡ false) ⌝ }
 {
     if index.0 < k.first {
@@ -234,7 +235,7 @@ fn pool_marks(t: &[u8], names: &[u32], h: Head, at: usize, n: usize) -> Marks
 // Ruled out: marks of a text that is not plain, and indices of the map among those told apart while names are lent.
 pub fn marks_of(t: &[u8], names: &[u32], area: &[u8], h: Head, plain: bool, g: Found) -> Marks
     requires { ⌜ Fits (now t) h × Inside (now t) (now area) g × Known plain (plainIn (partOf (h .wide) (now t) (now area) g)) ⌝ }
-    ensures { λ r. ⌜ Marked (now (t .entry)) (now (names .entry)) (now (area .entry)) h g r ⌝ }
+    ensures { λ r. ⌜ Marked (now (t .entry)) (lends (now (names .entry)) (now (area .entry))) h g r ⌝ }
 {
     if !plain {
         return no_marks(h.count);

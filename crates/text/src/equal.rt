@@ -1,13 +1,13 @@
 // Whether two that were found have the same text.
 //
-// Mirrors `==` of two texts in the Rust; here each stays where it lies. Definitions: specs/Content.antt, specs/Found.antt.
+// Mirrors `==` of two texts in the Rust; here each stays where it lies. Definitions: specs/Content.antt, specs/Inner/Found.antt.
 // One that is compared with many is first asked whether it is plain: then the bytes decide wherever both have one encoding.
 use super::Found;
 ghost use mathlib.Core.Path.{_≡_};
 ghost use Rattle.utf.specs.Text.{textOf};
 ghost use Rattle.utf.specs.Plain.{isPlain, Known};
 ghost use Rattle.text.specs.Content.{sameText, isText, plainIn};
-ghost use Rattle.text.specs.Found.{partOf, Inside};
+ghost use Rattle.text.specs.Inner.Found.{partOf, Inside};
 use utf::is_plain;
 use utf::same_known;
 

@@ -1,7 +1,7 @@
 // The text of a string index: a lent system name, else a string of the pool, else none.
 //
 // Mirrors structs/res_string_pool.rs (apk-info 13770539b8): `get`, `get_with_resources`, `contains_with_resources`.
-// A text is never copied: the code answers where it lies (`Found`). Definitions: specs/Content.antt, specs/Found.antt.
+// A text is never copied: the code answers where it lies (`Found`). Definitions: specs/Content.antt, specs/Inner/Found.antt.
 pub mod apart;
 pub mod equal;
 pub mod part;
@@ -21,10 +21,11 @@ ghost use mathlib.Core.Bool.{Bool, true};
 ghost use Prim.Native.Nat.{_+_, _≤_};
 ghost use lib.ListN.{length, take, drop};
 ghost use Rattle.utf.specs.Plain.{isAscii, Known};
+ghost use Rattle.system_types.specs.Names.{lends};
 ghost use Rattle.system_types.specs.declared.Lookup.the-variants.{Name};
 ghost use Rattle.text.specs.Content.{namedBy, systemOf, stringAt, stringOf, contentOf, hasText, stateIn, plainIn, sameText, isText};
-ghost use Rattle.text.specs.Found.{Fits, Asks, Inside, Stands, Finds, partOf, isFound};
-ghost use Rattle.text.specs.Told.{Marked};
+ghost use Rattle.text.specs.Inner.Found.{Fits, Asks, Inside, Stands, Finds, partOf, isFound};
+ghost use Rattle.text.specs.Inner.Told.{Marked};
 use common::StringIndex;
 use field::u32_at;
 use res_string_pool::Split;
@@ -94,9 +95,9 @@ fn stripped(area: &[u8], start: usize, n: usize) -> Found
 }
 
 fn find_system(t: &[u8], names: &[u32], area: &[u8], h: Head, index: StringIndex) -> Found
-    requires { ⌜ Asks (now t) (now names) (now area) h ⌝ }
+    requires { ⌜ Asks (now t) (lends (now names) (now area)) h ⌝ }
     ensures { λ r. ⌜ Stands (h .wide) (now (t .entry)) (now (area .entry))
-        (systemOf h (now (t .entry)) (now (names .entry)) (now (area .entry)) (index .0)) r ⌝ }
+        (systemOf h (now (t .entry)) (lends (now (names .entry)) (now (area .entry))) (index .0)) r ⌝ }
 {
     if h.ids <= index.0 {
         return Found::Nothing;
@@ -143,8 +144,8 @@ fn find_string(t: &[u8], h: Head, index: StringIndex) -> Found
 // Where the text of an index lies.
 // Ruled out: the pool's string where the map's entry has a system name, and no text where that name stands past the pool.
 pub fn find(t: &[u8], names: &[u32], area: &[u8], h: Head, index: StringIndex) -> Found
-    requires { ⌜ Asks (now t) (now names) (now area) h ⌝ }
-    ensures { λ r. ⌜ Finds (now (t .entry)) (now (names .entry)) (now (area .entry)) h (index .0) r ⌝ }
+    requires { ⌜ Asks (now t) (lends (now names) (now area)) h ⌝ }
+    ensures { λ r. ⌜ Finds (now (t .entry)) (lends (now (names .entry)) (now (area .entry))) h (index .0) r ⌝ }
 {
     let named = find_system(t, names, area, h, index);
     match named {
@@ -173,8 +174,8 @@ pub fn is_found(f: Found) -> bool
 // Whether an index has a text. No string is looked at: where the pool has one, cut or not, there is a text.
 // Ruled out: no for a string that is cut, and no for an index past the pool whose map entry has a system name.
 pub fn has_text(t: &[u8], names: &[u32], area: &[u8], h: Head, index: StringIndex) -> bool
-    requires { ⌜ Asks (now t) (now names) (now area) h ⌝ }
-    ensures { λ r. ⌜ r ≡ hasText (contentOf h (now (t .entry)) (now (names .entry)) (now (area .entry)) (index .0)) ⌝ }
+    requires { ⌜ Asks (now t) (lends (now names) (now area)) h ⌝ }
+    ensures { λ r. ⌜ r ≡ hasText (contentOf h (now (t .entry)) (lends (now (names .entry)) (now (area .entry))) (index .0)) ⌝ }
 {
     if index.0 < h.count {
         return true;
@@ -186,8 +187,8 @@ pub fn has_text(t: &[u8], names: &[u32], area: &[u8], h: Head, index: StringInde
 // Whether an index has a text, and whether it is a valid name.
 // Ruled out: a valid name for an empty text, and no text for one that is no valid name.
 pub fn name_state(t: &[u8], names: &[u32], area: &[u8], h: Head, index: StringIndex) -> NameState
-    requires { ⌜ Asks (now t) (now names) (now area) h ⌝ }
-    ensures { λ r. ⌜ r ≡ stateIn (contentOf h (now (t .entry)) (now (names .entry)) (now (area .entry)) (index .0)) ⌝ }
+    requires { ⌜ Asks (now t) (lends (now names) (now area)) h ⌝ }
+    ensures { λ r. ⌜ r ≡ stateIn (contentOf h (now (t .entry)) (lends (now (names .entry)) (now (area .entry))) (index .0)) ⌝ }
 {
     let f = find(t, names, area, h, index);
     found_state(t, area, h.wide, f)
@@ -205,9 +206,9 @@ pub fn same_index(
     i: StringIndex,
     j: StringIndex,
 ) -> bool
-    requires { ⌜ Asks (now t) (now names) (now area) h ⌝ }
-    ensures { λ r. ⌜ r ≡ sameText (contentOf h (now (t .entry)) (now (names .entry)) (now (area .entry)) (i .0))
-        (contentOf h (now (t .entry)) (now (names .entry)) (now (area .entry)) (j .0)) ⌝ }
+    requires { ⌜ Asks (now t) (lends (now names) (now area)) h ⌝ }
+    ensures { λ r. ⌜ r ≡ sameText (contentOf h (now (t .entry)) (lends (now (names .entry)) (now (area .entry))) (i .0))
+        (contentOf h (now (t .entry)) (lends (now (names .entry)) (now (area .entry))) (j .0)) ⌝ }
 {
     let f = find(t, names, area, h, i);
     let g = find(t, names, area, h, j);
@@ -227,9 +228,9 @@ pub fn same_as_known(
     index: StringIndex,
     g: Found,
 ) -> bool
-    requires { ⌜ Asks (now t) (now names) (now area) h × Inside (now t) (now area) g
-        × Known plain (plainIn (partOf (h .wide) (now t) (now area) g)) × Marked (now t) (now names) (now area) h g k ⌝ }
-    ensures { λ r. ⌜ r ≡ sameText (contentOf h (now (t .entry)) (now (names .entry)) (now (area .entry)) (index .0))
+    requires { ⌜ Asks (now t) (lends (now names) (now area)) h × Inside (now t) (now area) g
+        × Known plain (plainIn (partOf (h .wide) (now t) (now area) g)) × Marked (now t) (lends (now names) (now area)) h g k ⌝ }
+    ensures { λ r. ⌜ r ≡ sameText (contentOf h (now (t .entry)) (lends (now (names .entry)) (now (area .entry))) (index .0))
         (partOf (h .wide) (now (t .entry)) (now (area .entry)) g) ⌝ }
 {
     if told_apart(t, names, area, h, k, index, g) {
@@ -249,8 +250,8 @@ pub fn is_index_text(
     index: StringIndex,
     bytes: &[u8],
 ) -> bool
-    requires { ⌜ Asks (now t) (now names) (now area) h ⌝ }
-    ensures { λ r. ⌜ r ≡ isText (contentOf h (now (t .entry)) (now (names .entry)) (now (area .entry)) (index .0)) (now (bytes .entry)) ⌝ }
+    requires { ⌜ Asks (now t) (lends (now names) (now area)) h ⌝ }
+    ensures { λ r. ⌜ r ≡ isText (contentOf h (now (t .entry)) (lends (now (names .entry)) (now (area .entry))) (index .0)) (now (bytes .entry)) ⌝ }
 {
     let f = find(t, names, area, h, index);
     if !is_sound(false, bytes) {

@@ -1,15 +1,16 @@
 // What was found, as a part of what was lent: its content as it stands, whether it is a valid name, and its text as UTF-8.
 //
 // Mirrors structs/res_string_pool.rs (apk-info 13770539b8), `decode`; there a text is a string of its own, here it is written into a lent
-// buffer. Definitions: specs/Content.antt, specs/Found.antt.
+// buffer. Definitions: specs/Content.antt, specs/Inner/Found.antt.
 use super::Found;
 use super::NameState;
 ghost use mathlib.Core.Path.{_≡_};
 ghost use mathlib.Core.Bool.{Bool};
 ghost use Prim.Native.Nat.{_≤_};
 ghost use lib.ListN.{length};
+ghost use Rattle.records.specs.Limits.{fileLimit};
 ghost use Rattle.text.specs.Content.{rawOf, textIn, validBy, stateIn};
-ghost use Rattle.text.specs.Found.{partOf, Inside, Wrote};
+ghost use Rattle.text.specs.Inner.Found.{partOf, Inside, Wrote};
 use utf::text_into;
 use xml::valid_name;
 
@@ -54,7 +55,7 @@ pub fn found_state(t: &[u8], area: &[u8], wide: bool, f: Found) -> NameState
 // Writes the text of what was found as UTF-8 at the front of `out` if it holds it whole, and returns its length; the rest of `out` stays.
 // Ruled out: the content bytes as they stand for UTF-16, and a byte changed where the text does not fit.
 pub fn found_into(t: &[u8], area: &[u8], wide: bool, f: Found, out: &mut [u8]) -> usize
-    requires { ⌜ Inside (now t) (now area) f × (length (now t) ≤ 16777216) ⌝ }
+    requires { ⌜ Inside (now t) (now area) f × (length (now t) ≤ fileLimit) ⌝ }
     ensures { λ r. ⌜ Wrote (textIn (partOf wide (now (t .entry)) (now (area .entry)) f)) (now (out .entry)) (now (out .exit)) r ⌝ }
 {
     match f {

@@ -1,2 +1,2 @@
 -- The root of the crate's definitions.
-pub mod Lies
+pub mod Inner

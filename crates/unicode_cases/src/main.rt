@@ -13,7 +13,7 @@ use xml::valid_name;
 ghost use mathlib.Core.Path.{_≡_};
 ghost use Prim.Native.Nat.{_≤_, _<_};
 ghost use lib.ListN.{length};
-ghost use Rattle.unicode_cases.specs.Lies.{Lies};
+ghost use Rattle.unicode_cases.specs.Inner.Lies.{Lies};
 
 pub struct Tally {
     pub texts: u64,

@@ -11,7 +11,7 @@ use lib.Dec.{ltb, eqb}
 use lib.ListN.{length, getD, take, drop}
 use lib.Seq.{drop-cons, drop-length}
 use Rattle.utf.specs.Plain.{isAscii}
-use Rattle.utf.specs.Told.{Ran, basicFrom, isBasic, isSingle}
+use Rattle.utf.specs.Inner.Told.{Ran, basicFrom, isBasic, isSingle}
 use Rattle.utf.proofs.Tables.{both-true}
 use Rattle.utf.proofs.Units.{ran-ascii, ran-unit}
 

@@ -10,7 +10,7 @@ use lib.ListN.{length, getD}
 use Rattle.utf.specs.declared.Step.the-variants.{Scalar}
 use Rattle.utf.specs.declared.utf8.Lead.{Lead}
 use Rattle.utf.specs.Utf8.{isScalar, encode, step8}
-use Rattle.utf.specs.Lead.{row, stepBy}
+use Rattle.utf.specs.Inner.Lead.{row, stepBy}
 use Rattle.utf.proofs.Leads.{by-lead, step8-lead, step8-ascii}
 use Rattle.utf.proofs.Scalars.{by-scalar, isScalar-lt, by-size, encode-one, encode-two, encode-three, encode-four}
 

@@ -1,4 +1,4 @@
--- A UTF-8 sequence by its first byte: `step8`, which looks through all rows of Table 3-7, is what `leadOf` and `stepBy` of specs/Lead.antt
+-- A UTF-8 sequence by its first byte: `step8`, which looks through all rows of Table 3-7, is what `leadOf` and `stepBy` of specs/Inner/Lead.antt
 -- say of the first four bytes (`step8-lead`). In order: a row of one, two or three bytes more, byte by byte; the law; ASCII (`step8-ascii`).
 use mathlib.Core.Path.{_≡_, refl, ap, _∙_}
 use mathlib.Core.Bool.{Bool, true, false, cond}
@@ -10,7 +10,7 @@ use lib.ListN.{getD}
 use Rattle.utf.specs.declared.Step.the-variants.{Scalar}
 use Rattle.utf.specs.declared.utf8.Lead.{Lead}
 use Rattle.utf.specs.Utf8.{inside, matched, isWhole, spelt, step8}
-use Rattle.utf.specs.Lead.{row, leadOf, stepBy}
+use Rattle.utf.specs.Inner.Lead.{row, leadOf, stepBy}
 use Rattle.utf.proofs.Rows.{longestRest, anyRest, restsOf, rests-are, stepRests, step8-rests}
 
 -- ---- a row with one, two or three bytes more

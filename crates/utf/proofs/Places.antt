@@ -12,7 +12,7 @@ use lib.Seq.{drop-cons, getD-drop}
 use Rattle.utf.specs.declared.Step.the-variants.{Bad, End}
 use Rattle.utf.specs.Utf8.{step8}
 use Rattle.utf.specs.Utf16.{unit, pairOf, step16}
-use Rattle.utf.specs.Lead.{leadOf, stepBy}
+use Rattle.utf.specs.Inner.Lead.{leadOf, stepBy}
 use Rattle.utf.proofs.Leads.{step8-lead}
 
 pub step8-past : (s : List ℕ) (at : ℕ) → length s ≤ at → step8 (drop at s) ≡ End

@@ -13,7 +13,7 @@ use Rattle.utf.specs.declared.Step.{Step}
 use Rattle.utf.specs.declared.Step.the-variants.{Scalar, Bad}
 use Rattle.utf.specs.declared.utf8.Lead.{Lead}
 use Rattle.utf.specs.Utf8.{inside, table37, matched, isWhole, longest, anyWhole, spelt, step8}
-use Rattle.utf.specs.Lead.{row, leadOf}
+use Rattle.utf.specs.Inner.Lead.{row, leadOf}
 use Rattle.utf.proofs.Tables.{both-true, below-at}
 
 -- ---- the rows that have a first byte, without it

@@ -12,7 +12,7 @@ use Rattle.utf.specs.declared.Step.{Step}
 use Rattle.utf.specs.declared.Step.the-variants.{Scalar, Bad}
 use Rattle.utf.specs.declared.utf8.Lead.{Lead}
 use Rattle.utf.specs.Utf8.{inside, isScalar, table37, matched, longest, anyWhole, encode, step8}
-use Rattle.utf.specs.Lead.{row, leadOf, stepBy}
+use Rattle.utf.specs.Inner.Lead.{row, leadOf, stepBy}
 use Rattle.utf.specs.Text.{valueOf, widthOf, soundOf}
 use Rattle.utf.proofs.Leads.{by-lead, step8-lead}
 use Rattle.utf.proofs.Scalars.{inside-ends, scalar-low, scalar-high, encode-one, encode-two, encode-three, encode-four}

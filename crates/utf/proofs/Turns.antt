@@ -13,7 +13,7 @@ use Rattle.utf.specs.declared.Step.{Step}
 use Rattle.utf.specs.declared.Step.the-variants.{Scalar}
 use Rattle.utf.specs.Utf8.{encode}
 use Rattle.utf.specs.Text.{stepOf, valueOf, widthOf, soundOf, stepsAfter, stepsOf, bytesOf, allSound, refused, textOf, eqBytes}
-use Rattle.utf.specs.Told.{Took, Paired}
+use Rattle.utf.specs.Inner.Told.{Took, Paired}
 use Rattle.utf.proofs.Leads.{step8-ascii}
 use Rattle.utf.proofs.Scalars.{isScalar-lt, encode-length-lt}
 use Rattle.utf.proofs.Equal.{eqBytes-some, eqBytes-encode}

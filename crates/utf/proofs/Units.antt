@@ -13,7 +13,7 @@ use Rattle.utf.specs.declared.Step.the-variants.{Scalar, Bad}
 use Rattle.utf.specs.Utf8.{inside}
 use Rattle.utf.specs.Utf16.{unit, pairOf, step16}
 use Rattle.utf.specs.Text.{valueOf, widthOf, soundOf, stepsAfter, stepsOf, bytesOf, allSound, isSound, refused, textOf, eqBytes}
-use Rattle.utf.specs.Told.{Took, Ran, Halted}
+use Rattle.utf.specs.Inner.Told.{Took, Ran, Halted}
 use Rattle.utf.proofs.Tables.{both-true}
 use Rattle.utf.proofs.Scalars.{inside-ends}
 use Rattle.utf.proofs.Steps.{stepOf-is}

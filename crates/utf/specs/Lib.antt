@@ -2,6 +2,5 @@
 pub mod Utf8
 pub mod Utf16
 pub mod Text
-pub mod Told
 pub mod Plain
-pub mod Lead
+pub mod Inner

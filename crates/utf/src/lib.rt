@@ -22,7 +22,7 @@ ghost use mathlib.Core.Bool.{true, false};
 ghost use mathlib.Core.List.{_++_};
 ghost use lib.ListN.{length, drop};
 ghost use Rattle.utf.specs.Text.{stepOf, valueOf, widthOf, soundOf, stepsOf, bytesOf, isSound, refused, textOf, putText};
-ghost use Rattle.utf.specs.Told.{Took, Ran, Halted};
+ghost use Rattle.utf.specs.Inner.Told.{Took, Ran, Halted};
 
 pub enum Step {
     // a scalar value, and how many bytes it took

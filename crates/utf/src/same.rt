@@ -11,7 +11,7 @@ ghost use mathlib.Core.List.{[]};
 ghost use Prim.Native.Nat.{_<_};
 ghost use lib.ListN.{length};
 ghost use Rattle.utf.specs.Text.{stepsOf, bytesOf, textOf, eqBytes};
-ghost use Rattle.utf.specs.Told.{Paired};
+ghost use Rattle.utf.specs.Inner.Told.{Paired};
 ghost use Rattle.utf.specs.Plain.{isPlain, Known};
 
 // ---- step by step

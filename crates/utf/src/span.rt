@@ -1,12 +1,12 @@
 // Bytes looked at as a whole, with no early way out, so that the compiler takes many at once.
 //
-// `is_ascii` mirrors std's of that name. Definitions: specs/Plain.antt and specs/Told.antt.
+// `is_ascii` mirrors std's of that name. Definitions: specs/Plain.antt and specs/Inner/Told.antt.
 ghost use mathlib.Core.Path.{_≡_};
 ghost use mathlib.Core.Bool.{_&&_, cond};
 ghost use Prim.Native.Nat.{_/_, _%_};
 ghost use lib.Dec.{eqb};
 ghost use Rattle.utf.specs.Plain.{isAscii};
-ghost use Rattle.utf.specs.Told.{isBasic, isSingle};
+ghost use Rattle.utf.specs.Inner.Told.{isBasic, isSingle};
 
 // Whether every byte is below 128: the greatest of them decides.
 // Ruled out: true of 80, the first byte that is not ASCII; false of no bytes.

@@ -1,14 +1,14 @@
 // UTF-8: the step at a place, and a scalar value as bytes.
 //
 // Mirrors what std's String::from_utf8_lossy and char::encode_utf8 do. Definitions: specs/Utf8.antt, from Unicode's Tables 3-6 and 3-7;
-// specs/Lead.antt is how the code goes through a row.
+// specs/Inner/Lead.antt is how the code goes through a row.
 use super::Step;
 ghost use mathlib.Core.Path.{_≡_};
 ghost use Prim.Native.Nat.{_+_, _≤_, _<_};
 ghost use lib.ListN.{length, getD, drop};
 ghost use lib.Seq.{sets};
 ghost use Rattle.utf.specs.Utf8.{encode, step8};
-ghost use Rattle.utf.specs.Lead.{row, leadOf, stepBy};
+ghost use Rattle.utf.specs.Inner.Lead.{row, leadOf, stepBy};
 
 // What a first byte says: how many bytes follow (4: it starts nothing), and the range of the second.
 pub struct Lead {

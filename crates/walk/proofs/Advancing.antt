@@ -17,11 +17,12 @@ use Rattle.anomaly.specs.declared.ResAnomaly.{ResAnomaly}
 use Rattle.errors.specs.declared.Refusal.{Refusal}
 use Rattle.errors.specs.declared.Refusal.the-variants.{NotesFull}
 use Rattle.errors.specs.declared.ReadAnswer.the-variants.{Refused}
+use Rattle.system_types.specs.Names.{Lent}
 use Rattle.head.specs.Head.{tablesIn, bodyIn}
 use Rattle.events.specs.declared.Cursor.{Cursor}
 use Rattle.events.specs.declared.Event.the-variants.{Note}
 use Rattle.events.specs.Events.{Names, namesIn}
-use Rattle.events.specs.Pending.{Within, pending, steps}
+use Rattle.events.specs.Inner.Pending.{Within, pending, steps}
 use Rattle.walk.specs.declared.tree.Tree.{Tree}
 use Rattle.walk.specs.declared.Mode.the-variants.{Reading as InBody}
 use Rattle.walk.specs.declared.State.{State}
@@ -29,15 +30,15 @@ use Rattle.walk.specs.declared.placing.Halt.{Halt}
 use Rattle.walk.specs.declared.placing.Stop.the-variants.{Full, Due}
 use Rattle.walk.specs.Settle.{Room, Tables, Out, going, refused, push, settle, noted}
 use Rattle.walk.specs.Reading.{finalOf}
-use Rattle.walk.specs.Tree.{tablesOf}
-use Rattle.walk.specs.Run.{Running, onFrom, RanBy, Ran, RanIn}
-use Rattle.walk.specs.Outcome.{notedBy, Refuses, Noted, roomOf, outcome, Good, left, Advanced}
+use Rattle.walk.specs.Inner.Tree.{tablesOf}
+use Rattle.walk.specs.Inner.Run.{Running, onFrom, RanBy, Ran, RanIn}
+use Rattle.walk.specs.Inner.Outcome.{notedBy, Refuses, Noted, roomOf, outcome, Good, left, Advanced}
 use Rattle.walk.proofs.Settle.{settle-cons, settle-refused}
 use Rattle.walk.proofs.Clearing.{clears, false-true}
 
 -- ---- the loop's head
 
-module _ (f names area : List ℕ) (st : State) where
+module _ (f : List ℕ) (lent : Lent) (st : State) where
   abbrev pub tables : List ℕ
   tables = tablesIn f (st .opened .head)
 
@@ -45,26 +46,26 @@ module _ (f names area : List ℕ) (st : State) where
   body = bodyIn f (st .opened .head)
 
   abbrev pub N : Names
-  N = namesIn (st .opened .head) tables names area
+  N = namesIn (st .opened .head) tables lent
 
-pub record ReadHead (f names area ns₀ ats₀ : List ℕ) (st : State) (g : Good f names area ns₀ ats₀ st) (ns ats : List ℕ) (c : Cursor) (tree : Tree)
+pub record ReadHead (f : List ℕ) (lent : Lent) (ns₀ ats₀ : List ℕ) (st : State) (g : Good f lent ns₀ ats₀ st) (ns ats : List ℕ) (c : Cursor) (tree : Tree)
     : Type 0 where
-  pub now : Running (tables f names area st) names area (body f names area st) (st .opened) ns ats c tree
+  pub now : Running (tables f lent st) lent (body f lent st) (st .opened) ns ats c tree
   pub ln : length ns ≡ length ns₀
   pub la : length ats ≡ length ats₀
-  pub low : steps (body f names area st) c ≤ steps (body f names area st) (st .cur)
+  pub low : steps (body f lent st) c ≤ steps (body f lent st) (st .cur)
   pub stored : st .notes .used ≤ st .room
-  pub few : st .notes .used + steps (body f names area st) (st .cur) ≤ 400000000
-  pub much : left f names area st ≡ steps (body f names area st) (st .cur) + st .room + 1
+  pub few : st .notes .used + steps (body f lent st) (st .cur) ≤ 400000000
+  pub much : left f lent st ≡ steps (body f lent st) (st .cur) + st .room + 1
   pub same : (os : List NoteOf) → length os ≡ st .room
-      → outcome f names area ns₀ ats₀ os st (g .stack)
+      → outcome f lent ns₀ ats₀ os st (g .stack)
       ≡ finalOf (roomOf ns₀ ats₀ st)
-      (onFrom (roomOf ns₀ ats₀ st) (N f names area st) (st .opened) (tables f names area st) (body f names area st) ns ats c tree (now .stack)
+      (onFrom (roomOf ns₀ ats₀ st) (N f lent st) (st .opened) (tables f lent st) (body f lent st) ns ats c tree (now .stack)
       (take (st .notes .used) os) (st .notes .counts))
 
-pub read-first : (f names area ns ats : List ℕ) (st : State) (g : Good f names area ns ats st) → st .mode ≡ InBody
-    → ReadHead f names area ns ats st g ns ats (st .cur) (st .tree)
-read-first f names area ns ats st g e =
+pub read-first : (f : List ℕ) (lent : Lent) (ns ats : List ℕ) (st : State) (g : Good f lent ns ats st) → st .mode ≡ InBody
+    → ReadHead f lent ns ats st g ns ats (st .cur) (st .tree)
+read-first f lent ns ats st g e =
     let r = g .onWay e in
     record {
       now = record { stack = g .stack; ready = r .ready; within = r .within; tied = r .tied; budget = r .budget };
@@ -79,20 +80,20 @@ read-first f names area ns ats st g e =
 
 -- ---- a turn: where `run` stopped
 
-module _ (f names area ns₀ ats₀ : List ℕ) (st : State) (g : Good f names area ns₀ ats₀ st) (ns ats : List ℕ) (c : Cursor) (tree : Tree)
-    (hd : ReadHead f names area ns₀ ats₀ st g ns ats c tree) (h : Halt) (ns′ ats′ : List ℕ) (ln : length ns′ ≡ length ns) (la : length ats′ ≡ length ats)
-    (ran : RanIn f names area (st .opened) ns ats c tree h ns′ ats′) where
+module _ (f : List ℕ) (lent : Lent) (ns₀ ats₀ : List ℕ) (st : State) (g : Good f lent ns₀ ats₀ st) (ns ats : List ℕ) (c : Cursor) (tree : Tree)
+    (hd : ReadHead f lent ns₀ ats₀ st g ns ats c tree) (h : Halt) (ns′ ats′ : List ℕ) (ln : length ns′ ≡ length ns) (la : length ats′ ≡ length ats)
+    (ran : RanIn f lent (st .opened) ns ats c tree h ns′ ats′) where
   abbrev R : Room
   R = roomOf ns₀ ats₀ st
 
   abbrev T : List ℕ
-  T = tables f names area st
+  T = tables f lent st
 
   abbrev B : List ℕ
-  B = body f names area st
+  B = body f lent st
 
   abbrev M : Names
-  M = N f names area st
+  M = N f lent st
 
   abbrev os-of : List NoteOf → List NoteOf
   os-of os = take (st .notes .used) os
@@ -100,7 +101,7 @@ module _ (f names area ns₀ ats₀ : List ℕ) (st : State) (g : Good f names a
   abbrev here : List NoteOf → Out
   here os = onFrom R M (st .opened) T B ns ats c tree (hd .now .stack) (os-of os) (st .notes .counts)
 
-  ran-here : Ran T names area B (st .opened) ns ats c tree (hd .now) h ns′ ats′
+  ran-here : Ran T lent B (st .opened) ns ats c tree (hd .now) h ns′ ats′
   ran-here = ran (hd .now)
 
   stored-len : (os : List NoteOf) → length os ≡ st .room → length (os-of os) ≡ st .notes .used
@@ -108,21 +109,21 @@ module _ (f names area ns₀ ats₀ : List ℕ) (st : State) (g : Good f names a
 
   -- a refusal
   refused-by : (x : Refusal) → ((os : List NoteOf) → length os ≡ st .room → here os ≡ refused x) → (r : State) (ns″ ats″ : List ℕ)
-      → Refuses ns′ ats′ st x r ns″ ats″ → Advanced f names area ns₀ ats₀ st g r ns″ ats″
+      → Refuses ns′ ats′ st x r ns″ ats″ → Advanced f lent ns₀ ats₀ st g r ns″ ats″
   refused-by x out r ns″ ats″ w =
       let z : st .room - 0 ≡ st .room = omega arith in
       rw (w .state, w .nodes, w .attributes)
-      (clears f names area ns₀ ats₀ st g (replicate (length ns′) 0) (replicate (length ats′) 0) 0 (Refused x) (λ lt. omega (arith, hd .much))
+      (clears f lent ns₀ ats₀ st g (replicate (length ns′) 0) (replicate (length ats′) 0) 0 (Refused x) (λ lt. omega (arith, hd .much))
       (λ os l. hd .same os l ∙ ap (finalOf R) (out os l) ∙ rw (ln, la, hd .ln, hd .la, z)))
 
   pub read-full : (x : Refusal) → h .stop ≡ Full x → (r : State) (ns″ ats″ : List ℕ) → Refuses ns′ ats′ st x r ns″ ats″
-      → Advanced f names area ns₀ ats₀ st g r ns″ ats″
+      → Advanced f lent ns₀ ats₀ st g r ns″ ats″
   read-full x e = let q = rw e at ran-here in refused-by x (λ os l. q R (os-of os) (st .notes .counts) (sym (hd .ln)) (sym (hd .la)))
 
   -- ---- a note
 
   module _ (x : ResAnomaly) (e : h .stop ≡ Due x) where
-    due : RanBy T names area B (st .opened) (Due x) ns ats c tree (hd .now .stack) (h .cur) (h .tree) ns′ ats′
+    due : RanBy T lent B (st .opened) (Due x) ns ats c tree (hd .now .stack) (h .cur) (h .tree) ns′ ats′
     due = rw e at ran-here
 
     pub due-less : steps B (h .cur) < steps B c
@@ -140,7 +141,7 @@ module _ (f names area ns₀ ats₀ : List ℕ) (st : State) (g : Good f names a
         ∙ settle-cons (M .repeats) R (going (U os)) (Note x) (pending M (st .opened) T B (h .cur))
 
     -- past its cap
-    pub read-past : st .cap ≤ getD (st .notes .counts) (kindIndex x) 0 → ReadHead f names area ns₀ ats₀ st g ns′ ats′ (h .cur) (h .tree)
+    pub read-past : st .cap ≤ getD (st .notes .counts) (kindIndex x) 0 → ReadHead f lent ns₀ ats₀ st g ns′ ats′ (h .cur) (h .tree)
     read-past past = record {
       now = due .now;
       ln = ln ∙ hd .ln;
@@ -158,7 +159,7 @@ module _ (f names area ns₀ ats₀ : List ℕ) (st : State) (g : Good f names a
 
     -- no place for it
     read-ten : getD (st .notes .counts) (kindIndex x) 0 < st .cap → st .room ≤ st .notes .used → (r : State) (ns″ ats″ : List ℕ)
-        → Refuses ns′ ats′ st (NotesFull (st .room)) r ns″ ats″ → Advanced f names area ns₀ ats₀ st g r ns″ ats″
+        → Refuses ns′ ats′ st (NotesFull (st .room)) r ns″ ats″ → Advanced f lent ns₀ ats₀ st g r ns″ ats″
     read-ten under none =
         refused-by (NotesFull (st .room))
         (λ os l.
@@ -171,7 +172,7 @@ module _ (f names area ns₀ ats₀ : List ℕ) (st : State) (g : Good f names a
 
     -- it is to be stored
     read-noted : getD (st .notes .counts) (kindIndex x) 0 < st .cap → st .notes .used < st .room
-        → Advanced f names area ns₀ ats₀ st g (notedBy st (h .cur) (h .tree) x) ns′ ats′
+        → Advanced f lent ns₀ ats₀ st g (notedBy st (h .cur) (h .tree) x) ns′ ats′
     read-noted under some = record {
       good = record {
         stack = due .now .stack;
@@ -206,10 +207,10 @@ module _ (f names area ns₀ ats₀ : List ℕ) (st : State) (g : Good f names a
 
     -- the one or the other
     pub read-due : getD (st .notes .counts) (kindIndex x) 0 < st .cap → (r : State) (ns″ ats″ : List ℕ)
-        → Noted ns′ ats′ st (h .cur) (h .tree) x r ns″ ats″ → Advanced f names area ns₀ ats₀ st g r ns″ ats″
+        → Noted ns′ ats′ st (h .cur) (h .tree) x r ns″ ats″ → Advanced f lent ns₀ ats₀ st g r ns″ ats″
     read-due under r ns″ ats″ w = go (ltb (st .notes .used) (st .room)) refl
       where
-        go : (b : Bool) → ltb (st .notes .used) (st .room) ≡ b → Advanced f names area ns₀ ats₀ st g r ns″ ats″
+        go : (b : Bool) → ltb (st .notes .used) (st .room) ≡ b → Advanced f lent ns₀ ats₀ st g r ns″ ats″
         go true q =
             let some = ltb-true (st .notes .used) (st .room) q in
             let v = w .place some in

@@ -10,11 +10,12 @@ use lib.Dec.{eqb}
 use Rattle.anomaly.specs.declared.ResAnomaly.{ResAnomaly}
 use Rattle.common.specs.declared.StringIndex.{StringIndex}
 use Rattle.errors.specs.declared.Refusal.{Refusal}
-use Rattle.text.specs.Found.{Asks}
+use Rattle.text.specs.Inner.Found.{Asks}
 use Rattle.head.specs.declared.Opened.{Opened}
 use Rattle.head.specs.Head.{PoolThere}
 use Rattle.xml_elements.specs.declared.XmlAttributeElement.{XmlAttributeElement}
 use Rattle.records.specs.Repeats.{Rule}
+use Rattle.system_types.specs.Names.{Lent}
 use Rattle.events.specs.declared.Cursor.{Cursor}
 use Rattle.events.specs.declared.Step.{Step}
 use Rattle.events.specs.declared.Phase.{Phase}
@@ -23,12 +24,12 @@ use Rattle.events.specs.declared.Phase.the-variants.{AtShort, AtName, AtOpen, A
 use Rattle.events.specs.declared.Event.{Event}
 use Rattle.events.specs.declared.Event.the-variants.{Nothing, Open, Attribute, LeftOut, Close, Note, Refuse, Finish}
 use Rattle.events.specs.Events.{Names, namesIn}
-use Rattle.events.specs.Steps.{noteIf, stepBy, stepOf}
-use Rattle.events.specs.Pending.{Held, Ready, Within}
+use Rattle.events.specs.Inner.Steps.{noteIf, stepBy, stepOf}
+use Rattle.events.specs.Inner.Pending.{Held, Ready, Within}
 use Rattle.walk.specs.declared.tree.Tree.{Tree}
 use Rattle.walk.specs.declared.placing.Placed.{Placed}
 use Rattle.walk.specs.declared.placing.Placed.the-variants.{Done, Full, Due, Finished}
-use Rattle.walk.specs.Tree.{Tied, PlacesBy, NotEnd, AsksFor}
+use Rattle.walk.specs.Inner.Tree.{Tied, PlacesBy, NotEnd, AsksFor}
 
 -- ---- which events ask for texts
 
@@ -73,17 +74,17 @@ attribute-pool N o t b c p a AtRoot h e = absurd (refuseIf-not (eqb (c .starts) 
 attribute-pool N o t b c p a Over h e = absurd (finish-not p a e)
 
 -- what `place` asks of the event of a step
-pub asks-for : (t names area b : List ℕ) (o : Opened) (c : Cursor) (s : Step) → Ready t names area o → Within o b c
-    → s ≡ stepOf (namesIn (o .head) t names area) o t b c → AsksFor (s .event) t names area (o .head)
+pub asks-for : (t : List ℕ) (lent : Lent) (b : List ℕ) (o : Opened) (c : Cursor) (s : Step) → Ready t lent o → Within o b c
+    → s ≡ stepOf (namesIn (o .head) t lent) o t b c → AsksFor (s .event) t lent (o .head)
 unfolding stepOf
-asks-for t names area b o c s ready w q = go (s .event) refl
+asks-for t lent b o c s ready w q = go (s .event) refl
   where
-    asked : (p : ℕ) (a : XmlAttributeElement) → s .event ≡ Attribute p a → Asks t names area (o .head)
+    asked : (p : ℕ) (a : XmlAttributeElement) → s .event ≡ Attribute p a → Asks t lent (o .head)
     asked p a e =
-        let there = attribute-pool (namesIn (o .head) t names area) o t b c p a (c .phase) (w .held) (sym (ap (λ (x : Step). x .event) q) ∙ e) in
+        let there = attribute-pool (namesIn (o .head) t lent) o t b c p a (c .phase) (w .held) (sym (ap (λ (x : Step). x .event) q) ∙ e) in
         record { fits = ready .fits there; good = ready .good }
 
-    go : (e : Event) → s .event ≡ e → AsksFor e t names area (o .head)
+    go : (e : Event) → s .event ≡ e → AsksFor e t lent (o .head)
     go Nothing e = tt
     go (Open n x l) e = tt
     go (Attribute p a) e = asked p a e

@@ -19,7 +19,7 @@ use Rattle.walk.specs.declared.tree.Tree.{Tree}
 use Rattle.walk.specs.declared.tree.Put.{Put}
 use Rattle.walk.specs.declared.tree.Put.the-variants.{Same, Full as NoPlace, Stored}
 use Rattle.walk.specs.declared.placing.Placed.the-variants.{Done, Full}
-use Rattle.walk.specs.Tree.{keptTree, ownWords, newWords, Tied, PlacesBy, Keeps}
+use Rattle.walk.specs.Inner.Tree.{keptTree, ownWords, newWords, Tied, PlacesBy, Keeps}
 use Rattle.walk.proofs.Trees.{take-put, linked-set}
 
 -- the words of the last node's attributes, from the table and from its front

@@ -12,10 +12,11 @@ use lib.Seq.{take-all, take-suc-set}
 use lib.Dec.{ltb}
 use Rattle.anomaly.specs.declared.Note.{Note as NoteOf}
 use Rattle.errors.specs.declared.ReadAnswer.{ReadAnswer}
+use Rattle.system_types.specs.Names.{Lent}
 use Rattle.walk.specs.declared.Mode.the-variants.{Fresh, Reading as InBody, Clearing}
 use Rattle.walk.specs.declared.State.{State}
 use Rattle.walk.specs.Reading.{Reading, zeroNote}
-use Rattle.walk.specs.Outcome.{clearingAt, clearNext, cleared, outcome, Good, left, Advanced}
+use Rattle.walk.specs.Inner.Outcome.{clearingAt, clearNext, cleared, outcome, Good, left, Advanced}
 
 pub true-false : true ≡ false → ⊥
 true-false e = let z : _≡_ {A = ℕ} 0 1 = cc in omega arith
@@ -43,17 +44,17 @@ clear-end os c room l h = let e : room - c ≡ 0 = omega arith in rw (e, take-al
 
 -- ---- a call
 
-module _ (f names area ns ats : List ℕ) (st : State) (g : Good f names area ns ats st) where
+module _ (f : List ℕ) (lent : Lent) (ns ats : List ℕ) (st : State) (g : Good f lent ns ats st) where
   abbrev gives : ReadAnswer → List ℕ → List ℕ → List NoteOf → Reading
   gives a ns′ ats′ os = record { answer = a; nodes = ns′; attributes = ats′; notes = os }
 
   -- the answer is a, and zeros come from the place c on
-  pub clears : (ns′ ats′ : List ℕ) (c : ℕ) (a : ReadAnswer) → (c < st .room → st .room - c < left f names area st)
-      → ((os : List NoteOf) → length os ≡ st .room → outcome f names area ns ats os st (g .stack) ≡ gives a ns′ ats′ (cleared os c (st .room)))
-      → Advanced f names area ns ats st g (clearingAt st c a) ns′ ats′
+  pub clears : (ns′ ats′ : List ℕ) (c : ℕ) (a : ReadAnswer) → (c < st .room → st .room - c < left f lent st)
+      → ((os : List NoteOf) → length os ≡ st .room → outcome f lent ns ats os st (g .stack) ≡ gives a ns′ ats′ (cleared os c (st .room)))
+      → Advanced f lent ns ats st g (clearingAt st c a) ns′ ats′
   clears ns′ ats′ c a less out = go (ltb c (st .room)) refl
     where
-      good : (d : Bool) → Good f names area ns′ ats′ (record {
+      good : (d : Bool) → Good f lent ns′ ats′ (record {
         done = d;
         slot = c;
         note = zeroNote;
@@ -68,7 +69,7 @@ module _ (f names area ns ats : List ℕ) (st : State) (g : Good f names area ns
       })
       good d = record { stack = []; onWay = λ z. absurd (clearing-not z) }
 
-      go : (b : Bool) → ltb c (st .room) ≡ b → Advanced f names area ns ats st g (record {
+      go : (b : Bool) → ltb c (st .room) ≡ b → Advanced f lent ns ats st g (record {
         done = cond b false true;
         slot = c;
         note = zeroNote;
@@ -98,17 +99,17 @@ module _ (f names area ns ats : List ℕ) (st : State) (g : Good f names area ns
         ends = λ _ os l. (out os l ∙ ap (gives a ns′ ats′) (clear-end os c (st .room) l (ltb-false _ _ e)));
       }
 
-  pub goes-clearing : st .mode ≡ Clearing → Advanced f names area ns ats st g (clearNext st) ns ats
+  pub goes-clearing : st .mode ≡ Clearing → Advanced f lent ns ats st g (clearNext st) ns ats
   goes-clearing t = go (ltb (st .slot) (st .room)) refl
     where
-      here : (os : List NoteOf) → outcome f names area ns ats os st (g .stack) ≡ gives (st .answer) ns ats (cleared os (st .slot + 1) (st .room))
+      here : (os : List NoteOf) → outcome f lent ns ats os st (g .stack) ≡ gives (st .answer) ns ats (cleared os (st .slot + 1) (st .room))
       here os = rw t
 
-      much : left f names area st ≡ st .room - st .slot
+      much : left f lent st ≡ st .room - st .slot
       much = rw t
 
       go : (b : Bool) → ltb (st .slot) (st .room) ≡ b
-          → Advanced f names area ns ats st g (clearingAt st (cond b (st .slot + 1) (st .slot)) (st .answer)) ns ats
+          → Advanced f lent ns ats st g (clearingAt st (cond b (st .slot + 1) (st .slot)) (st .answer)) ns ats
       go true e = clears ns ats (st .slot + 1) (st .answer) (λ lt. omega (arith, much)) (λ os l. here os)
       go false e =
           let past : st .room ≤ st .slot = ltb-false _ _ e in

@@ -12,6 +12,7 @@ use lib.Dec.{eqb}
 use Rattle.anomaly.specs.declared.Note.{Note as NoteOf}
 use Rattle.errors.specs.declared.ReadAnswer.the-variants.{Done}
 use Rattle.records.specs.Words.{nodeWidth, nodeFirst, attributeWidth}
+use Rattle.system_types.specs.Names.{Lent}
 use Rattle.events.specs.declared.Cursor.{Cursor}
 use Rattle.walk.specs.declared.tree.Tree.{Tree}
 use Rattle.walk.specs.declared.State.{State}
@@ -19,9 +20,9 @@ use Rattle.walk.specs.declared.placing.Halt.{Halt}
 use Rattle.walk.specs.declared.placing.Stop.the-variants.{Finished}
 use Rattle.walk.specs.Settle.{Room, Tables, going}
 use Rattle.walk.specs.Reading.{Reading, zeroNote, finalOf, nodesKept, attributesKept, secondOf}
-use Rattle.walk.specs.Tree.{Tied, tablesOf, keptNodes, keptAttributes}
-use Rattle.walk.specs.Run.{RanBy, RanIn}
-use Rattle.walk.specs.Outcome.{doneAnswer, Keepable, Finishes, roomOf, cleared, outcome, Good, Advanced}
+use Rattle.walk.specs.Inner.Tree.{Tied, tablesOf, keptNodes, keptAttributes}
+use Rattle.walk.specs.Inner.Run.{RanBy, RanIn}
+use Rattle.walk.specs.Inner.Outcome.{doneAnswer, Keepable, Finishes, roomOf, cleared, outcome, Good, Advanced}
 use Rattle.walk.proofs.Trees.{second-in}
 use Rattle.walk.proofs.Clearing.{clears}
 use Rattle.walk.proofs.Advancing.{tables, body, ReadHead}
@@ -47,9 +48,9 @@ kept-attributes-le ns ats t o h = go (eqb (t .second) 0)
     go true = omega arith
     go false = h .below
 
-module _ (f names area ns₀ ats₀ : List ℕ) (st : State) (g : Good f names area ns₀ ats₀ st) (ns ats : List ℕ) (c : Cursor) (tree : Tree)
-    (hd : ReadHead f names area ns₀ ats₀ st g ns ats c tree) (h : Halt) (ns′ ats′ : List ℕ) (ln : length ns′ ≡ length ns) (la : length ats′ ≡ length ats)
-    (ran : RanIn f names area (st .opened) ns ats c tree h ns′ ats′) (e : h .stop ≡ Finished) where
+module _ (f : List ℕ) (lent : Lent) (ns₀ ats₀ : List ℕ) (st : State) (g : Good f lent ns₀ ats₀ st) (ns ats : List ℕ) (c : Cursor) (tree : Tree)
+    (hd : ReadHead f lent ns₀ ats₀ st g ns ats c tree) (h : Halt) (ns′ ats′ : List ℕ) (ln : length ns′ ≡ length ns) (la : length ats′ ≡ length ats)
+    (ran : RanIn f lent (st .opened) ns ats c tree h ns′ ats′) (e : h .stop ≡ Finished) where
   abbrev R : Room
   R = roomOf ns₀ ats₀ st
 
@@ -59,7 +60,7 @@ module _ (f names area ns₀ ats₀ : List ℕ) (st : State) (g : Good f names a
   stored-len : (os : List NoteOf) → length os ≡ st .room → length (os-of os) ≡ st .notes .used
   stored-len os l = length-take-le (st .notes .used) os (omega (arith, hd .stored))
 
-  fin : RanBy (tables f names area st) names area (body f names area st) (st .opened) Finished ns ats c tree (hd .now .stack) (h .cur) (h .tree) ns′ ats′
+  fin : RanBy (tables f lent st) lent (body f lent st) (st .opened) Finished ns ats c tree (hd .now .stack) (h .cur) (h .tree) ns′ ats′
   fin = rw e at (ran (hd .now))
 
   kn : keptNodes (h .tree) ≤ h .tree .nodes
@@ -79,7 +80,7 @@ module _ (f names area ns₀ ats₀ : List ℕ) (st : State) (g : Good f names a
   abbrev F : List NoteOf → Tables
   F os = tablesOf ns′ ats′ (h .tree) (fin .last) (os-of os) (st .notes .counts)
 
-  ended : (os : List NoteOf) → length os ≡ st .room → outcome f names area ns₀ ats₀ os st (g .stack) ≡ finalOf R (going (F os))
+  ended : (os : List NoteOf) → length os ≡ st .room → outcome f lent ns₀ ats₀ os st (g .stack) ≡ finalOf R (going (F os))
   ended os l = hd .same os l ∙ ap (finalOf R) (fin .goes R (os-of os) (st .notes .counts) (sym (hd .ln)) (sym (hd .la)))
 
   lw : length (take (nodeWidth * h .tree .nodes) ns′) ≡ nodeWidth * h .tree .nodes
@@ -110,13 +111,13 @@ module _ (f names area ns₀ ats₀ : List ℕ) (st : State) (g : Good f names a
     notes = os-of os ++ replicate (st .room - m) zeroNote;
   }
 
-  pub read-done : (r : State) (ns″ ats″ : List ℕ) → Finishes ns′ ats′ st (h .tree) r ns″ ats″ → Advanced f names area ns₀ ats₀ st g r ns″ ats″
+  pub read-done : (r : State) (ns″ ats″ : List ℕ) → Finishes ns′ ats′ st (h .tree) r ns″ ats″ → Advanced f lent ns₀ ats₀ st g r ns″ ats″
   unfolding shape
   read-done r ns″ ats″ w =
       rw (w .state)
-      (clears f names area ns₀ ats₀ st g ns″ ats″ (st .notes .used) (doneAnswer (h .tree) (st .notes .used)) (λ lt. omega (arith, hd .much)) out)
+      (clears f lent ns₀ ats₀ st g ns″ ats″ (st .notes .used) (doneAnswer (h .tree) (st .notes .used)) (λ lt. omega (arith, hd .much)) out)
     where
-      out : (os : List NoteOf) → length os ≡ st .room → outcome f names area ns₀ ats₀ os st (g .stack) ≡ record {
+      out : (os : List NoteOf) → length os ≡ st .room → outcome f lent ns₀ ats₀ os st (g .stack) ≡ record {
         answer = doneAnswer (h .tree) (st .notes .used);
         nodes = ns″;
         attributes = ats″;

@@ -1,44 +1,45 @@
 -- The first call: what refuses before the file is read, and the head opened. No contract cites this file.
--- In order: the first state (`first-good`, `first-same`, `reads-of-whole`), the refusals 2 and 7 (`fresh-long`, `fresh-names`), the state behind the head
+-- In order: the first state (`first-good`, `first-same`, `reads-of-whole`), the refusals of the entry checks (`fresh-out`), the state behind the head
 -- (`started-good`, `started-same`), and that a call from there is a call from here (`advanced-started`).
-use Prim.Native.Nat.{ℕ, _+_, _-_, _*_, _≤_, _<_}
+use Prim.Native.Nat.{ℕ, _+_, _-_, _*_, _≤_}
 use native.Mathlib.Omega.{arith}
 use mathlib.Core.Path.{_≡_, refl, _∙_, ap}
-use mathlib.Core.List.{List, [], _∷_}
-use borrow.Author.Tests.{lt-ltb, le-ltb}
+use mathlib.Core.List.{List, []}
 use lib.ListN.{length, replicate, length-drop}
 use Rattle.anomaly.specs.declared.Note.{Note as NoteOf}
 use Rattle.errors.specs.declared.Refusal.{Refusal}
-use Rattle.errors.specs.declared.Refusal.the-variants.{TooLargeError, SystemNamesError}
 use Rattle.errors.specs.declared.ReadAnswer.{ReadAnswer}
 use Rattle.errors.specs.declared.ReadAnswer.the-variants.{Refused}
 use Rattle.errors.specs.Refusal.{numbersOf}
-use Rattle.system_types.specs.Names.{namesOf}
-use Rattle.system_types.specs.declared.NamesRead.the-variants.{Good as NamesGood, Bad}
+use Rattle.system_types.specs.Names.{Lent}
 use Rattle.head.specs.Head.{openedOf, bodyIn}
 use Rattle.head.proofs.Laws.{openedOf-fits}
-use Rattle.head.specs.Ask.{Check, passes, fails, firstOf, lengthCheck, namesCheck}
+use Rattle.head.specs.Entry.{Check, passes, fails, firstOf, entryChecks}
+use Rattle.head.specs.Inner.Entered.{enteredOf}
+use Rattle.head.specs.declared.Opened.{Opened}
+use Rattle.head.specs.declared.Entered.the-variants.{In, Out}
+use Rattle.head.proofs.Entering.{Passed, passed, entered-in, entered-out}
 use Rattle.events.proofs.Steps.{pending-first, within-first}
 use Rattle.walk.specs.declared.Mode.the-variants.{Fresh, Reading as InBody}
 use Rattle.walk.specs.declared.State.{State}
 use Rattle.walk.specs.Settle.{Room}
 use Rattle.walk.specs.Reading.{Reading, settledIn, readingBy, reading, roomIn, Reads}
-use Rattle.walk.specs.Outcome.{first, startedBy, Refuses, roomOf, outcome, Good, left, Advanced, Leaves}
+use Rattle.walk.specs.Inner.Outcome.{first, startedBy, Refuses, roomOf, outcome, Good, left, Advanced, Leaves}
 use Rattle.walk.proofs.Clearing.{fresh-not, clears}
 
 -- ---- the first state
 
-abbrev pub first-good : (f names area ns ats : List ℕ) (room cap : ℕ) → Good f names area ns ats (first room cap)
-first-good f names area ns ats room cap = record { stack = []; onWay = λ e. absurd (fresh-not e) }
+abbrev pub first-good : (f : List ℕ) (lent : Lent) (ns ats : List ℕ) (room cap : ℕ) → Good f lent ns ats (first room cap)
+first-good f lent ns ats room cap = record { stack = []; onWay = λ e. absurd (fresh-not e) }
 
-pub first-same : (f names area ns ats : List ℕ) (os : List NoteOf) (cap : ℕ)
-    → outcome f names area ns ats os (first (length os) cap) [] ≡ reading (roomIn ns ats os cap) f names area
-first-same f names area ns ats os cap = refl
+pub first-same : (f : List ℕ) (lent : Lent) (ns ats : List ℕ) (os : List NoteOf) (cap : ℕ)
+    → outcome f lent ns ats os (first (length os) cap) [] ≡ reading (roomIn ns ats os cap) f lent
+first-same f lent ns ats os cap = refl
 
 -- the one equation says the numbers and the tables
-pub reads-of-whole : (f names area ns ats : List ℕ) (os : List NoteOf) (cap : ℕ) (r : ReadAnswer) (ns′ ats′ : List ℕ) (os′ : List NoteOf)
-    → Leaves f names area ns ats os cap r ns′ ats′ os′ → Reads f names area ns ats os cap r ns′ ats′ os′
-reads-of-whole f names area ns ats os cap r ns′ ats′ os′ h = record {
+pub reads-of-whole : (f : List ℕ) (lent : Lent) (ns ats : List ℕ) (os : List NoteOf) (cap : ℕ) (r : ReadAnswer) (ns′ ats′ : List ℕ) (os′ : List NoteOf)
+    → Leaves f lent ns ats os cap r ns′ ats′ os′ → Reads f lent ns ats os cap r ns′ ats′ os′
+reads-of-whole f lent ns ats os cap r ns′ ats′ os′ h = record {
   answer = ap (λ (x : Reading). numbersOf (x .answer)) (h .whole);
   nodes = ap (λ (x : Reading). x .nodes) (h .whole);
   attributes = ap (λ (x : Reading). x .attributes) (h .whole);
@@ -47,45 +48,39 @@ reads-of-whole f names area ns ats os cap r ns′ ats′ os′ h = record {
 
 -- ---- what refuses before the file is read
 
-lengthCheck-long : (f : List ℕ) → 16777216 < length f → lengthCheck f ≡ fails TooLargeError
-unfolding lengthCheck
-lengthCheck-long f h = rw (lt-ltb 16777216 (length f) h)
-
-lengthCheck-short : (f : List ℕ) → length f ≤ 16777216 → lengthCheck f ≡ passes
-unfolding lengthCheck
-lengthCheck-short f h = rw (le-ltb 16777216 (length f) h)
-
-reading-by : (r : Room) (f names area : List ℕ) (c : Check) → firstOf (lengthCheck f ∷ namesCheck area names ∷ []) ≡ c
-    → reading r f names area ≡ readingBy r (settledIn r f names area (openedOf f)) c
+reading-by : (r : Room) (f : List ℕ) (lent : Lent) (c : Check) → firstOf (entryChecks f lent) ≡ c
+    → reading r f lent ≡ readingBy r (settledIn r f lent (openedOf f)) c
 unfolding reading
-reading-by r f names area c e = ap (readingBy r (settledIn r f names area (openedOf f))) e
+reading-by r f lent c e = ap (readingBy r (settledIn r f lent (openedOf f))) e
 
-module _ (f names area ns ats : List ℕ) (st : State) (g : Good f names area ns ats st) (fresh : st .mode ≡ Fresh) where
+module _ (f : List ℕ) (lent : Lent) (ns ats : List ℕ) (st : State) (g : Good f lent ns ats st) (fresh : st .mode ≡ Fresh) where
   abbrev R : Room
   R = roomOf ns ats st
 
-  much : left f names area st ≡ 20 * length f + 15 + st .room + 1
+  much : left f lent st ≡ 20 * length f + 15 + st .room + 1
   much = rw fresh
 
-  refuses-first : (x : Refusal) → firstOf (lengthCheck f ∷ namesCheck area names ∷ []) ≡ fails x → (r : State) (ns′ ats′ : List ℕ)
-      → Refuses ns ats st x r ns′ ats′ → Advanced f names area ns ats st g r ns′ ats′
+  refuses-first : (x : Refusal) → firstOf (entryChecks f lent) ≡ fails x → (r : State) (ns′ ats′ : List ℕ)
+      → Refuses ns ats st x r ns′ ats′ → Advanced f lent ns ats st g r ns′ ats′
   refuses-first x e r ns′ ats′ w =
       let z : st .room - 0 ≡ st .room = omega arith in
       rw (w .state, w .nodes, w .attributes)
-      (clears f names area ns ats st g (replicate (length ns) 0) (replicate (length ats) 0) 0 (Refused x) (λ lt. omega (arith, much))
-      (λ os l. rw (fresh, reading-by R f names area (fails x) e, z)))
+      (clears f lent ns ats st g (replicate (length ns) 0) (replicate (length ats) 0) 0 (Refused x) (λ lt. omega (arith, much))
+      (λ os l. rw (fresh, reading-by R f lent (fails x) e, z)))
 
-  pub fresh-long : 16777216 < length f → (r : State) (ns′ ats′ : List ℕ) → Refuses ns ats st TooLargeError r ns′ ats′
-      → Advanced f names area ns ats st g r ns′ ats′
-  fresh-long h = refuses-first TooLargeError (rw (lengthCheck-long f h))
-
-  pub fresh-names : length f ≤ 16777216 → (k : ℕ) → namesOf area names ≡ Bad k → (r : State) (ns′ ats′ : List ℕ)
-      → Refuses ns ats st (SystemNamesError k) r ns′ ats′ → Advanced f names area ns ats st g r ns′ ats′
-  fresh-names h k e = refuses-first (SystemNamesError k) (rw (lengthCheck-short f h, e))
+  pub fresh-out : {x : Refusal} → enteredOf f lent ≡ Out x → (r : State) (ns′ ats′ : List ℕ) → Refuses ns ats st x r ns′ ats′
+      → Advanced f lent ns ats st g r ns′ ats′
+  fresh-out {x} e = refuses-first x (entered-out f lent e)
 
   -- ---- the head is opened
 
-  module _ (short : length f ≤ 16777216) (good : namesOf area names ≡ NamesGood) where
+  module _ {o : Opened} (entered : enteredOf f lent ≡ In o) where
+    passes-in : firstOf (entryChecks f lent) ≡ passes
+    passes-in = entered-in f lent entered .0
+
+    told : Passed f lent
+    told = passed f lent passes-in
+
     abbrev started : State
     started = startedBy st (openedOf f)
 
@@ -95,12 +90,12 @@ module _ (f names area ns ats : List ℕ) (st : State) (g : Good f names area ns
     body-le : length B ≤ length f
     body-le = rw length-drop (omega arith)
 
-    abbrev started-good : Good f names area ns ats started
+    abbrev started-good : Good f lent ns ats started
     started-good = record {
       stack = [];
       onWay = λ _. record {
-        ready = record { good = good; fits = openedOf-fits f short };
-        within = within-first (openedOf f) B (omega (arith, body-le));
+        ready = record { good = told .good; fits = openedOf-fits f (told .short) };
+        within = within-first (openedOf f) B (omega (arith, told .short, body-le));
         tied = record {
           sized = record { nodes = omega arith; attributes = omega arith; first = omega arith; inside = λ n. absurd (n refl) };
           linked = refl;
@@ -109,23 +104,26 @@ module _ (f names area ns ats : List ℕ) (st : State) (g : Good f names area ns
           upto = λ n. absurd (n refl);
           below = omega arith;
         };
-        budget = omega (arith, body-le);
-        few = omega (arith, body-le);
+        budget = omega (arith, told .short, body-le);
+        few = omega (arith, told .short, body-le);
         stored = omega arith;
       };
     }
 
+    as-started : (s : State) → s ≡ startedBy st o → s ≡ started
+    as-started s e = e ∙ ap (startedBy st) (entered-in f lent entered .1)
+
     -- what `read_on` asks
-    pub started-asks : (s : State) → s ≡ started → Good f names area ns ats s × (s .mode ≡ InBody)
-    started-asks s e = rw e (started-good, refl)
+    pub started-asks : (s : State) → s ≡ startedBy st o → Good f lent ns ats s × (s .mode ≡ InBody)
+    started-asks s e = rw (as-started s e) (started-good, refl)
 
-    started-same : (os : List NoteOf) → outcome f names area ns ats os st (g .stack) ≡ outcome f names area ns ats os started []
-    started-same os = rw (fresh, reading-by R f names area passes (rw (lengthCheck-short f short, good)), pending-first)
+    started-same : (os : List NoteOf) → outcome f lent ns ats os st (g .stack) ≡ outcome f lent ns ats os started []
+    started-same os = rw (fresh, reading-by R f lent passes passes-in, pending-first)
 
-    pub advanced-started : (s : State) → s ≡ started → (r : State) (ns′ ats′ : List ℕ)
-        → ((x : Good f names area ns ats s) → Advanced f names area ns ats s x r ns′ ats′) → Advanced f names area ns ats st g r ns′ ats′
+    pub advanced-started : (s : State) → s ≡ startedBy st o → (r : State) (ns′ ats′ : List ℕ)
+        → ((x : Good f lent ns ats s) → Advanced f lent ns ats s x r ns′ ats′) → Advanced f lent ns ats st g r ns′ ats′
     advanced-started s e r ns′ ats′ a₀ =
-        let a = (rw e at a₀) started-good in
+        let a = (rw (as-started s e) at a₀) started-good in
         record {
           good = a .good;
           room = a .room;

@@ -14,27 +14,28 @@ use Rattle.anomaly.specs.Kept.{isDue}
 use Rattle.anomaly.specs.declared.ResAnomaly.{ResAnomaly}
 use Rattle.anomaly.specs.declared.ResAnomaly.the-variants.{NonXmlChunk, XmlNodeHeaderSize}
 use Rattle.common.proofs.Laws.{headerHere}
-use Rattle.chunk.specs.Run.{runUsed}
+use Rattle.chunk.specs.Inner.Run.{runUsed}
 use Rattle.xml_elements.specs.declared.Turn.the-variants.{Foreign}
 use Rattle.xml_elements.specs.Chunk.{numberOf, turnOf}
 use Rattle.xml_elements.proofs.Laws.{turnOf-run}
 use Rattle.records.specs.Repeats.{Rule}
+use Rattle.system_types.specs.Names.{Lent}
 use Rattle.head.specs.declared.Opened.{Opened}
 use Rattle.events.specs.declared.Cursor.{Cursor}
 use Rattle.events.specs.declared.Event.{Event}
 use Rattle.events.specs.declared.Event.the-variants.{Note}
 use Rattle.events.specs.declared.Phase.the-variants.{AtChunk}
 use Rattle.events.specs.Events.{Names, Spot, when, eventsOn}
-use Rattle.events.specs.Steps.{passedTo}
-use Rattle.events.specs.Pending.{Within, pending, steps}
+use Rattle.events.specs.Inner.Steps.{passedTo}
+use Rattle.events.specs.Inner.Pending.{Within, pending, steps}
 use Rattle.events.proofs.Model.{eventsOn-turn}
 use Rattle.walk.specs.declared.tree.Tree.{Tree}
 use Rattle.walk.specs.declared.State.{State}
 use Rattle.walk.specs.Settle.{Room, Tables, going, settle}
 use Rattle.walk.specs.Reading.{finalOf}
-use Rattle.walk.specs.Tree.{tablesOf}
-use Rattle.walk.specs.Outcome.{Good, roomOf}
-use Rattle.walk.specs.Pass.{spotAt, NoneDue, Reaches, PassesOn}
+use Rattle.walk.specs.Inner.Tree.{tablesOf}
+use Rattle.walk.specs.Inner.Outcome.{Good, roomOf}
+use Rattle.walk.specs.Inner.Pass.{spotAt, NoneDue, Reaches, PassesOn}
 use Rattle.walk.proofs.Advancing.{ReadHead, body, tables, N}
 
 -- ---- a note past its cap
@@ -113,10 +114,10 @@ module _ (b : List ℕ) (cap : ℕ) (cs : List ℕ) (c : Cursor) (at run : ℕ) 
 
 -- ---- the loop's head of `read_on`
 
-pub read-passed : (f names area ns₀ ats₀ : List ℕ) (st : State) (g : Good f names area ns₀ ats₀ st) (ns ats : List ℕ) (c : Cursor) (tree : Tree)
-    → ReadHead f names area ns₀ ats₀ st g ns ats c tree → (c′ : Cursor) → PassesOn (body f names area st) (st .cap) (st .notes .counts) c c′
-    → ReadHead f names area ns₀ ats₀ st g ns ats c′ tree
-read-passed f names area ns₀ ats₀ st g ns ats c tree hd c′ p = record {
+pub read-passed : (f : List ℕ) (lent : Lent) (ns₀ ats₀ : List ℕ) (st : State) (g : Good f lent ns₀ ats₀ st) (ns ats : List ℕ) (c : Cursor) (tree : Tree)
+    → ReadHead f lent ns₀ ats₀ st g ns ats c tree → (c′ : Cursor) → PassesOn (body f lent st) (st .cap) (st .notes .counts) c c′
+    → ReadHead f lent ns₀ ats₀ st g ns ats c′ tree
+read-passed f lent ns₀ ats₀ st g ns ats c tree hd c′ p = record {
   now = record {
     stack = hd .now .stack;
     ready = hd .now .ready;
@@ -132,5 +133,5 @@ read-passed f names area ns₀ ats₀ st g ns ats c tree hd c′ p = record {
   much = hd .much;
   same = λ os l.
       (hd .same os l
-      ∙ ap (finalOf (roomOf ns₀ ats₀ st)) (p .quiet (N f names area st) (st .opened) (tables f names area st) (roomOf ns₀ ats₀ st) _ refl refl));
+      ∙ ap (finalOf (roomOf ns₀ ats₀ st)) (p .quiet (N f lent st) (st .opened) (tables f lent st) (roomOf ns₀ ats₀ st) _ refl refl));
 }

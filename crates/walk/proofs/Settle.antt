@@ -8,7 +8,7 @@ use Rattle.errors.specs.declared.Refusal.{Refusal}
 use Rattle.records.specs.Repeats.{Rule}
 use Rattle.events.specs.declared.Event.{Event}
 use Rattle.events.specs.declared.Event.the-variants.{Nothing, Open, Attribute, LeftOut, Close, Note, Refuse, Finish}
-use Rattle.events.specs.Pending.{the}
+use Rattle.events.specs.Inner.Pending.{the}
 use Rattle.walk.specs.Settle.{Room, Tables, Out, going, refused, push, settle}
 
 module _ (rule : Rule) (r : Room) where

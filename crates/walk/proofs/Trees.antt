@@ -20,7 +20,7 @@ use Rattle.walk.specs.declared.tree.Tree.{Tree}
 use Rattle.walk.specs.declared.placing.Placed.the-variants.{Done, Full}
 use Rattle.walk.specs.Settle.{Room, going, push, parentIn, closedIn}
 use Rattle.walk.specs.Reading.{secondOf}
-use Rattle.walk.specs.Tree.{parentOf, openedTree, closedTree, openedWords, Linked, Tied, tablesOf, PlacesBy}
+use Rattle.walk.specs.Inner.Tree.{parentOf, openedTree, closedTree, openedWords, Linked, Tied, tablesOf, PlacesBy}
 
 pub take-put : (l l′ w : List ℕ) (i j : ℕ) → i ≤ length l → i + length w ≡ j → l′ ≡ take i l ++ w ++ drop j l → take j l′ ≡ take i l ++ w
 take-put l l′ w i j h e q = rw (q, take-at (take i l ++ w) (drop j l) j (length-append (take i l) w ∙ rw (length-take-le i l h) e))

@@ -18,9 +18,10 @@ use Rattle.errors.specs.declared.ReadAnswer.the-variants.{Done, Refused}
 use Rattle.errors.specs.Refusal.{numbersOf}
 use Rattle.head.specs.declared.Opened.{Opened}
 use Rattle.head.specs.Head.{openedOf, tablesIn, bodyIn}
-use Rattle.head.specs.Ask.{Check, passes, fails, firstOf, lengthCheck, namesCheck}
+use Rattle.head.specs.Entry.{Check, passes, fails, firstOf, entryChecks}
 use Rattle.events.specs.Events.{namesIn, fileEvents}
 use Rattle.records.specs.Words.{nodeWidth, nodeFirst, attributeWidth}
+use Rattle.system_types.specs.Names.{Lent}
 use Rattle.walk.specs.Settle.{Room, Tables, Out, going, refused, settle, nothingYet}
 
 pub record Reading : Type 0 where
@@ -68,27 +69,27 @@ finalOf r (going t) = succeeds r t
 -- ---- the promise
 
 -- the events of a file whose head is o, settled
-abbrev pub settledIn : Room → List ℕ → List ℕ → List ℕ → Opened → Out
-settledIn r f names area o =
+abbrev pub settledIn : Room → List ℕ → Lent → Opened → Out
+settledIn r f lent o =
     let t = tablesIn f (o .head) in
-    let N = namesIn (o .head) t names area in
+    let N = namesIn (o .head) t lent in
     settle (N .repeats) r nothingYet (fileEvents N o t (bodyIn f (o .head)))
 
--- 2 and 7 come before the file is read
+-- the entry checks come before the file is read
 abbrev pub readingBy : Room → Out → Check → Reading
 readingBy r o passes = finalOf r o
 readingBy r o (fails x) = refuses r x
 
-unfoldable pub reading : Room → List ℕ → List ℕ → List ℕ → Reading
-reading r f names area = readingBy r (settledIn r f names area (openedOf f)) (firstOf (lengthCheck f ∷ namesCheck area names ∷ []))
+unfoldable pub reading : Room → List ℕ → Lent → Reading
+reading r f lent = readingBy r (settledIn r f lent (openedOf f)) (firstOf (entryChecks f lent))
 
 -- the room of tables with these contents before the call
 abbrev pub roomIn : List ℕ → List ℕ → List NoteOf → ℕ → Room
 roomIn nodes attributes notes cap = record { nodes = length nodes; attributes = length attributes; notes = length notes; cap = cap }
 
 -- what a call of `read` leaves: the paper's numbers, and each lent table whole
-pub record Reads (f names area ns ats : List ℕ) (os : List NoteOf) (cap : ℕ) (r : ReadAnswer) (ns′ ats′ : List ℕ) (os′ : List NoteOf) : Type 0 where
-  pub answer : numbersOf r ≡ numbersOf (reading (roomIn ns ats os cap) f names area .answer)
-  pub nodes : ns′ ≡ reading (roomIn ns ats os cap) f names area .nodes
-  pub attributes : ats′ ≡ reading (roomIn ns ats os cap) f names area .attributes
-  pub notes : os′ ≡ reading (roomIn ns ats os cap) f names area .notes
+pub record Reads (f : List ℕ) (lent : Lent) (ns ats : List ℕ) (os : List NoteOf) (cap : ℕ) (r : ReadAnswer) (ns′ ats′ : List ℕ) (os′ : List NoteOf) : Type 0 where
+  pub answer : numbersOf r ≡ numbersOf (reading (roomIn ns ats os cap) f lent .answer)
+  pub nodes : ns′ ≡ reading (roomIn ns ats os cap) f lent .nodes
+  pub attributes : ats′ ≡ reading (roomIn ns ats os cap) f lent .attributes
+  pub notes : os′ ≡ reading (roomIn ns ats os cap) f lent .notes

@@ -1,11 +1,11 @@
 // The ends of a reading: a refusal, a success, a note that is to be written, and the note table cleared place by place.
 //
-// Definitions: specs/Outcome.antt. The Rust has none of this: its tables are its own, and it refuses with `Result`.
+// Definitions: specs/Inner/Outcome.antt. The Rust has none of this: its tables are its own, and it refuses with `Result`.
 ghost use mathlib.Core.Path.{_≡_};
 ghost use Prim.Native.Nat.{_<_};
 ghost use lib.ListN.{getD};
 ghost use Rattle.anomaly.specs.Note.{kindIndex};
-ghost use Rattle.walk.specs.Outcome.{clearingAt, clearNext, notedBy, Refuses, Keepable, Finishes, Noted};
+ghost use Rattle.walk.specs.Inner.Outcome.{clearingAt, clearNext, notedBy, Refuses, Keepable, Finishes, Noted};
 use crate::Mode;
 use crate::State;
 use crate::tree::Tree;

@@ -10,8 +10,9 @@ pub mod placing;
 pub mod tree;
 
 ghost use mathlib.Core.Path.{_≡_};
+ghost use Rattle.system_types.specs.Names.{lends};
 ghost use Rattle.walk.specs.declared.Mode.the-variants.{Fresh, Reading as InBody};
-ghost use Rattle.walk.specs.Outcome.{noTree, first, startedBy, Good, Adv};
+ghost use Rattle.walk.specs.Inner.Outcome.{noTree, first, startedBy, Good, Adv};
 use anomaly::Note;
 use anomaly::Notes;
 use anomaly::kind_index;
@@ -23,15 +24,14 @@ use errors::ReadAnswer;
 use errors::Refusal;
 use events::Cursor;
 use events::first_cursor;
+use head::Entered;
 use head::HeadEnd;
 use head::Opened;
-use head::open_head;
+use head::enter;
 use passing::pass_in;
 use placing::Stop;
 use placing::run_in;
 use res_string_pool::Garbage;
-use system_types::NamesRead;
-use system_types::check_names;
 use text::Head;
 use tree::Tree;
 
@@ -154,8 +154,8 @@ fn read_on(
     attributes: &mut [u32],
     st: State,
 ) -> State
-    requires { ⌜ Good (now file) (now names) (now area) (now nodes) (now attributes) st × (st .mode ≡ InBody) ⌝ }
-    ensures { λ r. ⌜ Adv (now (file .entry)) (now (names .entry)) (now (area .entry)) (now (nodes .entry)) (now (attributes .entry)) st r
+    requires { ⌜ Good (now file) (lends (now names) (now area)) (now nodes) (now attributes) st × (st .mode ≡ InBody) ⌝ }
+    ensures { λ r. ⌜ Adv (now (file .entry)) (lends (now (names .entry)) (now (area .entry))) (now (nodes .entry)) (now (attributes .entry)) st r
         (now (nodes .exit)) (now (attributes .exit)) ⌝ }
 {
     let opened = st.opened;
@@ -184,7 +184,7 @@ fn read_on(
     }
 }
 
-// The first call: the file's length, the lent names, and then the head (B2).
+// The first call: the way in (B2), and then the file.
 fn start(
     file: &[u8],
     names: &[u32],
@@ -193,24 +193,14 @@ fn start(
     attributes: &mut [u32],
     st: State,
 ) -> State
-    requires { ⌜ Good (now file) (now names) (now area) (now nodes) (now attributes) st × (st .mode ≡ Fresh) ⌝ }
-    ensures { λ r. ⌜ Adv (now (file .entry)) (now (names .entry)) (now (area .entry)) (now (nodes .entry)) (now (attributes .entry)) st r
+    requires { ⌜ Good (now file) (lends (now names) (now area)) (now nodes) (now attributes) st × (st .mode ≡ Fresh) ⌝ }
+    ensures { λ r. ⌜ Adv (now (file .entry)) (lends (now (names .entry)) (now (area .entry))) (now (nodes .entry)) (now (attributes .entry)) st r
         (now (nodes .exit)) (now (attributes .exit)) ⌝ }
 {
-    if 16777216 < file.len() {
-        return refuse(nodes, attributes, st, Refusal::TooLargeError);
-    }
-    let checked = check_names(names, area);
-    match checked {
-        NamesRead::Bad(k) => refuse(nodes, attributes, st, Refusal::SystemNamesError(k)),
-        NamesRead::Good => read_on(
-            file,
-            names,
-            area,
-            nodes,
-            attributes,
-            started(st, open_head(file)),
-        ),
+    let entered = enter(file, names, area);
+    match entered {
+        Entered::Out(x) => refuse(nodes, attributes, st, x),
+        Entered::In(opened) => read_on(file, names, area, nodes, attributes, started(st, opened)),
     }
 }
 
@@ -224,8 +214,8 @@ pub fn advance(
     attributes: &mut [u32],
     st: State,
 ) -> State
-    requires { ⌜ Good (now file) (now names) (now area) (now nodes) (now attributes) st ⌝ }
-    ensures { λ r. ⌜ Adv (now (file .entry)) (now (names .entry)) (now (area .entry)) (now (nodes .entry)) (now (attributes .entry)) st r
+    requires { ⌜ Good (now file) (lends (now names) (now area)) (now nodes) (now attributes) st ⌝ }
+    ensures { λ r. ⌜ Adv (now (file .entry)) (lends (now (names .entry)) (now (area .entry))) (now (nodes .entry)) (now (attributes .entry)) st r
         (now (nodes .exit)) (now (attributes .exit)) ⌝ }
 {
     let mode = st.mode;

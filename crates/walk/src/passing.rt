@@ -1,14 +1,14 @@
 // Foreign chunks whose notes are past their cap are passed at once.
 //
-// Mirrors axml.rs (apk-info 13770539b8): `skip_run` and the notes that `Anomalies::push` drops. Definitions: specs/Pass.antt.
+// Mirrors axml.rs (apk-info 13770539b8): `skip_run` and the notes that `Anomalies::push` drops. Definitions: specs/Inner/Pass.antt.
 // Differs from the Rust: once both sorts of foreign chunks are at their cap, a stretch of both is one loop, and none of its notes is made.
 ghost use mathlib.Core.Path.{_≡_};
 ghost use Prim.Native.Nat.{_≤_};
 ghost use lib.ListN.{length};
 ghost use Rattle.head.specs.Head.{bodyIn};
-ghost use Rattle.events.specs.Steps.{passedTo};
-ghost use Rattle.events.specs.Pending.{Within};
-ghost use Rattle.walk.specs.Pass.{Reaches, PassesOn};
+ghost use Rattle.events.specs.Inner.Steps.{passedTo};
+ghost use Rattle.events.specs.Inner.Pending.{Within};
+ghost use Rattle.walk.specs.Inner.Pass.{Reaches, PassesOn};
 use anomaly::Notes;
 use anomaly::ResAnomaly;
 use anomaly::kind_index;

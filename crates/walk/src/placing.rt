@@ -1,14 +1,15 @@
 // Events are put away one by one, until one is for the caller.
 //
 // Mirrors axml.rs (apk-info 13770539b8): the body of the loop of `get_xml_tree`.
-// Definitions: specs/Tree.antt, specs/Run.antt. Differs from the Rust: a record without a place refuses.
+// Definitions: specs/Inner/Tree.antt, specs/Inner/Run.antt. Differs from the Rust: a record without a place refuses.
 ghost use Prim.Native.Nat.{ℕ};
 ghost use Rattle.records.specs.Repeats.{Rule, byPrefix};
+ghost use Rattle.system_types.specs.Names.{lends};
 ghost use Rattle.text.specs.Content.{sameName};
-ghost use Rattle.text.specs.Found.{Asks};
+ghost use Rattle.text.specs.Inner.Found.{Asks};
 ghost use Rattle.events.specs.declared.Event.the-variants.{Open, Attribute, Close};
-ghost use Rattle.walk.specs.Tree.{Fit, Places, NotEnd, AsksFor};
-ghost use Rattle.walk.specs.Run.{Running, RanOn, RunningIn, RanIn};
+ghost use Rattle.walk.specs.Inner.Tree.{Fit, Places, NotEnd, AsksFor};
+ghost use Rattle.walk.specs.Inner.Run.{Running, RanOn, RunningIn, RanIn};
 use crate::tree::Put;
 use crate::tree::Tree;
 use crate::tree::close_node;
@@ -89,8 +90,8 @@ fn keep_place(
     prefix: u32,
     a: XmlAttributeElement,
 ) -> Placed
-    requires { ⌜ Asks (now t) (now names) (now area) h × Fit (now nodes) (now attributes) tree ⌝ }
-    ensures { λ r. ⌜ Places (byPrefix (sameName h (now (t .entry)) (now (names .entry)) (now (area .entry)))) r
+    requires { ⌜ Asks (now t) (lends (now names) (now area)) h × Fit (now nodes) (now attributes) tree ⌝ }
+    ensures { λ r. ⌜ Places (byPrefix (sameName h (now (t .entry)) (lends (now (names .entry)) (now (area .entry))))) r
         (now (nodes .entry)) (now (attributes .entry)) tree (Attribute prefix a) (now (nodes .exit)) (now (attributes .exit)) ⌝ }
 {
     let p = keep(t, names, area, h, nodes, attributes, tree, prefix, a);
@@ -112,8 +113,8 @@ pub fn place(
     tree: Tree,
     e: Event,
 ) -> Placed
-    requires { ⌜ AsksFor e (now t) (now names) (now area) h × Fit (now nodes) (now attributes) tree ⌝ }
-    ensures { λ r. ⌜ Places (byPrefix (sameName h (now (t .entry)) (now (names .entry)) (now (area .entry)))) r
+    requires { ⌜ AsksFor e (now t) (lends (now names) (now area)) h × Fit (now nodes) (now attributes) tree ⌝ }
+    ensures { λ r. ⌜ Places (byPrefix (sameName h (now (t .entry)) (lends (now (names .entry)) (now (area .entry))))) r
         (now (nodes .entry)) (now (attributes .entry)) tree e (now (nodes .exit)) (now (attributes .exit)) × NotEnd r e ⌝ }
 {
     match e {
@@ -151,8 +152,8 @@ pub fn run(
     c: Cursor,
     tree: Tree,
 ) -> Halt
-    requires { ⌜ Running (now t) (now names) (now area) (now b) o (now nodes) (now attributes) c tree ⌝ }
-    ensures { λ r. ⌜ RanOn (now (t .entry)) (now (names .entry)) (now (area .entry)) (now (b .entry)) o (now (nodes .entry)) (now (attributes .entry)) c tree r
+    requires { ⌜ Running (now t) (lends (now names) (now area)) (now b) o (now nodes) (now attributes) c tree ⌝ }
+    ensures { λ r. ⌜ RanOn (now (t .entry)) (lends (now (names .entry)) (now (area .entry))) (now (b .entry)) o (now (nodes .entry)) (now (attributes .entry)) c tree r
         (now (nodes .exit)) (now (attributes .exit)) ⌝ }
 {
     let mut cur = c;
@@ -204,8 +205,8 @@ pub fn run_in(
     c: Cursor,
     tree: Tree,
 ) -> Halt
-    requires { ⌜ RunningIn (now file) (now names) (now area) o (now nodes) (now attributes) c tree ⌝ }
-    ensures { λ r. ⌜ RanIn (now (file .entry)) (now (names .entry)) (now (area .entry)) o (now (nodes .entry)) (now (attributes .entry)) c tree r
+    requires { ⌜ RunningIn (now file) (lends (now names) (now area)) o (now nodes) (now attributes) c tree ⌝ }
+    ensures { λ r. ⌜ RanIn (now (file .entry)) (lends (now (names .entry)) (now (area .entry))) o (now (nodes .entry)) (now (attributes .entry)) c tree r
         (now (nodes .exit)) (now (attributes .exit)) ⌝ }
 {
     let t = tables_of(file, o.head);

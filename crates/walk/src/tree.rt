@@ -1,7 +1,7 @@
 // The tree in its two lent tables: elements open and close, and attributes are kept.
 //
 // Mirrors axml.rs (apk-info 13770539b8): the stack of elements of `get_xml_tree`, and its `HashSet` of attribute names.
-// Definitions: specs/Tree.antt. Differs from the Rust: the stack is the parent words of the nodes, and what is dropped at the end is told by
+// Definitions: specs/Inner/Tree.antt. Differs from the Rust: the stack is the parent words of the nodes, and what is dropped at the end is told by
 // two numbers, the element open above the first and the attributes before it.
 ghost use mathlib.Core.Path.{_≡_};
 ghost use mathlib.Core.List.{_++_};
@@ -11,9 +11,10 @@ ghost use lib.ListN.{length, drop, take, getD};
 ghost use lib.Dec.{eqb};
 ghost use Rattle.records.specs.Words.{nodeWidth, nodeParent};
 ghost use Rattle.records.specs.Repeats.{byPrefix};
+ghost use Rattle.system_types.specs.Names.{lends};
 ghost use Rattle.text.specs.Content.{sameName};
-ghost use Rattle.text.specs.Found.{Asks};
-ghost use Rattle.walk.specs.Tree.{parentOf, openedTree, closedTree, keptTree, openedWords, keptNodes, keptAttributes, Fit, Keeps};
+ghost use Rattle.text.specs.Inner.Found.{Asks};
+ghost use Rattle.walk.specs.Inner.Tree.{parentOf, openedTree, closedTree, keptTree, openedWords, keptNodes, keptAttributes, Fit, Keeps};
 use common::StringIndex;
 use records::ATTRIBUTE_WORDS;
 use records::NO_PARENT;
@@ -179,8 +180,8 @@ pub fn keep(
     prefix: u32,
     a: XmlAttributeElement,
 ) -> Put
-    requires { ⌜ Asks (now t) (now names) (now area) h × Fit (now nodes) (now attributes) tree ⌝ }
-    ensures { λ r. ⌜ Keeps (byPrefix (sameName h (now (t .entry)) (now (names .entry)) (now (area .entry)))) r tree prefix a
+    requires { ⌜ Asks (now t) (lends (now names) (now area)) h × Fit (now nodes) (now attributes) tree ⌝ }
+    ensures { λ r. ⌜ Keeps (byPrefix (sameName h (now (t .entry)) (lends (now (names .entry)) (now (area .entry))))) r tree prefix a
         (now (nodes .entry)) (now (attributes .entry)) (now (nodes .exit)) (now (attributes .exit)) ⌝ }
 {
     let n = tree.nodes;

@@ -8,7 +8,7 @@ use Rattle.utf.specs.Text.{stepsAfter, stepsOf}
 use Rattle.utf.proofs.Tables.{below-at}
 use Rattle.utf.proofs.Leads.{step8-ascii}
 use Rattle.xml.specs.NCName.{inRanges, isStart, isChar, allChar, nameOf, validName}
-use Rattle.xml.specs.Rust.{rustStart, rustChar, rustRest, rustName}
+use Rattle.xml.specs.Inner.Rust.{rustStart, rustChar, rustRest, rustName}
 
 beq-true : (x y : Bool) → Bool·beq x y ≡ true → x ≡ y
 beq-true true true e = refl

@@ -9,7 +9,7 @@ use lib.Dec.{eqb}
 use lib.ListN.{getD}
 use Rattle.utf.proofs.Tables.{below-at}
 use Rattle.xml.specs.NCName.{inRanges, isStart, isChar, sortOf, classOf}
-use Rattle.xml.specs.Told.{IsTable}
+use Rattle.xml.specs.Inner.Told.{IsTable}
 
 abbrev pub classes : List ℕ
 classes =

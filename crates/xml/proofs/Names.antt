@@ -8,12 +8,12 @@ use borrow.Author.Tests.{eq-eqb, ne-eqb, eqb-true}
 use lib.Dec.{eqb}
 use lib.ListN.{length, getD, drop}
 use Rattle.utf.specs.Text.{stepOf, valueOf, widthOf, soundOf, stepsOf, allSound}
-use Rattle.utf.specs.Told.{Took}
+use Rattle.utf.specs.Inner.Told.{Took}
 use Rattle.utf.proofs.Steps.{stepOf-is, stepsOf-next, stepsOf-end}
 use Rattle.utf.proofs.Turns.{took-ascii, stops, goes}
 use Rattle.utf.proofs.Units.{took-unit}
 use Rattle.xml.specs.NCName.{isStart, isChar, sortOf, classOf, allChar, nameOf, validName}
-use Rattle.xml.specs.Told.{sortBy, sortAt, begins, charsIn, Told, Passed, Reached}
+use Rattle.xml.specs.Inner.Told.{sortBy, sortAt, begins, charsIn, Told, Passed, Reached}
 use Rattle.xml.proofs.Ranges.{sortOf-start, sortOf-char, classOf-ascii, ascii-of-class}
 
 -- ---- what is told of a step

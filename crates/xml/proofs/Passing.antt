@@ -1,4 +1,4 @@
--- Laws of a block (specs/Blocks.antt): what each of its bytes says, and that what it holds is passed (`passed-block`).
+-- Laws of a block (specs/Inner/Blocks.antt): what each of its bytes says, and that what it holds is passed (`passed-block`).
 use mathlib.Core.Path.{_≡_, refl, sym, subst, ap, _∙_}
 use mathlib.Core.Bool.{Bool, true, false, not, _&&_, _||_, cond, Bool·beq, true≢false}
 use mathlib.Core.List.{List, [], _∷_}
@@ -13,8 +13,8 @@ use Rattle.utf.proofs.Scalars.{inside-ends}
 use Rattle.utf.proofs.Tables.{both-true, below-at}
 use Rattle.utf.proofs.PlainLaws.{beq-true}
 use Rattle.xml.specs.NCName.{inRanges, nameStart, isStart, isChar, sortOf}
-use Rattle.xml.specs.Blocks.{isOdd, asciiLow, farHigh, fitsAt, allFit}
-use Rattle.xml.specs.Told.{Passed}
+use Rattle.xml.specs.Inner.Blocks.{isOdd, asciiLow, farHigh, fitsAt, allFit}
+use Rattle.xml.specs.Inner.Told.{Passed}
 use Rattle.xml.proofs.Ranges.{sortOf-start, sortOf-char}
 use Rattle.xml.proofs.Names.{passed-none, passed-char}
 

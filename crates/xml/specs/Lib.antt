@@ -1,5 +1,3 @@
 -- The root of the crate's definitions.
 pub mod NCName
-pub mod Told
-pub mod Blocks
-pub mod Rust
+pub mod Inner

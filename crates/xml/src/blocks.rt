@@ -1,4 +1,4 @@
-// Whole blocks of a name in UTF-16: 32 units, 64 bytes, that are passed at once. Definitions: specs/Blocks.antt.
+// Whole blocks of a name in UTF-16: 32 units, 64 bytes, that are passed at once. Definitions: specs/Inner/Blocks.antt.
 //
 // Mirrors nothing of xml/src/lib.rs (apk-info 13770539b8), whose loop goes by chars. A block is looked at byte by byte with no early way out, so that
 // the compiler takes many bytes at once; it holds chars of ASCII alone, or units alone whose high byte says that they are chars.
@@ -8,8 +8,8 @@ ghost use Prim.Native.Nat.{_+_, _≤_, _<_};
 ghost use lib.Dec.{eqb};
 ghost use lib.ListN.{length};
 ghost use Rattle.utf.specs.Utf8.{inside};
-ghost use Rattle.xml.specs.Blocks.{asciiLow, farHigh, fitsAt, allFit};
-ghost use Rattle.xml.specs.Told.{Passed, Ahead};
+ghost use Rattle.xml.specs.Inner.Blocks.{asciiLow, farHigh, fitsAt, allFit};
+ghost use Rattle.xml.specs.Inner.Told.{Passed, Ahead};
 
 // Both tests are made, as everywhere here: a branch would hold the loop over a block to one byte at a time.
 fn between(first: u8, last: u8, b: u8) -> bool

@@ -1,6 +1,6 @@
 // What stands at a place of a text, as a part of a name, and how far its chars go.
 //
-// Mirrors the loop of `is_valid_name` in xml/src/lib.rs (apk-info 13770539b8), over bytes or units in place of chars. Definitions: specs/Told.antt.
+// Mirrors the loop of `is_valid_name` in xml/src/lib.rs (apk-info 13770539b8), over bytes or units in place of chars. Definitions: specs/Inner/Told.antt.
 // A byte of ASCII in UTF-8, and a unit of ASCII in UTF-16, is its own value and is looked up; a unit whose high byte says that it is a start
 // is passed; anything else is decoded first.
 use super::blocks::far_high;
@@ -10,7 +10,7 @@ ghost use mathlib.Core.Path.{_≡_};
 ghost use mathlib.Core.Bool.{true, false};
 ghost use Prim.Native.Nat.{_≤_, _<_};
 ghost use lib.ListN.{length};
-ghost use Rattle.xml.specs.Told.{IsTable, begins, Told, Passed, Reached};
+ghost use Rattle.xml.specs.Inner.Told.{IsTable, begins, Told, Passed, Reached};
 
 // The sort of what stands there, and how many bytes it takes.
 pub struct Char {

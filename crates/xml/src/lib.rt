@@ -14,7 +14,7 @@ ghost use mathlib.Core.Path.{_≡_};
 ghost use mathlib.Core.Bool.{false};
 ghost use Rattle.utf.specs.Utf8.{inside};
 ghost use Rattle.xml.specs.NCName.{inRanges, isStart, isChar, sortOf, classOf, validName};
-ghost use Rattle.xml.specs.Told.{IsTable};
+ghost use Rattle.xml.specs.Inner.Told.{IsTable};
 
 // The class of each byte: 0 in no name, 1 first or later, 2 later only, 3 beyond ASCII.
 const CLASSES: [u8; 256] = *b"\

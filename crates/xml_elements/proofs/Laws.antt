@@ -16,7 +16,7 @@ use Rattle.common.specs.declared.HeaderRead.{HeaderRead}
 use Rattle.common.specs.declared.HeaderRead.the-variants.{Whole, Short}
 use Rattle.common.proofs.Laws.{headerHere, headerOf-short, headerOf-whole, headerOf-long, headerOf-short-lt}
 use Rattle.chunk.specs.Sort.{isXml, sortOf, contentOf, foreignLen}
-use Rattle.chunk.specs.Run.{runUsed}
+use Rattle.chunk.specs.Inner.Run.{runUsed}
 use Rattle.chunk.proofs.Laws.{foreignLen-le, foreignLen-lt, runUsed-short, runUsed-same, runUsed-other}
 use Rattle.xml_elements.specs.declared.XmlStartElement.{XmlStartElement}
 use Rattle.xml_elements.specs.declared.Chunk.{Chunk}

@@ -52,7 +52,8 @@ use denote.Signature.{plain}
 use Rattle.anomaly.specs.declared.Note.{Note}
 use Rattle.errors.specs.declared.ReadAnswer.{ReadAnswer as Answer}
 use Rattle.walk.specs.declared.State.{State}
-use Rattle.walk.specs.Outcome.{Adv, Good, first}
+use Rattle.walk.specs.Inner.Outcome.{Adv, Good, first}
+use Rattle.system_types.specs.Names.{lends}
 use Rattle.walk.specs.Reading.{Reads}
 use Rattle.axml.proofs.Fields.{gets}
 use Rattle.axml.proofs.Lending.{slice, Opened, opens, shuts, passes-on, takes-back, holds, fails}
@@ -240,7 +241,7 @@ module _ {M : Type 1} (𝓤 : URA M) (H : Heap 𝓤) (A : Atoms 𝓤) (W : Given
       own-area ∷ ‵ (flft κ-area q-area) ∷ []
 
   exits : (r : Answer) (ws-nodes ws-attributes : List ℕ) (ws-notes : List Note) → Is B.the-row r (B′.lowered r ∷ [])
-      → Reads xs-file xs-names xs-area xs-nodes xs-attributes xs-notes cap r ws-nodes ws-attributes ws-notes
+      → Reads xs-file (lends xs-names xs-area) xs-nodes xs-attributes xs-notes cap r ws-nodes ws-attributes ws-notes
       → length ws-nodes ≡ length xs-nodes → length ws-attributes ≡ length xs-attributes → length ws-notes ≡ length xs-notes
       → ent 𝓤 (⋆ 𝓤 H A (Kept ws-nodes ws-attributes ws-notes)) (Post (B′.lowered r))
   exits r ws-nodes ws-attributes ws-notes is e lw-nodes lw-attributes lw-notes =
@@ -284,7 +285,7 @@ module _ {M : Type 1} (𝓤 : URA M) (H : Heap 𝓤) (A : Atoms 𝓤) (W : Given
       ‵ (MutSlice (named 4) (ν-attributes ∷ []) u32 .own (x-attributes δ-attributes ws-attributes) (v-attributes ∷ [])) ∷ []
 
   goes-advance : (ν-nodes ν-attributes : ℕ) (δ-nodes δ-attributes : GName) (st : State) (ws-nodes ws-attributes : List ℕ)
-      → Is S.the-row st (S′.lowered st ∷ []) → Good xs-file xs-names xs-area ws-nodes ws-attributes st
+      → Is S.the-row st (S′.lowered st ∷ []) → Good xs-file (lends xs-names xs-area) ws-nodes ws-attributes st
       → ent 𝓤 (⋆ 𝓤 H A (Asked ν-nodes ν-attributes δ-nodes δ-attributes ws-nodes ws-attributes))
       (Advance 𝓤 H A at-mem run .pre (to-advance ν-nodes ν-attributes δ-nodes δ-attributes st ws-nodes ws-attributes))
   goes-advance ν-nodes ν-attributes δ-nodes δ-attributes st ws-nodes ws-attributes is good =
@@ -322,15 +323,15 @@ module _ {M : Type 1} (𝓤 : URA M) (H : Heap 𝓤) (A : Atoms 𝓤) (W : Given
           ‵ (fdies ty-nodes l₄) ∷ ‵ (fat fullShare ty-area l₃ 0 (v-area)) ∷ ‵ (fdies ty-area l₃) ∷ ‵ (fat fullShare ty-names l₂ 0 (v-names)) ∷
           ‵ (fdies ty-names l₂) ∷ ‵ (fat fullShare ty-file l₁ 0 (v-file)) ∷ ‵ (fdies ty-file l₁) ∷ ‵ (froom B′.mir l₀ 0) ∷ ‵ (fdies B′.mir l₀) ∷ []
 
-      abbrev I : Point xs-file xs-names xs-area xs-nodes xs-attributes xs-notes cap → List (Item 𝓤)
+      abbrev I : Point xs-file (lends xs-names xs-area) xs-nodes xs-attributes xs-notes cap → List (Item 𝓤)
       I p = At (p .st) (p .now-nodes) (p .now-attributes) (p .now-notes)
 
       -- when the loop is left, the rest of the body runs
       abbrev Left : Out → SProp 𝓤
       Left = afterBlock 𝓤 H (afterSeq 𝓤 H (Wp 𝓤 H (𝓣 .C) (𝓣 .Λ) En mir.t-4 (atReturn 𝓤 H En Post)) (atReturn 𝓤 H En Post))
 
-      module _ (p : Point xs-file xs-names xs-area xs-nodes xs-attributes xs-notes cap) (r : State) (zs-nodes zs-attributes : List ℕ)
-          (e : Adv xs-file xs-names xs-area (p .now-nodes) (p .now-attributes) (p .st) r zs-nodes zs-attributes)
+      module _ (p : Point xs-file (lends xs-names xs-area) xs-nodes xs-attributes xs-notes cap) (r : State) (zs-nodes zs-attributes : List ℕ)
+          (e : Adv xs-file (lends xs-names xs-area) (p .now-nodes) (p .now-attributes) (p .st) r zs-nodes zs-attributes)
           (is : Is S.the-row r (S′.lowered r ∷ []))
           (lz-nodes : length zs-nodes ≡ length (p .now-nodes)) (lz-attributes : length zs-attributes ≡ length (p .now-attributes)) where
         -- what is known of the state's fields
@@ -358,7 +359,7 @@ module _ {M : Type 1} (𝓤 : URA M) (H : Heap 𝓤) (A : Atoms 𝓤) (W : Given
         answer-in Γ n h = gets Γ En ! 8 n 3 S′.mir l₈ (S′.lowered r) B′.mir 32 (B′.lowered (r .answer)) tt tt refl h refl refl
 
         abbrev Next : SProp 𝓤
-        Next = Below 𝓤 H A (Less xs-file xs-names xs-area xs-nodes xs-attributes xs-notes cap) I p
+        Next = Below 𝓤 H A (Less xs-file (lends xs-names xs-area) xs-nodes xs-attributes xs-notes cap) I p
 
         abbrev Tested : List (Item 𝓤)
         Tested = put 𝓤 H A 16 (‵ (fat fullShare tyBool l₁₅ 0 (vbool (r .done)))) (At r zs-nodes zs-attributes (p .now-notes))
@@ -378,7 +379,7 @@ module _ {M : Type 1} (𝓤 : URA M) (H : Heap 𝓤) (A : Atoms 𝓤) (W : Given
             move ! (20 ∷ 21 ∷ []) $ free1 ! $ move ! (18 ∷ 19 ∷ []) $ free1 ! $ move ! (16 ∷ 17 ∷ []) $ free1 ! $ move ! (14 ∷ 15 ∷ []) $ free1 ! $
             move ! (12 ∷ 13 ∷ []) $ free1 ! $ free0 ! $
             by ! (exits (r .answer) zs-nodes zs-attributes (p .now-notes) answer-holds
-            (leaves xs-file xs-names xs-area xs-nodes xs-attributes xs-notes cap p r zs-nodes zs-attributes e d) (lz-nodes ∙ p .long-nodes)
+            (leaves xs-file (lends xs-names xs-area) xs-nodes xs-attributes xs-notes cap p r zs-nodes zs-attributes e d) (lz-nodes ∙ p .long-nodes)
             (lz-attributes ∙ p .long-attributes) (p .long-notes))
 
         -- the turn that stores a note
@@ -400,12 +401,12 @@ module _ {M : Type 1} (𝓤 : URA M) (H : Heap 𝓤) (A : Atoms 𝓤) (W : Given
             move ! (1 ∷ 0 ∷ 2 ∷ []) $
             elem-put ! N.the-row fullShare (p .now-notes) (r .slot) (r .note) (N′.lowered (r .note) ∷ []) b-notes o-notes within $ forget ! 12 refl $
             forget ! 14 refl $ forget ! 16 refl $ forget ! 28 refl $
-            again ! (Less xs-file xs-names xs-area xs-nodes xs-attributes xs-notes cap) I p
-            (onward xs-file xs-names xs-area xs-nodes xs-attributes xs-notes cap p r zs-nodes zs-attributes e d is lz-nodes lz-attributes)
-            (fewer xs-file xs-names xs-area xs-nodes xs-attributes xs-notes cap p r zs-nodes zs-attributes e d is lz-nodes lz-attributes))
+            again ! (Less xs-file (lends xs-names xs-area) xs-nodes xs-attributes xs-notes cap) I p
+            (onward xs-file (lends xs-names xs-area) xs-nodes xs-attributes xs-notes cap p r zs-nodes zs-attributes e d is lz-nodes lz-attributes)
+            (fewer xs-file (lends xs-names xs-area) xs-nodes xs-attributes xs-notes cap p r zs-nodes zs-attributes e d is lz-nodes lz-attributes))
           where
             within : r .slot < length (p .now-notes)
-            within = in-table xs-file xs-names xs-area xs-nodes xs-attributes xs-notes cap p r zs-nodes zs-attributes e d
+            within = in-table xs-file (lends xs-names xs-area) xs-nodes xs-attributes xs-notes cap p r zs-nodes zs-attributes e d
 
             bytes : r .slot * 12 < 2 ^ 64
             bytes = let b : length xs-notes * 12 < 2 ^ 63 = room-notes .1 in omega (arith, within, p .long-notes)
@@ -423,9 +424,9 @@ module _ {M : Type 1} (𝓤 : URA M) (H : Heap 𝓤) (A : Atoms 𝓤) (W : Given
             (λ h. skips ! $ exec ! (𝓣 .C) (𝓣 .Λ) En stores (anyQ (afterTurn 𝓤 H Next Left)) $ stored (fails (r .done) h))
 
       -- a turn: the tables are passed on to `advance`, and taken back
-      turn : (p : Point xs-file xs-names xs-area xs-nodes xs-attributes xs-notes cap)
+      turn : (p : Point xs-file (lends xs-names xs-area) xs-nodes xs-attributes xs-notes cap)
           → Sq W (I p) (runs (𝓣 .C) (𝓣 .Λ) En mir.turn-1 (anyQ (afterTurn 𝓤 H (Below 𝓤 H A
-          (Less xs-file xs-names xs-area xs-nodes xs-attributes xs-notes cap) I p) Left)))
+          (Less xs-file (lends xs-names xs-area) xs-nodes xs-attributes xs-notes cap) I p) Left)))
       unfolding afterTurn
       turn p =
           assigns ! (addr ! (from ! (fld ! refl (hop ! (look-in ! 38 (sub ! 0 refl (all !))) (stop !))))) (from ! (stop !))
@@ -465,11 +466,12 @@ module _ {M : Type 1} (𝓤 : URA M) (H : Heap 𝓤) (A : Atoms 𝓤) (W : Given
           use1 W (some (λ (zs : Unit {0} × (Unit {0} × (Unit {0} × (List ℕ × (List ℕ × (Unit {0} × Unit {0})))))).
           ‵ (lasts advance.ended (κ-file, (κ-names, (κ-area, (ν-nodes ∷ [], (ν-attributes ∷ [], tt)))))
           (x-file, (x-names, (x-area, (x-nodes δ-nodes (p .now-nodes), (x-attributes δ-attributes (p .now-attributes), (p .st, tt)))))) zs) ⊛ raw
-          (fact 𝓤 (Adv xs-file xs-names xs-area (p .now-nodes) (p .now-attributes) (p .st) r (zs .1 .1 .1 .0) (zs .1 .1 .1 .1 .0))))) (id⊢ 𝓤 _) $
+          (fact 𝓤 (Adv xs-file (lends xs-names xs-area) (p .now-nodes) (p .now-attributes) (p .st) r (zs .1 .1 .1 .0) (zs .1 .1 .1 .1 .0)))))
+          (id⊢ 𝓤 _) $
           pick ! (λ zs. split ! $ move ! (1 ∷ []) $
-          heard ! (Adv xs-file xs-names xs-area (p .now-nodes) (p .now-attributes) (p .st) r (zs .1 .1 .1 .0) (zs .1 .1 .1 .1 .0)) (λ e. fsplit ! $
-          drop ! $ fsplit ! $ drop ! $ fsplit ! $ drop ! $ fsplit ! $ fsplit ! $ move ! (1 ∷ []) $ feqL ! (λ lz-nodes. move ! (1 ∷ []) $ fsplit ! $
-          fsplit ! $ move ! (1 ∷ []) $ feqL ! (λ lz-attributes. move ! (3 ∷ []) $ split ! $ move ! (1 ∷ []) $
+          heard ! (Adv xs-file (lends xs-names xs-area) (p .now-nodes) (p .now-attributes) (p .st) r (zs .1 .1 .1 .0) (zs .1 .1 .1 .1 .0)) (λ e.
+          fsplit ! $ drop ! $ fsplit ! $ drop ! $ fsplit ! $ drop ! $ fsplit ! $ fsplit ! $ move ! (1 ∷ []) $ feqL ! (λ lz-nodes. move ! (1 ∷ []) $
+          fsplit ! $ fsplit ! $ move ! (1 ∷ []) $ feqL ! (λ lz-attributes. move ! (3 ∷ []) $ split ! $ move ! (1 ∷ []) $
           facts ! S.the-row (Is S.the-row) (shows 𝓤 H A S.the-row) r (w ∷ []) (λ is.
           land ! (from ! (stop !)) (store ! 29 refl (LL.lawful S.the-type S′.the-laws 𝓤 H A W .typed r _ is .0)) $
           rewrite ! 29 (λ (u : Val). ‵ (fat fullShare S′.mir l₈ 0 u)) (ap only (S′.lowers .val-is r (w ∷ []) is)) refl $
@@ -488,9 +490,10 @@ module _ {M : Type 1} (𝓤 : URA M) (H : Heap 𝓤) (A : Atoms 𝓤) (W : Given
           after p r (zs .1 .1 .1 .0) (zs .1 .1 .1 .1 .0) e (state-is r (w ∷ []) is) lz-nodes lz-attributes)))))))))
 
       -- the loop, and the rest of the body
-      looped : (p : Point xs-file xs-names xs-area xs-nodes xs-attributes xs-notes cap) → Sq W (I p) (runs (𝓣 .C) (𝓣 .Λ) En mir.t-3 (atRet En Post))
-      looped p = into ! $ blocks ! $ loops ! 𝓣 (Less xs-file xs-names xs-area xs-nodes xs-attributes xs-notes cap)
-          (less-wf xs-file xs-names xs-area xs-nodes xs-attributes xs-notes cap) I {q = anyQ Left} turn p
+      looped : (p : Point xs-file (lends xs-names xs-area) xs-nodes xs-attributes xs-notes cap)
+          → Sq W (I p) (runs (𝓣 .C) (𝓣 .Λ) En mir.t-3 (atRet En Post))
+      looped p = into ! $ blocks ! $ loops ! 𝓣 (Less xs-file (lends xs-names xs-area) xs-nodes xs-attributes xs-notes cap)
+          (less-wf xs-file (lends xs-names xs-area) xs-nodes xs-attributes xs-notes cap) I {q = anyQ Left} turn p
 
     walk : ent 𝓤 (onEntry 𝓤 H A read.signature (κ-file, (κ-names, (κ-area, (κ-nodes, (κ-attributes, (κ-notes, tt))))))
         (q-file, (q-names, (q-area, (q-nodes, (q-attributes, (q-notes, tt)))))) a vals)
@@ -534,8 +537,8 @@ module _ {M : Type 1} (𝓤 : URA M) (H : Heap 𝓤) (A : Atoms 𝓤) (W : Given
         opens ! tt N.the-row (named 5) κ-notes q-notes γ-notes b-notes o-notes xs-notes (v-notes ∷ []) $
         keep ! (0 ∷ 1 ∷ 10 ∷ 4 ∷ 9 ∷ 3 ∷ 13 ∷ 7 ∷ 12 ∷ 6 ∷ 11 ∷ 5 ∷ 16 ∷ 17 ∷ 18 ∷ 19 ∷ 20 ∷ 21 ∷ 22 ∷ 23 ∷ 24 ∷ 25 ∷ 26 ∷ 27 ∷ 28 ∷ 29 ∷ 30 ∷ 31 ∷
         32 ∷ 33 ∷ 34 ∷ 35 ∷ 36 ∷ 37 ∷ 38 ∷ 39 ∷ 40 ∷ 41 ∷ 42 ∷ 43 ∷ 44 ∷ 45 ∷ 46 ∷ 47 ∷ 48 ∷ 49 ∷ 50 ∷ 51 ∷ []) $
-        looped l₀ l₁ l₂ l₃ l₄ l₅ l₆ l₇ l₈ l₉ l₁₀ l₁₁ l₁₂ l₁₃ l₁₄ l₁₅ l₁₆ l₁₇ (start xs-file xs-names xs-area xs-nodes xs-attributes xs-notes cap r e
-        (state-is r (w ∷ []) is)))))))))))))))))))))))))
+        looped l₀ l₁ l₂ l₃ l₄ l₅ l₆ l₇ l₈ l₉ l₁₀ l₁₁ l₁₂ l₁₃ l₁₄ l₁₅ l₁₆ l₁₇ (start xs-file (lends xs-names xs-area) xs-nodes xs-attributes xs-notes
+        cap r e (state-is r (w ∷ []) is)))))))))))))))))))))))))
 
 module _ {M : Type 1} (𝓤 : URA M) (H : Heap 𝓤) (A : Atoms 𝓤) (W : Given 𝓤 H A) (mem : Memory → SProp 𝓤) (run : Routine → Fun 𝓤) (𝓣 : Tables 𝓤 H) where
   read-walks : Triple 𝓤 (𝓣 .C #walk·begin) (Begin 𝓤 H A mem run) → Triple 𝓤 (𝓣 .C #walk·advance) (Advance 𝓤 H A mem run)

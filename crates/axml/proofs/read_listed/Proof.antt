@@ -49,8 +49,9 @@ use denote.Signature.{plain}
 use Rattle.anomaly.specs.declared.Note.{Note}
 use Rattle.errors.specs.declared.ReadAnswer.{ReadAnswer as Answer}
 use Rattle.axml.specs.declared.Listed.{Listed}
-use Rattle.walk.specs.Outcome.{first}
+use Rattle.walk.specs.Inner.Outcome.{first}
 use Rattle.walk.specs.Reading.{zeroNote}
+use Rattle.system_types.specs.Names.{lends}
 use Rattle.records.specs.Limits.{listedCap, listedNotes}
 use Rattle.walk.specs.Reading.{Reads}
 use Rattle.axml.proofs.Lending.{slice}
@@ -170,7 +171,7 @@ module _ {M : Type 1} (𝓤 : URA M) (H : Heap 𝓤) (A : Atoms 𝓤) (W : Given
       ‵ (finally u32 γ-nodes ws-nodes) ∷ ‵ (finally u32 γ-attributes ws-attributes) ∷ own-file ∷ []
 
   exits : (r : Listed) (v : Val) (ws-nodes ws-attributes : List ℕ) → Is L.the-row r (v ∷ [])
-      → Reads xs-file [] [] xs-nodes xs-attributes ys listedCap (r .answer) ws-nodes ws-attributes (r .notes)
+      → Reads xs-file (lends [] []) xs-nodes xs-attributes ys listedCap (r .answer) ws-nodes ws-attributes (r .notes)
       → length ws-nodes ≡ length xs-nodes → length ws-attributes ≡ length xs-attributes → ent 𝓤 (⋆ 𝓤 H A (Kept ws-nodes ws-attributes)) (Post v)
   exits r v ws-nodes ws-attributes is e lw-nodes lw-attributes =
       qed W (Kept ws-nodes ws-attributes) ∵
@@ -296,10 +297,10 @@ module _ {M : Type 1} (𝓤 : URA M) (H : Heap 𝓤) (A : Atoms 𝓤) (W : Given
             slice l₆ 0 δ-names [],
             (slice l₇ 0 δ-area [], (x-nodes γ-nodes xs-nodes, (x-attributes γ-attributes xs-attributes, (slice l₄ 0 δ-notes ys, (listedCap, tt))))),
           ),
-        ) zs) ⊛ raw (fact 𝓤 (Reads xs-file [] [] xs-nodes xs-attributes ys listedCap r (zs .1 .1 .1 .0) (zs .1 .1 .1 .1 .0) (zs .1 .1 .1 .1 .1 .0)))))
-        (id⊢ 𝓤 _) $
+        ) zs) ⊛ raw (fact 𝓤 (Reads xs-file (lends [] []) xs-nodes xs-attributes ys listedCap r (zs .1 .1 .1 .0) (zs .1 .1 .1 .1 .0)
+        (zs .1 .1 .1 .1 .1 .0))))) (id⊢ 𝓤 _) $
         pick ! (λ zs. split ! $ move ! (1 ∷ []) $
-        heard ! (Reads xs-file [] [] xs-nodes xs-attributes ys listedCap r (zs .1 .1 .1 .0) (zs .1 .1 .1 .1 .0) (zs .1 .1 .1 .1 .1 .0)) (λ e.
+        heard ! (Reads xs-file (lends [] []) xs-nodes xs-attributes ys listedCap r (zs .1 .1 .1 .0) (zs .1 .1 .1 .1 .0) (zs .1 .1 .1 .1 .1 .0)) (λ e.
         fsplit ! $ drop ! $ fsplit ! $ drop ! $ fsplit ! $ drop ! $ fsplit ! $ fsplit ! $ move ! (1 ∷ []) $ feqL ! (λ lz-nodes. move ! (1 ∷ []) $
         fsplit ! $ fsplit ! $ move ! (1 ∷ []) $ feqL ! (λ lz-attributes. move ! (1 ∷ []) $ fsplit ! $ fsplit ! $ move ! (1 ∷ []) $ feqL ! (λ lz-notes.
         move ! (4 ∷ []) $ split ! $ move ! (1 ∷ []) $ facts ! B.the-row (Is B.the-row) (shows 𝓤 H A B.the-row) r (w ∷ []) (λ is.

@@ -1,5 +1,6 @@
 -- `c_api::axml_read` meets its contract: the reading over words, and its answer in numbers (proofs/Points.antt).
 use borrow.Author.Needs.{needs}
+use Rattle.system_types.specs.Names.{lends}
 use Rattle.c_api.proofs.Points.{reads-by}
 use Rattle.c_api.proofs.axml_read.Statement.{statement}
 use Rattle.c_api.proofs.axml_read.Tie as tie
@@ -30,7 +31,7 @@ returns c =
     let a = at-start .args in
     let q = at-words .read-words in
     let n = at-numbers .read-numbers in
-    reads-by (a .file .now) (a .names .now) (a .area .now) (a .nodes .now) (a .attributes .now) (a .notes .now) (a .cap) (q .result)
+    reads-by (a .file .now) (lends (a .names .now) (a .area .now)) (a .nodes .now) (a .attributes .now) (a .notes .now) (a .cap) (q .result)
     (q .last .1 .1 .1 .0) (q .last .1 .1 .1 .1 .0) (q .last .1 .1 .1 .1 .1 .0) (q .ensures)
     (n .result) (n .ensures) (c .answer-of .result) (c .answer-of .ensures)
 

@@ -5,7 +5,7 @@ use mathlib.Core.Path.{_≡_, refl, sym, _∙_}
 use borrow.Author.Needs.{needs}
 use borrow.Author.Tests.{not-false}
 use lib.ListN.{length}
-use Rattle.chunk.specs.Run.{skipRun}
+use Rattle.chunk.specs.Inner.Run.{skipRun}
 use Rattle.chunk.proofs.Bare.{skipRun-bare}
 use Rattle.chunk.proofs.skip_bare.Statement.{statement}
 use Rattle.chunk.proofs.skip_bare.Tie as tie

@@ -6,7 +6,7 @@ use mathlib.Core.Path.{_≡_, refl, sym, _∙_}
 use borrow.Author.Needs.{needs}
 use lib.ListN.{length}
 use lib.Dec.{leb, eqb}
-use Rattle.chunk.specs.Run.{skipRun}
+use Rattle.chunk.specs.Inner.Run.{skipRun}
 use Rattle.chunk.proofs.Laws.{skipRun-stop, skipRun-step}
 use Rattle.chunk.proofs.Bare.{skipRun-tested}
 use Rattle.chunk.proofs.skip_run.Statement.{statement}

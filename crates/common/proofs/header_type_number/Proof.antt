@@ -1,5 +1,5 @@
 -- `common::header_type_number` meets its contract: each arm knows the type.
-use Rattle.common.specs.HeaderType.{headerTypeNumber}
+use Rattle.common.specs.Inner.HeaderType.{headerTypeNumber}
 use borrow.Author.Needs.{needs}
 use Rattle.common.proofs.header_type_number.Statement.{statement}
 use Rattle.common.proofs.header_type_number.Tie as tie

@@ -1,7 +1,7 @@
 -- `common::header_type_of` meets its contract: in each arm the number is known, and behind them all it is none of those.
 use borrow.Author.Tests.{ne-eqb}
 use borrow.Author.Needs.{needs}
-use Rattle.common.specs.HeaderType.{headerTypeOf}
+use Rattle.common.specs.Inner.HeaderType.{headerTypeOf}
 use Rattle.common.proofs.header_type_of.Statement.{statement}
 use Rattle.common.proofs.header_type_of.Tie as tie
 

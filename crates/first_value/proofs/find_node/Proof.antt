@@ -7,6 +7,7 @@ use borrow.Author.Needs.{needs}
 use lib.ListN.{drop}
 use denote.Ref.{now}
 use Rattle.records.specs.Words.{nodeWidth}
+use Rattle.system_types.specs.Names.{lends}
 use Rattle.first_value.specs.Question.{findNode}
 use Rattle.first_value.proofs.Search.{findNode-end, findNode-found, findNode-next}
 use Rattle.first_value.proofs.find_node.Statement.{statement}
@@ -14,7 +15,7 @@ use Rattle.first_value.proofs.find_node.Tie as tie
 
 abbrev Inv-loop : tie.InvT-loop
 Inv-loop t names area h tag nodes count k₀ k =
-    (k ≤ count) × (findNode h t names area tag count nodes ≡ findNode h t names area tag (count - k) (drop (nodeWidth * k) nodes))
+    (k ≤ count) × (findNode h t (lends names area) tag count nodes ≡ findNode h t (lends names area) tag (count - k) (drop (nodeWidth * k) nodes))
 
 abbrev μ-loop : tie.MeasureT-loop
 μ-loop t names area h tag nodes count k₀ k = count - k
@@ -72,7 +73,7 @@ returns c =
     let a = at-loop .before .before .before .before .before .before .args in
     let l = at-loop .loop in
     sym
-    (l .inv .1 ∙ findNode-found (a .h) (now (a .t)) (now (a .names)) (now (a .area)) (now (a .tag)) (a .count) (now (a .nodes)) (l .k)
+    (l .inv .1 ∙ findNode-found (a .h) (now (a .t)) (lends (now (a .names)) (now (a .area))) (now (a .tag)) (a .count) (now (a .nodes)) (l .k)
     (at-place .before .loop-test .taken) (at-place .node-place .ensures) (at-if .before .is-tagged .ensures) (at-if .if1 .taken))
 
 add-k : tie.Need-add-k Inv-loop μ-loop
@@ -88,7 +89,7 @@ loop-again c =
     let a = at-loop .before .before .before .before .before .before .args in
     let l = at-loop .loop in
     let e =
-    findNode-next (a .h) (now (a .t)) (now (a .names)) (now (a .area)) (now (a .tag)) (a .count) (now (a .nodes)) (l .k)
+    findNode-next (a .h) (now (a .t)) (lends (now (a .names)) (now (a .area))) (now (a .tag)) (a .count) (now (a .nodes)) (l .k)
     (at-place .before .loop-test .taken) (at-place .node-place .ensures) (c .before .is-tagged .ensures) (c .if1 .left) in
     (search needs, l .inv .1 ∙ e)
 
@@ -98,7 +99,7 @@ returns-2 c =
     let a = at-loop .before .before .before .before .before .before .args in
     let l = at-loop .loop in
     sym
-    (l .inv .1 ∙ findNode-end (a .h) (now (a .t)) (now (a .names)) (now (a .area)) (now (a .tag)) (a .count) (now (a .nodes)) (l .k)
+    (l .inv .1 ∙ findNode-end (a .h) (now (a .t)) (lends (now (a .names)) (now (a .area))) (now (a .tag)) (a .count) (now (a .nodes)) (l .k)
     (c .loop-test .left))
 
 pub find-node-spec : {M : Type 1} → statement M

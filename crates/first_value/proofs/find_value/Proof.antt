@@ -7,6 +7,7 @@ use borrow.Author.Needs.{needs}
 use lib.ListN.{drop}
 use denote.Ref.{now}
 use Rattle.records.specs.Words.{attributeWidth}
+use Rattle.system_types.specs.Names.{lends}
 use Rattle.first_value.specs.Question.{findValue}
 use Rattle.first_value.proofs.Search.{findValue-end, findValue-found, findValue-next}
 use Rattle.first_value.proofs.find_value.Statement.{statement}
@@ -14,7 +15,7 @@ use Rattle.first_value.proofs.find_value.Tie as tie
 
 abbrev Inv-loop : tie.InvT-loop
 Inv-loop t names area h name attributes count k₀ k =
-    (k ≤ count) × (findValue h t names area name count attributes ≡ findValue h t names area name (count - k) (drop (attributeWidth * k) attributes))
+    (k ≤ count) × (findValue h t (lends names area) name count attributes ≡ findValue h t (lends names area) name (count - k) (drop (attributeWidth * k) attributes))
 
 abbrev μ-loop : tie.MeasureT-loop
 μ-loop t names area h name attributes count k₀ k = count - k
@@ -75,7 +76,7 @@ returns c =
     let a = at-loop .before .before .before .before .before .before .args in
     let l = at-loop .loop in
     sym
-    (l .inv .1 ∙ findValue-found (a .h) (now (a .t)) (now (a .names)) (now (a .area)) (now (a .name)) (a .count) (now (a .attributes)) (l .k)
+    (l .inv .1 ∙ findValue-found (a .h) (now (a .t)) (lends (now (a .names)) (now (a .area))) (now (a .name)) (a .count) (now (a .attributes)) (l .k)
     (at-place .before .loop-test .taken) (at-place .attribute-place .ensures) (at-if .before .is-named .ensures) (at-if .if1 .taken) (c .found .ensures))
 
 add-k : tie.Need-add-k Inv-loop μ-loop
@@ -91,7 +92,7 @@ loop-again c =
     let a = at-loop .before .before .before .before .before .before .args in
     let l = at-loop .loop in
     let e =
-    findValue-next (a .h) (now (a .t)) (now (a .names)) (now (a .area)) (now (a .name)) (a .count) (now (a .attributes)) (l .k)
+    findValue-next (a .h) (now (a .t)) (lends (now (a .names)) (now (a .area))) (now (a .name)) (a .count) (now (a .attributes)) (l .k)
     (at-place .before .loop-test .taken) (at-place .attribute-place .ensures) (c .before .is-named .ensures) (c .if1 .left) in
     (search needs, l .inv .1 ∙ e)
 
@@ -101,7 +102,7 @@ returns-2 c =
     let a = at-loop .before .before .before .before .before .before .args in
     let l = at-loop .loop in
     sym
-    (l .inv .1 ∙ findValue-end (a .h) (now (a .t)) (now (a .names)) (now (a .area)) (now (a .name)) (a .count) (now (a .attributes)) (l .k)
+    (l .inv .1 ∙ findValue-end (a .h) (now (a .t)) (lends (now (a .names)) (now (a .area))) (now (a .name)) (a .count) (now (a .attributes)) (l .k)
     (c .loop-test .left))
 
 pub find-value-spec : {M : Type 1} → statement M

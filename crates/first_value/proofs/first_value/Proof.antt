@@ -2,6 +2,7 @@
 use mathlib.Core.Path.{sym, _∙_}
 use borrow.Author.Needs.{needs}
 use denote.Ref.{now}
+use Rattle.system_types.specs.Names.{lends}
 use Rattle.head.proofs.Questions.{openOf-asks}
 use Rattle.first_value.proofs.Search.{first-open, first-closed}
 use Rattle.first_value.proofs.first_value.Statement.{statement}
@@ -20,7 +21,7 @@ first-in-requires : tie.Need-first-in-requires
 first-in-requires c κs =
     let a = c .before .before .before .before .before .before .before .before .before .before .before .before .args in
     let e = sym (c .before .before .before .before .open-file .ensures) ∙ c .before .before .opened .given .1 in
-    rw (c .tables-of .ensures) (openOf-asks (now (a .file)) (now (a .names)) (now (a .area)) e)
+    rw (c .tables-of .ensures) (openOf-asks (now (a .file)) (lends (now (a .names)) (now (a .area))) e)
 
 enum-known-opened-2 : tie.Need-enum-known-opened-2
 enum-known-opened-2 c = search needs
@@ -29,14 +30,14 @@ returns : tie.Need-returns
 returns c =
     let a = c .before .before .before .before .before .before .before .before .before .before .before .before .before .args in
     let e = sym (c .before .before .before .before .before .open-file .ensures) ∙ c .before .before .before .opened .given .1 in
-    first-open (now (a .file)) (now (a .names)) (now (a .area)) (now (a .nodes)) (now (a .attributes)) (now (a .tag)) (now (a .name))
+    first-open (now (a .file)) (lends (now (a .names)) (now (a .area))) (now (a .nodes)) (now (a .attributes)) (now (a .tag)) (now (a .name))
     (a .node-count) (a .attribute-count) e (c .before .tables-of .ensures) (c .first-in .ensures)
 
 returns-2 : tie.Need-returns-2
 returns-2 c =
     let a = c .before .before .before .before .before .before .before .before .before .before .before .args in
     let e = sym (c .before .before .before .open-file .ensures) ∙ c .before .opened2 .given .1 in
-    first-closed (now (a .file)) (now (a .names)) (now (a .area)) (now (a .nodes)) (now (a .attributes)) (now (a .tag)) (now (a .name))
+    first-closed (now (a .file)) (lends (now (a .names)) (now (a .area))) (now (a .nodes)) (now (a .attributes)) (now (a .tag)) (now (a .name))
     (a .node-count) (a .attribute-count) e
 
 pub first-value-spec : {M : Type 1} → statement M

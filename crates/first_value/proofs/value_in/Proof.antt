@@ -7,6 +7,7 @@ use mathlib.Core.List.{List}
 use lib.ListN.{length}
 use denote.Ref.{now}
 use Rattle.records.specs.Words.{attributeWidth}
+use Rattle.system_types.specs.Names.{lends}
 use Rattle.first_value.proofs.Laws.{rest-words, fitOf-fits}
 use Rattle.first_value.proofs.Search.{run-words, value-run}
 use Rattle.first_value.proofs.value_in.Statement.{statement}
@@ -22,7 +23,7 @@ inside c =
     let at-find = at-node .before .before in
     let s = at-find .before .before .before .before .before .before .before .before in
     let a = s .args in
-    run-words (a .h) (now (a .t)) (now (a .names)) (now (a .area)) (now (a .tag)) (now (a .nodes)) (now (a .attributes)) (a .node-count)
+    run-words (a .h) (now (a .t)) (lends (now (a .names)) (now (a .area))) (now (a .tag)) (now (a .nodes)) (now (a .attributes)) (a .node-count)
     (a .attribute-count) (s .pre .1) (at-find .find-node .ensures) (at-node .node .given .1) (c .attribute-place .ensures)
 
 find-node-requires : tie.Need-find-node-requires
@@ -62,7 +63,7 @@ returns c =
     let at-node = c .before .before .before .before in
     let at-find = at-node .before .before in
     let a = at-find .before .before .before .before .before .before .before .before .args in
-    value-run (a .h) (now (a .t)) (now (a .names)) (now (a .area)) (now (a .tag)) (now (a .nodes)) (now (a .name)) (now (a .attributes)) (a .node-count)
+    value-run (a .h) (now (a .t)) (lends (now (a .names)) (now (a .area))) (now (a .tag)) (now (a .nodes)) (now (a .name)) (now (a .attributes)) (a .node-count)
     (at-find .find-node .ensures) (at-node .node .given .1) (c .before .before .attribute-place .ensures) (c .find-value .ensures)
 
 returns-2 : tie.Need-returns-2

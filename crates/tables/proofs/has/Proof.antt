@@ -9,8 +9,9 @@ use lib.ListN.{length, drop}
 use Rattle.utf.specs.Plain.{Known}
 use Rattle.records.specs.Words.{attributeWords}
 use Rattle.records.specs.Repeats.{byPrefix, isRepeat}
+use Rattle.system_types.specs.Names.{lends}
 use Rattle.text.specs.Content.{plainIn, sameName}
-use Rattle.text.specs.Found.{partOf, Finds}
+use Rattle.text.specs.Inner.Found.{partOf, Finds}
 use Rattle.text.proofs.Plains.{known-of}
 use Rattle.tables.proofs.Keys.{repeat-end, repeat-found, repeat-prefix, repeat-name, same-found}
 use Rattle.tables.proofs.has.Statement.{statement}
@@ -18,9 +19,9 @@ use Rattle.tables.proofs.has.Tie as tie
 
 abbrev Inv-loop : tie.InvT-loop
 Inv-loop t names area h words prefix wanted plain marks i₀ i =
-    (i ≤ length words) × Known plain (plainIn (partOf (h .wide) t area wanted)) × ((n owner kind value : ℕ) → Finds t names area h n wanted
-    → isRepeat (byPrefix (sameName h t names area)) (attributeWords owner prefix n kind value) words
-    ≡ isRepeat (byPrefix (sameName h t names area)) (attributeWords owner prefix n kind value) (drop i words))
+    (i ≤ length words) × Known plain (plainIn (partOf (h .wide) t area wanted)) × ((n owner kind value : ℕ) → Finds t (lends names area) h n wanted
+    → isRepeat (byPrefix (sameName h t (lends names area))) (attributeWords owner prefix n kind value) words
+    ≡ isRepeat (byPrefix (sameName h t (lends names area))) (attributeWords owner prefix n kind value) (drop i words))
 
 abbrev μ-loop : tie.MeasureT-loop
 μ-loop t names area h words prefix wanted plain marks i₀ i = length words - i
@@ -28,7 +29,7 @@ abbrev μ-loop : tie.MeasureT-loop
 returns : tie.Need-returns Inv-loop μ-loop
 returns c =
     let a = c .before .before .before .before .before .args in
-    let same = sameName (a .h) (a .t .now) (a .names .now) (a .area .now) in
+    let same = sameName (a .h) (a .t .now) (lends (a .names .now) (a .area .now)) in
     λ owner kind value.
     sym (repeat-end (byPrefix same) (attributeWords owner (a .prefix) (a .name .0) kind value) (a .words .now) 0 (rw sub-zero (c .if1 .taken)))
 
@@ -79,11 +80,11 @@ returns-2 c =
     let at-loop = at-loop-test .before in
     let at-find = at-loop .before .before .before in
     let a = at-find .before .before .before .before .before .before .args in
-    let same = sameName (a .h) (a .t .now) (a .names .now) (a .area .now) in
+    let same = sameName (a .h) (a .t .now) (lends (a .names .now) (a .area .now)) in
     let n = a .name .0 in
     let wanted = at-find .find in
     let equal =
-    same-found (a .h) (a .t .now) (a .names .now) (a .area .now) _ n (wanted .result) (wanted .ensures) _ _
+    same-found (a .h) (a .t .now) (lends (a .names .now) (a .area .now)) _ n (wanted .result) (wanted .ensures) _ _
     (c .before .same-as-known .ensures) (c .if3 .taken) in
     λ owner kind value.
     sym
@@ -102,7 +103,7 @@ loop-again c =
     let at-start = at-loop .before .before .before .before .before .before .before .before .before in
     let a = at-start .args in
     let i = at-loop .loop .i in
-    let same = sameName (a .h) (a .t .now) (a .names .now) (a .area .now) in
+    let same = sameName (a .h) (a .t .now) (lends (a .names .now) (a .area .now)) in
     let long = c .before .before .loop-test .taken in (
       search needs,
       at-loop .loop .inv .1,
@@ -110,7 +111,7 @@ loop-again c =
           (at-loop .loop .inv .2 n owner kind value wanted
           ∙ ⊎-elim
           (λ w. repeat-name same owner (a .prefix) n kind value (a .words .now) i long (w .0 .taken)
-          (same-found (a .h) (a .t .now) (a .names .now) (a .area .now) _ n _ wanted _ _ (w .2 .ensures) (w .3 .left)))
+          (same-found (a .h) (a .t .now) (lends (a .names .now) (a .area .now)) _ n _ wanted _ _ (w .2 .ensures) (w .3 .left)))
           (λ w. repeat-prefix same owner (a .prefix) n kind value (a .words .now) i long (w .left))
           (c .if2 .came)),
     )
@@ -119,7 +120,7 @@ returns-3 : tie.Need-returns-3 Inv-loop μ-loop
 returns-3 c =
     let at-loop = c .before in
     let a = at-loop .before .before .before .before .before .before .before .before .before .args in
-    let same = sameName (a .h) (a .t .now) (a .names .now) (a .area .now) in
+    let same = sameName (a .h) (a .t .now) (lends (a .names .now) (a .area .now)) in
     let n = a .name .0 in
     λ owner kind value.
     sym (at-loop .loop .inv .2 n owner kind value (at-loop .before .before .before .find .ensures)

@@ -2,6 +2,7 @@
 use mathlib.Core.Path.{sym, _∙_}
 use borrow.Author.Needs.{needs}
 use denote.Ref.{now}
+use Rattle.system_types.specs.Names.{lends}
 use Rattle.system_types.proofs.Laws.{rising-of-good, systemName-of-good}
 use Rattle.text.proofs.Index.{system-past, system-missing, system-name, map-slice}
 use Rattle.text.proofs.find_system.Statement.{statement}
@@ -11,7 +12,7 @@ returns : tie.Need-returns
 returns c =
     let s = c .before .before .before .before .before .before in
     let a = s .args in
-    system-past (a .h) (now (a .t)) (now (a .names)) (now (a .area)) (a .index .0) (c .if1 .taken)
+    system-past (a .h) (now (a .t)) (lends (now (a .names)) (now (a .area))) (a .index .0) (c .if1 .taken)
 
 sub-id-at : tie.Need-sub-id-at
 sub-id-at c = search needs
@@ -29,7 +30,7 @@ get-type-name-requires : tie.Need-get-type-name-requires
 get-type-name-requires c κs =
     let s = c .before .before .before .before .before .before .before .before in
     let a = s .args in
-    rising-of-good (now (a .area)) (now (a .names)) (s .pre .good)
+    rising-of-good (lends (now (a .names)) (now (a .area))) (s .pre .good)
 
 enum-told : tie.Need-enum-told
 enum-told c = search needs
@@ -47,7 +48,7 @@ stripped-requires : tie.Need-stripped-requires
 stripped-requires c κs =
     let s = c .before .before .before .before .before .before .before .before .before .before .before .before in
     let a = s .args in
-    let q = systemName-of-good (now (a .area)) (now (a .names)) (c .before .before .before .before .id-at .result .0) _ _ (s .pre .good)
+    let q = systemName-of-good (lends (now (a .names)) (now (a .area))) (c .before .before .before .before .id-at .result .0) _ _ (s .pre .good)
     (sym (c .before .before .before .get-type-name .ensures) ∙ c .before .name .given .1) in
     (q .0, q .2)
 
@@ -57,7 +58,7 @@ returns-2 c =
     let p5 = c .before .before .before .before .before in
     let a = s .args in
     let id = map-slice (a .h) (now (a .t)) (a .index .0) (s .pre .fits) (c .before .before .before .id-at .ensures) in
-    system-missing (a .h) (now (a .t)) (now (a .names)) (now (a .area)) (a .index .0) (p5 .if1 .left) id
+    system-missing (a .h) (now (a .t)) (lends (now (a .names)) (now (a .area))) (a .index .0) (p5 .if1 .left) id
     (sym (c .before .before .get-type-name .ensures) ∙ c .enum-told .given .1)
 
 returns-3 : tie.Need-returns-3
@@ -67,7 +68,7 @@ returns-3 c =
     let p5 = c .before .before .before .before .before in
     let a = s .args in
     let id = map-slice (a .h) (now (a .t)) (a .index .0) (s .pre .fits) (p5 .id-at .ensures) in
-    system-name (a .h) (now (a .t)) (now (a .names)) (now (a .area)) (a .index .0) (p7 .if1 .left) id
+    system-name (a .h) (now (a .t)) (lends (now (a .names)) (now (a .area))) (a .index .0) (p7 .if1 .left) id
     (sym (c .before .before .before .before .get-type-name .ensures) ∙ c .before .before .name .given .1)
     (c .stripped .ensures (a .h .wide) (now (a .t)))
 

@@ -3,7 +3,7 @@ use mathlib.Core.Path.{sym, ap, _∙_}
 use borrow.Author.Tests.{not-true, not-false}
 use borrow.Author.Needs.{needs}
 use denote.Ref.{now}
-use Rattle.text.specs.Found.{partOf}
+use Rattle.text.specs.Inner.Found.{partOf}
 use Rattle.text.specs.Content.{Content, isText}
 use Rattle.text.proofs.Read.{isText-sound, isText-unsound}
 use Rattle.text.proofs.Plains.{known-none}

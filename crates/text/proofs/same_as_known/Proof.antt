@@ -2,7 +2,7 @@
 use mathlib.Core.Path.{sym, ap, _∙_}
 use denote.Ref.{now}
 use Rattle.text.specs.Content.{Content, sameText}
-use Rattle.text.specs.Found.{partOf}
+use Rattle.text.specs.Inner.Found.{partOf}
 use borrow.Author.Needs.{needs}
 use Rattle.text.proofs.same_as_known.Statement.{statement}
 use Rattle.text.proofs.same_as_known.Tie as tie

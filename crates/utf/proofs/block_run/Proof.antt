@@ -6,7 +6,7 @@ use lib.ListN.{length, getD}
 use denote.Ref.{now}
 use borrow.Author.Tests.{not-false}
 use borrow.Author.Needs.{needs}
-use Rattle.utf.specs.Told.{Ran}
+use Rattle.utf.specs.Inner.Told.{Ran}
 use Rattle.utf.proofs.Units.{ran-none}
 use Rattle.utf.proofs.Blocks.{ran-block}
 use Rattle.utf.proofs.block_run.Statement.{statement}

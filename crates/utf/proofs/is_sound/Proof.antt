@@ -3,7 +3,7 @@ use mathlib.Core.Path.{sym, _∙_}
 use Prim.Native.Nat.{_-_}
 use native.Mathlib.Omega.{arith}
 use lib.ListN.{length}
-use Rattle.utf.specs.Told.{Ran}
+use Rattle.utf.specs.Inner.Told.{Ran}
 use Rattle.utf.proofs.Turns.{end-sound}
 use Rattle.utf.proofs.Units.{ran-none, ran-join}
 use Rattle.utf.proofs.is_sound.Statement.{statement}

@@ -1,7 +1,7 @@
 -- `utf::narrow_run` meets its contract. Invariant: what was passed is sound (`Ran`). Measure: the bytes left before `end`.
 use Prim.Native.Nat.{_-_}
 use native.Mathlib.Omega.{arith}
-use Rattle.utf.specs.Told.{Ran}
+use Rattle.utf.specs.Inner.Told.{Ran}
 use Rattle.utf.proofs.Units.{ran-none, ran-ascii}
 use mathlib.Core.Bool.{false}
 use Rattle.utf.proofs.narrow_run.Statement.{statement}

@@ -2,7 +2,7 @@
 use Prim.Native.Nat.{_-_}
 use native.Mathlib.Omega.{arith}
 use borrow.Author.Tests.{not-true, not-false}
-use Rattle.utf.specs.Told.{Ran}
+use Rattle.utf.specs.Inner.Told.{Ran}
 use Rattle.utf.proofs.Units.{ran-join, ran-step, halted-bad, halted-end}
 use Rattle.utf.proofs.step_run.Statement.{statement}
 use Rattle.utf.proofs.step_run.Tie as tie

@@ -3,7 +3,7 @@ use Prim.Native.Nat.{ℕ, _-_, _<_}
 use native.Mathlib.Omega.{arith}
 use lib.ListN.{getD}
 use denote.Ref.{now}
-use Rattle.utf.specs.Told.{Ran}
+use Rattle.utf.specs.Inner.Told.{Ran}
 use Rattle.utf.proofs.Units.{ran-none, ran-unit}
 use mathlib.Core.Bool.{true}
 use Rattle.utf.proofs.wide_run.Statement.{statement}

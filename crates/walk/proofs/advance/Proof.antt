@@ -1,6 +1,7 @@
 -- `walk::advance` meets its contract: each mode has its own function, and clearing goes on (proofs/Clearing.antt).
 use Rattle.walk.proofs.Clearing.{goes-clearing}
 use borrow.Author.Needs.{needs}
+use Rattle.system_types.specs.Names.{lends}
 use Rattle.walk.proofs.advance.Statement.{statement}
 use Rattle.walk.proofs.advance.Tie as tie
 
@@ -46,7 +47,7 @@ returns-3 c =
     let a = at-start .args in
     λ g.
     rw (c .clear-next .ensures)
-    (goes-clearing (a .file .now) (a .names .now) (a .area .now) (a .nodes .now) (a .attributes .now) (a .st) g (c .before .enum-told3 .given .1))
+    (goes-clearing (a .file .now) (lends (a .names .now) (a .area .now)) (a .nodes .now) (a .attributes .now) (a .st) g (c .before .enum-told3 .given .1))
 
 pub advance-spec : {M : Type 1} → statement M
 advance-spec =

@@ -7,9 +7,10 @@ use borrow.Author.Needs.{needs}
 use borrow.Author.Tests.{ltb-true, ltb-false}
 use lib.ListN.{length}
 use Rattle.anomaly.proofs.Laws.{kindIndex-lt}
+use Rattle.system_types.specs.Names.{lends}
 use Rattle.head.specs.Head.{bodyIn}
-use Rattle.events.specs.Pending.{steps}
-use Rattle.walk.specs.Outcome.{Good}
+use Rattle.events.specs.Inner.Pending.{steps}
+use Rattle.walk.specs.Inner.Outcome.{Good}
 use Rattle.walk.proofs.Advancing.{ReadHead, read-first, read-full, due-less, due-within, read-past, read-due}
 use Rattle.walk.proofs.Quiet.{read-passed}
 use Rattle.walk.proofs.Finishing.{read-keepable, read-done}
@@ -19,7 +20,7 @@ use Rattle.walk.proofs.read_on.Tie as tie
 abbrev Inv-loop : tie.InvT-loop
 Inv-loop file names area nodes₀ attributes₀ st opened notes cur₀ tree₀ nodes attributes cur tree =
     (length nodes ≡ length nodes₀) × (length attributes ≡ length attributes₀) ×
-    ((g : Good file names area nodes₀ attributes₀ st) → ReadHead file names area nodes₀ attributes₀ st g nodes attributes cur tree)
+    ((g : Good file (lends names area) nodes₀ attributes₀ st) → ReadHead file (lends names area) nodes₀ attributes₀ st g nodes attributes cur tree)
 
 abbrev μ-loop : tie.MeasureT-loop
 μ-loop file names area nodes₀ attributes₀ st opened notes cur₀ tree₀ nodes attributes cur tree = steps (bodyIn file (st .opened .head)) cur
@@ -27,7 +28,7 @@ abbrev μ-loop : tie.MeasureT-loop
 loop-holds : tie.Need-loop-holds Inv-loop μ-loop
 loop-holds c =
     let at-start = c .before .before .before .before .before .before .before .before .before in
-    (refl, refl, λ g. read-first _ _ _ _ _ _ g (at-start .pre .1))
+    (refl, refl, λ g. read-first _ _ _ _ _ g (at-start .pre .1))
 
 run-in-requires : tie.Need-run-in-requires Inv-loop μ-loop
 run-in-requires c κs =
@@ -65,7 +66,7 @@ returns c =
     let r = at-refuse .refuse in
     let s = at-stop .stop .given in
     λ g.
-    read-full (a .file .now) (a .names .now) (a .area .now) (a .nodes .now) (a .attributes .now) (a .st) g (l .nodes) (l .attributes) (l .cur)
+    read-full (a .file .now) (lends (a .names .now) (a .area .now)) (a .nodes .now) (a .attributes .now) (a .st) g (l .nodes) (l .attributes) (l .cur)
     (l .tree) (l .inv .2 g)
     (q .result) (q .last .1 .1 .1 .1 .0) (q .last .1 .1 .1 .1 .1 .0) (q .kept .1 .1 .1 .1 .0) (q .kept .1 .1 .1 .1 .1 .0) (q .ensures)
     (s .0 .0) (s .1) (r .result) (r .last .0) (r .last .1 .0) (r .ensures)
@@ -82,7 +83,7 @@ finish-requires c κs =
     let l = at-loop .loop in
     let q = at-run-in .run-in in
     let g = at-start .pre .0 in
-    read-keepable (a .file .now) (a .names .now) (a .area .now) (a .nodes .now) (a .attributes .now) (a .st) g (l .nodes) (l .attributes) (l .cur)
+    read-keepable (a .file .now) (lends (a .names .now) (a .area .now)) (a .nodes .now) (a .attributes .now) (a .st) g (l .nodes) (l .attributes) (l .cur)
     (l .tree) (l .inv .2 g)
     (q .result) (q .last .1 .1 .1 .1 .0) (q .last .1 .1 .1 .1 .1 .0) (q .kept .1 .1 .1 .1 .0) (q .kept .1 .1 .1 .1 .1 .0) (q .ensures)
     (c .before .before .enum-told .given .1)
@@ -111,7 +112,7 @@ returns-2 c =
     let q = at-run-in .run-in in
     let r = at-finish .finish in
     λ g.
-    read-done (a .file .now) (a .names .now) (a .area .now) (a .nodes .now) (a .attributes .now) (a .st) g (l .nodes) (l .attributes) (l .cur)
+    read-done (a .file .now) (lends (a .names .now) (a .area .now)) (a .nodes .now) (a .attributes .now) (a .st) g (l .nodes) (l .attributes) (l .cur)
     (l .tree) (l .inv .2 g)
     (q .result) (q .last .1 .1 .1 .1 .0) (q .last .1 .1 .1 .1 .1 .0) (q .kept .1 .1 .1 .1 .0) (q .kept .1 .1 .1 .1 .1 .0) (q .ensures)
     (at-enum-told .enum-told .given .1) (r .result) (r .last .0) (r .last .1 .0) (r .ensures)
@@ -160,7 +161,7 @@ returns-3 c =
     let s = at-stop2 .stop2 .given in
     let under = ltb-true _ _ (sym (rw (at-kind-index .kind-index .ensures) at (at-is-due .is-due .ensures)) ∙ at-if1 .if1 .taken) in
     λ g.
-    read-due (a .file .now) (a .names .now) (a .area .now) (a .nodes .now) (a .attributes .now) (a .st) g (l .nodes) (l .attributes) (l .cur) (l .tree)
+    read-due (a .file .now) (lends (a .names .now) (a .area .now)) (a .nodes .now) (a .attributes .now) (a .st) g (l .nodes) (l .attributes) (l .cur) (l .tree)
     (l .inv .2 g)
     (q .result) (q .last .1 .1 .1 .1 .0) (q .last .1 .1 .1 .1 .1 .0) (q .kept .1 .1 .1 .1 .0) (q .kept .1 .1 .1 .1 .1 .0) (q .ensures)
     (s .0 .0) (s .1) under (r .result) (r .last .0) (r .last .1 .0) (r .ensures)
@@ -175,7 +176,7 @@ pass-in-requires c κs =
     let l = at-loop .loop in
     let q = at-run-in .run-in in
     let g = at-start .pre .0 in
-    due-within (a .file .now) (a .names .now) (a .area .now) (a .nodes .now) (a .attributes .now) (a .st) g (l .nodes) (l .attributes) (l .cur) (l .tree)
+    due-within (a .file .now) (lends (a .names .now) (a .area .now)) (a .nodes .now) (a .attributes .now) (a .st) g (l .nodes) (l .attributes) (l .cur) (l .tree)
     (l .inv .2 g)
     (q .result) (q .last .1 .1 .1 .1 .0) (q .last .1 .1 .1 .1 .1 .0) (q .kept .1 .1 .1 .1 .0) (q .kept .1 .1 .1 .1 .1 .0) (q .ensures)
     (at-stop2 .stop2 .given .0 .0) (at-stop2 .stop2 .given .1)
@@ -190,7 +191,7 @@ loop-less c =
     let l = at-loop .loop in
     let q = at-run-in .run-in in
     let g = at-start .pre .0 in
-    let less = due-less (a .file .now) (a .names .now) (a .area .now) (a .nodes .now) (a .attributes .now) (a .st) g (l .nodes) (l .attributes) (l .cur)
+    let less = due-less (a .file .now) (lends (a .names .now) (a .area .now)) (a .nodes .now) (a .attributes .now) (a .st) g (l .nodes) (l .attributes) (l .cur)
     (l .tree) (l .inv .2 g)
     (q .result) (q .last .1 .1 .1 .1 .0) (q .last .1 .1 .1 .1 .1 .0) (q .kept .1 .1 .1 .1 .0) (q .kept .1 .1 .1 .1 .1 .0) (q .ensures)
     (at-stop2 .stop2 .given .0 .0) (at-stop2 .stop2 .given .1) in
@@ -211,9 +212,9 @@ loop-again c =
       q .kept .1 .1 .1 .1 .0 ∙ l .inv .0,
       q .kept .1 .1 .1 .1 .1 .0 ∙ l .inv .1,
       λ g.
-          read-passed (a .file .now) (a .names .now) (a .area .now) (a .nodes .now) (a .attributes .now) (a .st) g (q .last .1 .1 .1 .1 .0)
+          read-passed (a .file .now) (lends (a .names .now) (a .area .now)) (a .nodes .now) (a .attributes .now) (a .st) g (q .last .1 .1 .1 .1 .0)
           (q .last .1 .1 .1 .1 .1 .0) (q .result .cur) (q .result .tree)
-          (read-past (a .file .now) (a .names .now) (a .area .now) (a .nodes .now) (a .attributes .now) (a .st) g (l .nodes) (l .attributes) (l .cur)
+          (read-past (a .file .now) (lends (a .names .now) (a .area .now)) (a .nodes .now) (a .attributes .now) (a .st) g (l .nodes) (l .attributes) (l .cur)
           (l .tree) (l .inv .2 g)
           (q .result) (q .last .1 .1 .1 .1 .0) (q .last .1 .1 .1 .1 .1 .0) (q .kept .1 .1 .1 .1 .0) (q .kept .1 .1 .1 .1 .1 .0) (q .ensures)
           (s .0 .0) (s .1) past) (p .result) (p .ensures),

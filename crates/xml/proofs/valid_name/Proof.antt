@@ -8,7 +8,7 @@ use borrow.Author.Tests.{not-true, not-false}
 use borrow.Author.Needs.{needs}
 use Rattle.utf.proofs.Turns.{stops, goes}
 use Rattle.xml.specs.NCName.{validName}
-use Rattle.xml.specs.Told.{charsIn}
+use Rattle.xml.specs.Inner.Told.{charsIn}
 use Rattle.xml.proofs.Classes.{classes-right}
 use Rattle.xml.proofs.Names.{validName-begins, end-char, validName-none}
 use Rattle.xml.proofs.valid_name.Statement.{statement}

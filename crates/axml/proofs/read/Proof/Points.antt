@@ -19,9 +19,10 @@ use denote.Laws.{Is}
 use Rattle.anomaly.specs.declared.Note.{Note}
 use Rattle.walk.specs.declared.State.{State}
 use Rattle.errors.specs.Refusal.{numbersOf}
+use Rattle.system_types.specs.Names.{Lent}
 use Rattle.walk.specs.declared.Mode.the-variants.{Fresh, Reading as InBody}
 use Rattle.walk.specs.Reading.{Reading, Reads, roomIn, reading}
-use Rattle.walk.specs.Outcome.{Adv, Advanced, Good, first, left, outcome}
+use Rattle.walk.specs.Inner.Outcome.{Adv, Advanced, Good, first, left, outcome}
 use Rattle.walk.proofs.State as S
 use Rattle.walk.proofs.State.Laws as S′
 
@@ -29,7 +30,7 @@ use Rattle.walk.proofs.State.Laws as S′
 pub fresh-reads : Fresh ≡ InBody → ⊥
 fresh-reads e = let z : _≡_ {A = ℕ} 0 1 = cc in omega arith
 
-module _ (file names area nodes attributes : List ℕ) (notes : List Note) (cap : ℕ) where
+module _ (file : List ℕ) (lent : Lent) (nodes attributes : List ℕ) (notes : List Note) (cap : ℕ) where
   pub record Point : Type 0 where
     pub turns : ℕ
     pub st : State
@@ -41,9 +42,9 @@ module _ (file names area nodes attributes : List ℕ) (notes : List Note) (cap 
     pub long-attributes : length now-attributes ≡ length attributes
     pub long-notes : length now-notes ≡ length notes
     pub room : st .room ≡ length notes
-    pub good : Good file names area now-nodes now-attributes st
-    pub enough : left file names area st ≤ turns
-    pub same : outcome file names area now-nodes now-attributes now-notes st (good .stack) ≡ reading (roomIn nodes attributes notes cap) file names area
+    pub good : Good file lent now-nodes now-attributes st
+    pub enough : left file lent st ≤ turns
+    pub same : outcome file lent now-nodes now-attributes now-notes st (good .stack) ≡ reading (roomIn nodes attributes notes cap) file lent
 
   abbrev pub Less : Point → Point → Type 0
   Less p p′ = p .turns < p′ .turns
@@ -53,15 +54,15 @@ module _ (file names area nodes attributes : List ℕ) (notes : List Note) (cap 
 
   -- ---- before the first turn
   -- the ghost is written out, so that `start`'s outcome is that of the empty stack
-  abbrev pub first-good : (st : State) → st ≡ first (length notes) cap → Good file names area nodes attributes st
+  abbrev pub first-good : (st : State) → st ≡ first (length notes) cap → Good file lent nodes attributes st
   first-good st e = record { stack = []; onWay = λ m. absurd (fresh-reads (sym (ap (λ (s : State). s .mode) e) ∙ m)) }
 
-  pub first-same : outcome file names area nodes attributes notes (first (length notes) cap) [] ≡ reading (roomIn nodes attributes notes cap) file names area
+  pub first-same : outcome file lent nodes attributes notes (first (length notes) cap) [] ≡ reading (roomIn nodes attributes notes cap) file lent
   first-same = refl
 
   unfoldable pub start : (st : State) → st ≡ first (length notes) cap → Is S.the-row st (S′.lowered st ∷ []) → Point
   start st e is = record {
-    turns = left file names area st;
+    turns = left file lent st;
     st = st;
     now-nodes = nodes;
     now-attributes = attributes;
@@ -73,13 +74,13 @@ module _ (file names area nodes attributes : List ℕ) (notes : List Note) (cap 
     room = ap (λ (s : State). s .room) e;
     good = first-good st e;
     enough = omega arith;
-    same = ap (λ (s : State). outcome file names area nodes attributes notes s []) e ∙ first-same;
+    same = ap (λ (s : State). outcome file lent nodes attributes notes s []) e ∙ first-same;
   }
 
   -- ---- a turn
   module _ (p : Point) (r : State) (nodes′ attributes′ : List ℕ)
-      (e : Adv file names area (p .now-nodes) (p .now-attributes) (p .st) r nodes′ attributes′) where
-    pub advanced : Advanced file names area (p .now-nodes) (p .now-attributes) (p .st) (p .good) r nodes′ attributes′
+      (e : Adv file lent (p .now-nodes) (p .now-attributes) (p .st) r nodes′ attributes′) where
+    pub advanced : Advanced file lent (p .now-nodes) (p .now-attributes) (p .st) (p .good) r nodes′ attributes′
     advanced = e (p .good)
 
     pub all-places : length (p .now-notes) ≡ p .st .room
@@ -111,10 +112,10 @@ module _ (file names area nodes attributes : List ℕ) (notes : List Note) (cap 
     unfolding onward
     fewer d is ln la = omega (arith, advanced .due d .1, p .enough)
 
-    pub leaves : r .done ≡ true → Reads file names area nodes attributes notes cap (r .answer) nodes′ attributes′ (p .now-notes)
+    pub leaves : r .done ≡ true → Reads file lent nodes attributes notes cap (r .answer) nodes′ attributes′ (p .now-notes)
     leaves d =
         let e : _≡_ {A = Reading} (record { answer = r .answer; nodes = nodes′; attributes = attributes′; notes = p .now-notes })
-        (reading (roomIn nodes attributes notes cap) file names area) = sym (advanced .ends d (p .now-notes) all-places) ∙ p .same in
+        (reading (roomIn nodes attributes notes cap) file lent) = sym (advanced .ends d (p .now-notes) all-places) ∙ p .same in
         record {
           answer = ap (λ (x : Reading). numbersOf (x .answer)) e;
           nodes = ap (λ (x : Reading). x .nodes) e;

@@ -1,7 +1,7 @@
 -- `common::value_at` meets its contract: each field is what stands at its place.
 use native.Mathlib.Nat.{add-zero}
 use Rattle.field.proofs.Laws.{u8le-drop, u16le-drop, u32le-drop}
-use Rattle.common.specs.Value.{valueOf}
+use Rattle.common.specs.Inner.Value.{valueOf}
 use borrow.Author.Needs.{needs}
 use Rattle.common.proofs.value.value_at.Statement.{statement}
 use Rattle.common.proofs.value.value_at.Tie as tie

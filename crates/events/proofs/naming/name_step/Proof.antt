@@ -1,5 +1,5 @@
 -- `events::naming::name_step` meets its contract: the arms are those of `nameStep`.
-use Rattle.events.specs.Steps.{nameStep}
+use Rattle.events.specs.Inner.Steps.{nameStep}
 use mathlib.Core.Path.{_∙_, sym, ap}
 use borrow.Author.Needs.{needs}
 use Rattle.events.proofs.naming.name_step.Statement.{statement}

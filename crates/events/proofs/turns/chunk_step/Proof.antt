@@ -1,5 +1,5 @@
 -- `events::turns::chunk_step` meets its contract: the arms are those of `chunkStep`; a whole chunk lies in the body.
-use Rattle.events.specs.Steps.{chunkStep}
+use Rattle.events.specs.Inner.Steps.{chunkStep}
 use mathlib.Core.Path.{_∙_, sym, ap}
 use borrow.Author.Needs.{needs}
 use Rattle.events.proofs.turns.chunk_step.Statement.{statement}

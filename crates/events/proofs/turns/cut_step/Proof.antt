@@ -1,5 +1,5 @@
 -- `events::turns::cut_step` meets its contract: the arms are those of `cutStep`.
-use Rattle.events.specs.Steps.{cutStep}
+use Rattle.events.specs.Inner.Steps.{cutStep}
 use mathlib.Core.Path.{_∙_, sym, ap}
 use borrow.Author.Needs.{needs}
 use Rattle.events.proofs.turns.cut_step.Statement.{statement}

@@ -3,7 +3,7 @@ use Rattle.xml_elements.specs.Chunk.{turnOf}
 use Rattle.events.proofs.Model.{rest}
 use native.Mathlib.Omega.{arith}
 use Rattle.xml_elements.proofs.Laws.{foreign-there, met-there}
-use Rattle.events.specs.Steps.{turnStep}
+use Rattle.events.specs.Inner.Steps.{turnStep}
 use mathlib.Core.Path.{_∙_, sym, ap}
 use borrow.Author.Needs.{needs}
 use Rattle.events.proofs.turns.turn_step.Statement.{statement}

@@ -2,6 +2,7 @@
 use mathlib.Core.Path.{sym, _∙_}
 use borrow.Author.Needs.{needs}
 use denote.Ref.{now}
+use Rattle.system_types.specs.Names.{lends}
 use Rattle.head.proofs.Questions.{openOf-asks, content-open, content-closed}
 use Rattle.head.proofs.ask.content.Statement.{statement}
 use Rattle.head.proofs.ask.content.Tie as tie
@@ -20,7 +21,7 @@ content-in-requires c κs =
     let s = c .before .before .before .before .before .before .before .before in
     let a = s .args in
     let e = sym (c .before .before .before .before .open-file .ensures) ∙ c .before .before .opened .given .1 in
-    rw (c .tables-of .ensures) (openOf-asks (now (a .file)) (now (a .names)) (now (a .area)) e)
+    rw (c .tables-of .ensures) (openOf-asks (now (a .file)) (lends (now (a .names)) (now (a .area))) e)
 
 enum-told : tie.Need-enum-told
 enum-told c = search needs
@@ -40,14 +41,14 @@ returns c =
     let p5 = c .before .before .before .before .before in
     let a = s .args in
     let e = sym (p5 .open-file .ensures) ∙ c .before .before .before .opened .given .1 in
-    c .content-in .ensures ∙ content-open (now (a .file)) (now (a .names)) (now (a .area)) (a .index .0) e (c .before .tables-of .ensures)
+    c .content-in .ensures ∙ content-open (now (a .file)) (lends (now (a .names)) (now (a .area))) (a .index .0) e (c .before .tables-of .ensures)
 
 returns-2 : tie.Need-returns-2
 returns-2 c =
     let s = c .before .before .before .before .before .before .before in
     let a = s .args in
     let e = sym (c .before .before .before .open-file .ensures) ∙ c .before .enum-told .given .1 in
-    content-closed (now (a .file)) (now (a .names)) (now (a .area)) (a .index .0) e
+    content-closed (now (a .file)) (lends (now (a .names)) (now (a .area))) (a .index .0) e
 
 pub content-spec : {M : Type 1} → statement M
 content-spec =

@@ -3,6 +3,7 @@ use mathlib.Core.List.{[]}
 use mathlib.Core.Path.{sym, _∙_}
 use borrow.Author.Needs.{needs}
 use denote.Ref.{now}
+use Rattle.system_types.specs.Names.{lends}
 use Rattle.head.proofs.Questions.{openOf-asks, reads-open, reads-closed}
 use Rattle.head.proofs.ask.text.Statement.{statement}
 use Rattle.head.proofs.ask.text.Tie as tie
@@ -22,7 +23,7 @@ text-in-requires c κs =
     let p5 = c .before .before .before .before .before in
     let a = s .args in
     let e = sym (p5 .open-file .ensures) ∙ c .before .before .before .opened .given .1 in
-    rw (c .before .tables-of .ensures) (openOf-asks (now (a .file)) (now (a .names)) (now (a .area)) e)
+    rw (c .before .tables-of .ensures) (openOf-asks (now (a .file)) (lends (now (a .names)) (now (a .area))) e)
 
 enum-known-opened-2 : tie.Need-enum-known-opened-2
 enum-known-opened-2 c = search needs
@@ -40,7 +41,7 @@ returns c =
     let p6 = c .before .before .before .before .before .before in
     let a = s .args in
     let e = sym (p8 .open-file .ensures) ∙ p6 .opened .given .1 in
-    reads-open (now (a .file)) (now (a .names)) (now (a .area)) (now (a .out)) _ (a .index .0) e
+    reads-open (now (a .file)) (lends (now (a .names)) (now (a .area))) (now (a .out)) _ (a .index .0) e
     (c .before .before .before .before .tables-of .ensures) (c .before .before .text-in .ensures)
 
 same-length-2 : tie.Need-same-length-2
@@ -53,7 +54,7 @@ returns-2 c =
     let p5 = c .before .before .before .before .before in
     let a = s .args in
     let e = sym (p7 .open-file .ensures) ∙ p5 .opened2 .given .1 in
-    reads-closed (now (a .file)) (now (a .names)) (now (a .area)) (now (a .out)) _ (a .index .0) e (c .before .before .refuse .ensures [])
+    reads-closed (now (a .file)) (lends (now (a .names)) (now (a .area))) (now (a .out)) _ (a .index .0) e (c .before .before .refuse .ensures [])
 
 pub text-spec : {M : Type 1} → statement M
 text-spec =

@@ -4,6 +4,7 @@ use borrow.Author.Tests.{not-true, not-false}
 use borrow.Author.Needs.{needs}
 use lib.ListN.{length}
 use denote.Ref.{now}
+use Rattle.system_types.specs.Names.{lends}
 use Rattle.text.specs.Content.{contentOf, textIn}
 use Rattle.head.proofs.Questions.{gives-none, gives-found}
 use Rattle.head.proofs.ask.text_in.Statement.{statement}
@@ -28,7 +29,7 @@ returns c =
     let p5 = c .before .before .before .before .before in
     let a = s .args in
     let p = sym (p5 .is-found .ensures) ∙ not-true _ (c .before .before .before .before .if1 .taken) in
-    let text = textIn (contentOf (a .h) (now (a .t)) (now (a .names)) (now (a .area)) (a .index .0)) in
+    let text = textIn (contentOf (a .h) (now (a .t)) (lends (now (a .names)) (now (a .area))) (a .index .0)) in
     gives-none (length (now (a .out))) (a .h .wide) (now (a .t)) (now (a .area)) (p6 .find .result) (p6 .find .ensures .same) p
     (c .before .before .refuse .ensures text)
 

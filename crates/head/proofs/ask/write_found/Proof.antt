@@ -1,7 +1,7 @@
 -- `head::ask::write_found` meets its contract: a text that does not fit leaves zeros (`gives-short`), one that fits stands before them (`gives-text`).
 use borrow.Author.Needs.{needs}
 use denote.Ref.{now}
-use Rattle.text.specs.Found.{partOf}
+use Rattle.text.specs.Inner.Found.{partOf}
 use Rattle.text.specs.Content.{textIn}
 use Rattle.head.proofs.Questions.{gives-short, gives-text}
 use Rattle.head.proofs.ask.write_found.Statement.{statement}

@@ -4,6 +4,7 @@ use denote.Ref.{now}
 use Rattle.text.proofs.Read.{inside-pool}
 use Rattle.text.proofs.Marking.{marked-none, marked-pool}
 use borrow.Author.Needs.{needs}
+use Rattle.system_types.specs.Names.{lends}
 use Rattle.text.proofs.apart.marks_of.Statement.{statement}
 use Rattle.text.proofs.apart.marks_of.Tie as tie
 
@@ -13,7 +14,7 @@ no-marks-requires c κs = search needs
 returns : tie.Need-returns
 returns c =
     let a = c .before .before .before .before .before .args in
-    marked-none (now (a .t)) (now (a .names)) (now (a .area)) (a .h) (a .g) _ (c .no-marks .ensures)
+    marked-none (now (a .t)) (lends (now (a .names)) (now (a .area))) (a .h) (a .g) _ (c .no-marks .ensures)
 
 enum-told : tie.Need-enum-told
 enum-told c = search needs
@@ -45,23 +46,23 @@ pool-marks-requires c κs =
 returns-2 : tie.Need-returns-2
 returns-2 c =
     let a = c .before .before .before .before .before .before .before .args in
-    marked-none (now (a .t)) (now (a .names)) (now (a .area)) (a .h) (a .g) _ (c .no-marks2 .ensures)
+    marked-none (now (a .t)) (lends (now (a .names)) (now (a .area))) (a .h) (a .g) _ (c .no-marks2 .ensures)
 
 returns-3 : tie.Need-returns-3
 returns-3 c =
     let a = c .before .before .before .before .before .before .before .args in
-    marked-none (now (a .t)) (now (a .names)) (now (a .area)) (a .h) (a .g) _ (c .no-marks3 .ensures)
+    marked-none (now (a .t)) (lends (now (a .names)) (now (a .area))) (a .h) (a .g) _ (c .no-marks3 .ensures)
 
 returns-4 : tie.Need-returns-4
 returns-4 c =
     let a = c .before .before .before .before .before .before .before .args in
-    marked-none (now (a .t)) (now (a .names)) (now (a .area)) (a .h) (a .g) _ (c .no-marks4 .ensures)
+    marked-none (now (a .t)) (lends (now (a .names)) (now (a .area))) (a .h) (a .g) _ (c .no-marks4 .ensures)
 
 returns-5 : tie.Need-returns-5
 returns-5 c =
     let s = c .before .before .before .before .before .before .before .before in
     let a = s .args in
-    marked-pool (now (a .t)) (now (a .names)) (now (a .area)) (a .h) (a .g) _ (not-false _ (c .before .before .before .before .if1 .left)) (s .pre .2)
+    marked-pool (now (a .t)) (lends (now (a .names)) (now (a .area))) (a .h) (a .g) _ (not-false _ (c .before .before .before .before .if1 .left)) (s .pre .2)
     (c .before .before .g .given .1) (c .pool-marks .ensures)
 
 pub marks-of-spec : {M : Type 1} → statement M

@@ -5,6 +5,7 @@ use mathlib.Core.Bool.{true≢false}
 use denote.Ref.{now}
 use Rattle.text.proofs.Others.{other-index, other-text}
 use borrow.Author.Needs.{needs}
+use Rattle.system_types.specs.Names.{lends}
 use Rattle.text.proofs.apart.told_apart.Statement.{statement}
 use Rattle.text.proofs.apart.told_apart.Tie as tie
 
@@ -52,7 +53,7 @@ returns-3 c =
     let l = s .pre .1 .ends (omega (arith, at-if2 .if2 .left, at-if1 .if1 .left)) in
     let bare = s .pre .1 .bare i (at-if1 .if1 .left) (at-if2 .if2 .left) in
     λ e. other-text (a .h .wide) (now (a .t)) (now (a .area)) _ (λ j. bytes .shared-slice-known .given j .fits) (l .1) (l .0)
-    (other-index (a .h) (now (a .t)) (now (a .names)) (now (a .area)) i (s .pre .0 .fits) _ _ bare (at-if2 .if2 .left)
+    (other-index (a .h) (now (a .t)) (lends (now (a .names)) (now (a .area))) i (s .pre .0 .fits) _ _ bare (at-if2 .if2 .left)
     (at-offset .u32-at .ensures) (c .place-apart .ensures e))
 
 pub told-apart-spec : {M : Type 1} → statement M

@@ -3,7 +3,7 @@ use native.Mathlib.Omega.{arith}
 use mathlib.Core.Path.{sym, ap, _∙_}
 use borrow.Author.Needs.{needs}
 use denote.Ref.{now}
-use Rattle.text.specs.Found.{partOf}
+use Rattle.text.specs.Inner.Found.{partOf}
 use Rattle.text.specs.Content.{sameText}
 use Rattle.text.proofs.Read.{inside-system, inside-pool, partOf-nothing, partOf-cut, partOf-system, partOf-pool, sameText-none, sameText-cut}
 use Rattle.text.proofs.Plains.{known-none, known-system, known-pool}

@@ -6,7 +6,7 @@ use lib.ListN.{length-take, length-drop}
 use denote.Ref.{now}
 use Rattle.text.specs.declared.Found.{Found}
 use Rattle.text.specs.Content.{textIn}
-use Rattle.text.specs.Found.{partOf}
+use Rattle.text.specs.Inner.Found.{partOf}
 use Rattle.text.proofs.Read.{inside-system, inside-pool, partOf-system, partOf-pool, textIn-system, wrote-by, wrote-none, textOf-held}
 use Rattle.text.proofs.part.found_into.Statement.{statement}
 use Rattle.text.proofs.part.found_into.Tie as tie

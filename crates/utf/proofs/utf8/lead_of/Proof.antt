@@ -1,6 +1,6 @@
 -- `utf::utf8::lead_of` meets its contract: each way out is one row.
 use Rattle.utf.proofs.Tests.{tests}
-use Rattle.utf.specs.Lead.{leadOf}
+use Rattle.utf.specs.Inner.Lead.{leadOf}
 use borrow.Author.Needs.{needs}
 use Rattle.utf.proofs.utf8.lead_of.Statement.{statement}
 use Rattle.utf.proofs.utf8.lead_of.Tie as tie

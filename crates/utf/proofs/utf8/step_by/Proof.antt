@@ -1,6 +1,6 @@
 -- `utf::utf8::step_by` meets its contract: its tests are those of `stepBy`, in turn.
 use Rattle.utf.proofs.Tests.{tests}
-use Rattle.utf.specs.Lead.{stepBy}
+use Rattle.utf.specs.Inner.Lead.{stepBy}
 use borrow.Author.Needs.{needs}
 use Rattle.utf.proofs.utf8.step_by.Statement.{statement}
 use Rattle.utf.proofs.utf8.step_by.Tie as tie

@@ -4,6 +4,7 @@ use Rattle.records.specs.Repeats.{byPrefix}
 use Rattle.text.specs.Content.{sameName}
 use Rattle.walk.proofs.Attributes.{keep-same, keep-full, keep-stored}
 use borrow.Author.Needs.{needs}
+use Rattle.system_types.specs.Names.{lends}
 use Rattle.walk.proofs.placing.keep_place.Statement.{statement}
 use Rattle.walk.proofs.placing.keep_place.Tie as tie
 
@@ -32,7 +33,7 @@ returns c =
     let a = at-start .args in
     let q = at-keep .keep in
     λ o h.
-    keep-same (byPrefix (sameName (a .h) (a .t .now) (a .names .now) (a .area .now))) (a .nodes .now) (a .attributes .now) (q .last .1 .1 .1 .1 .0)
+    keep-same (byPrefix (sameName (a .h) (a .t .now) (lends (a .names .now) (a .area .now)))) (a .nodes .now) (a .attributes .now) (q .last .1 .1 .1 .1 .0)
     (q .last .1 .1 .1 .1 .1 .0)
     (a .tree) o h (a .prefix) (a .a) (c .enum-told .given .1) (q .ensures)
 
@@ -49,7 +50,7 @@ returns-2 c =
     let a = at-start .args in
     let q = at-keep .keep in
     λ o h.
-    keep-full (byPrefix (sameName (a .h) (a .t .now) (a .names .now) (a .area .now))) (a .nodes .now) (a .attributes .now) (q .last .1 .1 .1 .1 .0)
+    keep-full (byPrefix (sameName (a .h) (a .t .now) (lends (a .names .now) (a .area .now)))) (a .nodes .now) (a .attributes .now) (q .last .1 .1 .1 .1 .0)
     (q .last .1 .1 .1 .1 .1 .0)
     (a .tree) o h (a .prefix) (a .a) (length (q .last .1 .1 .1 .1 .1 .0)) (c .enum-told2 .given .1) (q .ensures) (q .kept .1 .1 .1 .1 .1 .0)
 
@@ -66,7 +67,7 @@ returns-3 c =
     let a = at-start .args in
     let q = at-keep .keep in
     λ o h.
-    keep-stored (byPrefix (sameName (a .h) (a .t .now) (a .names .now) (a .area .now))) (a .nodes .now) (a .attributes .now) (q .last .1 .1 .1 .1 .0)
+    keep-stored (byPrefix (sameName (a .h) (a .t .now) (lends (a .names .now) (a .area .now)))) (a .nodes .now) (a .attributes .now) (q .last .1 .1 .1 .1 .0)
     (q .last .1 .1 .1 .1 .1 .0) (a .tree) o h (a .prefix) (a .a) (c .before .p .given .0 .0) (c .before .p .given .1) (q .ensures) (q .kept .1 .1 .1 .1 .0)
     (q .kept .1 .1 .1 .1 .1 .0)
 

@@ -3,6 +3,7 @@ use Rattle.records.specs.Repeats.{byPrefix}
 use Rattle.text.specs.Content.{sameName}
 use Rattle.walk.proofs.Asking.{not-end, not-other, place-as, place-nothing, place-left, place-refused}
 use borrow.Author.Needs.{needs}
+use Rattle.system_types.specs.Names.{lends}
 use Rattle.walk.proofs.placing.place.Statement.{statement}
 use Rattle.walk.proofs.placing.place.Tie as tie
 
@@ -46,7 +47,7 @@ returns : tie.Need-returns
 returns c =
     let at-start = c .before .before .before .before .before .before .before in
     let a = at-start .args in
-    let rule = byPrefix (sameName (a .h) (a .t .now) (a .names .now) (a .area .now)) in (
+    let rule = byPrefix (sameName (a .h) (a .t .now) (lends (a .names .now) (a .area .now))) in (
       (λ o h. place-nothing rule (a .nodes .now) (a .attributes .now) (a .tree) o (a .e) h (c .enum-told .given .1)),
       not-other (a .e) _ (c .enum-told .given .1) tt,
     )
@@ -64,7 +65,7 @@ returns-2 c =
     let a = at-start .args in
     let q = c .before .before .open-place in
     let e = at-e .e .given in
-    let rule = byPrefix (sameName (a .h) (a .t .now) (a .names .now) (a .area .now)) in (
+    let rule = byPrefix (sameName (a .h) (a .t .now) (lends (a .names .now) (a .area .now))) in (
       (λ o h. place-as rule (a .nodes .now) (a .attributes .now) (a .tree) o (a .e) (q .result) (q .last .0) (a .attributes .now) _ (e .1)
           (q .ensures rule _ o h)),
       not-end (q .result) (a .e) (not-other (a .e) _ (e .1) tt),
@@ -84,7 +85,7 @@ returns-3 c =
     let a = at-start .args in
     let q = at-keep-place .keep-place in
     let e = at-e2 .e2 .given in
-    let rule = byPrefix (sameName (a .h) (a .t .now) (a .names .now) (a .area .now)) in (
+    let rule = byPrefix (sameName (a .h) (a .t .now) (lends (a .names .now) (a .area .now))) in (
       (λ o h.
           place-as rule (a .nodes .now) (a .attributes .now) (a .tree) o (a .e) (q .result) (q .last .1 .1 .1 .1 .0) (q .last .1 .1 .1 .1 .1 .0) _ (e .1)
           (q .ensures o h)),
@@ -96,7 +97,7 @@ returns-4 c =
     let at-start = c .before .before .before .before .before .before .before .before in
     let a = at-start .args in
     let e = c .before .e3 .given in
-    let rule = byPrefix (sameName (a .h) (a .t .now) (a .names .now) (a .area .now)) in
+    let rule = byPrefix (sameName (a .h) (a .t .now) (lends (a .names .now) (a .area .now))) in
     ((λ o h. place-left rule (a .nodes .now) (a .attributes .now) (a .tree) o (a .e) (e .0 .0) h (e .1)), not-other (a .e) _ (e .1) tt)
 
 same-length-5 : tie.Need-same-length-5
@@ -112,7 +113,7 @@ returns-5 c =
     let a = at-start .args in
     let q = c .close-place in
     let e = at-enum-told2 .enum-told2 .given in
-    let rule = byPrefix (sameName (a .h) (a .t .now) (a .names .now) (a .area .now)) in (
+    let rule = byPrefix (sameName (a .h) (a .t .now) (lends (a .names .now) (a .area .now))) in (
       (λ o h. place-as rule (a .nodes .now) (a .attributes .now) (a .tree) o (a .e) (q .result) (a .nodes .now) (a .attributes .now) _ (e .1)
           (q .ensures rule o h)),
       not-end (q .result) (a .e) (not-other (a .e) _ (e .1) tt),
@@ -126,7 +127,7 @@ returns-7 c =
     let at-start = c .before .before .before .before .before .before .before .before in
     let a = at-start .args in
     let e = c .before .e5 .given in
-    let rule = byPrefix (sameName (a .h) (a .t .now) (a .names .now) (a .area .now)) in
+    let rule = byPrefix (sameName (a .h) (a .t .now) (lends (a .names .now) (a .area .now))) in
     ((λ o h. place-refused rule (a .nodes .now) (a .attributes .now) (a .tree) o (a .e) (e .0 .0) (e .1)), tt)
 
 returns-8 : tie.Need-returns-8

@@ -2,6 +2,7 @@
 use native.Mathlib.Omega.{arith}
 use mathlib.Core.Path.{refl}
 use borrow.Author.Needs.{needs}
+use Rattle.system_types.specs.Names.{lends}
 use Rattle.text.specs.Content.{sameName}
 use Rattle.walk.proofs.Attributes.{own-repeat}
 use Rattle.walk.proofs.tree.keep.Statement.{statement}
@@ -41,7 +42,7 @@ returns-2 c =
     let at-start = at-from .before .before .before .before .before .before .before in
     let a = at-start .args in
     record {
-      there = λ _. own-repeat (sameName (a .h) (a .t .now) (a .names .now) (a .area .now)) (a .prefix) (a .a) (a .attributes .now) (a .tree)
+      there = λ _. own-repeat (sameName (a .h) (a .t .now) (lends (a .names .now) (a .area .now))) (a .prefix) (a .a) (a .attributes .now) (a .tree)
           (at-from .attribute-place .result) (at-used .attribute-place2 .result) (c .before .has .result) _
           (at-from .attribute-place .ensures) (at-used .attribute-place2 .ensures) (c .before .has .ensures) (c .if2 .taken);
       nodes = refl;
@@ -63,7 +64,7 @@ returns-3 c =
     let a = at-start .args in
     record {
       some = at-if1 .if1 .left;
-      new = own-repeat (sameName (a .h) (a .t .now) (a .names .now) (a .area .now)) (a .prefix) (a .a) (a .attributes .now) (a .tree)
+      new = own-repeat (sameName (a .h) (a .t .now) (lends (a .names .now) (a .area .now))) (a .prefix) (a .a) (a .attributes .now) (a .tree)
           (at-from .attribute-place .result) (at-used .attribute-place2 .result) (c .before .before .has .result) _
           (at-from .attribute-place .ensures) (at-used .attribute-place2 .ensures) (c .before .before .has .ensures) (c .before .if2 .left);
       full = omega (arith, c .if3 .taken, at-used .attribute-place2 .ensures);
@@ -124,7 +125,7 @@ returns-4 c =
     let used = at-used .attribute-place2 .ensures in
     record {
       some = at-if1 .if1 .left;
-      new = own-repeat (sameName (a .h) (a .t .now) (a .names .now) (a .area .now)) (a .prefix) (a .a) (a .attributes .now) (a .tree)
+      new = own-repeat (sameName (a .h) (a .t .now) (lends (a .names .now) (a .area .now))) (a .prefix) (a .a) (a .attributes .now) (a .tree)
           (at-from .attribute-place .result) (at-used .attribute-place2 .result) (at-has .has .result) _
           (at-from .attribute-place .ensures) (at-used .attribute-place2 .ensures) (at-has .has .ensures) (at-if2 .if2 .left);
       room = omega (arith, at-if3 .if3 .left, used);

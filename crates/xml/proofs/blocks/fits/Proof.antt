@@ -1,6 +1,6 @@
 -- `xml::blocks::fits` meets its contract, by the sort of the block.
 use borrow.Author.Needs.{needs}
-use Rattle.xml.specs.Blocks.{fitsAt}
+use Rattle.xml.specs.Inner.Blocks.{fitsAt}
 use Rattle.xml.proofs.blocks.fits.Statement.{statement}
 use Rattle.xml.proofs.blocks.fits.Tie as tie
 

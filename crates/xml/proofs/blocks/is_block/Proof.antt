@@ -6,7 +6,7 @@ use Prim.Native.Nat.{ℕ, _-_, _≤_}
 use native.Mathlib.Omega.{arith}
 use denote.Ref.{now}
 use borrow.Author.Needs.{needs}
-use Rattle.xml.specs.Blocks.{allFit}
+use Rattle.xml.specs.Inner.Blocks.{allFit}
 use Rattle.xml.proofs.Passing.{boolByte-is, least-put, least-kept, least-is}
 use Rattle.xml.proofs.blocks.is_block.Statement.{statement}
 use Rattle.xml.proofs.blocks.is_block.Tie as tie

@@ -6,7 +6,7 @@ use native.Mathlib.Omega.{arith}
 use lib.ListN.{length, getD}
 use denote.Ref.{now}
 use borrow.Author.Tests.{not-false}
-use Rattle.xml.specs.Told.{Passed}
+use Rattle.xml.specs.Inner.Told.{Passed}
 use Rattle.xml.proofs.Names.{passed-none, passed-on}
 use Rattle.xml.proofs.Passing.{passed-block}
 use Rattle.xml.proofs.blocks.wide_blocks.Statement.{statement}

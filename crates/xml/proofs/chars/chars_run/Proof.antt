@@ -1,7 +1,7 @@
 -- `xml::chars::chars_run` meets its contract. Invariant: what was passed is chars (`Passed`). Measure: the bytes left before `to`.
 use Prim.Native.Nat.{_-_}
 use native.Mathlib.Omega.{arith}
-use Rattle.xml.specs.Told.{Passed}
+use Rattle.xml.specs.Inner.Told.{Passed}
 use Rattle.xml.proofs.Names.{passed-on, passed-more, reached-to, reached-none}
 use Rattle.xml.proofs.chars.chars_run.Statement.{statement}
 use Rattle.xml.proofs.chars.chars_run.Tie as tie

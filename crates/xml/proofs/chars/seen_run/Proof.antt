@@ -1,6 +1,6 @@
 -- `xml::chars::seen_run` meets its contract, by the run of either encoding.
 use mathlib.Core.Bool.{true}
-use Rattle.xml.specs.Told.{Passed}
+use Rattle.xml.specs.Inner.Told.{Passed}
 use Rattle.xml.proofs.Names.{passed-on}
 use borrow.Author.Needs.{needs}
 use Rattle.xml.proofs.chars.seen_run.Statement.{statement}

@@ -4,7 +4,7 @@ use mathlib.Core.Bool.{true}
 use native.Mathlib.Omega.{arith}
 use lib.ListN.{getD}
 use denote.Ref.{now}
-use Rattle.xml.specs.Told.{Passed}
+use Rattle.xml.specs.Inner.Told.{Passed}
 use Rattle.xml.proofs.Names.{passed-none, passed-unit}
 use Rattle.xml.proofs.chars.wide_run.Statement.{statement}
 use Rattle.xml.proofs.chars.wide_run.Tie as tie

@@ -13,9 +13,10 @@ use mathlib.Core.List.{List, [], _∷_, _++_}
 use mathlib.Core.Bool.{cond}
 use lib.ListN.{length, drop}
 use lib.Dec.{eqb}
-use Rattle.system_types.specs.Names.{namesOf}
+use Rattle.records.specs.Limits.{fileLimit}
+use Rattle.system_types.specs.Names.{Lent, namesOf}
 use Rattle.system_types.specs.declared.NamesRead.the-variants.{Good}
-use Rattle.text.specs.Found.{Fits}
+use Rattle.text.specs.Inner.Found.{Fits}
 use Rattle.head.specs.declared.HeadEnd.{HeadEnd}
 use Rattle.head.specs.declared.HeadEnd.the-variants.{Whole, TooSmall, HeaderSize, PoolShort, MapShort}
 use Rattle.head.specs.declared.Opened.{Opened}
@@ -31,7 +32,7 @@ use Rattle.events.specs.declared.Cursor.{Cursor}
 use Rattle.events.specs.declared.Step.{Step}
 use Rattle.events.specs.Events.{Names, attributesOf, cutShort, fromGap, fromSize, fromTrailing, fromName, fromLead}
 use Rattle.events.specs.Events.{Spot, started, fromRoot, lastOf, eventsOn, bodyEvents, notesOf, afterPool, fileEvents}
-use Rattle.events.specs.Steps.{stepOf}
+use Rattle.events.specs.Inner.Steps.{stepOf}
 
 -- ---- what holds of a cursor
 
@@ -69,12 +70,12 @@ Held e n c AtRoot = Unit {0}
 Held e n c Over = Unit {0}
 
 -- what is asked of the head and the names
-pub record Ready (t names area : List ℕ) (o : Opened) : Type 0 where
-  pub good : namesOf area names ≡ Good
+pub record Ready (t : List ℕ) (lent : Lent) (o : Opened) : Type 0 where
+  pub good : namesOf lent ≡ Good
   pub fits : PoolThere (o .end) → Fits t (o .head)
 
 pub record Within (o : Opened) (b : List ℕ) (c : Cursor) : Type 0 where
-  pub short : length b ≤ 16777216
+  pub short : length b ≤ fileLimit
   pub inside : c .at ≤ length b
   pub deep : c .depth ≤ c .starts
   pub few : c .starts ≤ c .at

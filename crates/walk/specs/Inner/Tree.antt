@@ -13,11 +13,12 @@ use mathlib.Core.Bool.{Bool, true, false, cond}
 use lib.ListN.{length, take, drop, set, getD}
 use lib.Dec.{eqb}
 use Rattle.anomaly.specs.declared.Note.{Note as NoteOf}
-use Rattle.text.specs.Found.{Asks}
+use Rattle.text.specs.Inner.Found.{Asks}
 use Rattle.text.specs.declared.Head.{Head}
 use Rattle.xml_elements.specs.declared.XmlAttributeElement.{XmlAttributeElement}
 use Rattle.records.specs.Words.{nodeWidth, nodeParent, nodeFirst, nodeCount, noParent, nodeWords, attributeWidth, attributeWords}
 use Rattle.records.specs.Repeats.{Rule, isRepeat}
+use Rattle.system_types.specs.Names.{Lent}
 use Rattle.events.specs.declared.Event.{Event}
 use Rattle.events.specs.declared.Event.the-variants.{Nothing, Open, Attribute, LeftOut, Close, Note, Refuse, Finish}
 use Rattle.walk.specs.declared.tree.Tree.{Tree}
@@ -162,12 +163,12 @@ NotEnd (Full x) e = Unit {0}
 NotEnd (Due x) e = Unit {0}
 NotEnd Finished e = Unit {0}
 
-abbrev pub AsksFor : Event → List ℕ → List ℕ → List ℕ → Head → Type 0
-AsksFor (Attribute p a) t names area h = Asks t names area h
-AsksFor Nothing t names area h = Unit {0}
-AsksFor (Open n x l) t names area h = Unit {0}
-AsksFor (LeftOut n) t names area h = Unit {0}
-AsksFor Close t names area h = Unit {0}
-AsksFor (Note x) t names area h = Unit {0}
-AsksFor (Refuse x) t names area h = Unit {0}
-AsksFor Finish t names area h = Unit {0}
+abbrev pub AsksFor : Event → List ℕ → Lent → Head → Type 0
+AsksFor (Attribute p a) t lent h = Asks t lent h
+AsksFor Nothing t lent h = Unit {0}
+AsksFor (Open n x l) t lent h = Unit {0}
+AsksFor (LeftOut n) t lent h = Unit {0}
+AsksFor Close t lent h = Unit {0}
+AsksFor (Note x) t lent h = Unit {0}
+AsksFor (Refuse x) t lent h = Unit {0}
+AsksFor Finish t lent h = Unit {0}

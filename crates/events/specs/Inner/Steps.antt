@@ -12,7 +12,7 @@ use mathlib.Core.List.{List}
 use mathlib.Core.Bool.{Bool, true, false, cond, _&&_, not}
 use lib.ListN.{length, drop}
 use lib.Dec.{ltb, leb, eqb}
-use Rattle.chunk.specs.Run.{skipRun}
+use Rattle.chunk.specs.Inner.Run.{skipRun}
 use Rattle.errors.specs.declared.Refusal.the-variants.{MissingRoot}
 use Rattle.anomaly.specs.declared.ResAnomaly.the-variants.{StringPoolGarbageChunk, StringCountMismatch, StringOffsetsOutOfBounds, UnknownChunk, TruncatedXml}
 use Rattle.anomaly.specs.declared.ResAnomaly.the-variants.{AttributeStartShifted, AttributeSizeMismatch, ElementTrailingBytes}

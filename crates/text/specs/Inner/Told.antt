@@ -15,12 +15,13 @@ use lib.ListN.{length, take, drop, getD}
 use lib.Dec.{eqb}
 use Rattle.utf.specs.Text.{eqBytes}
 use Rattle.res_string_pool.specs.Content.{splitOf}
+use Rattle.system_types.specs.Names.{Lent}
 use Rattle.text.specs.declared.Head.{Head}
 use Rattle.text.specs.declared.Found.{Found}
 use Rattle.text.specs.declared.Found.the-variants.{Pool}
 use Rattle.text.specs.declared.Marks.{Marks}
 use Rattle.text.specs.Content.{Content, none, some, systemOf, splitBy, plainIn}
-use Rattle.text.specs.Found.{partOf}
+use Rattle.text.specs.Inner.Found.{partOf}
 
 pub record Other (w : Bool) (t : List ℕ) (c : Content) (s : List ℕ) : Type 0 where
   pub from : ℕ
@@ -56,7 +57,7 @@ pub record Chosen (w : Bool) (t : List ℕ) (count first end at n : ℕ) (k : Ma
 abbrev pub firstOf : List ℕ → ℕ → ℕ
 firstOf names ids = cond (eqb (length names) 0) 0 ids
 
-pub record Marked (t names area : List ℕ) (h : Head) (g : Found) (k : Marks) : Type 0 where
-  pub bare : (i : ℕ) → k .first ≤ i → i < h .count → systemOf h t names area i ≡ none
+pub record Marked (t : List ℕ) (lent : Lent) (h : Head) (g : Found) (k : Marks) : Type 0 where
+  pub bare : (i : ℕ) → k .first ≤ i → i < h .count → systemOf h t lent i ≡ none
   pub ends : k .first < h .count
-      → (g ≡ Pool (k .at) (k .n)) × (plainIn (partOf (h .wide) t area g) ≡ true) × Ends (h .wide) t (h .strings + h .size) k
+      → (g ≡ Pool (k .at) (k .n)) × (plainIn (partOf (h .wide) t (lent .area) g) ≡ true) × Ends (h .wide) t (h .strings + h .size) k

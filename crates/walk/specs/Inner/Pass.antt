@@ -13,7 +13,7 @@ use Rattle.anomaly.specs.declared.ResAnomaly.the-variants.{NonXmlChunk, XmlNode
 use Rattle.head.specs.declared.Opened.{Opened}
 use Rattle.events.specs.declared.Cursor.{Cursor}
 use Rattle.events.specs.Events.{Names, Spot, eventsOn}
-use Rattle.events.specs.Pending.{Within, pending, steps}
+use Rattle.events.specs.Inner.Pending.{Within, pending, steps}
 use Rattle.walk.specs.Settle.{Room, Tables, going, settle}
 
 abbrev pub spotAt : ℕ → ℕ → ℕ → Spot

@@ -12,9 +12,10 @@ use mathlib.Core.Path.{_≡_}
 use mathlib.Core.List.{List}
 use mathlib.Core.Bool.{Bool, true, false}
 use lib.ListN.{length, take, drop}
+use Rattle.records.specs.Limits.{fileLimit}
 use Rattle.utf.specs.Text.{putText}
 use Rattle.utf.specs.Plain.{isAscii}
-use Rattle.system_types.specs.Names.{namesOf}
+use Rattle.system_types.specs.Names.{Lent, namesOf}
 use Rattle.system_types.specs.declared.NamesRead.the-variants.{Good}
 use Rattle.text.specs.declared.Head.{Head}
 use Rattle.text.specs.declared.Found.{Found}
@@ -23,14 +24,14 @@ use Rattle.text.specs.Content.{Content, none, cut, some, contentOf}
 
 -- the head's places lie in t, whose length a file keeps to
 pub record Fits (t : List ℕ) (h : Head) : Type 0 where
-  pub short : length t ≤ 16777216
+  pub short : length t ≤ fileLimit
   pub offsets : h .offsets + 4 * h .count ≤ length t
   pub strings : h .strings + h .size ≤ length t
   pub ids : h .map + 4 * h .ids ≤ length t
 
-pub record Asks (t names area : List ℕ) (h : Head) : Type 0 where
+pub record Asks (t : List ℕ) (lent : Lent) (h : Head) : Type 0 where
   pub fits : Fits t h
-  pub good : namesOf area names ≡ Good
+  pub good : namesOf lent ≡ Good
 
 abbrev pub partOf : Bool → List ℕ → List ℕ → Found → Content
 partOf w t area Nothing = none
@@ -50,8 +51,8 @@ pub record Stands (w : Bool) (t area : List ℕ) (c : Content) (r : Found) : Typ
   pub same : partOf w t area r ≡ c
   pub inside : Inside t area r
 
-abbrev pub Finds : List ℕ → List ℕ → List ℕ → Head → ℕ → Found → Type 0
-Finds t names area h i r = Stands (h .wide) t area (contentOf h t names area i) r
+abbrev pub Finds : List ℕ → Lent → Head → ℕ → Found → Type 0
+Finds t lent h i r = Stands (h .wide) t (lent .area) (contentOf h t lent i) r
 
 -- whether there is a text
 abbrev pub isFound : Found → Bool
