@@ -11,12 +11,7 @@
 enum { CAP = 16, LINE = 8192, EVERY = 500 };
 
 static const char *const sizes[AXML_ROUND_UP_CLASSES] = {"to 4096", "to 16384", "to 65536", "to 262144", "to 1048576", "above"};
-static const char usage[] =
-    "usage: axml-round-up [--csv] FILE..    adds up these binary manifests, and prints what a person reads, or with --csv a line for each count\n"
-    "       axml-round-up [--csv] <LIST     the same for the files that standard input names, one to a line\n"
-    "A file that is refused is counted by the number of its refusal; one that cannot be opened or read is said, and counted apart. Of each kind of note\n"
-    "the first 16 of a file are counted. Progress goes to standard error.\n"
-    "Ends with 0 if every file was added, with 1 if one was not opened or met a full count, with 2 if there was nothing to do or the words are wrong.\n";
+static const char helps[] = "axml-round-up --help says how it is used";
 
 static uint8_t file[AXML_LONGEST_FILE + 1u]; /* one byte more than is read, so that a longer file is refused and not cut */
 static uint32_t nodes[AXML_NODE_WORDS * (AXML_LONGEST_FILE / 36u + 2u)], attributes[AXML_ATTRIBUTE_WORDS * (AXML_LONGEST_FILE / 20u + 2u)];
@@ -109,12 +104,11 @@ static int add_list(void) {
 int main(int count, char **words) {
   int at = 1, csv = 0;
   for (; at < count && words[at][0] == '-' && words[at][1]; at++) {
-    if (!strcmp(words[at], "--help") || !strcmp(words[at], "-h")) return printf("%s", usage), 0;
     if (!strcmp(words[at], "--")) {
       at++;
       break;
     }
-    if (strcmp(words[at], "--csv")) return fprintf(stderr, "axml-round-up: there is no %s\n%s", words[at], usage), 2;
+    if (strcmp(words[at], "--csv")) return fprintf(stderr, "axml-round-up: there is no %s; %s\n", words[at], helps), 2;
     csv = 1;
   }
   if (axml_abi() != AXML_ABI) return fprintf(stderr, "axml-round-up: the library is of another form\n"), 2;
@@ -122,7 +116,7 @@ int main(int count, char **words) {
     for (; at < count; at++) add(words[at]);
   else if (add_list())
     return 2;
-  if (!files) return fprintf(stderr, "axml-round-up: no file is named\n%s", usage), 2;
+  if (!files) return fprintf(stderr, "axml-round-up: no file is named; %s\n", helps), 2;
   fprintf(stderr, "axml-round-up: %lu files in all\n", files);
   if (zips) fprintf(stderr, "axml-round-up: %lu of them begin as a zip does: take AndroidManifest.xml out of an APK first\n", zips);
   csv ? print_csv() : print_table();

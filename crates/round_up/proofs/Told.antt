@@ -4,7 +4,7 @@
 --   refused-one    a file that was refused adds to one count, and nothing else
 --   full-same      beside a refusal the round-up is the one that came in, and the refusal is 29
 --   full-where     29 is given where a count would pass 4,294,967,295; added-fits: and where none would the file is added
---   history-same   the files that met 29 change nothing: the others alone give the same, and none of them meets 29
+--   history-same   the files that met 29 change nothing: the others alone give the same, and none of them meets 29; none-added: where none does, all are added
 --   addNumbers-unique   equal numbers are equal answers
 use Prim.Native.Nat.{ℕ, zero, suc, _+_, _≤_, _<_}
 use native.Mathlib.Omega.{arith}
@@ -141,6 +141,12 @@ pub history-same : (r : RoundUp) (fs : List File) → Same r (addedIn r fs) fs
 unfolding NoneFull after addedIn
 history-same r [] = record { none = tt; same = refl }
 history-same r (f ∷ fs) = history-step r f fs (history-same (next r f) fs) (addedTo r (shareIn f) .answer) refl
+
+-- where none meets 29, all of them are the history
+pub none-added : (r : RoundUp) (fs : List File) → NoneFull r fs → addedIn r fs ≡ fs
+unfolding NoneFull addedIn
+none-added r [] h = refl
+none-added r (f ∷ fs) h = rw (h .0) (ap (λ (l : List File). f ∷ l) (none-added (next r f) fs (h .1)))
 
 -- ---- the numbers of an answer
 
