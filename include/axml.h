@@ -5,7 +5,7 @@
  * and returns; it allocates nothing and keeps nothing. The caller, whom nothing checks, sees to this alone:
  *   - a pointer and the length behind it lend that many elements, and no pointer is NULL, also where the length is 0;
  *   - pointers to words are aligned to 4 bytes;
- *   - what a function writes (nodes, attributes, notes, out) overlaps nothing else that the same call is lent.
+ *   - what a function writes (nodes, attributes, notes, out, round_up) overlaps nothing else that the same call is lent.
  * Lengths are counted in elements: bytes of a `uint8_t *`, words of a `uint32_t *`. A table of structs is lent as `(uint32_t *)table`. */
 #ifndef AXML_H
 #define AXML_H
@@ -20,7 +20,7 @@ extern "C" {
 
 /* The form of this interface: raised whenever a record, a signature or a number below changes or is added. A library is of this form exactly if
  * axml_abi() == AXML_ABI; one that is of another must not be called. */
-#define AXML_ABI 2u
+#define AXML_ABI 3u
 uint32_t axml_abi(void);
 
 /* The longest file that is read, in bytes: one byte more is refused with AXML_TOO_LARGE. */
@@ -58,6 +58,7 @@ enum axml_refusal {
   AXML_TEXT_SHORT = 11,      /* the buffer is too short: the bytes that the text needs */
   AXML_NOTHING_FOUND = 12,   /* no such text, or no such value: 0 */
   AXML_TABLES = 13,          /* the lent tables do not fit the question: the node count, or the first bad node (Q6) */
+  AXML_ROUND_UP_FULL = 29,   /* a count of a round-up would pass 4294967295: 0 (R6) */
   /* a part of the head is cut, and the value is the file offset at which it should begin (H15) */
   AXML_POOL_GARBAGE = 41,   /* a chunk in the pool's place is cut */
   AXML_POOL_HEADER = 42,    /* a header of the string pool, or its five numbers, are cut */
@@ -190,6 +191,29 @@ struct axml_first_answer axml_first_value(const uint8_t *file, size_t file_bytes
                                           const uint8_t *area, size_t area_bytes, const uint32_t *nodes, size_t node_words,
                                           const uint32_t *attributes, size_t attribute_words, const uint8_t *tag, size_t tag_bytes,
                                           const uint8_t *name, size_t name_bytes, uint32_t node_count, uint32_t attribute_count);
+
+/* Words of a round-up, the counts of a month of files (R1, R2): word AXML_ROUND_UP_READ is how many were read, word AXML_ROUND_UP_REFUSED + n how many were
+ * refused with n, and word AXML_ROUND_UP_GRID + AXML_ROUND_UP_CLASSES * k + c how many notes of kind k were kept in files of the size class c: 0 up to 4096
+ * bytes, 1 up to 16384, 2 up to 65536, 3 up to 262144, 4 up to 1048576, 5 above. A new round-up is AXML_ROUND_UP_WORDS zeros. */
+#define AXML_ROUND_UP_WORDS 132u
+#define AXML_ROUND_UP_READ 0u
+#define AXML_ROUND_UP_REFUSED 1u
+#define AXML_ROUND_UP_NUMBERS 53u
+#define AXML_ROUND_UP_GRID 54u
+#define AXML_ROUND_UP_KINDS 13u
+#define AXML_ROUND_UP_CLASSES 6u
+
+/* The answer of adding a file: AXML_DONE; AXML_TABLES with round_up_words where they are not 132, or with a refusal that is above 52; or AXML_ROUND_UP_FULL. */
+struct axml_add_answer {
+  uint32_t refusal;
+  uint64_t value;
+};
+
+/* Adds a file to a round-up, or changes no word of it where it answers anything but AXML_DONE (R5, R6, R9).
+ * notes: the note table that the reading of the file left. refusal, note_count: `refusal` and `notes` of its answer. file_bytes: the file's length. Of a file
+ * that was refused, the notes and the length are not looked at. */
+struct axml_add_answer axml_round_up_add(uint32_t *round_up, size_t round_up_words, const uint32_t *notes, size_t note_words, uint32_t refusal,
+                                         uint32_t note_count, size_t file_bytes);
 
 /* Whether the UTF-8 text is a name without a colon (N10). */
 bool axml_is_valid_name(const uint8_t *text, size_t text_bytes);

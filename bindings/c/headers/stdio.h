@@ -3,11 +3,13 @@
 #define KIT_STDIO_H
 #include <stddef.h>
 typedef struct _IO_FILE FILE;
-extern FILE *stderr;
+extern FILE *stdin, *stdout, *stderr;
 int printf(const char *form, ...);
 int fprintf(FILE *to, const char *form, ...);
 FILE *fopen(const char *path, const char *mode);
 size_t fread(void *into, size_t size, size_t count, FILE *from);
+char *fgets(char *into, int size, FILE *from);
 int ferror(FILE *file);
+int fflush(FILE *to);
 int fclose(FILE *file);
 #endif

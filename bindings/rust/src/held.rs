@@ -42,17 +42,25 @@ fn numbers() {
     is("AXML_PREFIX_XMLNS", sys::PREFIX_XMLNS.into());
     is("AXML_SLICE_AREA", sys::SLICE_AREA.into());
     is("AXML_SLICE_FILE", sys::SLICE_FILE.into());
+    is("AXML_ROUND_UP_WORDS", sys::ROUND_UP_WORDS as u64);
+    is("AXML_ROUND_UP_READ", sys::ROUND_UP_READ as u64);
+    is("AXML_ROUND_UP_REFUSED", sys::ROUND_UP_REFUSED as u64);
+    is("AXML_ROUND_UP_NUMBERS", sys::ROUND_UP_NUMBERS as u64);
+    is("AXML_ROUND_UP_GRID", sys::ROUND_UP_GRID as u64);
+    is("AXML_ROUND_UP_KINDS", sys::ROUND_UP_KINDS as u64);
+    is("AXML_ROUND_UP_CLASSES", sys::ROUND_UP_CLASSES as u64);
     is("AXML_DONE", sys::DONE.into());
     is("AXML_TEXT_SHORT", sys::TEXT_SHORT.into());
     let refusals = [
         "AXML_TOO_SMALL", "AXML_TOO_LARGE", "AXML_HEADER_SIZE", "AXML_MISSING_ROOT", "AXML_SYSTEM_NAMES",
         "AXML_NODES_FULL", "AXML_ATTRIBUTES_FULL", "AXML_NOTES_FULL", "AXML_TEXT_SHORT", "AXML_NOTHING_FOUND", "AXML_TABLES",
+        "AXML_ROUND_UP_FULL",
         "AXML_POOL_GARBAGE", "AXML_POOL_HEADER", "AXML_POOL_OFFSETS", "AXML_POOL_STYLES", "AXML_POOL_DATA", "AXML_MAP_HEADER", "AXML_MAP_IDS",
     ];
     let cases = [
         Refusal::TooSmall(0), Refusal::TooLarge, Refusal::HeaderSize(0), Refusal::NoElement,
         Refusal::SystemNames(0), Refusal::NodesFull(0), Refusal::AttributesFull(0), Refusal::NotesFull(0), Refusal::TextShort(0),
-        Refusal::NothingFound, Refusal::Tables(0), Refusal::PoolGarbage(0), Refusal::PoolHeader(0), Refusal::PoolOffsets(0), Refusal::PoolStyles(0),
+        Refusal::NothingFound, Refusal::Tables(0), Refusal::RoundUpFull, Refusal::PoolGarbage(0), Refusal::PoolHeader(0), Refusal::PoolOffsets(0), Refusal::PoolStyles(0),
         Refusal::PoolData(0), Refusal::MapHeader(0), Refusal::MapIds(0),
     ];
     for (name, refusal) in refusals.iter().zip(cases) {
@@ -99,6 +107,7 @@ fn places() {
     assert_eq!(fields(&header, "axml_answer"), ["refusal", "value", "starts", "nodes", "attributes", "notes"]);
     assert_eq!(fields(&header, "axml_text_answer"), ["refusal", "value", "length"]);
     assert_eq!(fields(&header, "axml_content_answer"), ["slice", "start", "length"]);
+    assert_eq!(fields(&header, "axml_add_answer"), ["refusal", "value"]);
     assert_eq!(fields(&header, "axml_first_answer"), ["refusal", "value", "type", "data", "reference"]);
 }
 
@@ -127,5 +136,5 @@ fn words() {
         };
         assert!(said.starts_with(words), "{said}");
     }
-    assert_eq!((refusals, notes), (18, NoteKind::ALL.len()));
+    assert_eq!((refusals, notes), (19, NoteKind::ALL.len()));
 }

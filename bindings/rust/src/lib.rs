@@ -21,10 +21,12 @@
 mod held;
 mod note;
 mod refusal;
+mod round_up;
 mod sys;
 
 pub use note::{Note, NoteKind};
 pub use refusal::Refusal;
+pub use round_up::{RoundUp, SizeClass};
 
 /// Bytes of the longest file that is read: 16,777,216.
 pub const LONGEST_FILE: usize = sys::LONGEST_FILE;

@@ -30,6 +30,8 @@ pub enum Refusal {
     NothingFound,
     /// The lent tables do not fit the question, with the number of nodes, or the first bad one.
     Tables(u64),
+    /// A count of a round-up would pass 4,294,967,295.
+    RoundUpFull,
     /// A chunk in the string pool's place is cut, with the file offset at which its bytes should begin.
     PoolGarbage(u64),
     /// A header of the string pool, or its five numbers, are cut, with the file offset at which they should begin.
@@ -64,6 +66,7 @@ impl Refusal {
             11 => Refusal::TextShort(value),
             12 => Refusal::NothingFound,
             13 => Refusal::Tables(value),
+            29 => Refusal::RoundUpFull,
             41 => Refusal::PoolGarbage(value),
             42 => Refusal::PoolHeader(value),
             43 => Refusal::PoolOffsets(value),
@@ -89,6 +92,7 @@ impl Refusal {
             Refusal::TextShort(_) => 11,
             Refusal::NothingFound => 12,
             Refusal::Tables(_) => 13,
+            Refusal::RoundUpFull => 29,
             Refusal::PoolGarbage(_) => 41,
             Refusal::PoolHeader(_) => 42,
             Refusal::PoolOffsets(_) => 43,
@@ -107,7 +111,7 @@ impl Refusal {
             Refusal::AttributesFull(v) | Refusal::NotesFull(v) | Refusal::TextShort(v) | Refusal::Tables(v) => v,
             Refusal::PoolGarbage(v) | Refusal::PoolHeader(v) | Refusal::PoolOffsets(v) | Refusal::PoolStyles(v) | Refusal::PoolData(v) => v,
             Refusal::MapHeader(v) | Refusal::MapIds(v) | Refusal::Other(_, v) => v,
-            Refusal::TooLarge | Refusal::NoElement | Refusal::NothingFound => 0,
+            Refusal::TooLarge | Refusal::NoElement | Refusal::NothingFound | Refusal::RoundUpFull => 0,
         }
     }
 
@@ -125,6 +129,7 @@ impl Refusal {
             Refusal::TextShort(_) => "the buffer is too short for the text",
             Refusal::NothingFound => "nothing was found",
             Refusal::Tables(_) => "the tables do not fit the question",
+            Refusal::RoundUpFull => "a count of the round-up is full",
             Refusal::PoolGarbage(_) => "the chunk before the string pool is cut short",
             Refusal::PoolHeader(_) => "the string pool's header is cut short",
             Refusal::PoolOffsets(_) => "the string pool's offsets are cut short",
@@ -151,7 +156,7 @@ impl fmt::Display for Refusal {
             Refusal::PoolGarbage(n) | Refusal::PoolHeader(n) | Refusal::PoolData(n) | Refusal::MapHeader(n) => write!(f, ": byte {n} should be the first of it"),
             Refusal::PoolOffsets(n) | Refusal::PoolStyles(n) | Refusal::MapIds(n) => write!(f, ": byte {n} should be the first of them"),
             Refusal::Other(number, value) => write!(f, " (number {number}, value {value})"),
-            Refusal::NoElement | Refusal::NothingFound => Ok(()),
+            Refusal::NoElement | Refusal::NothingFound | Refusal::RoundUpFull => Ok(()),
         }
     }
 }

@@ -5,7 +5,7 @@
 use crate::SystemNames;
 
 /// The form of the C interface that this file declares: the header's AXML_ABI.
-pub const ABI: u32 = 2;
+pub const ABI: u32 = 3;
 
 /// Bytes of the longest file that is read.
 pub const LONGEST_FILE: usize = 16_777_216;
@@ -35,6 +35,15 @@ pub const NOTE_WORDS: usize = 3;
 pub const NOTE_KIND: usize = 0;
 pub const NOTE_A: usize = 1;
 pub const NOTE_B: usize = 2;
+
+/// Words of a round-up, and the place of each.
+pub const ROUND_UP_WORDS: usize = 132;
+pub const ROUND_UP_READ: usize = 0;
+pub const ROUND_UP_REFUSED: usize = 1;
+pub const ROUND_UP_NUMBERS: usize = 53;
+pub const ROUND_UP_GRID: usize = 54;
+pub const ROUND_UP_KINDS: usize = 13;
+pub const ROUND_UP_CLASSES: usize = 6;
 
 pub const PREFIX_ANDROID: u32 = 1;
 pub const PREFIX_XMLNS: u32 = 2;
@@ -78,6 +87,12 @@ pub struct FirstAnswer {
     pub reference: u32,
 }
 
+#[repr(C)]
+pub struct AddAnswer {
+    pub refusal: u32,
+    pub value: u64,
+}
+
 type Bytes = *const u8;
 type Words = *const u32;
 type MutWords = *mut u32;
@@ -99,6 +114,9 @@ extern "C" {
         nodes: Words, node_words: usize, attributes: Words, attribute_words: usize,
         tag: Bytes, tag_bytes: usize, name: Bytes, name_bytes: usize, node_count: u32, attribute_count: u32,
     ) -> FirstAnswer;
+    fn axml_round_up_add(
+        round_up: MutWords, round_up_words: usize, notes: Words, note_words: usize, refusal: u32, note_count: u32, file_bytes: usize,
+    ) -> AddAnswer;
     fn axml_is_valid_name(text: Bytes, text_bytes: usize) -> bool;
     fn axml_complex_to_float(data: u32) -> f64;
 }
@@ -142,6 +160,11 @@ pub fn first_value(file: &[u8], names: &SystemNames, nodes: &[u32], attributes: 
             tag.as_ptr(), tag.len(), name.as_ptr(), name.len(), node_count, attribute_count,
         )
     }
+}
+
+pub fn round_up_add(round_up: &mut [u32; ROUND_UP_WORDS], notes: &[u32], refusal: u32, note_count: u32, file_bytes: usize) -> AddAnswer {
+    same_form();
+    unsafe { axml_round_up_add(round_up.as_mut_ptr(), round_up.len(), notes.as_ptr(), notes.len(), refusal, note_count, file_bytes) }
 }
 
 pub fn is_valid_name(name: &[u8]) -> bool {

@@ -3,3 +3,4 @@ pub mod Noting
 pub mod Points
 pub mod Same
 pub mod Placing
+pub mod Month

@@ -3,4 +3,5 @@ pub mod Words
 pub mod Answers
 pub mod Place
 pub mod Abi
+pub mod Adding
 pub mod Inner

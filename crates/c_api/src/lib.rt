@@ -4,9 +4,12 @@
 // hold values. Notes are lent as words (crate records), in the layout of C's `struct axml_note`; `axml::read` has them as records, and
 // `same-reading` (proofs/Same.antt) says that both are one reading. Definitions: specs/Words.antt, specs/Answers.antt.
 pub mod abi;
+pub mod adding;
 pub mod content;
 
 pub use abi::axml_abi;
+pub use adding::AxmlAddAnswer;
+pub use adding::axml_round_up_add;
 pub use content::AxmlContentAnswer;
 pub use content::axml_content;
 ghost use mathlib.Core.Path.{_≡_};

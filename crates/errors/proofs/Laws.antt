@@ -1,6 +1,7 @@
 -- Laws of specs/Refusal.antt: equal numbers are equal answers (`-unique`), each by a function that leads back from the numbers (`-back`).
 -- No contract cites this file.
-use Prim.Native.Nat.{ℕ}
+use Prim.Native.Nat.{ℕ, _≤_}
+use native.Mathlib.Omega.{arith}
 use mathlib.Core.Path.{_≡_, refl, sym, _∙_, ap}
 use mathlib.Core.Bool.{Bool, true, false, cond}
 use lib.Dec.{eqb}
@@ -10,6 +11,7 @@ use Rattle.errors.specs.declared.Refusal.the-variants.{TooSmallError, To
 use Rattle.errors.specs.declared.Refusal.the-variants.{MissingRoot, SystemNamesError, NodesFull}
 use Rattle.errors.specs.declared.Refusal.the-variants.{AttributesFull, NotesFull, TextShort, NothingFound, TablesError}
 use Rattle.errors.specs.declared.Refusal.the-variants.{ItemsError, NoPlainText, AnswersFull}
+use Rattle.errors.specs.declared.Refusal.the-variants.{RoundUpFull}
 use Rattle.errors.specs.declared.Refusal.the-variants.{StringPoolGarbage, StringPoolHeader, StringPoolOffsets, StringPoolStyles}
 use Rattle.errors.specs.declared.Refusal.the-variants.{StringPoolData, ResourceMapHeader, ResourceMapIds}
 use Rattle.errors.specs.declared.Numbers.{Numbers}
@@ -51,12 +53,13 @@ refusalOf n v =
     cond (eqb n 14) (ItemsError v) (
     cond (eqb n 15) (NoPlainText v) (
     cond (eqb n 21) (AnswersFull v) (
+    cond (eqb n 29) RoundUpFull (
     cond (eqb n 41) (StringPoolGarbage v) (
     cond (eqb n 42) (StringPoolHeader v) (
     cond (eqb n 43) (StringPoolOffsets v) (
     cond (eqb n 44) (StringPoolStyles v) (
     cond (eqb n 45) (StringPoolData v) (
-    cond (eqb n 51) (ResourceMapHeader v) (ResourceMapIds v))))))))))))))))))))
+    cond (eqb n 51) (ResourceMapHeader v) (ResourceMapIds v)))))))))))))))))))))
 
 refusalOf-back : (r : Refusal) → refusalOf (numberOf r) (valueOf r) ≡ r
 unfolding numberOf valueOf refusalOf
@@ -74,6 +77,7 @@ refusalOf-back (TablesError v) = refl
 refusalOf-back (ItemsError v) = refl
 refusalOf-back (NoPlainText v) = refl
 refusalOf-back (AnswersFull v) = refl
+refusalOf-back RoundUpFull = refl
 refusalOf-back (StringPoolGarbage v) = refl
 refusalOf-back (StringPoolHeader v) = refl
 refusalOf-back (StringPoolOffsets v) = refl
@@ -103,6 +107,7 @@ numberOf-some (TablesError v) = refl
 numberOf-some (ItemsError v) = refl
 numberOf-some (NoPlainText v) = refl
 numberOf-some (AnswersFull v) = refl
+numberOf-some RoundUpFull = refl
 numberOf-some (StringPoolGarbage v) = refl
 numberOf-some (StringPoolHeader v) = refl
 numberOf-some (StringPoolOffsets v) = refl
@@ -110,6 +115,32 @@ numberOf-some (StringPoolStyles v) = refl
 numberOf-some (StringPoolData v) = refl
 numberOf-some (ResourceMapHeader v) = refl
 numberOf-some (ResourceMapIds v) = refl
+
+-- no number is above 52
+pub numberOf-le : (r : Refusal) → numberOf r ≤ 52
+unfolding numberOf
+numberOf-le (TooSmallError v) = omega arith
+numberOf-le TooLargeError = omega arith
+numberOf-le (HeaderSizeError v) = omega arith
+numberOf-le MissingRoot = omega arith
+numberOf-le (SystemNamesError v) = omega arith
+numberOf-le (NodesFull v) = omega arith
+numberOf-le (AttributesFull v) = omega arith
+numberOf-le (NotesFull v) = omega arith
+numberOf-le (TextShort v) = omega arith
+numberOf-le NothingFound = omega arith
+numberOf-le (TablesError v) = omega arith
+numberOf-le (ItemsError v) = omega arith
+numberOf-le (NoPlainText v) = omega arith
+numberOf-le (AnswersFull v) = omega arith
+numberOf-le RoundUpFull = omega arith
+numberOf-le (StringPoolGarbage v) = omega arith
+numberOf-le (StringPoolHeader v) = omega arith
+numberOf-le (StringPoolOffsets v) = omega arith
+numberOf-le (StringPoolStyles v) = omega arith
+numberOf-le (StringPoolData v) = omega arith
+numberOf-le (ResourceMapHeader v) = omega arith
+numberOf-le (ResourceMapIds v) = omega arith
 
 -- ---- a reading
 

@@ -24,6 +24,7 @@ pub enum Refusal {
     ItemsError(usize), // 14, with the first bad item, or how many whole ones there are
     NoPlainText(u32), // 15, with the type
     AnswersFull(usize), // 21, with the places
+    RoundUpFull, // 29: a count of a round-up would pass 4294967295
     // what of the head is short, each with the file offset at which the missing piece should begin
     StringPoolGarbage(usize), // 41, a chunk in the pool's place
     StringPoolHeader(usize), // 42, a header of the pool, or its five numbers
@@ -137,6 +138,7 @@ pub fn refusal_number(r: Refusal) -> u32
         Refusal::ItemsError(_) => 14,
         Refusal::NoPlainText(_) => 15,
         Refusal::AnswersFull(_) => 21,
+        Refusal::RoundUpFull => 29,
         Refusal::StringPoolGarbage(_) => 41,
         Refusal::StringPoolHeader(_) => 42,
         Refusal::StringPoolOffsets(_) => 43,
@@ -166,6 +168,7 @@ pub fn refusal_value(r: Refusal) -> u64
         Refusal::ItemsError(item) => item as u64,
         Refusal::NoPlainText(kind) => kind as u64,
         Refusal::AnswersFull(places) => places as u64,
+        Refusal::RoundUpFull => 0,
         Refusal::StringPoolGarbage(at) => at as u64,
         Refusal::StringPoolHeader(at) => at as u64,
         Refusal::StringPoolOffsets(at) => at as u64,

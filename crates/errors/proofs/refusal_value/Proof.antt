@@ -55,6 +55,9 @@ cast-result-3 c = search needs
 enum-known-r-11 : tie.Need-enum-known-r-11
 enum-known-r-11 c = search needs
 
+enum-told-4 : tie.Need-enum-told-4
+enum-told-4 c = search needs
+
 enum-known-r-12 : tie.Need-enum-known-r-12
 enum-known-r-12 c = search needs
 
@@ -134,31 +137,35 @@ returns-14 c = rw (c .before .r11 .given .1)
 
 returns-15 : tie.Need-returns-15
 unfolding valueOf
-returns-15 c = rw (c .before .r12 .given .1)
+returns-15 c = rw (c .enum-told4 .given .1)
 
 returns-16 : tie.Need-returns-16
 unfolding valueOf
-returns-16 c = rw (c .before .r13 .given .1)
+returns-16 c = rw (c .before .r12 .given .1)
 
 returns-17 : tie.Need-returns-17
 unfolding valueOf
-returns-17 c = rw (c .before .r14 .given .1)
+returns-17 c = rw (c .before .r13 .given .1)
 
 returns-18 : tie.Need-returns-18
 unfolding valueOf
-returns-18 c = rw (c .before .r15 .given .1)
+returns-18 c = rw (c .before .r14 .given .1)
 
 returns-19 : tie.Need-returns-19
 unfolding valueOf
-returns-19 c = rw (c .before .r16 .given .1)
+returns-19 c = rw (c .before .r15 .given .1)
 
 returns-20 : tie.Need-returns-20
 unfolding valueOf
-returns-20 c = rw (c .before .r17 .given .1)
+returns-20 c = rw (c .before .r16 .given .1)
 
 returns-21 : tie.Need-returns-21
 unfolding valueOf
-returns-21 c = rw (c .before .r18 .given .1)
+returns-21 c = rw (c .before .r17 .given .1)
+
+returns-22 : tie.Need-returns-22
+unfolding valueOf
+returns-22 c = rw (c .before .r18 .given .1)
 
 pub refusal-value-spec : {M : Type 1} → statement M
 refusal-value-spec =
@@ -181,6 +188,7 @@ refusal-value-spec =
     enum-known-r-10
     cast-result-3
     enum-known-r-11
+    enum-told-4
     enum-known-r-12
     enum-known-r-13
     enum-known-r-14
@@ -208,4 +216,5 @@ refusal-value-spec =
     returns-18
     returns-19
     returns-20
-    returns-21)
+    returns-21
+    returns-22)

@@ -1,0 +1,2 @@
+-- How the code goes: no public promise and no claim reaches these.
+pub mod Turns
