@@ -38,3 +38,4 @@ pub mod BrokenSample
 pub mod Broken
 pub mod InC
 pub mod Claims
+pub mod Month

@@ -6,3 +6,4 @@ pub mod InC
 pub mod Shape
 pub mod Cleared
 pub mod Readers
+pub mod Month

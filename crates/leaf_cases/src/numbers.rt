@@ -54,4 +54,5 @@ pub(crate) fn print_refusals() {
     print_refusal(Refusal::TextShort(11000));
     print_refusal(Refusal::NothingFound);
     print_refusal(Refusal::TablesError(13000));
+    print_refusal(Refusal::RoundUpFull);
 }
