@@ -43,7 +43,7 @@ impl SizeClass {
 /// # Ok::<(), itelbash::Refusal>(())
 /// ```
 ///
-/// The order in which files are added changes nothing, which is a theorem about the library (`order-same` in crates/round_up).
+/// The order in which files are added changes nothing, which is a theorem about the library (`month-order` in crates/claims).
 #[derive(Clone, Debug, PartialEq, Eq)]
 pub struct RoundUp {
     words: [u32; sys::ROUND_UP_WORDS],

@@ -16,6 +16,8 @@
 -- Readers that break the promise (P5): refuses-all-broken to wrong-kinds-broken, each of every reader of its sort (specs/Readers.antt); meets-some.
 -- The C interface: c-read-unique to c-first-refused-zeros, the same of its words: one answer, insertion, zeros.
 -- The listing's function: list-unique to list-suffices: one answer, zeros, room.
+-- A month (R4 to R8): month-sum, month-order, month-history of any files; month-refused, month-full, month-added of one; month-kinds, month-grid of
+-- readings; month-unique, month-numbers-unique, c-month-unique: one answer.
 -- The marked cases (L5): `cases-right` of proofs/Cases.antt, one table and one theorem; `cases-read` of proofs/Given.antt: `read` gives them.
 -- Texts and names (P2): what ties them to Unicode's tables and to XML's ranges is named in ARCHITECTURE.md.
 use Prim.Native.Nat.{ℕ, _+_, _*_, _≤_, _<_}
@@ -81,6 +83,24 @@ use Rattle.claims.proofs.Structure as tree
 use Rattle.claims.proofs.Broken as broken
 use Rattle.claims.proofs.InC as inC
 use Rattle.claims.proofs.Lists as lists
+use mathlib.Core.List.{List·Permᴰ}
+use lib.ListN.{getD, set}
+use Rattle.anomaly.specs.Note.{kindNumber}
+use Rattle.errors.specs.declared.Refusal.the-variants.{RoundUpFull}
+use Rattle.round_up.specs.declared.RoundUp.{RoundUp}
+use Rattle.round_up.specs.declared.Added.{Added}
+use Rattle.round_up.specs.declared.AddAnswer.{AddAnswer}
+use Rattle.round_up.specs.declared.AddAnswer.the-variants as add
+use Rattle.round_up.specs.RoundUp as sums
+use Rattle.round_up.specs.Kinds.{kindsIn, tally}
+use Rattle.round_up.specs.History as history
+use Rattle.round_up.proofs.Sums.{grid-sum}
+use Rattle.round_up.proofs.Order.{order-same}
+use Rattle.round_up.proofs.Told as told
+use Rattle.c_api.specs.declared.adding.AxmlAddAnswer.{AxmlAddAnswer}
+use Rattle.c_api.specs.Adding.{AddsWords}
+use Rattle.claims.specs.Month as month
+use Rattle.claims.proofs.Month as months
 
 module _ (f : List ℕ) (lent : Lent) (ns ats : List ℕ) (os : List Note) (cap : ℕ) where
   pub read-unique : (r r′ : ReadAnswer) (ns₁ ns₂ ats₁ ats₂ : List ℕ) (os₁ os₂ : List Note) → Reads f lent ns ats os cap r ns₁ ats₁ os₁
@@ -405,3 +425,60 @@ module _ (R : Reader) (meets : Meets R) where
 -- and the promise can be met: by the definition itself
 pub meets-some : Meets (λ f lent ns ats os cap. reading (roomIn ns ats os cap) f lent)
 meets-some = broken.meets-some
+
+-- ---- a month of files (R4 to R8)
+
+-- After any files, added one after another, the grid's sum is the kept notes of kinds 0 to 12 of those that were added as read.
+pub month-sum : (fs : List history.File)
+    → history.total (sums.gridOf (history.after sums.emptyRoundUp fs)) ≡ history.keptIn (history.addedIn sums.emptyRoundUp fs)
+month-sum = grid-sum
+
+-- those that met 29 change nothing
+pub month-history : (r : RoundUp) (fs : List history.File)
+    → history.NoneFull r (history.addedIn r fs) × (history.after r (history.addedIn r fs) ≡ history.after r fs)
+month-history r fs = let h = told.history-same r fs in (h .none, h .same)
+
+-- in any order: where none meets 29, none does in another, and the round-up is the same
+pub month-order : {fs gs : List history.File} → List·Permᴰ fs gs → (r : RoundUp) → history.NoneFull r fs
+    → history.NoneFull r gs × (history.after r fs ≡ history.after r gs)
+month-order = order-same
+
+-- a file that was refused adds to one count, and nothing else
+pub month-refused : (r : RoundUp) (counts : List ℕ) (x : Refusal) (bytes : ℕ) → length (r .counts) ≡ sums.places
+    → sums.addedTo r (sums.shareOf counts (Refused x) bytes) .answer ≡ add.Added
+    → sums.addedTo r (sums.shareOf counts (Refused x) bytes) .«round_up» .counts
+    ≡ set (r .counts) (sums.refusedFrom + numberOf x) (getD (r .counts) (sums.refusedFrom + numberOf x) 0 + 1)
+month-refused = told.refused-one
+
+-- 29 is the only refusal, leaves the round-up as it was, and is given where a count would pass
+pub month-full : (r : RoundUp) (share : List ℕ) (x : Refusal) → sums.addedTo r share .answer ≡ add.Refused x
+    → (x ≡ RoundUpFull) × (sums.addedTo r share .«round_up» ≡ r) × ((i : ℕ) × (sums.largest < getD (r .counts) i 0 + getD share i 0))
+month-full r share x e = let h = told.full-same r share x e in (h .0, h .1, told.full-where r share x e)
+
+-- and where none would, the file is added, in every count
+pub month-added : (r : RoundUp) (share : List ℕ) → length (r .counts) ≡ length share → ((i : ℕ) → getD (r .counts) i 0 + getD share i 0 ≤ sums.largest)
+    → (sums.addedTo r share .answer ≡ add.Added)
+    × ((i : ℕ) → getD (sums.addedTo r share .«round_up» .counts) i 0 ≡ getD (r .counts) i 0 + getD share i 0)
+month-added r share even fits = let a = told.added-fits r share even fits in (a, λ i. told.added-at r share i even a)
+
+-- for every reading that succeeds, the kinds that are counted in its note table are those of the kept notes
+pub month-kinds : (f : List ℕ) (lent : Lent) (ns ats ws : List ℕ) (cap : ℕ) (a : AxmlAnswer) (ns′ ats′ ws′ : List ℕ)
+    → ReadsWords f lent ns ats ws cap a ns′ ats′ ws′ → a .refusal ≡ 0
+    → kindsIn ws′ (a .notes) ≡ tally sums.kinds 0 (map kindNumber (keptNotes cap (notesIn (eventsOf f lent))))
+month-kinds = months.month-kinds
+
+-- so that over any month of readings the grid's sum is the kept notes of kinds 0 to 12
+pub month-grid : (xs : List month.Called) (fs : List history.File) → month.AllTold xs fs → history.NoneFull sums.emptyRoundUp fs
+    → history.total (sums.gridOf (history.after sums.emptyRoundUp fs)) ≡ month.keptIn xs
+month-grid = months.month-grid
+
+-- one answer
+pub month-unique : (r : RoundUp) (share : List ℕ) (x y : Added) → x ≡ sums.addedTo r share → y ≡ sums.addedTo r share → x ≡ y
+month-unique r share x y p q = p ∙ sym q
+
+pub month-numbers-unique : (a b : AddAnswer) → sums.addNumbers a ≡ sums.addNumbers b → a ≡ b
+month-numbers-unique = told.addNumbers-unique
+
+pub c-month-unique : (words notes : List ℕ) (refusal count bytes : ℕ) (a b : AxmlAddAnswer) (after after′ : List ℕ)
+    → AddsWords words notes refusal count bytes a after → AddsWords words notes refusal count bytes b after′ → (a ≡ b) × (after ≡ after′)
+c-month-unique words notes refusal count bytes a b after after′ p q = (p .answer ∙ sym (q .answer), p .counts ∙ sym (q .counts))

@@ -4,7 +4,8 @@ use Prim.Native.Nat.{ℕ, zero, suc, _+_, _-_, _*_, _/_, _%_, _≤_}
 use native.Mathlib.Omega.{arith}
 use mathlib.Core.Path.{_≡_, refl, sym, _∙_, ap, subst}
 use mathlib.Core.List.{List, [], _∷_, _++_, map}
-use mathlib.Core.Bool.{false}
+use mathlib.Core.Bool.{false, true≢false}
+use borrow.Author.Tests.{eq-eqb}
 use lib.ListN.{length, drop, replicate, length-append, length-replicate}
 use Rattle.anomaly.specs.Note.{noteOf}
 use Rattle.anomaly.specs.Kept.{keptNotes}
@@ -14,6 +15,7 @@ use Rattle.errors.proofs.Laws.{numberOf-some}
 use Rattle.errors.specs.Refusal.{numberOf, numbersOf, textNumbersOf, firstNumbersOf}
 use Rattle.errors.specs.declared.Refusal.{Refusal}
 use Rattle.errors.specs.declared.ReadAnswer.{ReadAnswer}
+use Rattle.errors.proofs.Laws.{numberOf-some}
 use Rattle.errors.specs.declared.ReadAnswer.the-variants.{Done, Refused}
 use Rattle.errors.specs.declared.ReadCounts.{ReadCounts}
 use Rattle.errors.specs.declared.TextAnswer.{TextAnswer}
@@ -58,9 +60,9 @@ zeros-behind os m n k e = sym (words-behind os m n) ∙ ap (λ (j : ℕ). wordsO
 -- ---- an answer by its numbers
 
 some-number : (x : Refusal) → _≡_ {A = ℕ} (numberOf x) 0 → ⊥
-some-number x e = let q = rw e at (numberOf-some x) in let z : _≡_ {A = ℕ} 0 1 = cc in omega arith
+some-number x e = true≢false (sym (eq-eqb (numberOf x) 0 e) ∙ numberOf-some x)
 
-done-of : (a : ReadAnswer) → _≡_ {A = ℕ} (numbersOf a .refusal) 0 → (c : ReadCounts) × (a ≡ Done c)
+pub done-of : (a : ReadAnswer) → _≡_ {A = ℕ} (numbersOf a .refusal) 0 → (c : ReadCounts) × (a ≡ Done c)
 unfolding numbersOf
 done-of (Done c) e = (c, refl)
 done-of (Refused x) e = absurd (some-number x e)
@@ -78,17 +80,17 @@ room-in (Refused x) h = h
 -- ---- a call of `axml_read` as one of `read`
 
 module _ (f : List ℕ) (lent : Lent) (ns ats ws : List ℕ) (cap : ℕ) where
-  abbrev room : Room
+  abbrev pub room : Room
   room = wordRoom ns ats ws cap
 
-  abbrev places : List Note
+  abbrev pub places : List Note
   places = replicate (length ws / noteWidth) zeroNote
 
-  as-reads : (a : ReadAnswer) → reading room f lent .answer ≡ a
+  pub as-reads : (a : ReadAnswer) → reading room f lent .answer ≡ a
       → Reads f lent ns ats places cap a (reading room f lent .nodes) (reading room f lent .attributes) (reading room f lent .notes)
   as-reads a e = reading-left f lent ns ats (length ws / noteWidth) cap (reading room f lent) refl a e
 
-  many : length places ≡ length ws / noteWidth
+  pub many : length places ≡ length ws / noteWidth
   many = length-replicate (length ws / noteWidth) zeroNote
 
   module _ (a : AxmlAnswer) (ns′ ats′ ws′ : List ℕ) (h : ReadsWords f lent ns ats ws cap a ns′ ats′ ws′) where

@@ -41,3 +41,4 @@ pub mod Broken
 pub mod InC
 pub mod Lists
 pub mod Claims
+pub mod Month

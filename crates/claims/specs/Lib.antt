@@ -7,3 +7,4 @@ pub mod Shape
 pub mod Cleared
 pub mod Readers
 pub mod Parts
+pub mod Month

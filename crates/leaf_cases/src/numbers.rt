@@ -52,6 +52,7 @@ pub(crate) fn print_refusals() {
     print_refusal(Refusal::TextShort(11000));
     print_refusal(Refusal::NothingFound);
     print_refusal(Refusal::TablesError(13000));
+    print_refusal(Refusal::RoundUpFull);
     print_refusal(Refusal::StringPoolGarbage(41000));
     print_refusal(Refusal::StringPoolHeader(42000));
     print_refusal(Refusal::StringPoolOffsets(43000));
