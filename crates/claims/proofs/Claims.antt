@@ -32,7 +32,7 @@ use Rattle.common.specs.declared.ResChunkHeader.{ResChunkHeader}
 use Rattle.common.specs.declared.HeaderRead.the-variants.{Whole}
 use Rattle.common.proofs.Product.{Complex-unique}
 use Rattle.chunk.specs.Sort.{sortOf}
-use Rattle.errors.specs.Refusal.{valueOf, numbersOf, textNumbersOf, firstNumbersOf}
+use Rattle.errors.specs.Refusal.{numberOf, valueOf, numbersOf, textNumbersOf, firstNumbersOf}
 use Rattle.errors.specs.declared.ReadAnswer.{ReadAnswer}
 use Rattle.errors.specs.declared.ReadAnswer.the-variants.{Done, Refused}
 use Rattle.errors.specs.declared.Refusal.{Refusal}

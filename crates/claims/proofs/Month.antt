@@ -75,6 +75,7 @@ module _ (f : List ℕ) (lent : Lent) (ns ats ws : List ℕ) (cap : ℕ) (a : Ax
         min-eq-left (omega (arith, z .long, z .there))
 
     within : c .notes ≤ length os
+    unfolding numbersOf
     within = let z = zeros.done-zeros f lent ns ats (places f lent ns ats ws cap) cap c _ _ _ reads .noteRecords in omega (arith, z .long, z .there)
 
     pub month-kinds : kindsIn ws′ (a .notes) ≡ tally kinds 0 (map kindNumber ks)
