@@ -11,6 +11,7 @@ use Rattle.errors.specs.declared.Refusal.the-variants.{TooSmallError, To
 use Rattle.errors.specs.declared.Refusal.the-variants.{MissingRoot, SystemNamesError, NodesFull}
 use Rattle.errors.specs.declared.Refusal.the-variants.{AttributesFull, NotesFull, TextShort, NothingFound, TablesError}
 use Rattle.errors.specs.declared.Refusal.the-variants.{ItemsError, NoPlainText, AnswersFull}
+use Rattle.errors.specs.declared.Refusal.the-variants.{ModeError, PairsError, ListingMalformed, ListingNumber, ListingOrder, NotesOff, ListFull}
 use Rattle.errors.specs.declared.Refusal.the-variants.{RoundUpFull}
 use Rattle.errors.specs.declared.Refusal.the-variants.{StringPoolGarbage, StringPoolHeader, StringPoolOffsets, StringPoolStyles}
 use Rattle.errors.specs.declared.Refusal.the-variants.{StringPoolData, ResourceMapHeader, ResourceMapIds}
@@ -52,14 +53,21 @@ refusalOf n v =
     cond (eqb n 13) (TablesError v) (
     cond (eqb n 14) (ItemsError v) (
     cond (eqb n 15) (NoPlainText v) (
+    cond (eqb n 16) (ModeError v) (
+    cond (eqb n 20) (PairsError v) (
     cond (eqb n 21) (AnswersFull v) (
+    cond (eqb n 24) (ListingMalformed v) (
+    cond (eqb n 25) (ListingNumber v) (
+    cond (eqb n 26) (ListingOrder v) (
+    cond (eqb n 27) NotesOff (
+    cond (eqb n 28) (ListFull v) (
     cond (eqb n 29) RoundUpFull (
     cond (eqb n 41) (StringPoolGarbage v) (
     cond (eqb n 42) (StringPoolHeader v) (
     cond (eqb n 43) (StringPoolOffsets v) (
     cond (eqb n 44) (StringPoolStyles v) (
     cond (eqb n 45) (StringPoolData v) (
-    cond (eqb n 51) (ResourceMapHeader v) (ResourceMapIds v)))))))))))))))))))))
+    cond (eqb n 51) (ResourceMapHeader v) (ResourceMapIds v))))))))))))))))))))))))))))
 
 refusalOf-back : (r : Refusal) → refusalOf (numberOf r) (valueOf r) ≡ r
 unfolding numberOf valueOf refusalOf
@@ -76,7 +84,14 @@ refusalOf-back NothingFound = refl
 refusalOf-back (TablesError v) = refl
 refusalOf-back (ItemsError v) = refl
 refusalOf-back (NoPlainText v) = refl
+refusalOf-back (ModeError v) = refl
+refusalOf-back (PairsError v) = refl
 refusalOf-back (AnswersFull v) = refl
+refusalOf-back (ListingMalformed v) = refl
+refusalOf-back (ListingNumber v) = refl
+refusalOf-back (ListingOrder v) = refl
+refusalOf-back NotesOff = refl
+refusalOf-back (ListFull v) = refl
 refusalOf-back RoundUpFull = refl
 refusalOf-back (StringPoolGarbage v) = refl
 refusalOf-back (StringPoolHeader v) = refl
@@ -106,7 +121,14 @@ numberOf-some NothingFound = refl
 numberOf-some (TablesError v) = refl
 numberOf-some (ItemsError v) = refl
 numberOf-some (NoPlainText v) = refl
+numberOf-some (ModeError v) = refl
+numberOf-some (PairsError v) = refl
 numberOf-some (AnswersFull v) = refl
+numberOf-some (ListingMalformed v) = refl
+numberOf-some (ListingNumber v) = refl
+numberOf-some (ListingOrder v) = refl
+numberOf-some NotesOff = refl
+numberOf-some (ListFull v) = refl
 numberOf-some RoundUpFull = refl
 numberOf-some (StringPoolGarbage v) = refl
 numberOf-some (StringPoolHeader v) = refl
@@ -132,7 +154,14 @@ numberOf-le NothingFound = omega arith
 numberOf-le (TablesError v) = omega arith
 numberOf-le (ItemsError v) = omega arith
 numberOf-le (NoPlainText v) = omega arith
+numberOf-le (ModeError v) = omega arith
+numberOf-le (PairsError v) = omega arith
 numberOf-le (AnswersFull v) = omega arith
+numberOf-le (ListingMalformed v) = omega arith
+numberOf-le (ListingNumber v) = omega arith
+numberOf-le (ListingOrder v) = omega arith
+numberOf-le NotesOff = omega arith
+numberOf-le (ListFull v) = omega arith
 numberOf-le RoundUpFull = omega arith
 numberOf-le (StringPoolGarbage v) = omega arith
 numberOf-le (StringPoolHeader v) = omega arith

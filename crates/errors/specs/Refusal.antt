@@ -1,6 +1,6 @@
 -- The numbers of an answer: docs/FORMAT.md, B1, B7.
 --
---   numberOf         the number of a refusal: 1 to 3, 6 to 15, 21, 29; of a part of pool or map that is short, 41 to 45, 51, 52 (4 and 5 are none)
+--   numberOf         the number of a refusal: 1 to 3, 6 to 16, 20, 21, 24 to 29; of a part of pool or map that is short, 41 to 45, 51, 52 (4 and 5 are none)
 --   valueOf          the value of a refusal; 0 where it has none; of a part that is short, the file offset at which it should begin
 --   numbersOf        the numbers of a reading's answer: refusal 0 and value 0 with the counts, or a refusal and its value with every count 0
 --   textNumbersOf    the same of a text question; its count is the length of the text
@@ -16,6 +16,7 @@ use Rattle.errors.specs.declared.Refusal.the-variants.{TooSmallError, To
 use Rattle.errors.specs.declared.Refusal.the-variants.{MissingRoot, SystemNamesError, NodesFull}
 use Rattle.errors.specs.declared.Refusal.the-variants.{AttributesFull, NotesFull, TextShort, NothingFound, TablesError}
 use Rattle.errors.specs.declared.Refusal.the-variants.{ItemsError, NoPlainText, AnswersFull}
+use Rattle.errors.specs.declared.Refusal.the-variants.{ModeError, PairsError, ListingMalformed, ListingNumber, ListingOrder, NotesOff, ListFull}
 use Rattle.errors.specs.declared.Refusal.the-variants.{RoundUpFull}
 use Rattle.errors.specs.declared.Refusal.the-variants.{StringPoolGarbage, StringPoolHeader, StringPoolOffsets, StringPoolStyles}
 use Rattle.errors.specs.declared.Refusal.the-variants.{StringPoolData, ResourceMapHeader, ResourceMapIds}
@@ -49,7 +50,14 @@ numberOf NothingFound = 12
 numberOf (TablesError node) = 13
 numberOf (ItemsError item) = 14
 numberOf (NoPlainText kind) = 15
+numberOf (ModeError mode) = 16
+numberOf (PairsError pair) = 20
 numberOf (AnswersFull places) = 21
+numberOf (ListingMalformed line) = 24
+numberOf (ListingNumber line) = 25
+numberOf (ListingOrder line) = 26
+numberOf NotesOff = 27
+numberOf (ListFull places) = 28
 numberOf RoundUpFull = 29
 numberOf (StringPoolGarbage at) = 41
 numberOf (StringPoolHeader at) = 42
@@ -73,7 +81,14 @@ valueOf NothingFound = 0
 valueOf (TablesError node) = node
 valueOf (ItemsError item) = item
 valueOf (NoPlainText kind) = kind
+valueOf (ModeError mode) = mode
+valueOf (PairsError pair) = pair
 valueOf (AnswersFull places) = places
+valueOf (ListingMalformed line) = line
+valueOf (ListingNumber line) = line
+valueOf (ListingOrder line) = line
+valueOf NotesOff = 0
+valueOf (ListFull places) = places
 valueOf RoundUpFull = 0
 valueOf (StringPoolGarbage at) = at
 valueOf (StringPoolHeader at) = at

@@ -23,7 +23,14 @@ pub enum Refusal {
     TablesError(u32), // 13, with the first bad node, or the node count
     ItemsError(usize), // 14, with the first bad item, or how many whole ones there are
     NoPlainText(u32), // 15, with the type
+    ModeError(u32), // 16, with that mode: it is neither 1 nor 2
+    PairsError(usize), // 20, with the first bad pair, or how many whole ones there are
     AnswersFull(usize), // 21, with the places
+    ListingMalformed(usize), // 24, with the line that is none of a listing
+    ListingNumber(usize), // 25, with the line that has a number over 4294967295
+    ListingOrder(usize), // 26, with the line where another was due
+    NotesOff, // 27: a reading that would keep no note
+    ListFull(usize), // 28, with the places
     RoundUpFull, // 29: a count of a round-up would pass 4294967295
     // what of the head is short, each with the file offset at which the missing piece should begin
     StringPoolGarbage(usize), // 41, a chunk in the pool's place
@@ -137,7 +144,14 @@ pub fn refusal_number(r: Refusal) -> u32
         Refusal::TablesError(_) => 13,
         Refusal::ItemsError(_) => 14,
         Refusal::NoPlainText(_) => 15,
+        Refusal::ModeError(_) => 16,
+        Refusal::PairsError(_) => 20,
         Refusal::AnswersFull(_) => 21,
+        Refusal::ListingMalformed(_) => 24,
+        Refusal::ListingNumber(_) => 25,
+        Refusal::ListingOrder(_) => 26,
+        Refusal::NotesOff => 27,
+        Refusal::ListFull(_) => 28,
         Refusal::RoundUpFull => 29,
         Refusal::StringPoolGarbage(_) => 41,
         Refusal::StringPoolHeader(_) => 42,
@@ -167,7 +181,14 @@ pub fn refusal_value(r: Refusal) -> u64
         Refusal::TablesError(node) => node as u64,
         Refusal::ItemsError(item) => item as u64,
         Refusal::NoPlainText(kind) => kind as u64,
+        Refusal::ModeError(mode) => mode as u64,
+        Refusal::PairsError(pair) => pair as u64,
         Refusal::AnswersFull(places) => places as u64,
+        Refusal::ListingMalformed(line) => line as u64,
+        Refusal::ListingNumber(line) => line as u64,
+        Refusal::ListingOrder(line) => line as u64,
+        Refusal::NotesOff => 0,
+        Refusal::ListFull(places) => places as u64,
         Refusal::RoundUpFull => 0,
         Refusal::StringPoolGarbage(at) => at as u64,
         Refusal::StringPoolHeader(at) => at as u64,

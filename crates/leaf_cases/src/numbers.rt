@@ -52,6 +52,16 @@ pub(crate) fn print_refusals() {
     print_refusal(Refusal::TextShort(11000));
     print_refusal(Refusal::NothingFound);
     print_refusal(Refusal::TablesError(13000));
+    print_refusal(Refusal::ItemsError(14000));
+    print_refusal(Refusal::NoPlainText(15000));
+    print_refusal(Refusal::ModeError(16000));
+    print_refusal(Refusal::PairsError(20000));
+    print_refusal(Refusal::AnswersFull(21000));
+    print_refusal(Refusal::ListingMalformed(24000));
+    print_refusal(Refusal::ListingNumber(25000));
+    print_refusal(Refusal::ListingOrder(26000));
+    print_refusal(Refusal::NotesOff);
+    print_refusal(Refusal::ListFull(28000));
     print_refusal(Refusal::RoundUpFull);
     print_refusal(Refusal::StringPoolGarbage(41000));
     print_refusal(Refusal::StringPoolHeader(42000));

@@ -70,6 +70,27 @@ enum-told-21 c = search needs
 enum-told-22 : tie.Need-enum-told-22
 enum-told-22 c = search needs
 
+enum-told-23 : tie.Need-enum-told-23
+enum-told-23 c = search needs
+
+enum-told-24 : tie.Need-enum-told-24
+enum-told-24 c = search needs
+
+enum-told-25 : tie.Need-enum-told-25
+enum-told-25 c = search needs
+
+enum-told-26 : tie.Need-enum-told-26
+enum-told-26 c = search needs
+
+enum-told-27 : tie.Need-enum-told-27
+enum-told-27 c = search needs
+
+enum-told-28 : tie.Need-enum-told-28
+enum-told-28 c = search needs
+
+enum-told-29 : tie.Need-enum-told-29
+enum-told-29 c = search needs
+
 returns : tie.Need-returns
 unfolding numberOf
 returns c = rw (c .enum-told .given .1)
@@ -158,6 +179,34 @@ returns-22 : tie.Need-returns-22
 unfolding numberOf
 returns-22 c = rw (c .enum-told22 .given .1)
 
+returns-23 : tie.Need-returns-23
+unfolding numberOf
+returns-23 c = rw (c .enum-told23 .given .1)
+
+returns-24 : tie.Need-returns-24
+unfolding numberOf
+returns-24 c = rw (c .enum-told24 .given .1)
+
+returns-25 : tie.Need-returns-25
+unfolding numberOf
+returns-25 c = rw (c .enum-told25 .given .1)
+
+returns-26 : tie.Need-returns-26
+unfolding numberOf
+returns-26 c = rw (c .enum-told26 .given .1)
+
+returns-27 : tie.Need-returns-27
+unfolding numberOf
+returns-27 c = rw (c .enum-told27 .given .1)
+
+returns-28 : tie.Need-returns-28
+unfolding numberOf
+returns-28 c = rw (c .enum-told28 .given .1)
+
+returns-29 : tie.Need-returns-29
+unfolding numberOf
+returns-29 c = rw (c .enum-told29 .given .1)
+
 pub refusal-number-spec : {M : Type 1} → statement M
 refusal-number-spec =
     tie.close
@@ -184,6 +233,13 @@ refusal-number-spec =
     enum-told-20
     enum-told-21
     enum-told-22
+    enum-told-23
+    enum-told-24
+    enum-told-25
+    enum-told-26
+    enum-told-27
+    enum-told-28
+    enum-told-29
     returns
     returns-2
     returns-3
@@ -205,4 +261,11 @@ refusal-number-spec =
     returns-19
     returns-20
     returns-21
-    returns-22)
+    returns-22
+    returns-23
+    returns-24
+    returns-25
+    returns-26
+    returns-27
+    returns-28
+    returns-29)

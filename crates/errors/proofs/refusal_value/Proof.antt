@@ -55,8 +55,8 @@ cast-result-3 c = search needs
 enum-known-r-11 : tie.Need-enum-known-r-11
 enum-known-r-11 c = search needs
 
-enum-told-4 : tie.Need-enum-told-4
-enum-told-4 c = search needs
+cast-result-4 : tie.Need-cast-result-4
+cast-result-4 c = search needs
 
 enum-known-r-12 : tie.Need-enum-known-r-12
 enum-known-r-12 c = search needs
@@ -73,11 +73,35 @@ enum-known-r-15 c = search needs
 enum-known-r-16 : tie.Need-enum-known-r-16
 enum-known-r-16 c = search needs
 
+enum-told-4 : tie.Need-enum-told-4
+enum-told-4 c = search needs
+
 enum-known-r-17 : tie.Need-enum-known-r-17
 enum-known-r-17 c = search needs
 
+enum-told-5 : tie.Need-enum-told-5
+enum-told-5 c = search needs
+
 enum-known-r-18 : tie.Need-enum-known-r-18
 enum-known-r-18 c = search needs
+
+enum-known-r-19 : tie.Need-enum-known-r-19
+enum-known-r-19 c = search needs
+
+enum-known-r-20 : tie.Need-enum-known-r-20
+enum-known-r-20 c = search needs
+
+enum-known-r-21 : tie.Need-enum-known-r-21
+enum-known-r-21 c = search needs
+
+enum-known-r-22 : tie.Need-enum-known-r-22
+enum-known-r-22 c = search needs
+
+enum-known-r-23 : tie.Need-enum-known-r-23
+enum-known-r-23 c = search needs
+
+enum-known-r-24 : tie.Need-enum-known-r-24
+enum-known-r-24 c = search needs
 
 returns : tie.Need-returns
 unfolding valueOf
@@ -137,27 +161,27 @@ returns-14 c = rw (c .before .r11 .given .1)
 
 returns-15 : tie.Need-returns-15
 unfolding valueOf
-returns-15 c = rw (c .enum-told4 .given .1)
+returns-15 c = rw (c .before .r12 .given .1)
 
 returns-16 : tie.Need-returns-16
 unfolding valueOf
-returns-16 c = rw (c .before .r12 .given .1)
+returns-16 c = rw (c .before .r13 .given .1)
 
 returns-17 : tie.Need-returns-17
 unfolding valueOf
-returns-17 c = rw (c .before .r13 .given .1)
+returns-17 c = rw (c .before .r14 .given .1)
 
 returns-18 : tie.Need-returns-18
 unfolding valueOf
-returns-18 c = rw (c .before .r14 .given .1)
+returns-18 c = rw (c .before .r15 .given .1)
 
 returns-19 : tie.Need-returns-19
 unfolding valueOf
-returns-19 c = rw (c .before .r15 .given .1)
+returns-19 c = rw (c .before .r16 .given .1)
 
 returns-20 : tie.Need-returns-20
 unfolding valueOf
-returns-20 c = rw (c .before .r16 .given .1)
+returns-20 c = rw (c .enum-told4 .given .1)
 
 returns-21 : tie.Need-returns-21
 unfolding valueOf
@@ -165,7 +189,35 @@ returns-21 c = rw (c .before .r17 .given .1)
 
 returns-22 : tie.Need-returns-22
 unfolding valueOf
-returns-22 c = rw (c .before .r18 .given .1)
+returns-22 c = rw (c .enum-told5 .given .1)
+
+returns-23 : tie.Need-returns-23
+unfolding valueOf
+returns-23 c = rw (c .before .r18 .given .1)
+
+returns-24 : tie.Need-returns-24
+unfolding valueOf
+returns-24 c = rw (c .before .r19 .given .1)
+
+returns-25 : tie.Need-returns-25
+unfolding valueOf
+returns-25 c = rw (c .before .r20 .given .1)
+
+returns-26 : tie.Need-returns-26
+unfolding valueOf
+returns-26 c = rw (c .before .r21 .given .1)
+
+returns-27 : tie.Need-returns-27
+unfolding valueOf
+returns-27 c = rw (c .before .r22 .given .1)
+
+returns-28 : tie.Need-returns-28
+unfolding valueOf
+returns-28 c = rw (c .before .r23 .given .1)
+
+returns-29 : tie.Need-returns-29
+unfolding valueOf
+returns-29 c = rw (c .before .r24 .given .1)
 
 pub refusal-value-spec : {M : Type 1} → statement M
 refusal-value-spec =
@@ -188,14 +240,22 @@ refusal-value-spec =
     enum-known-r-10
     cast-result-3
     enum-known-r-11
-    enum-told-4
+    cast-result-4
     enum-known-r-12
     enum-known-r-13
     enum-known-r-14
     enum-known-r-15
     enum-known-r-16
+    enum-told-4
     enum-known-r-17
+    enum-told-5
     enum-known-r-18
+    enum-known-r-19
+    enum-known-r-20
+    enum-known-r-21
+    enum-known-r-22
+    enum-known-r-23
+    enum-known-r-24
     returns
     returns-2
     returns-3
@@ -217,4 +277,11 @@ refusal-value-spec =
     returns-19
     returns-20
     returns-21
-    returns-22)
+    returns-22
+    returns-23
+    returns-24
+    returns-25
+    returns-26
+    returns-27
+    returns-28
+    returns-29)
