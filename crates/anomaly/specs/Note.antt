@@ -28,8 +28,8 @@ noteOf (UnknownChunk chunk-type) = made 5 chunk-type 0
 noteOf (AttributeStartShifted attribute-start) = made 6 attribute-start 0
 noteOf (AttributeSizeMismatch attribute-size) = made 7 attribute-size 0
 noteOf (ElementTrailingBytes len) = made 8 len 0
-noteOf (InvalidElementName name has-text) = made 9 name has-text
-noteOf (InvalidAttributeName name) = made 10 name 0
+noteOf (InvalidElementName name has-text) = made 9 (name .0) has-text
+noteOf (InvalidAttributeName name) = made 10 (name .0) 0
 noteOf TruncatedXml = made 11 0 0
 noteOf (UnclosedElements count) = made 12 count 0
 

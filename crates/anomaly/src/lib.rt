@@ -8,6 +8,7 @@ ghost use Prim.Native.Nat.{_<_};
 ghost use lib.ListN.{getD};
 ghost use Rattle.anomaly.specs.Note.{made, noteOf, kinds, kindIndex};
 ghost use Rattle.anomaly.specs.Kept.{isDue, noNotes, storedIn};
+use common::StringIndex;
 
 // A note as it is lent and printed: the number of its kind, and two numbers that the kind explains.
 #[repr(C)]
@@ -28,8 +29,8 @@ pub enum ResAnomaly {
     AttributeStartShifted(u32), // where attributes start, above 20
     AttributeSizeMismatch(u32), // the size of an attribute, above 20
     ElementTrailingBytes(u32), // how many bytes are left over at the end of a start
-    InvalidElementName(u32, u32), // the index of an element's name, and 1 if it has a text, else 0
-    InvalidAttributeName(u32), // the index of an attribute's name
+    InvalidElementName(StringIndex, u32), // the index of an element's name, and 1 if it has a text, else 0
+    InvalidAttributeName(StringIndex), // the index of an attribute's name
     TruncatedXml, // the tree ends inside a node
     UnclosedElements(u32), // how deep the end of the walk is
 }
@@ -80,8 +81,8 @@ pub fn note_of(x: ResAnomaly) -> Note
         ResAnomaly::AttributeStartShifted(attribute_start) => made(6, attribute_start, 0),
         ResAnomaly::AttributeSizeMismatch(attribute_size) => made(7, attribute_size, 0),
         ResAnomaly::ElementTrailingBytes(len) => made(8, len, 0),
-        ResAnomaly::InvalidElementName(name, has_text) => made(9, name, has_text),
-        ResAnomaly::InvalidAttributeName(name) => made(10, name, 0),
+        ResAnomaly::InvalidElementName(name, has_text) => made(9, name.0, has_text),
+        ResAnomaly::InvalidAttributeName(name) => made(10, name.0, 0),
         ResAnomaly::TruncatedXml => made(11, 0, 0),
         ResAnomaly::UnclosedElements(count) => made(12, count, 0),
     }

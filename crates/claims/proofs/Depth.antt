@@ -87,7 +87,7 @@ trailingNote s = record { test = not (eqb (trailingOf s) 0); note = ElementTrail
 
 abbrev nameNote : Names → XmlStartElement → Maybe
 nameNote N s =
-    record { test = not (isValid (N .state (s .name .0))); note = InvalidElementName (s .name .0) (hasOne (N .state (s .name .0))) }
+    record { test = not (isValid (N .state (s .name .0))); note = InvalidElementName (s .name) (hasOne (N .state (s .name .0))) }
 
 module _ (N : Names) where
   deep-attribute : (l : List ℕ) (d : ℕ) → deeper (attributeEvent N l) d ≡ d

@@ -90,8 +90,8 @@ module _ (Q : Refusal → Type 0) where
       name-refuse =
           let state = N .state (s .name .0) in
           let opens : AllRefuse (Open (s .name) (fixedOf state) (s .line) ∷ fromLead N s k l) = (tt, lead-refuse) in
-          both (when (not (isValid state)) (Note (InvalidElementName (s .name .0) (hasOne state)))) (Open (s .name) (fixedOf state) (s .line) ∷ fromLead N s k l)
-          (noted (not (isValid state)) (InvalidElementName (s .name .0) (hasOne state))) opens
+          both (when (not (isValid state)) (Note (InvalidElementName (s .name) (hasOne state)))) (Open (s .name) (fixedOf state) (s .line) ∷ fromLead N s k l)
+          (noted (not (isValid state)) (InvalidElementName (s .name) (hasOne state))) opens
 
       trailing-refuse : (reach : ℕ) → AllRefuse (fromTrailing N s reach k l)
       unfolding fromTrailing

@@ -75,7 +75,7 @@ noted-moved false x es n p h = h
 attribute-moved : (N : Names) (a : XmlAttributeElement) (s : NameState) → Moved (attributeBy N a s ∷ []) 0
 unfolding noteOf
 attribute-moved N a NoText = record { opens = omega arith; depth = λ d. omega arith; plain = tt }
-attribute-moved N a Invalid = moved-note (InvalidAttributeName (a .name .0)) (λ e. omega arith)
+attribute-moved N a Invalid = moved-note (InvalidAttributeName (a .name)) (λ e. omega arith)
 attribute-moved N a Valid = record { opens = omega arith; depth = λ d. omega arith; plain = tt }
 
 attributes-moved : (N : Names) (n stride : ℕ) (l : List ℕ) → Moved (attributesOf N n stride l) 0
@@ -104,7 +104,7 @@ module _ (N : Names) (s : XmlStartElement) (k : ℕ) (l : List ℕ) where
   name-moved : Moved (fromName N s k l) 1
   unfolding fromName noteOf
   name-moved =
-      noted-moved (not (isValid (N .state (s .name .0)))) (InvalidElementName (s .name .0) (hasOne (N .state (s .name .0)))) (fromOpen N s k l) 1
+      noted-moved (not (isValid (N .state (s .name .0)))) (InvalidElementName (s .name) (hasOne (N .state (s .name .0)))) (fromOpen N s k l) 1
       (λ e. omega arith) open-moved
 
   -- behind the notes 6, 7 and 8

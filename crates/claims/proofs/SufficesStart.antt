@@ -112,7 +112,7 @@ module _ (N : Names) (s : XmlStartElement) (k : ℕ) (l : List ℕ) where
   few-name : Few (fromName N s k l) 1 (1 + s .«attribute_count»)
   unfolding fromName
   few-name =
-      few-noted (not (isValid (N .state (s .name .0)))) (InvalidElementName (s .name .0) (hasOne (N .state (s .name .0)))) (fromOpen N s k l) 1
+      few-noted (not (isValid (N .state (s .name .0)))) (InvalidElementName (s .name) (hasOne (N .state (s .name .0)))) (fromOpen N s k l) 1
       (1 + s .«attribute_count») few-open
 
   -- notes 6, 7 and 8

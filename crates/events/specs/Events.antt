@@ -87,7 +87,7 @@ leading = Attribute 2 (record { «namespace_uri» = index 0; name = index 0; «d
 
 abbrev pub attributeBy : Names → XmlAttributeElement → NameState → Event
 attributeBy N a NoText = LeftOut (a .name)
-attributeBy N a Invalid = Note (InvalidAttributeName (a .name .0))
+attributeBy N a Invalid = Note (InvalidAttributeName (a .name))
 attributeBy N a Valid = Attribute (N .prefixOf (a .«namespace_uri» .0)) a
 
 unfoldable pub attributeEvent : Names → List ℕ → Event
@@ -111,7 +111,7 @@ fromOpen N s k l = Open (s .name) (fixedOf (N .state (s .name .0))) (s .line) �
 
 unfoldable pub fromName : Names → XmlStartElement → ℕ → List ℕ → List Event
 fromName N s k l =
-    when (not (isValid (N .state (s .name .0)))) (Note (InvalidElementName (s .name .0) (hasOne (N .state (s .name .0))))) ++ fromOpen N s k l
+    when (not (isValid (N .state (s .name .0)))) (Note (InvalidElementName (s .name) (hasOne (N .state (s .name .0))))) ++ fromOpen N s k l
 
 unfoldable pub fromTrailing : Names → XmlStartElement → ℕ → ℕ → List ℕ → List Event
 fromTrailing N s reach k l = when (not (eqb (trailingOf s) 0)) (Note (ElementTrailingBytes (trailingOf s))) ++ cond (eqb reach 3) (fromName N s k l) cutShort

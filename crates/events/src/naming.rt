@@ -46,13 +46,13 @@ pub fn open_step(c: Cursor, fixed: u32) -> Step
 
 // Note 9 comes before its element: `text` is 1 if its name has a text.
 fn invalid_step(c: Cursor, text: u32) -> Step
-    ensures { λ r. ⌜ r ≡ toStep c (Note (InvalidElementName (c .start .name .0) text)) AtOpen ⌝ }
+    ensures { λ r. ⌜ r ≡ toStep c (Note (InvalidElementName (c .start .name) text)) AtOpen ⌝ }
 {
     let s = c.start;
     let name = s.name;
     to_step(
         c,
-        Event::Note(ResAnomaly::InvalidElementName(name.0, text)),
+        Event::Note(ResAnomaly::InvalidElementName(name, text)),
         Phase::AtOpen,
     )
 }
@@ -114,9 +114,9 @@ fn valid_attribute(t: &[u8], names: &[u32], area: &[u8], h: Head, a: XmlAttribut
 }
 
 fn invalid_attribute(name: StringIndex) -> Event
-    ensures { λ r. ⌜ r ≡ Note (InvalidAttributeName (name .0)) ⌝ }
+    ensures { λ r. ⌜ r ≡ Note (InvalidAttributeName name) ⌝ }
 {
-    Event::Note(ResAnomaly::InvalidAttributeName(name.0))
+    Event::Note(ResAnomaly::InvalidAttributeName(name))
 }
 
 // What an attribute makes: its name is looked up once.

@@ -3,6 +3,7 @@ use crate::print;
 use crate::print_end;
 use anomaly::ResAnomaly;
 use anomaly::note_of;
+use common::StringIndex;
 use errors::ReadAnswer;
 use errors::Refusal;
 use errors::read_numbers;
@@ -26,8 +27,8 @@ pub(crate) fn print_notes() {
     print_note(ResAnomaly::AttributeStartShifted(506));
     print_note(ResAnomaly::AttributeSizeMismatch(507));
     print_note(ResAnomaly::ElementTrailingBytes(508));
-    print_note(ResAnomaly::InvalidElementName(509, 1));
-    print_note(ResAnomaly::InvalidAttributeName(510));
+    print_note(ResAnomaly::InvalidElementName(StringIndex(509), 1));
+    print_note(ResAnomaly::InvalidAttributeName(StringIndex(510)));
     print_note(ResAnomaly::TruncatedXml);
     print_note(ResAnomaly::UnclosedElements(512));
 }

@@ -155,7 +155,7 @@ pub fn check_names(names: &[u32], area: &[u8]) -> NamesRead
 
 // A guess at the entry with an id, and the number of entries where there is none. Without gaps the entry is as far from the first as its
 // id is; the id at that place is too high by the gaps before it, and the guess lies as much before the place.
-fn guess(names: &[u32], wanted: u32) -> usize
+fn guess(names: &[u32], wanted: ResourceId) -> usize
     requires { ⌜ Rising (now names) ⌝ }
     ensures { λ r. ⌜ r ≤ length (now (names .entry)) / 3 ⌝ }
 {
@@ -164,15 +164,15 @@ fn guess(names: &[u32], wanted: u32) -> usize
         return whole;
     }
     let first = names[0];
-    if wanted < first {
+    if wanted.0 < first {
         return whole;
     }
-    let far = wanted - first;
+    let far = wanted.0 - first;
     let place = far as usize;
     if whole <= place {
         return whole;
     }
-    let over = names[3 * place] - wanted;
+    let over = names[3 * place] - wanted.0;
     if far < over {
         return whole;
     }
@@ -180,19 +180,19 @@ fn guess(names: &[u32], wanted: u32) -> usize
 }
 
 // The name of an id by halves, as the ids rise.
-fn by_halves(names: &[u32], wanted: u32) -> Lookup
+fn by_halves(names: &[u32], wanted: ResourceId) -> Lookup
     requires { ⌜ Rising (now names) ⌝ }
-    ensures { λ r. ⌜ r ≡ nameOf wanted (now (names .entry)) ⌝ }
+    ensures { λ r. ⌜ r ≡ nameOf (wanted .0) (now (names .entry)) ⌝ }
 {
     let mut low = 0;
     let mut high = names.len() / 3;
     while low < high {
         let middle = low + (high - low) / 2;
         let found = names[3 * middle];
-        if found == wanted {
+        if found == wanted.0 {
             return Lookup::Name(names[3 * middle + 1], names[3 * middle + 2]);
         }
-        if found < wanted {
+        if found < wanted.0 {
             low = middle + 1;
         } else {
             high = middle;
@@ -207,17 +207,16 @@ pub fn get_type_name(names: &[u32], id: ResourceId) -> Lookup
     requires { ⌜ Rising (now names) ⌝ }
     ensures { λ r. ⌜ r ≡ systemName (id .0) (now (names .entry)) ⌝ }
 {
-    let wanted = id.0;
-    if wanted / 16777216 != 1 {
+    if id.0 / 16777216 != 1 {
         return Lookup::Missing;
     }
-    let place = guess(names, wanted);
+    let place = guess(names, id);
     if place < names.len() / 3 {
-        if names[3 * place] == wanted {
+        if names[3 * place] == id.0 {
             return Lookup::Name(names[3 * place + 1], names[3 * place + 2]);
         }
     }
-    by_halves(names, wanted)
+    by_halves(names, id)
 }
 
 // ---- one leading `android:attr/`

@@ -96,7 +96,7 @@ alike-room false t end p k e l = (omega (arith, e .room), omega (arith, e .room,
 -- ---- the marks
 
 module _ (t : List ℕ) (lent : Lent) (h : Head) (g : Found) (k : Marks) where
-  pub marked-none : k .first ≡ h .count → Marked t lent h g k
+  pub marked-none : k .first .0 ≡ h .count → Marked t lent h g k
   marked-none e = record {
     bare = λ i p q. absurd (let z : ⊥ = omega (arith, e) in z);
     ends = λ p. absurd (let z : ⊥ = omega (arith, e) in z);

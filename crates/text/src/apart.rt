@@ -130,7 +130,7 @@ pub fn told_apart(
     ensures { λ r. ⌜ (r ≡ true → sameText (contentOf h (now (t .entry)) (lends (now (names .entry)) (now (area .entry))) (index .0))
         (partOf (h .wide) (now (t .entry)) (now (area .entry)) g) ≡ false) ⌝ }
 {
-    if index.0 < k.first {
+    if index.0 < k.first.0 {
         return false;
     }
     if h.count <= index.0 {
@@ -144,10 +144,10 @@ pub fn told_apart(
 
 // Those of what is told apart from nothing.
 fn no_marks(count: u32) -> Marks
-    ensures { λ r. ⌜ r .first ≡ count ⌝ }
+    ensures { λ r. ⌜ r .first .0 ≡ count ⌝ }
 {
     Marks {
-        first: count,
+        first: StringIndex(count),
         head: 0,
         room: 0,
         far: 0,
@@ -158,9 +158,9 @@ fn no_marks(count: u32) -> Marks
 }
 
 // Those of n bytes of UTF-8 at a place, against the strings from `first` up to `count`, whose data ends at the place `end`.
-fn narrow_marks(t: &[u8], count: u32, first: u32, end: usize, at: usize, n: usize) -> Marks
+fn narrow_marks(t: &[u8], count: u32, first: StringIndex, end: usize, at: usize, n: usize) -> Marks
     requires { ⌜ at + n ≤ length (now t) ⌝ }
-    ensures { λ r. ⌜ Chosen false (now (t .entry)) count first end at n r ⌝ }
+    ensures { λ r. ⌜ Chosen false (now (t .entry)) count (first .0) end at n r ⌝ }
 {
     if n < 1 {
         return no_marks(count);
@@ -183,9 +183,9 @@ fn narrow_marks(t: &[u8], count: u32, first: u32, end: usize, at: usize, n: usiz
 }
 
 // Those of n bytes of UTF-16.
-fn wide_marks(t: &[u8], count: u32, first: u32, end: usize, at: usize, n: usize) -> Marks
+fn wide_marks(t: &[u8], count: u32, first: StringIndex, end: usize, at: usize, n: usize) -> Marks
     requires { ⌜ at + n ≤ length (now t) ⌝ }
-    ensures { λ r. ⌜ Chosen true (now (t .entry)) count first end at n r ⌝ }
+    ensures { λ r. ⌜ Chosen true (now (t .entry)) count (first .0) end at n r ⌝ }
 {
     if n < 2 {
         return no_marks(count);
@@ -211,13 +211,13 @@ fn wide_marks(t: &[u8], count: u32, first: u32, end: usize, at: usize, n: usize)
 }
 
 // The first index without a system name: behind the map, or any where no names are lent.
-fn first_of(names: &[u32], ids: u32) -> u32
-    ensures { λ r. ⌜ r ≡ firstOf (now (names .entry)) ids ⌝ }
+fn first_of(names: &[u32], ids: u32) -> StringIndex
+    ensures { λ r. ⌜ r .0 ≡ firstOf (now (names .entry)) ids ⌝ }
 {
     if names.len() == 0 {
-        return 0;
+        return StringIndex(0);
     }
-    ids
+    StringIndex(ids)
 }
 
 fn pool_marks(t: &[u8], names: &[u32], h: Head, at: usize, n: usize) -> Marks

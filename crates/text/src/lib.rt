@@ -62,7 +62,7 @@ pub enum Found {
 // What tells most strings of the pool apart from one that was found there, before any of them is read whole.
 pub struct Marks {
     // the first index that can be told apart; those up to the pool's count can
-    pub first: u32,
+    pub first: StringIndex,
     // the two bytes that begin a string of the same length, as a number
     pub head: u32,
     // the last place at which such a string begins and ends in the data

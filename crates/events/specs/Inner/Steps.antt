@@ -191,8 +191,8 @@ openStep c fixed = record { event = Open (c .start .name) fixed (c .start .line)
 -- a name that is not valid makes its note first
 abbrev pub nameStep : Cursor → NameState → Step
 nameStep c Valid = openStep c 0
-nameStep c Invalid = toStep c (Note (InvalidElementName (c .start .name .0) 1)) AtOpen
-nameStep c NoText = toStep c (Note (InvalidElementName (c .start .name .0) 0)) AtOpen
+nameStep c Invalid = toStep c (Note (InvalidElementName (c .start .name) 1)) AtOpen
+nameStep c NoText = toStep c (Note (InvalidElementName (c .start .name) 0)) AtOpen
 
 abbrev pub lastStep : Cursor → Step
 lastStep c = toStep c (noteIf (not (eqb (c .depth) 0)) (Note (UnclosedElements (c .depth)))) AtRoot

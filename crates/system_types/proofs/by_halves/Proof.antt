@@ -9,13 +9,13 @@ use Rattle.system_types.proofs.by_halves.Statement.{statement}
 use Rattle.system_types.proofs.by_halves.Tie as tie
 
 abbrev Inv-loop : tie.InvT-loop
-Inv-loop names wanted low₀ high₀ low high = Between names wanted low high
+Inv-loop names wanted low₀ high₀ low high = Between names (wanted .0) low high
 
 abbrev μ-loop : tie.MeasureT-loop
 μ-loop names wanted low₀ high₀ low high = high - low
 
 loop-holds : tie.Need-loop-holds Inv-loop μ-loop
-loop-holds c = between-first (now (c .args .names)) (c .args .wanted)
+loop-holds c = between-first (now (c .args .names)) (c .args .wanted .0)
 
 sub-middle : tie.Need-sub-middle Inv-loop μ-loop
 sub-middle c = omega arith
@@ -58,12 +58,12 @@ shared-slice-read-t22 c = omega arith
 
 returns : tie.Need-returns Inv-loop μ-loop
 returns c =
-    let a = c .before .before .before .before .before .before .args in
-    let l = c .before .before .before .before .before .loop in
+    let a = c .before .before .before .before .before .before .before .args in
+    let l = c .before .before .before .before .before .before .loop in
     let m = l .low + (l .high - l .low) / 2 in
-    let rising = c .before .before .before .before .before .before .pre in
+    let rising = c .before .before .before .before .before .before .before .pre in
     let fits = l .inv .fits in
-    sym (rising-found (a .wanted) (now (a .names)) m rising (omega arith) (c .before .before .if1 .taken))
+    sym (rising-found (a .wanted .0) (now (a .names)) m rising (omega arith) (c .before .before .if1 .taken))
 
 add-low : tie.Need-add-low Inv-loop μ-loop
 add-low c = omega arith
@@ -73,28 +73,28 @@ loop-less c = omega arith
 
 loop-again : tie.Need-loop-again Inv-loop μ-loop
 loop-again c =
-    let a = c .before .before .before .before .before .args in
-    let l = c .before .before .before .before .loop in
+    let a = c .before .before .before .before .before .before .before .args in
+    let l = c .before .before .before .before .before .before .loop in
     let m = l .low + (l .high - l .low) / 2 in
-    let rising = c .before .before .before .before .before .pre in
-    between-low (now (a .names)) (a .wanted) (l .low) (l .high) m rising (l .inv) (omega arith) (omega arith) (omega arith)
+    let rising = c .before .before .before .before .before .before .before .pre in
+    between-low (now (a .names)) (a .wanted .0) (l .low) (l .high) m rising (l .inv) (omega arith) (omega arith) (omega arith)
 
 loop-less-2 : tie.Need-loop-less-2 Inv-loop μ-loop
 loop-less-2 c = omega arith
 
 loop-again-2 : tie.Need-loop-again-2 Inv-loop μ-loop
 loop-again-2 c =
-    let a = c .before .before .before .before .before .args in
-    let l = c .before .before .before .before .loop in
+    let a = c .before .before .before .before .before .before .before .args in
+    let l = c .before .before .before .before .before .before .loop in
     let m = l .low + (l .high - l .low) / 2 in
-    let rising = c .before .before .before .before .before .pre in
-    between-high (now (a .names)) (a .wanted) (l .low) (l .high) m rising (l .inv) (omega arith) (omega arith) (omega arith)
+    let rising = c .before .before .before .before .before .before .before .pre in
+    between-high (now (a .names)) (a .wanted .0) (l .low) (l .high) m rising (l .inv) (omega arith) (omega arith) (omega arith)
 
 returns-2 : tie.Need-returns-2 Inv-loop μ-loop
 returns-2 c =
     let a = c .before .before .args in
     let l = c .before .loop in
-    sym (between-missing (now (a .names)) (a .wanted) (l .low) (l .high) (l .inv) (omega arith))
+    sym (between-missing (now (a .names)) (a .wanted .0) (l .low) (l .high) (l .inv) (omega arith))
 
 pub by-halves-spec : {M : Type 1} → statement M
 by-halves-spec =

@@ -8,7 +8,7 @@ use Rattle.system_types.proofs.get_type_name.Statement.{statement}
 use Rattle.system_types.proofs.get_type_name.Tie as tie
 
 returns : tie.Need-returns
-returns c = let a = c .before .before .args in sym (systemName-other (a .id .0) (now (a .names)) (c .if1 .taken))
+returns c = let a = c .before .before .before .args in sym (systemName-other (a .id .0) (now (a .names)) (c .if1 .taken))
 
 guess-requires : tie.Need-guess-requires
 guess-requires c κs = search needs
@@ -22,37 +22,37 @@ mul-if3-2 c = omega arith
 shared-slice-read-if3 : tie.Need-shared-slice-read-if3
 shared-slice-read-if3 c = omega arith
 
-mul-t14 : tie.Need-mul-t14
-mul-t14 c = omega arith
+mul-t13 : tie.Need-mul-t13
+mul-t13 c = omega arith
 
-add-t15 : tie.Need-add-t15
-add-t15 c = omega arith
+add-t14 : tie.Need-add-t14
+add-t14 c = omega arith
 
-mul-t16 : tie.Need-mul-t16
-mul-t16 c = omega arith
+mul-t15 : tie.Need-mul-t15
+mul-t15 c = omega arith
 
-shared-slice-read-t18 : tie.Need-shared-slice-read-t18
-shared-slice-read-t18 c = omega arith
+shared-slice-read-t17 : tie.Need-shared-slice-read-t17
+shared-slice-read-t17 c = omega arith
 
-mul-t19 : tie.Need-mul-t19
-mul-t19 c = omega arith
+mul-t18 : tie.Need-mul-t18
+mul-t18 c = omega arith
 
-add-t20 : tie.Need-add-t20
-add-t20 c = omega arith
+add-t19 : tie.Need-add-t19
+add-t19 c = omega arith
 
-mul-t21 : tie.Need-mul-t21
-mul-t21 c = omega arith
+mul-t20 : tie.Need-mul-t20
+mul-t20 c = omega arith
 
-shared-slice-read-t23 : tie.Need-shared-slice-read-t23
-shared-slice-read-t23 c = omega arith
+shared-slice-read-t22 : tie.Need-shared-slice-read-t22
+shared-slice-read-t22 c = omega arith
 
 returns-2 : tie.Need-returns-2
 returns-2 c =
-    let a = c .before .before .before .before .before .before .before .before .args in
-    let rising = c .before .before .before .before .before .before .before .before .pre in
-    let top = c .before .before .before .before .before .before .if1 .left in
-    let place = c .before .before .before .before .before .guess .result in
-    let inside = c .before .before .before .before .if2 .taken in
+    let a = c .before .before .before .before .before .before .before .before .before .before .args in
+    let rising = c .before .before .before .before .before .before .before .before .before .before .pre in
+    let top = c .before .before .before .before .before .before .before .if1 .left in
+    let place = c .before .before .before .before .before .before .guess .result in
+    let inside = c .before .before .before .before .before .if2 .taken in
     let found = rising-found (a .id .0) (now (a .names)) place rising inside (c .before .before .if3 .taken) in
     sym (systemName-top (a .id .0) (now (a .names)) top ∙ found)
 
@@ -61,7 +61,7 @@ by-halves-requires c κs = search needs
 
 returns-3 : tie.Need-returns-3
 returns-3 c =
-    let a = c .before .before .before .before .before .args in
+    let a = c .before .before .before .before .before .before .args in
     c .by-halves .ensures ∙ sym (systemName-top (a .id .0) (now (a .names)) (c .before .before .before .if1 .left))
 
 pub get-type-name-spec : {M : Type 1} → statement M
@@ -73,14 +73,14 @@ get-type-name-spec =
     mul-if3
     mul-if3-2
     shared-slice-read-if3
-    mul-t14
-    add-t15
-    mul-t16
-    shared-slice-read-t18
-    mul-t19
-    add-t20
-    mul-t21
-    shared-slice-read-t23
+    mul-t13
+    add-t14
+    mul-t15
+    shared-slice-read-t17
+    mul-t18
+    add-t19
+    mul-t20
+    shared-slice-read-t22
     returns-2
     by-halves-requires
     returns-3)

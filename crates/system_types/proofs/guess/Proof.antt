@@ -34,9 +34,9 @@ shared-slice-read-over c = search needs
 
 sub-over : tie.Need-sub-over
 sub-over c =
-    let a = c .before .before .before .before .before .args in
+    let a = c .before .before .before .before .before .before .before .before .args in
     let first = getD (now (a .names)) 0 0 in
-    let by = rises-by (now (a .names)) (c .before .before .before .before .before .pre) (a .wanted - first) (omega arith) in
+    let by = rises-by (now (a .names)) (c .before .before .before .before .before .before .before .before .pre) (a .wanted .0 - first) (omega arith) in
     omega arith
 
 returns-4 : tie.Need-returns-4

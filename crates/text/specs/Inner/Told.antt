@@ -50,14 +50,14 @@ pub record Ends (w : Bool) (t : List ℕ) (end : ℕ) (k : Marks) : Type 0 where
   pub last : k .last ≡ getD t (k .at + k .n - backOf w) 0
 
 pub record Chosen (w : Bool) (t : List ℕ) (count first end at n : ℕ) (k : Marks) : Type 0 where
-  pub later : (i : ℕ) → k .first ≤ i → i < count → first ≤ i
-  pub ends : k .first < count → (k .at ≡ at) × (k .n ≡ n) × Ends w t end k
+  pub later : (i : ℕ) → k .first .0 ≤ i → i < count → first ≤ i
+  pub ends : k .first .0 < count → (k .at ≡ at) × (k .n ≡ n) × Ends w t end k
 
 -- the first index without a system name, whatever the map says
 abbrev pub firstOf : List ℕ → ℕ → ℕ
 firstOf names ids = cond (eqb (length names) 0) 0 ids
 
 pub record Marked (t : List ℕ) (lent : Lent) (h : Head) (g : Found) (k : Marks) : Type 0 where
-  pub bare : (i : ℕ) → k .first ≤ i → i < h .count → systemOf h t lent i ≡ none
-  pub ends : k .first < h .count
+  pub bare : (i : ℕ) → k .first .0 ≤ i → i < h .count → systemOf h t lent i ≡ none
+  pub ends : k .first .0 < h .count
       → (g ≡ Pool (k .at) (k .n)) × (plainIn (partOf (h .wide) t (lent .area) g) ≡ true) × Ends (h .wide) t (h .strings + h .size) k
