@@ -108,7 +108,7 @@ use Rattle.errors.specs.declared.ValueAnswer.the-variants as valueIs
 use Rattle.errors.specs.declared.ManyTexts.{ManyTexts}
 use Rattle.errors.specs.declared.ManyTexts.the-variants as manyIs
 use Rattle.digits.specs.Digits as digits
-use Rattle.digits.specs.Back as back
+use Rattle.digits.proofs.Back as back
 use Rattle.digits.specs.Written.{fitted}
 use Rattle.digits.proofs.Decimal as decimals
 use Rattle.digits.proofs.Signed as signeds
