@@ -30,7 +30,7 @@ use Rattle.walk.specs.Reading.{secondOf, nodesKept, Reads}
 use Rattle.claims.specs.Counts.{opensIn, openNames, notesIn, depthFrom}
 use Rattle.claims.specs.Readers.{namesFor, eventsOf}
 use Rattle.claims.specs.Shape.{nodeWord, ofKind, Structured}
-use Rattle.claims.specs.Lost.{Mark, marksIn, startNames, stillOpen, keptOf, beforeLost, EndsWith, NothingLost}
+use Rattle.claims.specs.Lost.{Mark, marksIn, startNames, startLines, stillOpen, keptOf, beforeLost, EndsWith, NothingLost}
 use Rattle.claims.proofs.Settled.{empty}
 use Rattle.claims.proofs.PushBy.{Idle, Goes, settle-in}
 use Rattle.claims.proofs.StructureShape.{Falls}
@@ -39,7 +39,7 @@ use Rattle.claims.proofs.StructureWalk.{WalkedFile}
 use Rattle.claims.proofs.StructureOpen.{near-second}
 use Rattle.claims.proofs.Structure as tree
 use Rattle.claims.proofs.LostMatching.{spare, depth-open, open-above, keptBy, kept-end, kept-start}
-use Rattle.claims.proofs.LostMarks.{eventMark, eventMarks, file-marks, events-depth, events-names, events-starts}
+use Rattle.claims.proofs.LostMarks.{eventMark, eventMarks, file-marks, events-depth, events-names, events-lines, events-starts}
 use Rattle.claims.proofs.LostNotes.{walked-last}
 
 -- ---- how many are kept
@@ -74,7 +74,7 @@ goes r last = record {
         n = h .n + 1;
         nodes = rw length-append (omega (arith, h .nodes));
         then =
-            ap (λ (i : ℕ). keptBy (i ∷ t .stack) (h .n + 1) (eventMarks es)) k ∙ sym (kept-start (t .stack) (h .n) (name .0) (eventMarks es))
+            ap (λ (i : ℕ). keptBy (i ∷ t .stack) (h .n + 1) (eventMarks es)) k ∙ sym (kept-start (t .stack) (h .n) (name .0) l (eventMarks es))
             ∙ h .then;
       };
   keeps = λ t es p a some g h. record { n = h .n; nodes = rw length-set (h .nodes); then = h .then };
@@ -138,6 +138,7 @@ module _ (f : List ℕ) (lent : Lent) (ns ats : List ℕ) (os : List Note) (cap 
         let d = done-by f lent ns ats os cap c ns′ ats′ os′ reads in
         d .nodes ∙ settled-kept _ _ es (d .tables) (d .out) _ (done-shaped f lent ns ats os cap (d .tables) (d .out) .stack) ∙ ap keptOf marks;
     names = λ k l. shape .names k l ∙ ap (λ (x : List ℕ). getD x k 0) (events-names es ∙ ap startNames marks);
+    lines = λ k l. shape .lines k l ∙ ap (λ (x : List ℕ). getD x k 0) (events-lines es ∙ ap startLines marks);
     parents = shape .parents;
     noted = λ l.
         let kept = keptNotes cap (notesIn (walk .body)) in

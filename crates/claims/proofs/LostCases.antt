@@ -45,7 +45,7 @@ abbrev pub toldOf : List Mark → Told
 toldOf ms = told (length (startNames ms)) (keptOf ms) (stillOpen ms)
 
 abbrev pub s : Mark
-s = start 0
+s = start 0 1
 
 -- ---- marks
 

@@ -2,7 +2,7 @@
 --
 --   eventMarks    an element that opens is a start, an element that closes an end; all other events are none
 --   file-marks    where a file's events hold no refusal, their marks are those of the file: a start that was read whole opens one element, an end closes one
---   events-depth, events-names   depth and name indices of events are those of their marks
+--   events-depth, events-names, events-lines   depth, name indices and lines of events are those of their marks
 use Prim.Native.Nat.{ℕ, zero, suc, _+_, _≤_}
 use native.Mathlib.Omega.{arith}
 use mathlib.Core.Path.{_≡_, refl, sym, _∙_, ap}
@@ -36,13 +36,13 @@ use Rattle.events.specs.declared.Event.{Event}
 use Rattle.events.specs.declared.Event.the-variants.{Nothing, Open, Attribute, LeftOut, Close, Note, Refuse, Finish}
 use Rattle.events.specs.Events.{Names, Spot, when, isValid, hasOne, leading, foreignNote, cutShort, attributeBy, attributesOf, attributeEvent, fromLead, fromOpen, fromName, fromTrailing}
 use Rattle.events.specs.Events.{fromSize, fromGap, chunkYield, cutYield, yieldOf, used, out, next, lastOf, eventsOn, bodyEvents, notesOf, afterPool, fileEvents}
-use Rattle.claims.specs.Counts.{opensIn, openNames, stepped, depthFrom}
-use Rattle.claims.specs.Lost.{Mark, start, end, chunkMarks, cutMarks, turnMarks, marksOf, startNames}
+use Rattle.claims.specs.Counts.{opensIn, openNames, openLines, stepped, depthFrom}
+use Rattle.claims.specs.Lost.{Mark, start, end, chunkMarks, cutMarks, turnMarks, marksOf, startNames, startLines}
 use Rattle.claims.proofs.Pushed.{AllStay, stay-right}
 use Rattle.claims.proofs.LostMatching.{depthBehind}
 
 abbrev pub eventMark : Event → List Mark
-eventMark (Open name fixed line) = start (name .0) ∷ []
+eventMark (Open name fixed line) = start (name .0) line ∷ []
 eventMark Close = end ∷ []
 eventMark Nothing = []
 eventMark (Attribute p a) = []
@@ -91,12 +91,12 @@ module _ (N : Names) (s : XmlStartElement) (k : ℕ) (l : List ℕ) where
   lead-marks true es = refl
   lead-marks false es = refl
 
-  name-marks : Told (fromName N s k l) (start (s .name .0) ∷ [])
+  name-marks : Told (fromName N s k l) (start (s .name .0) (s .line) ∷ [])
   unfolding fromName fromOpen fromLead
   name-marks = record {
     told =
         noted-marks (not (isValid (N .state (s .name .0)))) (InvalidElementName (s .name) (hasOne (N .state (s .name .0)))) (fromOpen N s k l)
-        ∙ ap (λ (ms : List Mark). start (s .name .0) ∷ ms)
+        ∙ ap (λ (ms : List Mark). start (s .name .0) (s .line) ∷ ms)
         (lead-marks (eqb k 0) (attributesOf N (s .«attribute_count») (strideOf s) (drop (attributesAt s) l))
         ∙ attributes-marks N (s .«attribute_count») (strideOf s) (drop (attributesAt s) l));
   }
@@ -120,7 +120,7 @@ module _ (N : Names) (s : XmlStartElement) (k : ℕ) (l : List ℕ) where
   trailing-told es ms h = record { told = noted-marks (not (eqb (trailingOf s) 0)) (ElementTrailingBytes (trailingOf s)) es ∙ h .told }
 
   -- read whole it is one, cut it is none
-  start-told : Told (fromGap N s 3 k l) (start (s .name .0) ∷ [])
+  start-told : Told (fromGap N s 3 k l) (start (s .name .0) (s .line) ∷ [])
   unfolding fromGap fromSize fromTrailing
   start-told = shift-told _ _ (size-told _ _ (trailing-told _ _ name-marks))
 
@@ -243,6 +243,18 @@ events-names (Close ∷ es) = events-names es
 events-names (Note x ∷ es) = events-names es
 events-names (Refuse x ∷ es) = events-names es
 events-names (Finish ∷ es) = events-names es
+
+pub events-lines : (es : List Event) → openLines es ≡ startLines (eventMarks es)
+unfolding startLines
+events-lines [] = refl
+events-lines (Nothing ∷ es) = events-lines es
+events-lines (Open name fixed line ∷ es) = ap (λ (x : List ℕ). line ∷ x) (events-lines es)
+events-lines (Attribute p a ∷ es) = events-lines es
+events-lines (LeftOut n ∷ es) = events-lines es
+events-lines (Close ∷ es) = events-lines es
+events-lines (Note x ∷ es) = events-lines es
+events-lines (Refuse x ∷ es) = events-lines es
+events-lines (Finish ∷ es) = events-lines es
 
 pub events-starts : (es : List Event) → opensIn es ≡ length (startNames (eventMarks es))
 unfolding startNames

@@ -17,7 +17,7 @@ use Rattle.claims.specs.Lost.{Mark, start, end, comesEnd, getsEnd, start
 -- how many ends of these marks are the end of no start among them
 abbrev pub spare : List Mark → ℕ
 spare [] = 0
-spare (start name ∷ ms) = spare ms - 1
+spare (start name line ∷ ms) = spare ms - 1
 spare (end ∷ ms) = spare ms + 1
 
 -- two tests that agree
@@ -37,7 +37,7 @@ same-test a b c d f g = go (ltb a b) refl
 comesEnd-spare : (s e : ℕ) → e ≤ s → (ms : List Mark) → comesEnd s e ms ≡ ltb (s - e) (spare ms)
 unfolding comesEnd
 comesEnd-spare s e h [] = sym (le-ltb (s - e) 0 (omega arith))
-comesEnd-spare s e h (start name ∷ ms) =
+comesEnd-spare s e h (start name line ∷ ms) =
     comesEnd-spare (s + 1) e (omega arith) ms ∙ same-test (s + 1 - e) (spare ms) (s - e) (spare ms - 1) (λ x. omega arith) (λ x. omega arith)
 comesEnd-spare s e h (end ∷ ms) = go (ltb s (e + 1)) refl (λ l. comesEnd-spare s (e + 1) l ms)
   where
@@ -56,7 +56,7 @@ getsEnd-spare ms = comesEnd-spare 0 0 (omega arith) ms
 -- behind these marks: a start adds one, an end takes one away, not below 0
 abbrev pub depthBehind : ℕ → List Mark → ℕ
 depthBehind d [] = d
-depthBehind d (start name ∷ ms) = depthBehind (d + 1) ms
+depthBehind d (start name line ∷ ms) = depthBehind (d + 1) ms
 depthBehind d (end ∷ ms) = depthBehind (d - 1) ms
 
 open-by : (d o n k : ℕ) (t : Bool) → ltb 0 o ≡ t → n ≡ (d + 1 - o) + k → n ≡ (d - (o - 1)) + (cond t 0 1 + k)
@@ -66,14 +66,14 @@ open-by d o n k false q e = let l = ltb-false 0 o q in omega (arith, e)
 pub depth-open : (d : ℕ) (ms : List Mark) → depthBehind d ms ≡ (d - spare ms) + stillOpen ms
 unfolding stillOpen
 depth-open d [] = omega arith
-depth-open d (start name ∷ ms) = rw (getsEnd-spare ms) (open-by d (spare ms) _ (stillOpen ms) (ltb 0 (spare ms)) refl (depth-open (d + 1) ms))
+depth-open d (start name line ∷ ms) = rw (getsEnd-spare ms) (open-by d (spare ms) _ (stillOpen ms) (ltb 0 (spare ms)) refl (depth-open (d + 1) ms))
 depth-open d (end ∷ ms) = depth-open (d - 1) ms ∙ omega arith
 
 -- those above the first, and the first
 pub open-above : (ms : List Mark) → 0 < length (startNames ms) → stillOpen ms ≡ stillOpen (behindFirst ms) + cond (getsEnd (behindFirst ms)) 0 1
 unfolding startNames stillOpen behindFirst
 open-above [] h = absurd (let y : ⊥ = omega arith in y)
-open-above (start name ∷ ms) h = omega arith
+open-above (start name line ∷ ms) h = omega arith
 open-above (end ∷ ms) h = open-above ms h
 
 -- ---- the open elements
@@ -116,12 +116,12 @@ above-by h n o b x false true q r z = absurd (let y : ⊥ = omega (arith, leb-tr
 above-by h n o b x false false q r z = rw (z, r)
 
 -- a start goes on top, with the number of the starts before it
-pub kept-start : (s : List ℕ) (n name : ℕ) (ms : List Mark) → keptBy s n (start name ∷ ms) ≡ keptBy (n ∷ s) (n + 1) ms
+pub kept-start : (s : List ℕ) (n name line : ℕ) (ms : List Mark) → keptBy s n (start name line ∷ ms) ≡ keptBy (n ∷ s) (n + 1) ms
 unfolding keptOf beforeLost
-kept-start [] n name ms = rw (le-leb 0 (spare ms) (omega arith)) (omega arith)
-kept-start (k ∷ []) n name ms =
+kept-start [] n name line ms = rw (le-leb 0 (spare ms) (omega arith)) (omega arith)
+kept-start (k ∷ []) n name line ms =
     rw (le-leb 0 (spare ms - 1) (omega arith), getsEnd-spare ms) (first-by n (spare ms) (beforeLost ms) (ltb 0 (spare ms)) refl)
-kept-start (k ∷ j ∷ r) n name ms =
+kept-start (k ∷ j ∷ r) n name line ms =
     rw (getsEnd-spare ms)
     (above-by (length r) n (spare ms) (beforeLost ms) (secondOf (k ∷ j ∷ r)) (ltb 0 (spare ms)) (leb (suc (suc (length r))) (spare ms)) refl refl
     (le-test (suc (length r)) (spare ms - 1) (suc (suc (length r))) (spare ms) (λ x. omega arith) (λ x. omega arith)))

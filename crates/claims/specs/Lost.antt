@@ -1,9 +1,9 @@
 -- Nothing is lost without a note: docs/FORMAT.md, P7, W25 to W29. Told by starts and ends alone, and not by what is open.
 --
---   Mark         a start that was read whole, with its name index, or an end, which counts too where its last 8 bytes are cut
+--   Mark         a start that was read whole, with its name index and its line, or an end, which counts too where its last 8 bytes are cut
 --   marksIn      those of a file, in its order: the walk goes over what is behind the map
 --   getsEnd      a start gets its end, where these marks stand behind it: its end is the first up to which, behind the start, more ends than starts came
---   startNames   the name indices of the starts, in order
+--   startNames   the name indices of the starts, in order; startLines their lines
 --   stillOpen    how many starts never get their end
 --   behindFirst  the marks behind the very first start
 --   beforeLost   how many starts stand before the first that never gets its end; all, where each gets it
@@ -29,17 +29,17 @@ use Rattle.xml_elements.specs.declared.Turn.{Turn}
 use Rattle.xml_elements.specs.declared.Turn.the-variants.{Stop, Foreign, Met, Cut}
 use Rattle.xml_elements.specs.Chunk.{turnOf, usedOf}
 use Rattle.head.specs.Head.{openedOf, bodyIn}
-use Rattle.records.specs.Words.{nodeName}
+use Rattle.records.specs.Words.{nodeName, nodeLine}
 use Rattle.claims.specs.Shape.{nodeWord, Descends}
 
 pub data Mark : Type 0 where
-  start : ℕ → Mark
+  start : ℕ → ℕ → Mark
   end : Mark
 
 -- ---- the marks of a file
 
 abbrev pub chunkMarks : Chunk → List Mark
-chunkMarks (Start s) = start (s .name .0) ∷ []
+chunkMarks (Start s) = start (s .name .0) (s .line) ∷ []
 chunkMarks End = end ∷ []
 chunkMarks (Other n) = []
 chunkMarks Last = []
@@ -71,7 +71,7 @@ marksIn f = marksOf (bodyIn f (openedOf f .head))
 -- whether an end comes up to which there are more ends than starts, where so many starts and ends came before
 unfoldable pub comesEnd : ℕ → ℕ → List Mark → Bool
 comesEnd starts ends [] = false
-comesEnd starts ends (start name ∷ ms) = comesEnd (starts + 1) ends ms
+comesEnd starts ends (start name line ∷ ms) = comesEnd (starts + 1) ends ms
 comesEnd starts ends (end ∷ ms) = cond (ltb starts (ends + 1)) true (comesEnd starts (ends + 1) ms)
 
 abbrev pub getsEnd : List Mark → Bool
@@ -81,27 +81,32 @@ getsEnd ms = comesEnd 0 0 ms
 
 unfoldable pub startNames : List Mark → List ℕ
 startNames [] = []
-startNames (start name ∷ ms) = name ∷ startNames ms
+startNames (start name line ∷ ms) = name ∷ startNames ms
 startNames (end ∷ ms) = startNames ms
+
+unfoldable pub startLines : List Mark → List ℕ
+startLines [] = []
+startLines (start name line ∷ ms) = line ∷ startLines ms
+startLines (end ∷ ms) = startLines ms
 
 unfoldable pub stillOpen : List Mark → ℕ
 stillOpen [] = 0
-stillOpen (start name ∷ ms) = cond (getsEnd ms) 0 1 + stillOpen ms
+stillOpen (start name line ∷ ms) = cond (getsEnd ms) 0 1 + stillOpen ms
 stillOpen (end ∷ ms) = stillOpen ms
 
 unfoldable pub behindFirst : List Mark → List Mark
 behindFirst [] = []
-behindFirst (start name ∷ ms) = ms
+behindFirst (start name line ∷ ms) = ms
 behindFirst (end ∷ ms) = behindFirst ms
 
 unfoldable pub beforeLost : List Mark → ℕ
 beforeLost [] = 0
-beforeLost (start name ∷ ms) = cond (getsEnd ms) (1 + beforeLost ms) 0
+beforeLost (start name line ∷ ms) = cond (getsEnd ms) (1 + beforeLost ms) 0
 beforeLost (end ∷ ms) = beforeLost ms
 
 unfoldable pub keptOf : List Mark → ℕ
 keptOf [] = 0
-keptOf (start name ∷ ms) = 1 + beforeLost ms
+keptOf (start name line ∷ ms) = 1 + beforeLost ms
 keptOf (end ∷ ms) = keptOf ms
 
 -- ---- a reading
@@ -115,6 +120,7 @@ pub record NothingLost (ms : List Mark) (c : ReadCounts) (ns : List ℕ) (os : L
   pub starts : c .starts ≡ length (startNames ms)
   pub kept : c .nodes ≡ keptOf ms
   pub names : (k : ℕ) → k < c .nodes → nodeWord ns k nodeName ≡ getD (startNames ms) k 0
+  pub lines : (k : ℕ) → k < c .nodes → nodeWord ns k nodeLine ≡ getD (startLines ms) k 0
   pub parents : Descends ns (c .nodes)
   pub noted : c .nodes < c .starts → EndsWith (made 12 (stillOpen ms) 0) (take (c .notes) os)
   pub number : stillOpen ms ≡ stillOpen (behindFirst ms) + cond (getsEnd (behindFirst ms)) 0 1
