@@ -2,6 +2,7 @@
 
   ordinary(size)   elements as an application's manifest has them, with several attributes each, closed, up to so many bytes
   HOSTILE          name, function: files that make a reader work
+  REPEATING        name, function, whether names are lent: elements whose attributes repeat
   real()           (name, bytes): manifests that aapt makes of oracle/real.py's texts, the framework's own, and the longest of its other files.
                    Manifests have UTF-16 pools, whatever aapt is told; the other files have UTF-8 ones.
 """
@@ -122,6 +123,29 @@ def offsets():
     data = b"\1\1a\0"
     return whole((pool(data, [0] * 4_000_000, True), start(3_999_999), end(0)))
 
+
+# Sixteen attributes of an application's elements: their ids, and their names in the order of the ids.
+ATTRIBUTES = ((0x01010000, "theme"), (0x01010001, "label"), (0x01010002, "icon"), (0x01010003, "name"), (0x01010006, "permission"),
+              (0x0101000E, "enabled"), (0x01010010, "exported"), (0x01010011, "process"), (0x01010012, "taskAffinity"),
+              (0x01010017, "excludeFromRecents"), (0x0101001C, "priority"), (0x0101001D, "launchMode"), (0x0101001E, "screenOrientation"),
+              (0x0101001F, "configChanges"), (0x01010020, "description"), (0x0101022B, "windowSoftInputMode"))
+
+
+def repeating(order, mapped=False, copies=1):
+    """A thousand elements whose attributes have the indices of `order`, in a pool that has each of the sixteen names `copies` times."""
+    texts = [name for _, name in ATTRIBUTES] * copies
+    ids = [number for number, _ in ATTRIBUTES] * copies if mapped else ()
+    one = start(0, [(NONE, i, 16, i) for i in order]) + end(0)
+    return whole((pool16(texts), start(0), one * 1000, end(0)), ids)
+
+
+SIXTEEN = tuple(range(16))
+REPEATING = (("each index four times", lambda: repeating(SIXTEEN * 4), False),
+             ("one index 64 times", lambda: repeating((9,) * 64), False),
+             ("each name at four indices", lambda: repeating(range(64), copies=4), False),
+             ("each index four times, names lent", lambda: repeating(SIXTEEN * 4, True), True),
+             ("one index 64 times, names lent", lambda: repeating((9,) * 64, True), True),
+             ("each system name at four indices", lambda: repeating(range(64), True, 4), True))
 
 # name, file, rounds: 0 where a reading takes so long that one will do, and --quick leaves it out
 HOSTILE = (("2,000,000 foreign chunks in a run", foreign, 11),

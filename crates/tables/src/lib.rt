@@ -74,7 +74,7 @@ pub fn has(
     while ATTRIBUTE_WORDS <= words.len() - i {
         if words[i + ATTRIBUTE_PREFIX] == prefix {
             let other = StringIndex(words[i + ATTRIBUTE_NAME]);
-            if same_as_known(t, names, area, h, plain, marks, other, wanted) {
+            if same_as_known(t, names, area, h, plain, marks, other, name, wanted) {
                 return true;
             }
         }

@@ -4,12 +4,13 @@ use mathlib.Core.Path.{_≡_, sym, _∙_}
 use mathlib.Core.List.{List}
 use mathlib.Core.Bool.{Bool, true, false, true≢false}
 use lib.ListN.{take, drop}
-use Rattle.utf.specs.Plain.{isPlain, Known}
+use Rattle.utf.specs.Plain.{isAscii, isPlain, Known}
 use Rattle.text.specs.declared.Found.{Found}
 use Rattle.text.specs.declared.Found.the-variants.{System, Pool}
 use Rattle.text.specs.Content.{plainIn}
-use Rattle.text.specs.Inner.Found.{partOf}
-use Rattle.text.proofs.Read.{partOf-system, partOf-pool}
+use Rattle.text.specs.Inner.Found.{partOf, Inside}
+use Rattle.text.proofs.Parts.{slice-of}
+use Rattle.text.proofs.Read.{inside-plain, partOf-pool}
 
 -- nothing is said
 pub known-none : (b : Bool) → Known false b
@@ -18,9 +19,15 @@ known-none b = record { holds = λ e. absurd (true≢false (sym e)) }
 pub known-of : {p b : Bool} → p ≡ b → Known p b
 known-of e = record { holds = λ h. sym e ∙ h }
 
-module _ (w : Bool) (t area : List ℕ) {f : Found} {at n : ℕ} (p : Bool) (k : Known p (plainIn (partOf w t area f))) where
-  pub known-system : f ≡ System at n → Known p (isPlain false (take (at + n - at) (drop at area)))
-  known-system e = record { holds = λ h. let q = k .holds h in rw (partOf-system w t area e) at q }
+-- a system name is plain
+pub plain-system : (w : Bool) (t area : List ℕ) {f : Found} {at n : ℕ} → Inside t area f → f ≡ System at n → true ≡ plainIn (partOf w t area f)
+plain-system w t area {f} {at} {n} i e =
+    let q : isAscii (take n (drop at area)) ≡ true = inside-plain t area i e in
+    rw e (sym q)
 
+pub known-system : (t area : List ℕ) {f : Found} {at n : ℕ} → Inside t area f → f ≡ System at n → Known true (isPlain false (take (at + n - at) (drop at area)))
+known-system t area {at = at} {n = n} i e = record { holds = λ _. rw (slice-of at n) (inside-plain t area i e) }
+
+module _ (w : Bool) (t area : List ℕ) {f : Found} {at n : ℕ} (p : Bool) (k : Known p (plainIn (partOf w t area f))) where
   pub known-pool : f ≡ Pool at n → Known p (isPlain w (take (at + n - at) (drop at t)))
   known-pool e = record { holds = λ h. let q = k .holds h in rw (partOf-pool w t area e) at q }

@@ -15,7 +15,7 @@ use Rattle.utf.specs.Text.{textOf, putText, eqBytes, isSound, allSound, stepsAf
 use Rattle.utf.specs.Plain.{isAscii}
 use Rattle.utf.proofs.Filled.{putText-nil}
 use Rattle.utf.proofs.Laws.{textOf-nil, textOf-whole, textOf-sound, textOf-ascii, textOf-length-le}
-use Rattle.utf.proofs.Equal.{eqBytes-true}
+use Rattle.utf.proofs.Equal.{eqBytes-refl, eqBytes-true}
 use Rattle.utf.proofs.Ascii.{isAscii-at}
 use Rattle.res_string_pool.specs.Pool.{offsetOf}
 use Rattle.res_string_pool.specs.Content.{splitOf}
@@ -36,6 +36,10 @@ use Rattle.text.proofs.Parts.{slice-of}
 module _ (t area : List ℕ) {f : Found} {at n : ℕ} where
   pub inside-system : Inside t area f → f ≡ System at n → at + n ≤ length area
   inside-system i e = let q : (at + n ≤ length area) × (isAscii (take n (drop at area)) ≡ true) = rw e at i in q .0
+
+  -- a system name is plain
+  pub inside-plain : Inside t area f → f ≡ System at n → isAscii (take n (drop at area)) ≡ true
+  inside-plain i e = let q : (at + n ≤ length area) × (isAscii (take n (drop at area)) ≡ true) = rw e at i in q .1
 
   pub inside-pool : Inside t area f → f ≡ Pool at n → at + n ≤ length t
   inside-pool i e = rw e at i
@@ -105,6 +109,16 @@ and-false false = refl
 
 pub sameText-none : (a : Content) → sameText a none ≡ false
 sameText-none a = and-false (hasText a)
+
+-- a text is its own, and no text is not
+pub sameText-self : (a : Content) → sameText a a ≡ hasText a
+sameText-self none = refl
+sameText-self cut = eqBytes-refl []
+sameText-self (some w s) = eqBytes-refl (textOf w s)
+
+-- an index is the same as itself where it has a text, whatever was found for it
+pub sameText-index : (w : Bool) (t area : List ℕ) (f : Found) (c : Content) → partOf w t area f ≡ c → isFound f ≡ sameText c (partOf w t area f)
+sameText-index w t area f c e = rw (← e) (isFound-text w t area f ∙ sym (sameText-self (partOf w t area f)))
 
 -- an empty text is that of no bytes
 pub sameText-cut : (a : Content) (w : Bool) → isText a (textOf w []) ≡ sameText a cut

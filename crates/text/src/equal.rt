@@ -34,6 +34,7 @@ pub fn same_part(
 }
 
 // Whether no other bytes in the same encoding have the text that was found; no text is none, and the empty one of a string that is cut has many.
+// A system name is ASCII, by the rule of the lent names, and is not looked at.
 // Ruled out: yes for UTF-16 that is refused, and no for a system name.
 pub fn is_plain_found(t: &[u8], area: &[u8], wide: bool, f: Found) -> bool
     requires { ⌜ Inside (now t) (now area) f ⌝ }
@@ -42,12 +43,13 @@ pub fn is_plain_found(t: &[u8], area: &[u8], wide: bool, f: Found) -> bool
     match f {
         Found::Nothing => false,
         Found::Cut => false,
-        Found::System(at, n) => is_plain(false, &area[at..at + n]),
+        Found::System(_, _) => true,
         Found::Pool(at, n) => is_plain(wide, &t[at..at + n]),
     }
 }
 
-// Whether two that were found have texts and these are equal; where `plain` is true, the second is known to be plain.
+// Whether two that were found have texts and these are equal; where `plain` is true, the second is known to be plain. A system name is
+// so in any case: two of them are told apart by their lengths, behind the stripped `android:attr/`, and then by their bytes.
 // Ruled out: no for a system name and the pool's string of the same text, and yes for two indices without one.
 pub fn same_found_known(t: &[u8], area: &[u8], wide: bool, plain: bool, f: Found, g: Found) -> bool
     requires { ⌜ Inside (now t) (now area) f × Inside (now t) (now area) g × Known plain (plainIn (partOf wide (now t) (now area) g)) ⌝ }
@@ -56,7 +58,7 @@ pub fn same_found_known(t: &[u8], area: &[u8], wide: bool, plain: bool, f: Found
     match g {
         Found::Nothing => false,
         Found::Cut => same_part(t, area, wide, false, wide, &t[0..0], f),
-        Found::System(at, n) => same_part(t, area, wide, plain, false, &area[at..at + n], f),
+        Found::System(at, n) => same_part(t, area, wide, true, false, &area[at..at + n], f),
         Found::Pool(at, n) => same_part(t, area, wide, plain, wide, &t[at..at + n], f),
     }
 }

@@ -210,14 +210,18 @@ pub fn same_index(
     ensures { λ r. ⌜ r ≡ sameText (contentOf h (now (t .entry)) (lends (now (names .entry)) (now (area .entry))) (i .0))
         (contentOf h (now (t .entry)) (lends (now (names .entry)) (now (area .entry))) (j .0)) ⌝ }
 {
+    if i.0 == j.0 {
+        return has_text(t, names, area, h, i);
+    }
     let f = find(t, names, area, h, i);
     let g = find(t, names, area, h, j);
     same_found(t, area, h.wide, f, g)
 }
 
-// Whether an index has a text and it is that of what was found, whose marks tell most others apart before they are looked up; where
-// `plain` is true, what was found is known to be plain.
-// Ruled out: yes for two strings that end alike, and no for a system name and the pool's string of the same text.
+// Whether an index has a text and it is that of `name`, which was found as g: at once where both indices are equal. The marks of g tell
+// most others apart before they are looked up; where `plain` is true, what was found is known to be plain.
+// Ruled out: yes for two strings that end alike, no for a system name and the pool's string of the same text, and yes for an index
+// without text and itself.
 pub fn same_as_known(
     t: &[u8],
     names: &[u32],
@@ -226,13 +230,17 @@ pub fn same_as_known(
     plain: bool,
     k: Marks,
     index: StringIndex,
+    name: StringIndex,
     g: Found,
 ) -> bool
-    requires { ⌜ Asks (now t) (lends (now names) (now area)) h × Inside (now t) (now area) g
+    requires { ⌜ Asks (now t) (lends (now names) (now area)) h × Finds (now t) (lends (now names) (now area)) h (name .0) g
         × Known plain (plainIn (partOf (h .wide) (now t) (now area) g)) × Marked (now t) (lends (now names) (now area)) h g k ⌝ }
     ensures { λ r. ⌜ r ≡ sameText (contentOf h (now (t .entry)) (lends (now (names .entry)) (now (area .entry))) (index .0))
         (partOf (h .wide) (now (t .entry)) (now (area .entry)) g) ⌝ }
 {
+    if index.0 == name.0 {
+        return is_found(g);
+    }
     if told_apart(t, names, area, h, k, index, g) {
         return false;
     }

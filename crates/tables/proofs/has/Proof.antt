@@ -19,13 +19,13 @@ use Rattle.tables.proofs.has.Statement.{statement}
 use Rattle.tables.proofs.has.Tie as tie
 
 abbrev Inv-loop : tie.InvT-loop
-Inv-loop t names area h words prefix wanted plain marks i₀ i =
+Inv-loop t names area h words prefix name wanted plain marks i₀ i =
     (i ≤ length words) × Known plain (plainIn (partOf (h .wide) t area wanted)) × ((n owner kind value : ℕ) → Finds t (lends names area) h n wanted
     → isRepeat (byPrefix (sameName h t (lends names area))) (attributeWords owner prefix n kind value) words
     ≡ isRepeat (byPrefix (sameName h t (lends names area))) (attributeWords owner prefix n kind value) (drop i words))
 
 abbrev μ-loop : tie.MeasureT-loop
-μ-loop t names area h words prefix wanted plain marks i₀ i = length words - i
+μ-loop t names area h words prefix name wanted plain marks i₀ i = length words - i
 
 returns : tie.Need-returns Inv-loop μ-loop
 returns c =
@@ -78,7 +78,7 @@ same-as-known-requires : tie.Need-same-as-known-requires Inv-loop μ-loop
 same-as-known-requires c κs =
     let at-loop = c .before .before .before .before in
     let start = at-loop .before .before .before .before .before .before .before .before .before in
-    (start .pre, at-loop .before .before .before .find .ensures .inside, at-loop .loop .inv .1, at-loop .before .marks-of .ensures)
+    (start .pre, at-loop .before .before .before .find .ensures, at-loop .loop .inv .1, at-loop .before .marks-of .ensures)
 
 returns-2 : tie.Need-returns-2 Inv-loop μ-loop
 returns-2 c =

@@ -54,7 +54,7 @@ same-part-requires-2 : tie.Need-same-part-requires-2
 same-part-requires-2 c κs =
     let s = c .before .before .before .before .before .before in
     let a = s .args in
-    (s .pre .0, known-system (a .wide) (now (a .t)) (now (a .area)) (a .plain) (s .pre .2) (c .before .before .g .given .1))
+    (s .pre .0, known-system (now (a .t)) (now (a .area)) (s .pre .1) (c .before .before .g .given .1))
 
 enum-known-g-2 : tie.Need-enum-known-g-2
 enum-known-g-2 c = search needs
