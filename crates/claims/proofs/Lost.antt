@@ -1,4 +1,4 @@
--- Nothing is lost without a note: docs/FORMAT.md, P7. Of every result of success that the promise allows, at a cap of at least 1.
+-- Nothing is lost without a note: docs/FORMAT.md, P7. Of every result of success that the promise allows; its cap is at least 1, since 0 is refused.
 --
 --   nothing-lost   the kept nodes are the starts before the first, other than the very first, that never gets its end; where a start is dropped, the last
 --                  note is 12 (specs/Lost.antt, `NothingLost`)
@@ -19,6 +19,7 @@ use Rattle.anomaly.specs.declared.ResAnomaly.the-variants.{UnclosedElements}
 use Rattle.common.specs.declared.StringIndex.{StringIndex}
 use Rattle.errors.specs.declared.ReadAnswer.the-variants.{Done}
 use Rattle.errors.specs.declared.ReadCounts.{ReadCounts}
+use Rattle.errors.proofs.Laws.{numbersOf-unique}
 use Rattle.head.specs.Head.{openedOf, tablesIn, bodyIn}
 use Rattle.events.specs.declared.Event.{Event}
 use Rattle.events.specs.declared.Event.the-variants as event
@@ -26,7 +27,7 @@ use Rattle.records.specs.Words.{nodeWidth, nodeName}
 use Rattle.records.specs.Repeats.{Rule}
 use Rattle.system_types.specs.Names.{Lent}
 use Rattle.walk.specs.Settle.{Room, Tables, going, settle, nothingYet, opened}
-use Rattle.walk.specs.Reading.{secondOf, nodesKept, Reads}
+use Rattle.walk.specs.Reading.{reading, secondOf, nodesKept, roomIn, Reads}
 use Rattle.claims.specs.Counts.{opensIn, openNames, notesIn, depthFrom}
 use Rattle.claims.specs.Readers.{namesFor, eventsOf}
 use Rattle.claims.specs.Shape.{nodeWord, ofKind, Structured}
@@ -38,6 +39,7 @@ use Rattle.claims.proofs.StructureDone.{done-by, done-shaped}
 use Rattle.claims.proofs.StructureWalk.{WalkedFile}
 use Rattle.claims.proofs.StructureOpen.{near-second}
 use Rattle.claims.proofs.Structure as tree
+use Rattle.claims.proofs.Success.{success}
 use Rattle.claims.proofs.LostMatching.{spare, depth-open, open-above, keptBy, kept-end, kept-start}
 use Rattle.claims.proofs.LostMarks.{eventMark, eventMarks, file-marks, events-depth, events-names, events-lines, events-starts}
 use Rattle.claims.proofs.LostNotes.{walked-last}
@@ -131,8 +133,11 @@ module _ (f : List ℕ) (lent : Lent) (ns ats : List ℕ) (os : List Note) (cap 
   all-starts : c .starts ≡ length (startNames ms)
   all-starts = shape .starts ∙ events-starts es ∙ ap (λ (x : List Mark). length (startNames x)) marks
 
-  pub nothing-lost : 1 ≤ cap → NothingLost ms c ns′ os′
-  nothing-lost one = record {
+  one : 1 ≤ cap
+  one = success (roomIn ns ats os cap) f lent c (sym (numbersOf-unique (Done c) (reading (roomIn ns ats os cap) f lent .answer) (reads .answer))) .cap
+
+  pub nothing-lost : NothingLost ms c ns′ os′
+  nothing-lost = record {
     starts = all-starts;
     kept =
         let d = done-by f lent ns ats os cap c ns′ ats′ os′ reads in
@@ -154,8 +159,8 @@ module _ (f : List ℕ) (lent : Lent) (ns ats : List ℕ) (os : List Note) (cap 
   }
 
   -- where no note is 12
-  pub whole-kept : 1 ≤ cap → ofKind 12 (take (c .notes) os′) ≡ 0 → c .nodes ≡ length (startNames ms)
-  whole-kept one none = go (depthFrom 0 es) refl
+  pub whole-kept : ofKind 12 (take (c .notes) os′) ≡ 0 → c .nodes ≡ length (startNames ms)
+  whole-kept none = go (depthFrom 0 es) refl
     where
       go : (n : ℕ) → depthFrom 0 es ≡ n → c .nodes ≡ length (startNames ms)
       go Prim.Native.Nat.zero z = shape .closed z ∙ all-starts
