@@ -5,7 +5,7 @@
  * and returns; it allocates nothing and keeps nothing. The caller, whom nothing checks, sees to this alone:
  *   - a pointer and the length behind it lend that many elements, and no pointer is NULL, also where the length is 0;
  *   - pointers to words are aligned to 4 bytes;
- *   - what a function writes (nodes, attributes, notes, out, round_up) overlaps nothing else that the same call is lent.
+ *   - what a function writes (nodes, attributes, notes, out, answers, round_up) overlaps nothing else that the same call is lent.
  * Lengths are counted in elements: bytes of a `uint8_t *`, words of a `uint32_t *`. A table of structs is lent as `(uint32_t *)table`. */
 #ifndef AXML_H
 #define AXML_H
@@ -20,17 +20,19 @@ extern "C" {
 
 /* The form of this interface: raised whenever a record, a signature or a number below changes or is added. A library is of this form exactly if
  * axml_abi() == AXML_ABI; one that is of another must not be called. */
-#define AXML_ABI 5u
+#define AXML_ABI 6u
 uint32_t axml_abi(void);
 
 /* The longest file that is read, in bytes: one byte more is refused with AXML_TOO_LARGE. */
 #define AXML_LONGEST_FILE 16777216u
 
-/* Words of one record. A table has words / 6 places for nodes, words / 5 for attributes, words / 3 for notes, rounded down (B6). */
+/* Words of one record. A table has words / 6 places for nodes, words / 5 for attributes, words / 3 for notes, words / 6 for answers, rounded down (B6). */
 #define AXML_NODE_WORDS 6u
 #define AXML_ATTRIBUTE_WORDS 5u
 #define AXML_NOTE_WORDS 3u
 #define AXML_NAME_WORDS 3u
+#define AXML_ITEM_WORDS 6u
+#define AXML_PART_WORDS 6u
 
 /* Kinds of notes: enum axml_note_kind. */
 #define AXML_NOTE_KINDS 13u
@@ -57,7 +59,10 @@ enum axml_refusal {
   AXML_NOTES_FULL = 10,      /* a note has no place: the places that there are */
   AXML_TEXT_SHORT = 11,      /* the buffer is too short: the bytes that the text needs */
   AXML_NOTHING_FOUND = 12,   /* no such text, or no such value: 0 */
-  AXML_TABLES = 13,          /* the lent tables do not fit the question: the node count, or the first bad node (Q6) */
+  AXML_TABLES = 13,          /* the lent tables do not fit the question: the node count, or the first bad node (Q6); of many texts the attribute count (V15) */
+  AXML_ITEMS = 14,           /* the lent items break their rule: the first such item, or how many whole ones there are (V3) */
+  AXML_NO_PLAIN_TEXT = 15,   /* a value of this type has no plain text: the type (V10) */
+  AXML_ANSWERS_FULL = 21,    /* an answer has no place: the places that there are (V15) */
   AXML_NOTES_OFF = 27,       /* a reading at a cap of 0, which would keep no note: 0 */
   AXML_ROUND_UP_FULL = 29,   /* a count of a round-up would pass 4294967295: 0 (R6) */
   /* a part of the head is cut, and the value is the file offset at which it should begin (H15) */
@@ -134,6 +139,32 @@ struct axml_name {
   uint32_t length;
 };
 
+/* Six words of the lent items (V3), the named values of attributes: both names have at least one byte, lie in the item area and are below 128; items of one
+ * attribute stand together and have one kind. */
+struct axml_item {
+  uint32_t attribute;         /* where the attribute's name begins in the item area */
+  uint32_t attribute_length;
+  uint32_t kind;              /* enum axml_item_kind */
+  uint32_t name;              /* where the name of this value begins there */
+  uint32_t name_length;
+  uint32_t value;
+};
+
+enum axml_item_kind {
+  AXML_ITEM_ENUM = 0,  /* one value at a time */
+  AXML_ITEM_FLAG = 1   /* bits */
+};
+
+/* Six words of the answers of many texts (V13): the part of the buffer that is the text of one question. */
+struct axml_part {
+  uint32_t refusal;    /* AXML_DONE, AXML_NOTHING_FOUND or AXML_NO_PLAIN_TEXT; where it is not AXML_DONE, all other words are 0 */
+  uint32_t start;      /* its first byte in the buffer */
+  uint32_t length;     /* its bytes */
+  uint32_t uncovered;  /* how many set bits of a flag no name covers (V6) */
+  uint32_t state;      /* 0 */
+  uint32_t replaced;   /* 0 */
+};
+
 /* The answer of a reading. Where it is refused, the four counts are 0 and every lent table is zeros (B7). */
 struct axml_answer {
   uint32_t refusal;     /* enum axml_refusal */
@@ -149,6 +180,22 @@ struct axml_text_answer {
   uint32_t refusal;
   uint64_t value;
   uint64_t length;  /* bytes of the text in the buffer; 0 where it is refused */
+};
+
+/* The answer of a value text. */
+struct axml_value_answer {
+  uint32_t refusal;
+  uint64_t value;
+  uint64_t length;     /* bytes of the text in the buffer; 0 where it is refused */
+  uint32_t uncovered;  /* how many set bits of a flag no name covers; 0 where it is refused */
+};
+
+/* The answer of many texts. Where it is refused, buffer and answers are zeros. */
+struct axml_many_answer {
+  uint32_t refusal;
+  uint64_t value;
+  uint64_t count;   /* how many questions were answered; 0 where it is refused */
+  uint64_t length;  /* bytes of all their texts in the buffer; 0 where it is refused */
 };
 
 /* The answer of a content question: `length` bytes of that slice from byte `start` on. They lie inside it. Slice 0 has start and length 0. */
@@ -193,6 +240,27 @@ struct axml_first_answer axml_first_value(const uint8_t *file, size_t file_bytes
                                           const uint8_t *area, size_t area_bytes, const uint32_t *nodes, size_t node_words,
                                           const uint32_t *attributes, size_t attribute_words, const uint8_t *tag, size_t tag_bytes,
                                           const uint8_t *name, size_t name_bytes, uint32_t node_count, uint32_t attribute_count);
+
+/* The text of an attribute's value in UTF-8, at the front of out and zeros behind it; zeros alone where it is refused (V1 to V12). No 0 ends it.
+ * file, names, area: as for axml_read. items, item_words: the lent items, `struct axml_item` each, over item_area; 0 words are no items.
+ * owner, prefix, name, type, data: the words of the attribute, as a table has them. */
+struct axml_value_answer axml_value_text(const uint8_t *file, size_t file_bytes, const uint32_t *names, size_t name_words, const uint8_t *area,
+                                         size_t area_bytes, const uint32_t *items, size_t item_words, const uint8_t *item_area,
+                                         size_t item_area_bytes, uint8_t *out, size_t out_bytes, uint32_t owner, uint32_t prefix, uint32_t name,
+                                         uint32_t type, uint32_t data);
+
+/* The texts of the values of the first attribute_count records of a table, one behind the other at the front of out, and for each a
+ * `struct axml_part`, in the order of the records (V13 to V16). Names, items and head are checked once. out and answers have zeros behind the last.
+ * file, names, area, items, item_area: as for axml_value_text. attributes: the table, as words. answers: the parts, as words. */
+struct axml_many_answer axml_value_texts(const uint8_t *file, size_t file_bytes, const uint32_t *names, size_t name_words, const uint8_t *area,
+                                         size_t area_bytes, const uint32_t *items, size_t item_words, const uint8_t *item_area,
+                                         size_t item_area_bytes, const uint32_t *attributes, size_t attribute_words, uint8_t *out,
+                                         size_t out_bytes, uint32_t *answers, size_t answer_words, uint32_t attribute_count);
+
+/* The same of string indices: each text is that of axml_text. indices, index_words: the string indices. */
+struct axml_many_answer axml_texts(const uint8_t *file, size_t file_bytes, const uint32_t *names, size_t name_words, const uint8_t *area,
+                                   size_t area_bytes, const uint32_t *indices, size_t index_words, uint8_t *out, size_t out_bytes,
+                                   uint32_t *answers, size_t answer_words);
 
 /* Words of a round-up, the counts of a month of files (R1, R2): word AXML_ROUND_UP_READ is how many were read, word AXML_ROUND_UP_REFUSED + n how many were
  * refused with n, and word AXML_ROUND_UP_GRID + AXML_ROUND_UP_CLASSES * k + c how many notes of kind k were kept in files of the size class c: 0 up to 4096

@@ -2,7 +2,9 @@
 
   names_of(path)               a names file (a line `0xID NAME` each) as the words and the area that this repository lends
   ask(program, names, asked)   asked: (flags, cap, set, file, questions) each; yields an Answer for each, in order
+  ITEMS                        files of named values, a line `ATTRIBUTE enum|flag NAME 0xVALUE` with tabs each: the framework's, and odd ones
 """
+import os
 import struct
 import subprocess
 
@@ -10,6 +12,7 @@ from model import NODE
 
 TEXTS, NAMES, VALUES, DUE = 1, 2, 4, 8
 NONE = 0xFFFFFFFF
+ITEMS = [os.path.join(os.path.dirname(os.path.abspath(__file__)), f) for f in ("attr-items.txt", "odd-items.txt")]
 
 
 def names_of(path):

@@ -5,6 +5,7 @@
 //!                              each as median and quartiles. Where the answers differ it says so and ends with 1.
 //!   grow ROUNDS FILE..         the files in turns, ours with no names; for each a line: nanoseconds per byte, and those of the last file over
 //!                              them, each as median and quartiles
+//!   values NAMES ITEMS ROUNDS FILE   as `time`, of the value texts of all attributes: the Rust's strings of them, and ours all at once
 //!   count SIDE NAMES FILE      calls SIDE (freed, rust, ours) once, in `measured`, for a tool that counts instructions
 //!
 //! NAMES is `none` or oracle/system-names.txt. One round is one call; of more, each has as many calls as take 2 ms.
@@ -14,6 +15,7 @@ use std::time::Instant;
 
 mod equal;
 mod ours;
+mod values;
 
 use ours::{Names, Tables};
 
@@ -64,16 +66,16 @@ fn measured(side: Side, file: &[u8], names: &Names, tables: &mut Tables) {
     }
 }
 
-/// The median of so many calls, in nanoseconds.
-fn nanos(side: Side, file: &[u8], names: &Names, tables: &mut Tables, times: usize, long: bool) -> f64 {
+/// The median of so many calls, in nanoseconds. What a call keeps is freed by `forget`.
+fn nanos(call: &mut dyn FnMut(), forget: fn(), times: usize, long: bool) -> f64 {
     let began = Instant::now();
     let now = || if long { ran() } else { began.elapsed().as_nanos() as f64 };
     let mut all = Vec::with_capacity(times);
     for _ in 0..times {
         let t = now();
-        measured(side, black_box(file), names, tables);
+        call();
         all.push(now() - t);
-        equal::forget();
+        forget();
     }
     quartiles(&mut all)[1]
 }
@@ -85,21 +87,15 @@ fn quartiles(v: &mut [f64]) -> [f64; 3] {
 
 const SIDES: [Side; 4] = [Side::Freed, Side::Rust, Side::Made, Side::Ours];
 
-fn time(names: &Names, rounds: usize, path: &str) {
-    let file = std::fs::read(path).unwrap();
-    let mut tables = Tables::of(file.len());
-    let answer = tables.read(&file, names);
-    if let Err(why) = equal::equal(&file, names.lent(), &tables, &answer) {
-        println!("{path}: the answers differ: {why}");
-        std::process::exit(1);
-    }
-    let once = SIDES.map(|s| nanos(s, &file, names, &mut tables, 1, true));
+/// Times four sides in turns: the Rust with and without freeing, ours with and without making; prints the line of `time`.
+fn turns(rounds: usize, call: &mut dyn FnMut(usize), forget: fn()) {
+    let once = [0, 1, 2, 3].map(|i| nanos(&mut || call(i), forget, 1, true));
     let times = once.map(|n| (2e6 / n).clamp(1.0, 2000.0) as usize);
     let mut took = if rounds == 1 { once.map(|n| vec![n]) } else { Default::default() };
     for round in 0..if rounds == 1 { 0 } else { rounds } {
         for k in 0..4 {
             let i = (round + k) % 4;
-            took[i].push(nanos(SIDES[i], &file, names, &mut tables, times[i], once[i] > 5e5));
+            took[i].push(nanos(&mut || call(i), forget, times[i], once[i] > 5e5));
         }
     }
     let ratio = |a: usize, b: usize| {
@@ -110,6 +106,39 @@ fn time(names: &Names, rounds: usize, path: &str) {
     let medians = took.each_mut().map(|v| quartiles(v)[1]);
     let words: Vec<String> = medians.into_iter().chain(whole).chain(bare).map(|x| format!("{x:.4}")).collect();
     println!("{}", words.join(" "));
+}
+
+/// Says where two answers differ, and ends.
+fn held(path: &str, equal: Result<(), String>) {
+    if let Err(why) = equal {
+        println!("{path}: the answers differ: {why}");
+        std::process::exit(1);
+    }
+}
+
+fn time(names: &Names, rounds: usize, path: &str) {
+    let file = std::fs::read(path).unwrap();
+    let mut tables = Tables::of(file.len());
+    let answer = tables.read(&file, names);
+    held(path, equal::equal(&file, names.lent(), &tables, &answer));
+    turns(rounds, &mut |i| measured(SIDES[i], black_box(&file), names, &mut tables), equal::forget);
+}
+
+fn values(names: &Names, items: &Names, rounds: usize, path: &str) {
+    let file = std::fs::read(path).unwrap();
+    let mut tables = Tables::of(file.len());
+    let answer = tables.read(&file, names);
+    tables.attributes.truncate(5 * answer.attributes as usize);
+    let asked = values::Asked::of(&file, &tables.attributes);
+    let mut texts = values::Texts::of(&file, names, items, &tables.attributes);
+    held(path, asked.equal(&texts));
+    let call = &mut |i| match i {
+        0 => drop(black_box(asked.strings())),
+        1 => values::keep(asked.strings()),
+        2 => texts.again(black_box(&file), names, items, &tables.attributes),
+        _ => texts.ask(black_box(&file), names, items, &tables.attributes),
+    };
+    turns(rounds, call, values::forget);
 }
 
 fn grow(rounds: usize, paths: &[String]) {
@@ -152,6 +181,9 @@ fn main() {
     match args.as_slice() {
         [what, side, names, path] if what == "count" => count(side, &Names::of(names), path),
         [what, rounds, paths @ ..] if what == "grow" => grow(rounds.parse().unwrap(), paths),
+        [what, names, items, rounds, path] if what == "values" => {
+            values(&Names::of(names), &Names::items(items), rounds.parse().unwrap(), path);
+        }
         [what, names, rounds, path] if what == "time" => {
             let (names, rounds, path) = (Names::of(names), rounds.parse().unwrap(), path.clone());
             // the Rust drops its tree by recursion, once for each level

@@ -25,10 +25,10 @@ const CAP: usize = 16;
 /// Words of a node.
 pub const NODE_WORDS: usize = 6;
 
-/// System names: three words for each, and the bytes that they lie in.
+/// System names, three words for each, or items, six, and the bytes that they lie in.
 pub struct Names {
-    words: Vec<u32>,
-    area: Vec<u8>,
+    pub words: Vec<u32>,
+    pub area: Vec<u8>,
 }
 
 impl Names {
@@ -50,6 +50,22 @@ impl Names {
             names.area.extend(name.as_bytes());
         }
         names
+    }
+
+    /// The items of a file: a line for each, attribute, `enum` or `flag`, name, value in hexadecimal, a tab between them.
+    pub fn items(path: &str) -> Names {
+        let mut items = Names { words: vec![], area: vec![] };
+        let text = std::fs::read_to_string(path).unwrap();
+        for line in text.lines() {
+            let cells: Vec<&str> = line.split('\t').collect();
+            let mut place = |name: &str| {
+                items.area.extend(name.as_bytes());
+                [(items.area.len() - name.len()) as u32, name.len() as u32]
+            };
+            let ([a, n], [b, m]) = (place(cells[0]), place(cells[2]));
+            items.words.extend([a, n, (cells[1] == "flag") as u32, b, m, u32::from_str_radix(&cells[3][2..], 16).unwrap()]);
+        }
+        items
     }
 
     pub fn lent(&self) -> bool {

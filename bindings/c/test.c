@@ -211,11 +211,101 @@ static void questions(void) {
   expect(axml_complex_to_float(0xffffff00u) == 16777215.0, "0xffffff00", "16777215");
 }
 
+/* ---- value texts: items of `a` over these bytes, an enum with 5 and 6, flags of the bits 1 and 3 */
+
+static const uint8_t named[] = {'a', 'x', 'y', 'z'};
+static const uint32_t enums[12] = {0, 1, AXML_ITEM_ENUM, 1, 1, 5, 0, 1, AXML_ITEM_ENUM, 2, 2, 6};
+static const uint32_t flags[12] = {0, 1, AXML_ITEM_FLAG, 1, 1, 1, 0, 1, AXML_ITEM_FLAG, 2, 1, 3};
+
+static void value(const char *what, const uint32_t *items, size_t item_words, size_t room, uint32_t prefix, uint32_t name, uint32_t type, uint32_t data,
+                  uint32_t refusal, uint64_t number, const char *text, uint32_t uncovered) {
+  uint8_t out[48], wanted[48] = {0};
+  size_t length = strlen(text);
+  memset(out, 0xa5, sizeof out);
+  memcpy(wanted, text, length);
+  struct axml_value_answer r =
+      axml_value_text(S, S_BYTES, no_words, 0, no_bytes, 0, items, item_words, named, sizeof named, out, room, 9, prefix, name, type, data);
+  expect(r.refusal == refusal, what, "refusal");
+  expect(r.value == number, what, "value");
+  expect(r.length == length, what, "length");
+  expect(r.uncovered == uncovered, what, "uncovered");
+  expect(memcmp(out, wanted, room) == 0, what, "bytes");
+  expect(room == sizeof out || out[room] == 0xa5, what, "behind the buffer");
+}
+
+static void values(void) {
+  value("second item", enums, 12, 8, 0, 0, 16, 6, AXML_DONE, 0, "yz", 0);
+  value("no such item", enums, 12, 16, 1, 0, 16, 0xffffffffu, AXML_DONE, 0, "4294967295", 0);
+  value("a flag and a bit", flags, 12, 8, 1, 0, 17, 3, AXML_DONE, 0, "x", 1);
+  value("no flag", flags, 12, 16, 1, 0, 17, 6, AXML_DONE, 0, "0x00000006", 2);
+  value("a string", no_words, 0, 8, 0, 0, 3, 0, AXML_DONE, 0, "a", 0);
+  value("a number", no_words, 0, 2, 0, 0, 16, 0xffffffffu, AXML_DONE, 0, "-1", 0);
+  value("no room", no_words, 0, 1, 0, 0, 16, 0xffffffffu, AXML_TEXT_SHORT, 2, "", 0);
+  value("a float", no_words, 0, 8, 0, 0, 4, 0, AXML_NO_PLAIN_TEXT, 4, "", 0);
+  value("no name", no_words, 0, 8, 0, 1, 4, 0, AXML_NOTHING_FOUND, 0, "", 0);
+  value("the namespace", enums, 12, 48, AXML_PREFIX_XMLNS, 1, 4, 0, AXML_DONE, 0, "http://schemas.android.com/apk/res/android", 0);
+  value("items that end early", enums, 11, 8, 0, 0, 16, 6, AXML_ITEMS, 1, "", 0);
+}
+
+enum { OUT = 8, ANSWERS = 20 };
+
+static uint8_t bytes[OUT];
+static uint32_t answers[ANSWERS];
+
+static void fill(void) {
+  memset(bytes, 0xa5, sizeof bytes);
+  memset(answers, 0xa5, sizeof answers);
+}
+
+/* The first n words of the answers, and zeros behind them; what was not lent is as it was. */
+static void many(const char *what, struct axml_many_answer r, struct axml_many_answer wanted, const char *text, size_t out_bytes, const uint32_t *words,
+                 size_t n, size_t answer_words) {
+  expect(r.refusal == wanted.refusal, what, "refusal");
+  expect(r.value == wanted.value, what, "value");
+  expect(r.count == wanted.count, what, "count");
+  expect(r.length == wanted.length, what, "length");
+  for (size_t i = 0; i < OUT; i++) expect(bytes[i] == (i < wanted.length ? (uint8_t)text[i] : i < out_bytes ? 0 : 0xa5), what, "bytes");
+  for (size_t i = 0; i < ANSWERS; i++) expect(answers[i] == (i < n ? words[i] : i < answer_words ? 0 : 0xa5a5a5a5u), what, "answers");
+}
+
+static void values_of(const char *what, size_t out_bytes, size_t answer_words, uint32_t count, struct axml_many_answer wanted, const char *text,
+                      const uint32_t *words, size_t n) {
+  const uint32_t records[15] = {0, 0, 0, 16, 6, 0, 0, 0, 4, 1, 0, 1, 0, 16, 5};
+  fill();
+  many(what, axml_value_texts(S, S_BYTES, no_words, 0, no_bytes, 0, enums, 12, named, sizeof named, records, 15, bytes, out_bytes, answers, answer_words, count),
+       wanted, text, out_bytes, words, n, answer_words);
+}
+
+static void texts_of(const char *what, size_t file_bytes, size_t out_bytes, size_t answer_words, struct axml_many_answer wanted, const char *text,
+                     const uint32_t *words, size_t n) {
+  const uint32_t indices[3] = {0, 7, 0};
+  fill();
+  many(what, axml_texts(S, file_bytes, no_words, 0, no_bytes, 0, indices, 3, bytes, out_bytes, answers, answer_words), wanted, text, out_bytes, words, n,
+       answer_words);
+}
+
+static void manies(void) {
+  const uint32_t three[18] = {0, 0, 2, 0, 0, 0, 0, 2, 1, 0, 0, 0, 0, 3, 1, 0, 0, 0};
+  values_of("three values", 6, 20, 3, (struct axml_many_answer){0, 0, 3, 4}, "yz1x", three, 18);
+  values_of("two values", 3, 13, 2, (struct axml_many_answer){0, 0, 2, 3}, "yz1", three, 12);
+  values_of("no values", 0, 0, 0, (struct axml_many_answer){0, 0, 0, 0}, "", three, 0);
+  values_of("four of three records", 8, 20, 4, (struct axml_many_answer){AXML_TABLES, 4, 0, 0}, "", three, 0);
+  values_of("places for two", 0, 17, 3, (struct axml_many_answer){AXML_ANSWERS_FULL, 2, 0, 0}, "", three, 0);
+  values_of("a byte short", 3, 18, 3, (struct axml_many_answer){AXML_TEXT_SHORT, 4, 0, 0}, "", three, 0);
+  const uint32_t strings[18] = {0, 0, 1, 0, 0, 0, AXML_NOTHING_FOUND, 0, 0, 0, 0, 0, 0, 1, 1, 0, 0, 0};
+  texts_of("three texts", S_BYTES, 2, 19, (struct axml_many_answer){0, 0, 3, 2}, "aa", strings, 18);
+  texts_of("a text short", S_BYTES, 1, 19, (struct axml_many_answer){AXML_TEXT_SHORT, 2, 0, 0}, "", strings, 0);
+  texts_of("no place for a text", S_BYTES, 1, 5, (struct axml_many_answer){AXML_ANSWERS_FULL, 0, 0, 0}, "", strings, 0);
+  texts_of("texts of 8 bytes", 8, 8, 20, (struct axml_many_answer){AXML_POOL_HEADER, 8, 0, 0}, "", strings, 0);
+}
+
 int main(void) {
   expect(axml_abi() == AXML_ABI, "axml_abi", "AXML_ABI of the header");
   readings();
   questions();
   contents();
+  values();
+  manies();
   printf("test: %u checks, %u wrong\n", checks, failures);
   return failures != 0;
 }

@@ -5,6 +5,7 @@ use std::io::{self, BufRead, BufReader, BufWriter, Read, Write};
 use apk_info_axml::anomaly::ResAnomaly;
 use apk_info_axml::axml::{ANDROID_NAMESPACE, INVALID_ELEMENT_NAME};
 use apk_info_axml::errors::AXMLError;
+use apk_info_axml::structs::attrs_manifest::{self, get_attr_value, Items};
 use apk_info_axml::structs::system_types::choose;
 use apk_info_axml::structs::{ResourceValue, ResourceValueType};
 use apk_info_axml::trace::{self, Trace};
@@ -35,6 +36,26 @@ fn names_of(path: &str) -> Names {
         entries[at] = name.to_string().leak();
     }
     table.leak()
+}
+
+/// A line for each item: attribute, `enum` or `flag`, name, value in hexadecimal, a tab between them; what follows is not read.
+fn items_of(path: &str) -> Items {
+    let mut table: Vec<(&'static str, bool, Vec<(&'static str, u32)>)> = Vec::new();
+    let text: &'static str = std::fs::read_to_string(path).unwrap().leak();
+    for line in text.lines() {
+        let cells: Vec<&'static str> = line.split('\t').collect();
+        let value = u32::from_str_radix(cells[3].trim_start_matches("0x"), 16).unwrap();
+        if table.last().is_none_or(|a| a.0 != cells[0]) {
+            table.push((cells[0], cells[1] == "flag", Vec::new()));
+        }
+        table.last_mut().unwrap().2.push((cells[2], value));
+    }
+    table.leak()
+}
+
+/// Types whose values have a plain text by docs/FORMAT.md, V10. The Rust has texts for others too, which are not compared.
+fn is_plain(kind: u32) -> bool {
+    matches!(kind, 1 | 2 | 3 | 7 | 0x10 | 0x11 | 0x12 | 0x1c..=0x1f)
 }
 
 /// An answer under way: words, and texts as a length and bytes up to the next word.
@@ -193,7 +214,14 @@ fn answer(file: &[u8], cap: u32, flags: u32, questions: &[(Vec<u8>, Vec<u8>)]) -
         r.attributes.iter().for_each(|a| out.text(a.name.as_bytes()));
     }
     if flags & VALUES != 0 {
-        r.attributes.iter().for_each(|a| out.text(a.value.as_bytes()));
+        for a in &r.attributes {
+            let [_, prefix, _, kind, data] = a.words;
+            if prefix == 2 || is_plain(kind) || get_attr_value(a.name, &data).is_some() {
+                out.text(a.value.as_bytes());
+            } else {
+                out.word(NONE);
+            }
+        }
     }
     if flags & DUE != 0 {
         out.text(&t.due);
@@ -222,14 +250,16 @@ fn text(input: &mut impl Read) -> Vec<u8> {
     v
 }
 
-fn stream(sets: &[Names]) {
+fn stream(sets: &[Names], items: &[Items]) {
     let mut input = BufReader::with_capacity(1 << 20, io::stdin().lock());
     let mut out = BufWriter::with_capacity(1 << 20, io::stdout().lock());
     while !input.fill_buf().unwrap().is_empty() {
         let [flags, cap, set, count] = [0; 4].map(|_: u32| word(&mut input));
         let file = text(&mut input);
         let questions: Vec<_> = (0..count).map(|_| (text(&mut input), text(&mut input))).collect();
-        choose(if set == 0 { &[] } else { sets[set as usize - 1] });
+        let (set, named) = (set as usize & 255, set as usize >> 8);
+        choose(if set == 0 { &[] } else { sets[set - 1] });
+        attrs_manifest::choose(if named == 0 { &[] } else { items[named - 1] });
         let a = answer(&file, cap, flags, &questions);
         out.write_all(&(a.0.len() as u32).to_le_bytes()).unwrap();
         out.write_all(&a.0).unwrap();
@@ -266,14 +296,18 @@ fn listing(file: &[u8]) {
 
 fn run() {
     let mut args: Vec<String> = std::env::args().skip(1).collect();
-    let mut sets = Vec::new();
+    let (mut sets, mut items) = (Vec::new(), Vec::new());
     while args.len() >= 2 && args[0] == "--names" {
         sets.push(names_of(&args[1]));
         args.drain(..2);
     }
+    while args.len() >= 2 && args[0] == "--items" {
+        items.push(items_of(&args[1]));
+        args.drain(..2);
+    }
     let lines = || io::stdin().lines().map(Result::unwrap);
     match args.first().map(String::as_str) {
-        None => stream(&sets),
+        None => stream(&sets, &items),
         Some("--listing") => {
             let mut file = Vec::new();
             io::stdin().read_to_end(&mut file).unwrap();

@@ -1,7 +1,7 @@
 /* Runs the proved reader, compiled for this machine, over a stream of questions and writes an answer to each, in the layout of the Rust's
  * program (../README.md), so that the two answers can be compared byte by byte.
  *
- *   axml-port [--names FILE].. [--valid | --complex]
+ *   axml-port [--names FILE].. [--items FILE].. [--valid | --complex]
  *
  * Two things differ in a question: the flags' upper 24 bits are how many texts to ask for (the Rust counts them itself; 0 means that the
  * head is refused, and then the text question must refuse alike), and flag 16 adds three words before the file: the words of the node
@@ -13,7 +13,7 @@
 #include <string.h>
 #include "axml.h"
 
-enum { TEXTS = 1, NAMES = 2, ROOMS = 16, NONE = 0xffffffff };
+enum { TEXTS = 1, NAMES = 2, VALUES = 4, ROOMS = 16, NONE = 0xffffffff };
 
 static void fail(const char *why)
 {
@@ -110,6 +110,37 @@ static names names_of(const char *path)
     return s;
 }
 
+/* ---- items: a line for each, attribute, `enum` or `flag`, name, value in hexadecimal, a tab between them; the names of an attribute stand once */
+
+static names items_of(const char *path)
+{
+    names s = {0, 0, 0, 0};
+    char line[4096];
+    uint32_t last = 0, last_bytes = 0;
+    FILE *f = fopen(path, "r");
+    if (!f) fail("a file of items cannot be read");
+    while (fgets(line, sizeof line, f)) {
+        char *attribute = strtok(line, "\t"), *kind = strtok(0, "\t"), *name = strtok(0, "\t"), *value = strtok(0, "\t\n");
+        size_t n = strlen(attribute), m = strlen(name);
+        s.words = realloc(s.words, 4 * (s.n + AXML_ITEM_WORDS));
+        s.area = realloc(s.area, s.length + n + m + 1);
+        if (!s.words || !s.area) fail("no memory");
+        if (last_bytes != n || memcmp(s.area + last, attribute, n)) {
+            last = s.length;
+            last_bytes = n;
+            memcpy(s.area + s.length, attribute, n);
+            s.length += n;
+        }
+        struct axml_item item = {last, n, strcmp(kind, "flag") ? AXML_ITEM_ENUM : AXML_ITEM_FLAG, s.length, m, strtoul(value, 0, 16)};
+        memcpy(s.words + s.n, &item, sizeof item);
+        s.n += AXML_ITEM_WORDS;
+        memcpy(s.area + s.length, name, m);
+        s.length += m;
+    }
+    fclose(f);
+    return s;
+}
+
 /* ---- one question */
 
 static uint8_t *buffer;
@@ -146,7 +177,43 @@ static void zeros_behind(const uint32_t *t, size_t from, size_t n)
         if (t[from]) fail("a word behind the records is not zero");
 }
 
-static void answer(uint32_t flags, uint32_t cap, names s, uint32_t asked)
+/* the value texts of all records at once, and one by one: both must say the same */
+static void put_values(bytes file, names s, names items, const uint32_t *attributes, size_t words, uint32_t count)
+{
+    uint32_t *parts = patterned(AXML_PART_WORDS * (size_t)count + 5);
+    size_t n = AXML_PART_WORDS * (size_t)count + 5, needed = 0;
+    struct axml_many_answer a;
+    for (;;) {
+        uint8_t *all = room(needed + 3);
+        memset(all, 0xa5, needed + 3);
+        a = axml_value_texts(file.at, file.n, s.words, s.n, s.area, s.length, items.words, items.n, items.area, items.length, attributes, words, all,
+                             needed, parts, n, count);
+        if (a.refusal == AXML_TEXT_SHORT) {
+            zeros_behind(parts, 0, n);
+            needed = a.value;
+            free(all);
+            continue;
+        }
+        if (a.refusal || a.count != count || a.length != needed || all[needed] != 0xa5) fail("many value texts are refused");
+        zeros_behind(parts, AXML_PART_WORDS * (size_t)count, n);
+        for (uint32_t k = 0; k < count; k++) {
+            const uint32_t *w = attributes + 5 * (size_t)k;
+            const struct axml_part *p = (const struct axml_part *)parts + k;
+            struct axml_value_answer v = axml_value_text(file.at, file.n, s.words, s.n, s.area, s.length, items.words, items.n, items.area,
+                                                         items.length, buffer, buffer_size, w[0], w[1], w[2], w[3], w[4]);
+            if (v.refusal == AXML_TEXT_SHORT) fail("a value text is longer than the buffer");
+            if (v.refusal != p->refusal || v.length != p->length || v.uncovered != p->uncovered) fail("a value text by itself has other numbers");
+            if (memcmp(buffer, all + p->start, p->length)) fail("a value text by itself is another");
+            if (p->refusal) put_word(NONE);
+            else put_text(all + p->start, p->length);
+        }
+        free(all);
+        free(parts);
+        return;
+    }
+}
+
+static void answer(uint32_t flags, uint32_t cap, names s, names items, uint32_t asked)
 {
     size_t rooms[3], k;
     if (flags & ROOMS)
@@ -192,6 +259,7 @@ static void answer(uint32_t flags, uint32_t cap, names s, uint32_t asked)
             if (attributes[5 * k + 1] == 2) put_text("android", 7);
             else put_name(file, s, attributes[5 * k + 2]);
     }
+    if (flags & VALUES) put_values(file, s, items, attributes, rooms[1], a.attributes);
     while (asked--) {
         bytes tag = text(), name = text();
         if (a.refusal) {
@@ -246,21 +314,24 @@ static void complex_values(void)
 
 int main(int argc, char **argv)
 {
-    names sets[8] = {{0, 0, 0, 0}};
+    names sets[8] = {{0, 0, 0, 0}}, items[8] = {{0, 0, 0, 0}};
     uint32_t none = 0;
-    int k = 1, n = 1;
+    int k = 1, n = 1, m = 1;
     sets[0].words = &none; /* a lent table has an address, also with no words in it */
     sets[0].area = (uint8_t *)&none;
+    items[0] = sets[0];
     for (; k + 1 < argc && !strcmp(argv[k], "--names") && n < 8; k += 2) sets[n++] = names_of(argv[k + 1]);
+    for (; k + 1 < argc && !strcmp(argv[k], "--items") && m < 8; k += 2) items[m++] = items_of(argv[k + 1]);
     buffer = room(buffer_size);
     if (k < argc && !strcmp(argv[k], "--valid")) valid();
     else if (k < argc && !strcmp(argv[k], "--complex")) complex_values();
-    else if (k < argc) fail("usage: axml-port [--names FILE].. [--valid | --complex]");
+    else if (k < argc) fail("usage: axml-port [--names FILE].. [--items FILE].. [--valid | --complex]");
     else
         while (more()) {
             uint32_t flags = word(), cap = word(), set = word(), asked = word();
-            if (set >= (uint32_t)n) fail("a set of names that was not given");
-            answer(flags, cap, sets[set], asked);
+            if ((set & 255) >= (uint32_t)n) fail("a set of names that was not given");
+            if (set >> 8 >= (uint32_t)m) fail("a set of items that was not given");
+            answer(flags, cap, sets[set & 255], items[set >> 8], asked);
         }
     return 0;
 }

@@ -37,6 +37,10 @@ fn numbers() {
     is("AXML_NODE_WORDS", sys::NODE_WORDS as u64);
     is("AXML_ATTRIBUTE_WORDS", sys::ATTRIBUTE_WORDS as u64);
     is("AXML_NOTE_WORDS", sys::NOTE_WORDS as u64);
+    is("AXML_ITEM_WORDS", sys::ITEM_WORDS as u64);
+    is("AXML_PART_WORDS", sys::PART_WORDS as u64);
+    is("AXML_ITEM_ENUM", sys::ITEM_ENUM.into());
+    is("AXML_ITEM_FLAG", sys::ITEM_FLAG.into());
     is("AXML_NO_PARENT", sys::NO_PARENT.into());
     is("AXML_PREFIX_ANDROID", sys::PREFIX_ANDROID.into());
     is("AXML_PREFIX_XMLNS", sys::PREFIX_XMLNS.into());
@@ -54,13 +58,14 @@ fn numbers() {
     let refusals = [
         "AXML_TOO_SMALL", "AXML_TOO_LARGE", "AXML_HEADER_SIZE", "AXML_MISSING_ROOT", "AXML_SYSTEM_NAMES",
         "AXML_NODES_FULL", "AXML_ATTRIBUTES_FULL", "AXML_NOTES_FULL", "AXML_TEXT_SHORT", "AXML_NOTHING_FOUND", "AXML_TABLES",
+        "AXML_ITEMS", "AXML_NO_PLAIN_TEXT", "AXML_ANSWERS_FULL",
         "AXML_NOTES_OFF", "AXML_ROUND_UP_FULL",
         "AXML_POOL_GARBAGE", "AXML_POOL_HEADER", "AXML_POOL_OFFSETS", "AXML_POOL_STYLES", "AXML_POOL_DATA", "AXML_MAP_HEADER", "AXML_MAP_IDS",
     ];
     let cases = [
         Refusal::TooSmall(0), Refusal::TooLarge, Refusal::HeaderSize(0), Refusal::NoElement,
         Refusal::SystemNames(0), Refusal::NodesFull(0), Refusal::AttributesFull(0), Refusal::NotesFull(0), Refusal::TextShort(0),
-        Refusal::NothingFound, Refusal::Tables(0), Refusal::NotesOff, Refusal::RoundUpFull, Refusal::PoolGarbage(0), Refusal::PoolHeader(0), Refusal::PoolOffsets(0), Refusal::PoolStyles(0),
+        Refusal::NothingFound, Refusal::Tables(0), Refusal::Items(0), Refusal::NoPlainText(0), Refusal::AnswersFull(0), Refusal::NotesOff, Refusal::RoundUpFull, Refusal::PoolGarbage(0), Refusal::PoolHeader(0), Refusal::PoolOffsets(0), Refusal::PoolStyles(0),
         Refusal::PoolData(0), Refusal::MapHeader(0), Refusal::MapIds(0),
     ];
     for (name, refusal) in refusals.iter().zip(cases) {
@@ -107,6 +112,16 @@ fn places() {
     assert_eq!(fields(&header, "axml_answer"), ["refusal", "value", "starts", "nodes", "attributes", "notes"]);
     assert_eq!(fields(&header, "axml_text_answer"), ["refusal", "value", "length"]);
     assert_eq!(fields(&header, "axml_content_answer"), ["slice", "start", "length"]);
+    let item = [
+        sys::ITEM_ATTRIBUTE, sys::ITEM_ATTRIBUTE_LENGTH, sys::ITEM_KIND, sys::ITEM_NAME, sys::ITEM_NAME_LENGTH, sys::ITEM_VALUE,
+    ];
+    assert_eq!(item, ["attribute", "attribute_length", "kind", "name", "name_length", "value"].map(|f| at("axml_item", f)));
+    assert_eq!(fields(&header, "axml_item").len(), sys::ITEM_WORDS);
+    let part = [sys::PART_REFUSAL, sys::PART_START, sys::PART_LENGTH, sys::PART_UNCOVERED];
+    assert_eq!(part, ["refusal", "start", "length", "uncovered"].map(|f| at("axml_part", f)));
+    assert_eq!(fields(&header, "axml_part").len(), sys::PART_WORDS);
+    assert_eq!(fields(&header, "axml_value_answer"), ["refusal", "value", "length", "uncovered"]);
+    assert_eq!(fields(&header, "axml_many_answer"), ["refusal", "value", "count", "length"]);
     assert_eq!(fields(&header, "axml_add_answer"), ["refusal", "value"]);
     assert_eq!(fields(&header, "axml_first_answer"), ["refusal", "value", "type", "data", "reference"]);
 }
@@ -136,5 +151,5 @@ fn words() {
         };
         assert!(said.starts_with(words), "{said}");
     }
-    assert_eq!((refusals, notes), (19, NoteKind::ALL.len()));
+    assert_eq!((refusals, notes), (22, NoteKind::ALL.len()));
 }

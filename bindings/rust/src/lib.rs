@@ -23,10 +23,12 @@ mod note;
 mod refusal;
 mod round_up;
 mod sys;
+mod values;
 
 pub use note::{Note, NoteKind};
 pub use refusal::Refusal;
 pub use round_up::{RoundUp, SizeClass};
+pub use values::{ItemKind, Items, Part, Texts, ValueText};
 
 /// Bytes of the longest file that is read: 16,777,216.
 pub const LONGEST_FILE: usize = sys::LONGEST_FILE;
@@ -225,6 +227,15 @@ pub struct Attribute<'a> {
 impl<'a> Attribute<'a> {
     fn word(&self, place: usize) -> u32 {
         self.of.attributes[sys::ATTRIBUTE_WORDS * self.index + place]
+    }
+
+    fn words(&self) -> [u32; sys::ATTRIBUTE_WORDS] {
+        std::array::from_fn(|place| self.word(place))
+    }
+
+    /// Its number in the order of the file, which is that of [`Manifest::value_texts`].
+    pub fn index(&self) -> usize {
+        self.index
     }
 
     /// The element that it stands on.

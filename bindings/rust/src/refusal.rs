@@ -30,6 +30,12 @@ pub enum Refusal {
     NothingFound,
     /// The lent tables do not fit the question, with the number of nodes, or the first bad one.
     Tables(u64),
+    /// The lent items break their rule, with the first that does.
+    Items(u64),
+    /// A value has no plain text, with its type.
+    NoPlainText(u64),
+    /// An answer has no place, with the places that there are.
+    AnswersFull(u64),
     /// A cap of 0, at which a reading would keep no note.
     NotesOff,
     /// A count of a round-up would pass 4,294,967,295.
@@ -68,6 +74,9 @@ impl Refusal {
             11 => Refusal::TextShort(value),
             12 => Refusal::NothingFound,
             13 => Refusal::Tables(value),
+            14 => Refusal::Items(value),
+            15 => Refusal::NoPlainText(value),
+            21 => Refusal::AnswersFull(value),
             27 => Refusal::NotesOff,
             29 => Refusal::RoundUpFull,
             41 => Refusal::PoolGarbage(value),
@@ -95,6 +104,9 @@ impl Refusal {
             Refusal::TextShort(_) => 11,
             Refusal::NothingFound => 12,
             Refusal::Tables(_) => 13,
+            Refusal::Items(_) => 14,
+            Refusal::NoPlainText(_) => 15,
+            Refusal::AnswersFull(_) => 21,
             Refusal::NotesOff => 27,
             Refusal::RoundUpFull => 29,
             Refusal::PoolGarbage(_) => 41,
@@ -113,6 +125,7 @@ impl Refusal {
         match *self {
             Refusal::TooSmall(v) | Refusal::HeaderSize(v) | Refusal::SystemNames(v) | Refusal::NodesFull(v) => v,
             Refusal::AttributesFull(v) | Refusal::NotesFull(v) | Refusal::TextShort(v) | Refusal::Tables(v) => v,
+            Refusal::Items(v) | Refusal::NoPlainText(v) | Refusal::AnswersFull(v) => v,
             Refusal::PoolGarbage(v) | Refusal::PoolHeader(v) | Refusal::PoolOffsets(v) | Refusal::PoolStyles(v) | Refusal::PoolData(v) => v,
             Refusal::MapHeader(v) | Refusal::MapIds(v) | Refusal::Other(_, v) => v,
             Refusal::TooLarge | Refusal::NoElement | Refusal::NothingFound | Refusal::NotesOff | Refusal::RoundUpFull => 0,
@@ -133,6 +146,9 @@ impl Refusal {
             Refusal::TextShort(_) => "the buffer is too short for the text",
             Refusal::NothingFound => "nothing was found",
             Refusal::Tables(_) => "the tables do not fit the question",
+            Refusal::Items(_) => "the items break their rule",
+            Refusal::NoPlainText(_) => "the value has no plain text",
+            Refusal::AnswersFull(_) => "the table of answers is full",
             Refusal::NotesOff => "a cap of 0 would keep no notes: ask for 1 or more of each kind",
             Refusal::RoundUpFull => "a count of the round-up is full",
             Refusal::PoolGarbage(_) => "the chunk before the string pool is cut short",
@@ -155,7 +171,9 @@ impl fmt::Display for Refusal {
             Refusal::TooLarge => write!(f, " (at most {} bytes are read)", crate::LONGEST_FILE),
             Refusal::HeaderSize(n) => write!(f, " but {n} (an APK is a zip: take AndroidManifest.xml out of it first)"),
             Refusal::SystemNames(n) => write!(f, " at entry {n} (ids rise and have the top byte 1, names are ASCII and not empty)"),
-            Refusal::NodesFull(n) | Refusal::AttributesFull(n) | Refusal::NotesFull(n) => write!(f, " ({n} places)"),
+            Refusal::NodesFull(n) | Refusal::AttributesFull(n) | Refusal::NotesFull(n) | Refusal::AnswersFull(n) => write!(f, " ({n} places)"),
+            Refusal::Items(n) => write!(f, " at item {n} (names are ASCII and not empty, items of one attribute stand together and have one kind)"),
+            Refusal::NoPlainText(n) => write!(f, " (type {n})"),
             Refusal::TextShort(n) => write!(f, " ({n} bytes are needed)"),
             Refusal::Tables(n) => write!(f, " ({n})"),
             Refusal::PoolGarbage(n) | Refusal::PoolHeader(n) | Refusal::PoolData(n) | Refusal::MapHeader(n) => write!(f, ": byte {n} should be the first of it"),

@@ -2,10 +2,10 @@
 //! number of elements, the tables that are written are borrowed for the call alone, and the pointer of an empty slice is aligned and not
 //! null. src/held.rs holds the numbers to the header's.
 
-use crate::SystemNames;
+use crate::{Items, SystemNames};
 
 /// The form of the C interface that this file declares: the header's AXML_ABI.
-pub const ABI: u32 = 5;
+pub const ABI: u32 = 6;
 
 /// Bytes of the longest file that is read.
 pub const LONGEST_FILE: usize = 16_777_216;
@@ -36,6 +36,24 @@ pub const NOTE_WORDS: usize = 3;
 pub const NOTE_KIND: usize = 0;
 pub const NOTE_A: usize = 1;
 pub const NOTE_B: usize = 2;
+
+/// Words of an item, and the place of each.
+pub const ITEM_WORDS: usize = 6;
+pub const ITEM_ATTRIBUTE: usize = 0;
+pub const ITEM_ATTRIBUTE_LENGTH: usize = 1;
+pub const ITEM_KIND: usize = 2;
+pub const ITEM_NAME: usize = 3;
+pub const ITEM_NAME_LENGTH: usize = 4;
+pub const ITEM_VALUE: usize = 5;
+pub const ITEM_ENUM: u32 = 0;
+pub const ITEM_FLAG: u32 = 1;
+
+/// Words of one of many texts, and the place of each that is read here.
+pub const PART_WORDS: usize = 6;
+pub const PART_REFUSAL: usize = 0;
+pub const PART_START: usize = 1;
+pub const PART_LENGTH: usize = 2;
+pub const PART_UNCOVERED: usize = 3;
 
 /// Words of a round-up, and the place of each.
 pub const ROUND_UP_WORDS: usize = 132;
@@ -69,6 +87,22 @@ pub struct Answer {
 pub struct TextAnswer {
     pub refusal: u32,
     pub value: u64,
+    pub length: u64,
+}
+
+#[repr(C)]
+pub struct ValueAnswer {
+    pub refusal: u32,
+    pub value: u64,
+    pub length: u64,
+    pub uncovered: u32,
+}
+
+#[repr(C)]
+pub struct ManyAnswer {
+    pub refusal: u32,
+    pub value: u64,
+    pub count: u64,
     pub length: u64,
 }
 
@@ -115,6 +149,20 @@ extern "C" {
         nodes: Words, node_words: usize, attributes: Words, attribute_words: usize,
         tag: Bytes, tag_bytes: usize, name: Bytes, name_bytes: usize, node_count: u32, attribute_count: u32,
     ) -> FirstAnswer;
+    fn axml_value_text(
+        file: Bytes, file_bytes: usize, names: Words, name_words: usize, area: Bytes, area_bytes: usize,
+        items: Words, item_words: usize, item_area: Bytes, item_area_bytes: usize, out: *mut u8, out_bytes: usize,
+        owner: u32, prefix: u32, name: u32, kind: u32, data: u32,
+    ) -> ValueAnswer;
+    fn axml_value_texts(
+        file: Bytes, file_bytes: usize, names: Words, name_words: usize, area: Bytes, area_bytes: usize,
+        items: Words, item_words: usize, item_area: Bytes, item_area_bytes: usize, attributes: Words, attribute_words: usize,
+        out: *mut u8, out_bytes: usize, answers: MutWords, answer_words: usize, attribute_count: u32,
+    ) -> ManyAnswer;
+    fn axml_texts(
+        file: Bytes, file_bytes: usize, names: Words, name_words: usize, area: Bytes, area_bytes: usize,
+        indices: Words, index_words: usize, out: *mut u8, out_bytes: usize, answers: MutWords, answer_words: usize,
+    ) -> ManyAnswer;
     fn axml_round_up_add(
         round_up: MutWords, round_up_words: usize, notes: Words, note_words: usize, refusal: u32, note_count: u32, file_bytes: usize,
     ) -> AddAnswer;
@@ -159,6 +207,43 @@ pub fn first_value(file: &[u8], names: &SystemNames, nodes: &[u32], attributes: 
         axml_first_value(
             file.as_ptr(), file.len(), w.as_ptr(), w.len(), a.as_ptr(), a.len(), nodes.as_ptr(), nodes.len(), attributes.as_ptr(), attributes.len(),
             tag.as_ptr(), tag.len(), name.as_ptr(), name.len(), node_count, attribute_count,
+        )
+    }
+}
+
+/// `words`: those of the attribute, as a table has them.
+pub fn value_text(file: &[u8], names: &SystemNames, items: &Items, out: &mut [u8], words: [u32; ATTRIBUTE_WORDS]) -> ValueAnswer {
+    same_form();
+    let (w, a) = (&names.words, &names.area);
+    unsafe {
+        axml_value_text(
+            file.as_ptr(), file.len(), w.as_ptr(), w.len(), a.as_ptr(), a.len(), items.words.as_ptr(), items.words.len(),
+            items.area.as_ptr(), items.area.len(), out.as_mut_ptr(), out.len(), words[ATTRIBUTE_OWNER], words[ATTRIBUTE_PREFIX],
+            words[ATTRIBUTE_NAME], words[ATTRIBUTE_TYPE], words[ATTRIBUTE_DATA],
+        )
+    }
+}
+
+pub fn value_texts(file: &[u8], names: &SystemNames, items: &Items, attributes: &[u32], out: &mut [u8], answers: &mut [u32]) -> ManyAnswer {
+    same_form();
+    let (w, a) = (&names.words, &names.area);
+    let attribute_count = (attributes.len() / ATTRIBUTE_WORDS) as u32;
+    unsafe {
+        axml_value_texts(
+            file.as_ptr(), file.len(), w.as_ptr(), w.len(), a.as_ptr(), a.len(), items.words.as_ptr(), items.words.len(),
+            items.area.as_ptr(), items.area.len(), attributes.as_ptr(), attributes.len(), out.as_mut_ptr(), out.len(),
+            answers.as_mut_ptr(), answers.len(), attribute_count,
+        )
+    }
+}
+
+pub fn texts(file: &[u8], names: &SystemNames, indices: &[u32], out: &mut [u8], answers: &mut [u32]) -> ManyAnswer {
+    same_form();
+    let (w, a) = (&names.words, &names.area);
+    unsafe {
+        axml_texts(
+            file.as_ptr(), file.len(), w.as_ptr(), w.len(), a.as_ptr(), a.len(), indices.as_ptr(), indices.len(),
+            out.as_mut_ptr(), out.len(), answers.as_mut_ptr(), answers.len(),
         )
     }
 }

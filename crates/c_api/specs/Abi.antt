@@ -6,7 +6,8 @@
 --         3: axml_round_up_add
 --         4: nodes of six words, the line behind the others
 --         5: refusal 27, a cap of 0
+--         6: axml_value_text, axml_value_texts, axml_texts; refusals 14, 15, 21
 use Prim.Native.Nat.{ℕ}
 
 abbrev pub abi : ℕ
-abi = 5
+abi = 6

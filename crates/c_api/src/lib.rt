@@ -6,12 +6,18 @@
 pub mod abi;
 pub mod adding;
 pub mod content;
+pub mod values;
 
 pub use abi::axml_abi;
 pub use adding::AxmlAddAnswer;
 pub use adding::axml_round_up_add;
 pub use content::AxmlContentAnswer;
 pub use content::axml_content;
+pub use values::AxmlManyAnswer;
+pub use values::AxmlValueAnswer;
+pub use values::axml_texts;
+pub use values::axml_value_text;
+pub use values::axml_value_texts;
 ghost use mathlib.Core.Path.{_≡_};
 ghost use mathlib.Core.Bool.{false};
 ghost use Prim.Native.Nat.{_+_, _*_, _≤_};

@@ -19,14 +19,16 @@
 -- The listing's function: list-unique to list-suffices: one answer, zeros, room.
 -- A month (R4 to R8): month-sum, month-order, month-history of any files; month-refused, month-full, month-added of one; month-kinds, month-grid of
 -- readings; month-unique, month-numbers-unique, c-month-unique: one answer.
+-- Value texts (V1 to V16): value-unique to value-done-zeros of one; value-decimal-broken, value-first-broken: versions that cannot meet its promise; decimal-read,
+-- signed-read, hex-read, flag-whole, flag-none of the texts; values-unique to values-single of many, texts-unique to texts-single of many string indices.
 -- The marked cases (L5): `cases-right` of proofs/Cases.antt, one table and one theorem; `cases-read` of proofs/Given.antt: `read` gives them.
 -- Texts and names (P2): what ties them to Unicode's tables and to XML's ranges is named in ARCHITECTURE.md.
-use Prim.Native.Nat.{ℕ, _+_, _*_, _≤_, _<_}
+use Prim.Native.Nat.{ℕ, _+_, _-_, _*_, _^_, _≤_, _<_}
 use mathlib.Core.Path.{_≡_, sym, _∙_}
 use mathlib.Core.List.{List, [], _∷_, _++_, map}
 use lib.Ieee.{Float}
 use mathlib.Core.Bool.{Bool, true, false}
-use lib.ListN.{length, take, replicate}
+use lib.ListN.{length, take, drop, replicate}
 use Rattle.common.specs.Complex.{Complex}
 use Rattle.common.specs.Header.{headerOf}
 use Rattle.common.specs.declared.ResChunkHeader.{ResChunkHeader}
@@ -102,6 +104,36 @@ use Rattle.round_up.proofs.Order.{order-same}
 use Rattle.round_up.proofs.Told as told
 use Rattle.c_api.specs.declared.adding.AxmlAddAnswer.{AxmlAddAnswer}
 use Rattle.c_api.specs.Adding.{AddsWords}
+use Rattle.many_texts.specs.Words.{answerWidth}
+use Rattle.errors.specs.Refusal.{valueNumbersOf}
+use Rattle.errors.specs.declared.ValueAnswer.{ValueAnswer}
+use Rattle.errors.specs.declared.ValueAnswer.the-variants as valueIs
+use Rattle.errors.specs.declared.ManyTexts.{ManyTexts}
+use Rattle.errors.specs.declared.ManyTexts.the-variants as manyIs
+use Rattle.digits.specs.Digits as digits
+use Rattle.digits.proofs.Back as back
+use Rattle.digits.specs.Written.{fitted}
+use Rattle.digits.proofs.Decimal as decimals
+use Rattle.digits.proofs.Signed as signeds
+use Rattle.digits.proofs.Hex as hexes
+use mir.Syntax.{w32}
+use mir.Val.{toZ}
+use Rattle.text.specs.declared.Head.{Head}
+use Rattle.text.specs.Content.{contentOf, textIn}
+use Rattle.head.specs.Head.{tablesIn}
+use Rattle.head.specs.Ask.{textBuffer}
+use Rattle.head.specs.declared.OpenRead.the-variants.{Open}
+use Rattle.items.specs.Items.{itemsOf, itemNameOf, namedIn}
+use Rattle.items.specs.Flags.{taken, leftOf, uncovered, sumOf}
+use Rattle.items.specs.declared.Item.{Item}
+use Rattle.items.proofs.FlagLaws as flags
+use Rattle.value_text.specs.declared.Attribute.{Attribute}
+use Rattle.value_text.specs.Value.{valueOpen, valueAnswer, valueBuffer, ValueReads}
+use Rattle.value_text.proofs.Claimed as valued
+use Rattle.value_text.proofs.Broken as unvalued
+use Rattle.many_texts.specs.Many.{attributeAt, ReadsValues, ReadsTexts}
+use Rattle.many_texts.specs.Single.{IsPart}
+use Rattle.many_texts.proofs.Claimed as manies
 use Rattle.claims.specs.Month as month
 use Rattle.claims.proofs.Month as months
 
@@ -498,3 +530,92 @@ month-numbers-unique = told.addNumbers-unique
 pub c-month-unique : (words notes : List ℕ) (refusal count bytes : ℕ) (a b : AxmlAddAnswer) (after after′ : List ℕ)
     → AddsWords words notes refusal count bytes a after → AddsWords words notes refusal count bytes b after′ → (a ≡ b) × (after ≡ after′)
 c-month-unique words notes refusal count bytes a b after after′ p q = (p .answer ∙ sym (q .answer), p .counts ∙ sym (q .counts))
+
+-- ---- value texts (V1 to V12)
+
+module _ (f : List ℕ) (lent : Lent) (items area before : List ℕ) (a : Attribute) where
+  pub value-unique : (r r′ : ValueAnswer) (after after′ : List ℕ) → ValueReads f lent items area before a r after
+      → ValueReads f lent items area before a r′ after′ → (r ≡ r′) × (after ≡ after′)
+  value-unique r r′ after after′ p q = valued.value-unique f lent items area before a p q
+
+  pub value-refused-zeros : (x : Refusal) (after : List ℕ) → ValueReads f lent items area before a (valueIs.Refused x) after → after ≡ replicate (length before) 0
+  value-refused-zeros x after h = valued.value-refused-zeros f lent items area before after a x h
+
+  pub value-done-zeros : (k u : ℕ) (after : List ℕ) → ValueReads f lent items area before a (valueIs.Value k u) after
+      → drop k after ≡ replicate (length before - k) 0
+  value-done-zeros k u after h = valued.value-done-zeros f lent items area before after a k u h
+
+-- versions that cannot meet the promise: one that always shows the number, and one that always shows the first item of the attribute
+module _ (answer : List ℕ → Lent → List ℕ → List ℕ → List ℕ → Attribute → ValueAnswer)
+    (after : List ℕ → Lent → List ℕ → List ℕ → List ℕ → Attribute → List ℕ)
+    (meets : (f : List ℕ) (lent : Lent) (items area before : List ℕ) (a : Attribute)
+    → ValueReads f lent items area before a (answer f lent items area before a) (after f lent items area before a)) where
+  pub value-decimal-broken : ((f : List ℕ) (lent : Lent) (items area before : List ℕ) (a : Attribute) (h : Head) → valueOpen f lent items area ≡ Open h
+      → after f lent items area before a ≡ fitted (digits.decimal (a .«data»)) (length before)) → ⊥
+  value-decimal-broken = unvalued.decimal-broken (record { answer = answer; after = after; meets = meets })
+
+  pub value-first-broken : ((f : List ℕ) (lent : Lent) (items area before : List ℕ) (a : Attribute) (h : Head) (i : Item) (is : List Item)
+      → valueOpen f lent items area ≡ Open h
+      → namedIn area (textIn (contentOf h (tablesIn f h) lent (a .name .0))) (itemsOf items) ≡ i ∷ is
+      → after f lent items area before a ≡ fitted (itemNameOf area i) (length before)) → ⊥
+  value-first-broken = unvalued.first-broken (record { answer = answer; after = after; meets = meets })
+
+-- numbers read back
+pub decimal-read : (n : ℕ) → n < 10 ^ 20 → back.numberFrom 0 (digits.decimal n) ≡ n
+decimal-read = decimals.decimal-back
+
+pub signed-read : (n : ℕ) → n < 4294967296 → back.signedOf (digits.signedText n) ≡ toZ w32 n
+signed-read = signeds.signedText-back
+
+pub hex-read : (n : ℕ) → n < 16 ^ 8 → back.hexFrom 0 (digits.hexText n) ≡ n
+hex-read = hexes.hexText-back
+
+-- the taken values of a flag and what is left make the data again; no bit is uncovered exactly where the taken values make it alone
+pub flag-whole : (n : ℕ) (is : List Item) → sumOf (taken n is) + leftOf n is ≡ n
+flag-whole = flags.taken-sum
+
+pub flag-none : (n : ℕ) (is : List Item) → n < 4294967296 → (uncovered n is ≡ 0 → sumOf (taken n is) ≡ n) × (sumOf (taken n is) ≡ n → uncovered n is ≡ 0)
+flag-none n is h = (flags.uncovered-none n is h, flags.uncovered-whole n is h)
+
+-- ---- many texts (V13 to V16)
+
+module _ (f : List ℕ) (lent : Lent) (items area ats out₀ table₀ : List ℕ) (count : ℕ) where
+  pub values-unique : (r r′ : ManyTexts) (out out′ table table′ : List ℕ) → ReadsValues f lent items area ats out₀ table₀ count r out table
+      → ReadsValues f lent items area ats out₀ table₀ count r′ out′ table′ → (r ≡ r′) × (out ≡ out′) × (table ≡ table′)
+  values-unique r r′ out out′ table table′ p q = manies.values-unique f lent items area ats out₀ table₀ count p q
+
+  module _ (out table : List ℕ) where
+    pub values-refused-zeros : (x : Refusal) → ReadsValues f lent items area ats out₀ table₀ count (manyIs.Refused x) out table
+        → (out ≡ replicate (length out₀) 0) × (table ≡ replicate (length table₀) 0)
+    values-refused-zeros x h = manies.values-refused-zeros f lent items area ats out₀ table₀ count out table x h
+
+    module _ (k b : ℕ) (done : ReadsValues f lent items area ats out₀ table₀ count (manyIs.Answered k b) out table) where
+      pub values-done-zeros : (drop b out ≡ replicate (length out₀ - b) 0) × (drop (answerWidth * k) table ≡ replicate (length table₀ - answerWidth * k) 0)
+      values-done-zeros = let z = manies.values-done-zeros f lent items area ats out₀ table₀ count out table k b done in (z .bytes, z .words)
+
+      -- each answer is that of the single question, in any buffer that it does not find too short
+      pub values-single : (i room : ℕ) → i < k → (valueNumbersOf (valueAnswer f lent items area room (attributeAt ats i)) .refusal ≡ 11 → ⊥)
+          → IsPart (valueNumbersOf (valueAnswer f lent items area room (attributeAt ats i)) .refusal)
+          (valueNumbersOf (valueAnswer f lent items area room (attributeAt ats i)) .length)
+          (valueNumbersOf (valueAnswer f lent items area room (attributeAt ats i)) .uncovered)
+          (valueBuffer f lent items area room (attributeAt ats i)) i out table
+      values-single = manies.values-single f lent items area ats out₀ table₀ count out table k b done
+
+module _ (f : List ℕ) (lent : Lent) (indices out₀ table₀ : List ℕ) where
+  pub texts-unique : (r r′ : ManyTexts) (out out′ table table′ : List ℕ) → ReadsTexts f lent indices out₀ table₀ r out table
+      → ReadsTexts f lent indices out₀ table₀ r′ out′ table′ → (r ≡ r′) × (out ≡ out′) × (table ≡ table′)
+  texts-unique r r′ out out′ table table′ p q = manies.texts-unique f lent indices out₀ table₀ p q
+
+  module _ (out table : List ℕ) where
+    pub texts-refused-zeros : (x : Refusal) → ReadsTexts f lent indices out₀ table₀ (manyIs.Refused x) out table
+        → (out ≡ replicate (length out₀) 0) × (table ≡ replicate (length table₀) 0)
+    texts-refused-zeros x h = manies.texts-refused-zeros f lent indices out₀ table₀ out table x h
+
+    module _ (k b : ℕ) (done : ReadsTexts f lent indices out₀ table₀ (manyIs.Answered k b) out table) where
+      pub texts-done-zeros : (drop b out ≡ replicate (length out₀ - b) 0) × (drop (answerWidth * k) table ≡ replicate (length table₀ - answerWidth * k) 0)
+      texts-done-zeros = let z = manies.texts-done-zeros f lent indices out₀ table₀ out table k b done in (z .bytes, z .words)
+
+      pub texts-single : (i room : ℕ) → i < k → (textNumbersOf (textAnswer f lent room (getD indices i 0)) .refusal ≡ 11 → ⊥)
+          → IsPart (textNumbersOf (textAnswer f lent room (getD indices i 0)) .refusal)
+          (textNumbersOf (textAnswer f lent room (getD indices i 0)) .length) 0 (textBuffer f lent room (getD indices i 0)) i out table
+      texts-single = manies.texts-single f lent indices out₀ table₀ out table k b done

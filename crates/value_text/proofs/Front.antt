@@ -34,10 +34,10 @@ use Rattle.items.specs.Values.{Text, nothing, says, isSaid, said, attrText, unc
 use Rattle.items.specs.Inner.Turns.{restFrom, fromItem, FirstNamed, Spoken}
 use Rattle.items.proofs.TurnLaws.{rest-end, partIn-le}
 use Rattle.items.specs.declared.Said.{Said}
-use Rattle.value_text.specs.Value.{Value, noName, noText, shows, orPlain, referenceBy, attributeBy, plainBy, namedValue, answerBy, bufferBy}
+use Rattle.value_text.specs.Value.{Value, noName, noText, shows, shown, orPlain, referenceBy, attributeBy, plainBy, namedValue, answerBy, bufferBy}
 use Rattle.value_text.specs.declared.Told.{Told}
 use Rattle.value_text.specs.declared.Told.the-variants.{Shown, NoName, NoText}
-use Rattle.value_text.specs.Inner.Leads.{Leads, Tells, Gives, shown, toldOf}
+use Rattle.value_text.specs.Inner.Leads.{Leads, Tells, Gives, toldOf}
 use Rattle.value_text.specs.Inner.Forms.{formOf, formText, isOther}
 
 -- ---- what wrote it

@@ -2,6 +2,7 @@
 --
 --   plainBy       the text of a value by its type alone, or nothing: that of a string of the pool, of the name of a resource, of a number
 --   valueOf       the text of an attribute's value: what the items of its name say, else the plain text; and how many set bits no name covers
+--   shown         the text of a value, empty where it has none
 --   valueOpen     the head of the file, or the first refusal: the entry checks, the items' 14 among them, then the head's own
 --   valueAnswer   the answer of the question; valueBuffer what then stands in the lent buffer, whole
 --   ValueReads    THE PROMISE: the numbers of the answer and every byte of the buffer
@@ -97,6 +98,12 @@ pub data Value : Type 0 where
   noName : Value
   noText : Value
   shows : List ℕ → ℕ → Value
+
+-- its text, empty where there is none
+abbrev pub shown : Value → List ℕ
+shown noName = []
+shown noText = []
+shown (shows s u) = s
 
 -- what the items say comes first
 abbrev pub orPlain : ℕ → Text → Text → Value

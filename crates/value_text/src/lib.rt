@@ -172,7 +172,8 @@ fn uri_into(out: &mut [u8]) -> Told
 }
 
 // The text of an attribute's value at the front of a buffer; what stands behind it is anything.
-fn value_into(
+// Ruled out: a text cut to the room that there is, and 12 for a name whose text is empty.
+pub fn value_into(
     t: &[u8],
     names: &[u32],
     area: &[u8],
@@ -232,7 +233,14 @@ fn head_of(opened: Opened) -> OpenRead
 }
 
 // The head of a file, or the first refusal: what every entry point checks, then the items, then the head.
-fn open_value(file: &[u8], names: &[u32], area: &[u8], items: &[u32], item_area: &[u8]) -> OpenRead
+// Ruled out: 1 for a file of 7 bytes with items that break their rule.
+pub fn open_value(
+    file: &[u8],
+    names: &[u32],
+    area: &[u8],
+    items: &[u32],
+    item_area: &[u8],
+) -> OpenRead
     ensures { λ r. ⌜ r ≡ valueOpen (now (file .entry)) (lends (now (names .entry)) (now (area .entry))) (now (items .entry)) (now («item_area» .entry)) ⌝ }
 {
     let entered = enter(file, names, area, Asker::Question);

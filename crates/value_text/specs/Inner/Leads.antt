@@ -7,7 +7,7 @@
 --   behindItems   the head of a file whose entry checks pass, behind what the items say
 use Prim.Native.Nat.{ℕ, _≤_}
 use mathlib.Core.Path.{_≡_}
-use mathlib.Core.List.{List, []}
+use mathlib.Core.List.{List}
 use lib.ListN.{length, take}
 use Rattle.errors.specs.declared.Refusal.the-variants.{ItemsError}
 use Rattle.errors.specs.declared.ValueAnswer.{ValueAnswer}
@@ -19,7 +19,7 @@ use Rattle.items.specs.declared.ItemsRead.{ItemsRead}
 use Rattle.items.specs.declared.ItemsRead.the-variants.{Good, Bad}
 use Rattle.value_text.specs.declared.Told.{Told}
 use Rattle.value_text.specs.declared.Told.the-variants.{Shown, NoName, NoText}
-use Rattle.value_text.specs.Value.{Value, noName, noText, shows, answerBy, bufferBy}
+use Rattle.value_text.specs.Value.{Value, noName, noText, shows, shown, answerBy, bufferBy}
 
 pub record Leads (s before : List ℕ) (n : ℕ) (after : List ℕ) : Type 0 where
   pub count : n ≡ length s
@@ -30,11 +30,6 @@ abbrev pub toldOf : Value → Told
 toldOf noName = NoName
 toldOf noText = NoText
 toldOf (shows s u) = Shown (length s) u
-
-abbrev pub shown : Value → List ℕ
-shown noName = []
-shown noText = []
-shown (shows s u) = s
 
 pub record Tells (v : Value) (before : List ℕ) (r : Told) (after : List ℕ) : Type 0 where
   pub told : r ≡ toldOf v

@@ -1,0 +1,3 @@
+-- The root of the crate's laws.
+pub mod Going
+pub mod Claimed

@@ -1,0 +1,80 @@
+-- `many_texts::put_values` meets its contract. Invariant: the first k texts and answers (`Done`). Measure: the records left.
+use Prim.Native.Nat.{_-_, _≤_}
+use mathlib.Core.Path.{_≡_}
+use native.Mathlib.Omega.{arith}
+use denote.Ref.{now}
+use lib.ListN.{length}
+use Rattle.system_types.specs.Names.{lends}
+use Rattle.many_texts.specs.Many.{mostCount}
+use Rattle.many_texts.specs.Inner.Going.{Done, recordValue}
+use Rattle.many_texts.proofs.Going.{done-first, done-step, done-all, value-turn}
+use borrow.Author.Needs.{needs}
+use Rattle.many_texts.proofs.put_values.Statement.{statement}
+use Rattle.many_texts.proofs.put_values.Tie as tie
+
+abbrev Inv-loop : tie.InvT-loop
+Inv-loop t names area h items item-area attributes out₀ answers₀ count at₀ k₀ out answers at k =
+    (k ≤ count) × (length out₀ ≤ mostCount) × Done (recordValue h t (lends names area) items item-area attributes) (length out₀) (length answers₀) k at out answers
+
+abbrev μ-loop : tie.MeasureT-loop
+μ-loop t names area h items item-area attributes out₀ answers₀ count at₀ k₀ out answers at k = count - k
+
+loop-holds : tie.Need-loop-holds Inv-loop μ-loop
+loop-holds c = let a = c .before .before .before .before .before .before .before .before .args in (
+  omega arith,
+  omega arith,
+  done-first (recordValue (a .h) (now (a .t)) (lends (now (a .names)) (now (a .area))) (now (a .items)) (now (a .item-area)) (now (a .attributes)))
+      (now (a .out)) (now (a .answers)),
+)
+
+attribute-at-requires : tie.Need-attribute-at-requires Inv-loop μ-loop
+attribute-at-requires c κs = omega arith
+
+value-at-requires : tie.Need-value-at-requires Inv-loop μ-loop
+value-at-requires c κs = (c .before .before .before .before .before .before .before .before .before .before .before .before .pre .0, c .before .before .before .before .before .before .before .before .before .before .before .before .pre .1)
+
+put-told-requires : tie.Need-put-told-requires Inv-loop μ-loop
+put-told-requires c κs = omega (arith, c .before .before .before .before .before .before .before .loop .inv .2 .wide)
+
+add-k : tie.Need-add-k Inv-loop μ-loop
+add-k c = omega arith
+
+loop-less : tie.Need-loop-less Inv-loop μ-loop
+loop-less c = omega arith
+
+loop-again : tie.Need-loop-again Inv-loop μ-loop
+loop-again c =
+    let a = c .before .before .before .before .before .before .before .before .before .before .before .before .before .before .before .before .before .before .before .args in
+    let t = value-turn (a .h) (now (a .t)) (lends (now (a .names)) (now (a .area))) (now (a .items)) (now (a .item-area)) (now (a .attributes))
+    (c .before .before .before .before .before .before .before .before .before .before .loop .k) (c .before .before .before .before .before .before .before .attribute-at .ensures) (c .before .before .before .before .before .before .value-at .ensures) in (
+      omega arith,
+      c .before .before .before .before .before .before .before .before .before .before .loop .inv .1,
+      done-step (c .before .before .before .before .before .before .before .before .before .before .loop .inv .1) (c .before .before .before .before .before .before .before .before .before .before .loop .inv .2) t
+          (c .before .before .put-told .ensures _ (t .told)),
+    )
+
+same-length : tie.Need-same-length Inv-loop μ-loop
+same-length c = search needs
+
+same-length-2 : tie.Need-same-length-2 Inv-loop μ-loop
+same-length-2 c = search needs
+
+returns : tie.Need-returns Inv-loop μ-loop
+returns c = done-all (omega arith) (c .before .loop .inv .2)
+
+pub put-values-spec : {M : Type 1} → statement M
+put-values-spec =
+    tie.close
+    (tie.spec
+    Inv-loop
+    μ-loop
+    loop-holds
+    attribute-at-requires
+    value-at-requires
+    put-told-requires
+    add-k
+    loop-less
+    loop-again
+    same-length
+    same-length-2
+    returns)
