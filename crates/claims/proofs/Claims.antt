@@ -13,6 +13,7 @@
 -- Room (L1): suffices of a file of any length, read-suffices of a call; listing-suffices, read-listed-suffices of a listing.
 -- A part of the head that is short (P6): part-offset, part-cut of a reading, text-part-cut of the text question.
 -- Zeros (P1, B7, B8): refused-zeros, done-zeros, text-refused-zeros, text-done-zeros. Every success: structured, notes-kept.
+-- Nothing lost without a note (P7): nothing-lost; unnoted-kept: without note 12 no start is dropped. Computed: proofs/LostCases.antt.
 -- Readers that break the promise (P5): refuses-all-broken to wrong-kinds-broken, each of every reader of its sort (specs/Readers.antt); meets-some.
 -- The C interface: c-read-unique to c-first-refused-zeros, the same of its words: one answer, insertion, zeros.
 -- The listing's function: list-unique to list-suffices: one answer, zeros, room.
@@ -70,7 +71,8 @@ use Rattle.claims.specs.InC.{leftInC, withNotesInC, RefusedInC, DoneInC,
 use Rattle.claims.specs.Room.{isFullNumber, HasRoom, nodesFor, attributesFor, placesFor, listingRoom}
 use Rattle.claims.specs.Parts.{isPart}
 use Rattle.claims.specs.Cleared.{ZeroBehind, RefusedZero, DoneZero, TextRefusedZero, TextDoneZero}
-use Rattle.claims.specs.Shape.{Structured}
+use Rattle.claims.specs.Shape.{Structured, ofKind as ofNumber}
+use Rattle.claims.specs.Lost.{marksIn, startNames, NothingLost}
 use Rattle.claims.specs.Readers.{Call, Reader, Meets, eventsOf, kindsOf, RefusesAll, Constant, ConstantOnRead, StopsAtStart}
 use Rattle.claims.specs.Readers.{LeavesNodes, LeavesAttributes, LeavesNotes, ClearsNodes, ClearsAttributes, ClearsNotes}
 use Rattle.claims.proofs.Longer.{insertedFile-none}
@@ -82,6 +84,7 @@ use Rattle.claims.proofs.Suffices as room
 use Rattle.claims.proofs.Parts as parts
 use Rattle.claims.proofs.Zeros as zeros
 use Rattle.claims.proofs.Structure as tree
+use Rattle.claims.proofs.Lost as lost
 use Rattle.claims.proofs.Broken as broken
 use Rattle.claims.proofs.InC as inC
 use Rattle.claims.proofs.Lists as lists
@@ -316,6 +319,16 @@ module _ (f : List ℕ) (lent : Lent) (ns ats : List ℕ) (os : List Note) (cap 
   pub notes-kept : (c : ReadCounts) → Reads f lent ns ats os cap (Done c) ns′ ats′ os′
       → take (c .notes) os′ ≡ map noteOf (keptNotes cap (notesIn (eventsOf f lent)))
   notes-kept c h = tree.notes-kept f lent ns ats os cap c ns′ ats′ os′ h
+
+  -- Nothing is lost without a note (P7). The kept nodes are exactly the starts before the first, other than the very first, that never gets its end; and
+  -- where a start is dropped, the last note is 12, with the number of starts that never get their end.
+  pub nothing-lost : (c : ReadCounts) → Reads f lent ns ats os cap (Done c) ns′ ats′ os′ → NothingLost (marksIn f) c ns′ os′
+  nothing-lost c h = lost.nothing-lost f lent ns ats os cap c ns′ ats′ os′ h
+
+  -- so a reading without note 12 dropped no start that was read whole
+  pub unnoted-kept : (c : ReadCounts) → Reads f lent ns ats os cap (Done c) ns′ ats′ os′ → ofNumber 12 (take (c .notes) os′) ≡ 0
+      → c .nodes ≡ length (startNames (marksIn f))
+  unnoted-kept c h = lost.whole-kept f lent ns ats os cap c ns′ ats′ os′ h
 
 module _ (f : List ℕ) (lent : Lent) (before : List ℕ) (i : ℕ) (after : List ℕ) where
   pub text-refused-zeros : (x : Refusal) → TextReads f lent before i (textIs.Refused x) after

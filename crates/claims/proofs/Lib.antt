@@ -33,6 +33,11 @@ pub mod StructureWalk
 pub mod StructureOpen
 pub mod StructureSaid
 pub mod Structure
+pub mod LostMatching
+pub mod LostMarks
+pub mod LostNotes
+pub mod Lost
+pub mod LostCases
 pub mod PartsBody
 pub mod Parts
 pub mod Zeros

@@ -3,6 +3,7 @@
 --   structured     its nodes are the first of the elements that open, in order; a parent is an earlier node; the runs cover the attributes in turn;
 --                  each attribute has the node of its run for its owner; the notes are those that the cap keeps; note 12 says the depth, and is there
 --                  exactly where that is not 0; with depth 0 no element is dropped, and from depth 2 on some are (specs/Shape.antt, `Structured`)
+--   stays, walk    no event of its file refuses, and they are those of a whole walk
 --   starts-right   it counts the elements that open; notes-many, notes-kept: its notes are exactly the file's, of each kind the first `cap`
 use Prim.Native.Nat.{ℕ, _+_, _-_, _*_, _/_, _≤_, _<_}
 use native.Mathlib.Omega.{arith}
@@ -35,6 +36,8 @@ use Rattle.claims.proofs.StructureTables.{Shaped, kept-in, pos}
 use Rattle.claims.proofs.StructureDone.{DoneBy, done-by, done-shaped}
 use Rattle.claims.proofs.StructureCounts.{settled-starts}
 use Rattle.claims.proofs.Noted.{settled-notes, kept-number}
+use Rattle.claims.proofs.Pushed.{AllStay}
+use Rattle.claims.proofs.Settled.{settled}
 use Rattle.claims.proofs.StructureOrder.{settled-names, settled-fixed, settled-lines}
 use Rattle.claims.proofs.StructureWalk.{WalkedFile, walked-some, file-ends}
 use Rattle.claims.proofs.StructureOpen.{Near, near-none, near-second, settled-near, settled-walked}
@@ -138,7 +141,10 @@ module _ (f : List ℕ) (lent : Lent) (ns ats : List ℕ) (os : List Note) (cap 
       ap (λ (n : ℕ). take n os′) (d .notes)
       ∙ ap (take (length (t .notes))) (reads .notes ∙ ap (λ (x : Reading). x .notes) (d .whole)) ∙ take-at (t .notes) _ (length (t .notes)) refl ∙ told
 
-  walk : WalkedFile es
+  pub stays : AllStay es
+  stays = settled rule r es t (d .out) .stay
+
+  pub walk : WalkedFile es
   walk = settled-walked rule r es t (file-ends (namesFor f lent) (openedOf f) (tablesIn f (openedOf f .head)) (bodyIn f (openedOf f .head))) (d .out)
 
   some-start : 0 < opensIn es

@@ -35,12 +35,12 @@ last-depth : (d n : ℕ) (b : Bool) → depthFrom d (when b (Note (UnclosedEleme
 last-depth d n true = refl
 last-depth d n false = refl
 
-walked-depth : (es : List Event) (w : WalkedFile es) → depthFrom 0 es ≡ w .depth
+pub walked-depth : (es : List Event) (w : WalkedFile es) → depthFrom 0 es ≡ w .depth
 walked-depth es w =
     ap (depthFrom 0) (w .split) ∙ depth-append 0 (w .body) (lastNote (w .depth))
     ∙ last-depth (depthFrom 0 (w .body)) (w .depth) (not (eqb (w .depth) 0)) ∙ sym (w .told)
 
-walked-notes : (es : List Event) (w : WalkedFile es) → notesIn es ≡ notesIn (w .body) ++ notesIn (lastNote (w .depth))
+pub walked-notes : (es : List Event) (w : WalkedFile es) → notesIn es ≡ notesIn (w .body) ++ notesIn (lastNote (w .depth))
 walked-notes es w = ap notesIn (w .split) ∙ notesIn-append (w .body) (lastNote (w .depth))
 
 -- ---- a note 12 says the depth
