@@ -124,7 +124,14 @@ fn prefix_of(t: &[u8], names: &[u32], area: &[u8], h: Head, mode: u32, index: St
     1
 }
 
-fn valid_attribute(t: &[u8], names: &[u32], area: &[u8], h: Head, mode: u32, a: XmlAttributeElement) -> Event
+fn valid_attribute(
+    t: &[u8],
+    names: &[u32],
+    area: &[u8],
+    h: Head,
+    mode: u32,
+    a: XmlAttributeElement,
+) -> Event
     requires { ⌜ Asks (now t) (lends (now names) (now area)) h ⌝ }
     ensures { λ r. ⌜ r ≡ Attribute (namesIn mode h (now (t .entry)) (lends (now (names .entry)) (now (area .entry))) .prefixOf (a .«namespace_uri» .0)) a ⌝ }
 {
@@ -140,7 +147,14 @@ fn invalid_attribute(name: StringIndex) -> Event
 }
 
 // What an attribute makes: its name is looked up once.
-fn attribute_event(t: &[u8], names: &[u32], area: &[u8], h: Head, mode: u32, a: XmlAttributeElement) -> Event
+fn attribute_event(
+    t: &[u8],
+    names: &[u32],
+    area: &[u8],
+    h: Head,
+    mode: u32,
+    a: XmlAttributeElement,
+) -> Event
     requires { ⌜ Asks (now t) (lends (now names) (now area)) h ⌝ }
     ensures { λ r. ⌜ r ≡ attributeBy (namesIn mode h (now (t .entry)) (lends (now (names .entry)) (now (area .entry)))) a
         (namesIn mode h (now (t .entry)) (lends (now (names .entry)) (now (area .entry))) .state (a .name .0)) ⌝ }
@@ -154,7 +168,15 @@ fn attribute_event(t: &[u8], names: &[u32], area: &[u8], h: Head, mode: u32, a: 
     }
 }
 
-pub fn attribute_step(t: &[u8], names: &[u32], area: &[u8], h: Head, mode: u32, b: &[u8], c: Cursor) -> Step
+pub fn attribute_step(
+    t: &[u8],
+    names: &[u32],
+    area: &[u8],
+    h: Head,
+    mode: u32,
+    b: &[u8],
+    c: Cursor,
+) -> Step
     requires { ⌜ Asks (now t) (lends (now names) (now area)) h × (c .at + 20 ≤ length (now b)) × (length (now b) ≤ fileLimit) × (0 < c .left) ⌝ }
     ensures { λ r. ⌜ r ≡ record {
       event = attributeEvent (namesIn mode h (now (t .entry)) (lends (now (names .entry)) (now (area .entry)))) (drop (c .at) (now (b .entry)));

@@ -6,7 +6,7 @@
 --   valueAnswer   the answer of the question; valueBuffer what then stands in the lent buffer, whole
 --   ValueReads    THE PROMISE: the numbers of the answer and every byte of the buffer
 --
--- Of an attribute only prefix, name, type and data are looked at. A prefix of 2 is that of the leading attribute, whose value is the
+-- Of an attribute only prefix, name, type and data are looked at, not its namespace. A prefix of 2 is that of the leading attribute, whose value is the
 -- Android namespace. t is the bytes behind the file's header. Laws: proofs/Opening.antt, proofs/Claimed.antt.
 use Prim.Native.Nat.{ℕ, _+_}
 use mathlib.Core.Path.{_≡_}

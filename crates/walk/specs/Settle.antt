@@ -79,7 +79,7 @@ lastNode t = length (t .nodes) / nodeWidth - 1
 
 -- the words of an attribute of that node
 abbrev pub recordOf : Tables → ℕ → XmlAttributeElement → List ℕ
-recordOf t p a = attributeWords (lastNode t) p (a .name .0) (a .«data_type») (a .«data»)
+recordOf t p a = attributeWords (lastNode t) p (a .name .0) (a .«data_type») (a .«data») (a .«namespace_uri» .0)
 
 -- whether it repeats one of that node's
 abbrev pub repeated : Rule → Tables → ℕ → XmlAttributeElement → Bool
