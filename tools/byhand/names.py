@@ -58,7 +58,7 @@ Rattle.{NOTE[0]}.specs.declared.{NOTE[1]}: {NOTE[1]}=Note
 Rattle.{ANSWER[0]}.specs.declared.{ANSWER[1]}: {ANSWER[1]}=Answer
 Rattle.{CORE}.specs.declared.State: State
 Rattle.{CRATE}.specs.declared.{LISTED}: {LISTED}=Listed
-{": ".join(OUTCOME)} {ANSWERS[1] if ANSWERS else ""}
+{": ".join(OUTCOME)} {ANSWERS[1]}
 {": ".join(ZERO)}
 {": ".join(LENT[:2])}
 {": ".join(LIMITS)}

@@ -10,9 +10,8 @@ STATE = {
     "done": (0, "tyBool", "vbool ({})", 0),
     "slot": (1, "word", "vint w64 ({})", 8),
     "note": (2, "N′.mir", "N′.lowered ({})", 16),
-    "answer": (3, "B′.mir", "B′.lowered ({})", 32),
 }
-ANSWERS = None                      # `read` ends in `st.answer`; ("answer_of", "answerOf"): in that call of the core, which ensures r ≡ answerOf st
+ANSWERS = ("answer_of", "Answers")  # `read` ends in this call of the core, which ensures that of the state and the answer
 
 SHARED = [("file", "u8"), ("names", "u32"), ("area", "u8")]  # `&[T]`, the first parameters of `read`
 TABLES = [("nodes", "u32"), ("attributes", "u32")]           # `&mut [T]`, the next

@@ -69,7 +69,7 @@ pub fn read(
         let at = st.slot;
         notes[at] = st.note;
     }
-    st.answer
+    walk::answer_of(st)
 }
 
 // The answer of a reading, and its notes by value.

@@ -21,21 +21,26 @@ use Rattle.errors.specs.declared.ReadAnswer.{ReadAnswer}
 use Rattle.errors.specs.Refusal.{numbersOf}
 use Rattle.records.specs.Words.{noteWidth}
 use Rattle.system_types.specs.Names.{Lent}
-use Rattle.walk.specs.declared.Mode.{Mode}
-use Rattle.walk.specs.declared.Mode.the-variants.{Fresh, Reading as InBody, Clearing}
+use Rattle.walk.specs.declared.Stage.{Stage}
+use Rattle.walk.specs.declared.Stage.the-variants.{Fresh, Reading as InBody, Clearing}
 use Rattle.walk.specs.declared.State.{State}
 use Rattle.walk.specs.Reading.{Reading, reading}
-use Rattle.walk.specs.Inner.Outcome.{Adv, Advanced, Good, first, left, cleared, outcome}
+use Rattle.walk.specs.Inner.Outcome.{Adv, Advanced, Answers, Good, first, left, cleared, outcome}
 use Rattle.walk.proofs.Clearing.{false-true}
 use Rattle.walk.proofs.Opening.{first-good}
 use Rattle.c_api.specs.declared.AxmlAnswer.{AxmlAnswer}
 use Rattle.c_api.specs.Words.{wordsOf, wordRoom, putNote, isClearing, answerOf, ReadsWords}
 use Rattle.c_api.proofs.Noting.{length-of, notesIn, restIn, words-back, notesIn-places, words-put, words-cleared}
 
-clearing-of : (m : Mode) → isClearing m ≡ true → m ≡ Clearing
+-- a stage that clears has an answer
+record Known (m : Stage) : Type 0 where
+  answer : ReadAnswer
+  stage : m ≡ Clearing answer
+
+clearing-of : (m : Stage) → isClearing m ≡ true → Known m
 clearing-of Fresh e = absurd (false-true e)
 clearing-of InBody e = absurd (false-true e)
-clearing-of Clearing e = refl
+clearing-of (Clearing a) e = record { answer = a; stage = refl }
 
 module _ (f : List ℕ) (lent : Lent) (ns₀ ats₀ ws₀ : List ℕ) (cap : ℕ) where
   pub record Point (ns ats ws : List ℕ) (st : State) : Type 0 where
@@ -85,16 +90,16 @@ module _ (f : List ℕ) (lent : Lent) (ns₀ ats₀ ws₀ : List ℕ) (cap : ℕ
   odd ns ats ws st p = omega (arith, length-of (p .notes) (p .tail) ws (p .words), p .places, p .long-words, div-add-mod (length ws₀) noteWidth)
 
   -- the answer is known, the note is written, and zeros are from the next place on
-  pub point-cleared : (ns ats ws : List ℕ) (st : State) → Point ns ats ws st → isClearing (st .mode) ≡ true → st .slot < st .room
+  pub point-cleared : (ns ats ws : List ℕ) (st : State) → Point ns ats ws st → isClearing (st .stage) ≡ true → st .slot < st .room
       → (ws′ : List ℕ) → ws′ ≡ take (noteWidth * st .slot + noteWidth) ws ++ replicate (length ws - (noteWidth * st .slot + noteWidth)) 0
-      → ReadsWords f lent ns₀ ats₀ ws₀ cap (answerOf (numbersOf (st .answer))) ns ats ws′
-  point-cleared ns ats ws st p m h ws′ z =
-      let mode : st .mode ≡ Clearing = clearing-of (st .mode) m in
+      → (a : ReadAnswer) → Answers st a → ReadsWords f lent ns₀ ats₀ ws₀ cap (answerOf (numbersOf a)) ns ats ws′
+  point-cleared ns ats ws st p m h ws′ z a is =
+      let known = clearing-of (st .stage) m in
       let all : length (p .notes) ≡ st .room = p .places ∙ sym (p .room) in
-      let here : outcome f lent ns ats (p .notes) st (p .good .stack) ≡ gives (st .answer) ns ats (cleared (p .notes) (st .slot + 1) (st .room)) =
-      rw mode in
+      let here : outcome f lent ns ats (p .notes) st (p .good .stack) ≡ gives a ns ats (cleared (p .notes) (st .slot + 1) (st .room)) =
+      rw (known .stage, is (known .answer) (known .stage)) in
       let next : noteWidth * st .slot + noteWidth ≡ noteWidth * (st .slot + 1) = omega arith in
-      reads-of (gives (st .answer) ns ats (cleared (p .notes) (st .slot + 1) (st .room))) (sym here ∙ p .same) ws′
+      reads-of (gives a ns ats (cleared (p .notes) (st .slot + 1) (st .room))) (sym here ∙ p .same) ws′
       (z ∙ words-cleared (p .notes) (p .tail) ws (st .slot + 1) _ (omega (arith, h, all)) next (p .words)
       ∙ ap (λ (n : ℕ). wordsOf (cleared (p .notes) (st .slot + 1) n) ++ replicate (length (p .tail)) 0) all
       ∙ ap (λ (n : ℕ). wordsOf (cleared (p .notes) (st .slot + 1) (st .room)) ++ replicate n 0) (odd ns ats ws st p))
@@ -137,13 +142,13 @@ module _ (f : List ℕ) (lent : Lent) (ns₀ ats₀ ws₀ : List ℕ) (cap : ℕ
 
     -- all places are written, and zeros are behind the last
     pub point-last : r .done ≡ true → (ws′ : List ℕ) → ws′ ≡ take (noteWidth * (length ws / noteWidth)) ws ++ replicate (length ws - noteWidth * (length ws / noteWidth)) 0
-        → ReadsWords f lent ns₀ ats₀ ws₀ cap (answerOf (numbersOf (r .answer))) ns′ ats′ ws′
-    point-last d ws′ z =
+        → (a : ReadAnswer) → Answers r a → ReadsWords f lent ns₀ ats₀ ws₀ cap (answerOf (numbersOf a)) ns′ ats′ ws′
+    point-last d ws′ z a is =
         let all : noteWidth * (length ws / noteWidth) ≡ noteWidth * length (p .notes) = rw (p .long-words, p .places) in
         let none : length (p .notes) - length (p .notes) ≡ 0 = omega arith in
         let kept : cleared (p .notes) (length (p .notes)) (length (p .notes)) ≡ p .notes =
         rw (none, take-length (p .notes)) (append-nil (p .notes)) in
-        reads-of (gives (r .answer) ns′ ats′ (p .notes)) (sym (advanced .ends d (p .notes) all-places) ∙ p .same) ws′
+        reads-of (gives a ns′ ats′ (p .notes)) (sym (advanced .ends d a is (p .notes) all-places) ∙ p .same) ws′
         (z ∙ words-cleared (p .notes) (p .tail) ws (length (p .notes)) _ (omega arith) all (p .words)
         ∙ ap (λ (o : List Note). wordsOf o ++ replicate (length (p .tail)) 0) kept
         ∙ ap (λ (n : ℕ). wordsOf (p .notes) ++ replicate n 0) (odd ns ats ws st p))

@@ -15,8 +15,8 @@ use Rattle.errors.specs.declared.Numbers.{Numbers}
 use Rattle.errors.specs.Refusal.{numbersOf}
 use Rattle.records.specs.Words.{noteWidth, noteKind, noteA, noteB, noteWords}
 use Rattle.system_types.specs.Names.{Lent}
-use Rattle.walk.specs.declared.Mode.{Mode}
-use Rattle.walk.specs.declared.Mode.the-variants.{Fresh, Reading as InBody, Clearing}
+use Rattle.walk.specs.declared.Stage.{Stage}
+use Rattle.walk.specs.declared.Stage.the-variants.{Fresh, Reading as InBody, Clearing}
 use Rattle.walk.specs.Settle.{Room}
 use Rattle.walk.specs.Reading.{reading}
 use Rattle.c_api.specs.declared.AxmlAnswer.{AxmlAnswer}
@@ -51,7 +51,7 @@ abbrev pub putNote : List ℕ → ℕ → Note → List ℕ
 putNote ws k n = set (set (set ws (noteWidth * k + noteKind) (n .kind)) (noteWidth * k + noteA) (n .a)) (noteWidth * k + noteB) (n .b)
 
 -- the answer is known, and the note table is cleared
-abbrev pub isClearing : Mode → Bool
+abbrev pub isClearing : Stage → Bool
 isClearing Fresh = false
 isClearing InBody = false
-isClearing Clearing = true
+isClearing (Clearing a) = true

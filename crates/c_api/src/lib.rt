@@ -38,7 +38,7 @@ use records::NOTE_B;
 use records::NOTE_KIND;
 use records::NOTE_WORDS;
 use tables::zero_from;
-use walk::Mode;
+use walk::Stage;
 
 // ---- the reading
 
@@ -65,13 +65,13 @@ fn put_note(words: &mut [u32], place: usize, note: Note)
 }
 
 // Whether the answer is known, and zeros alone are left to write.
-fn is_clearing(mode: Mode) -> bool
-    ensures { λ r. ⌜ r ≡ isClearing mode ⌝ }
+fn is_clearing(stage: Stage) -> bool
+    ensures { λ r. ⌜ r ≡ isClearing stage ⌝ }
 {
-    match mode {
-        Mode::Fresh => false,
-        Mode::Reading => false,
-        Mode::Clearing => true,
+    match stage {
+        Stage::Fresh => false,
+        Stage::Reading => false,
+        Stage::Clearing(_) => true,
     }
 }
 
@@ -91,18 +91,17 @@ fn read_words(
     let mut st = walk::begin(notes.len() / NOTE_WORDS, cap);
     loop {
         st = walk::advance(file, names, area, nodes, attributes, st);
-        let answer = st.answer;
         if st.done {
             zero_from(notes, NOTE_WORDS * (notes.len() / NOTE_WORDS));
-            return answer;
+            return walk::answer_of(st);
         }
         let at = st.slot;
         let note = st.note;
-        let mode = st.mode;
+        let stage = st.stage;
         put_note(notes, at, note);
-        if is_clearing(mode) {
+        if is_clearing(stage) {
             zero_from(notes, NOTE_WORDS * at + NOTE_WORDS);
-            return answer;
+            return walk::answer_of(st);
         }
     }
 }

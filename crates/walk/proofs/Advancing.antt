@@ -24,7 +24,7 @@ use Rattle.events.specs.declared.Event.the-variants.{Note}
 use Rattle.events.specs.Events.{Names, namesIn}
 use Rattle.events.specs.Inner.Pending.{Within, pending, steps}
 use Rattle.walk.specs.declared.tree.Tree.{Tree}
-use Rattle.walk.specs.declared.Mode.the-variants.{Reading as InBody}
+use Rattle.walk.specs.declared.Stage.the-variants.{Reading as InBody}
 use Rattle.walk.specs.declared.State.{State}
 use Rattle.walk.specs.declared.placing.Halt.{Halt}
 use Rattle.walk.specs.declared.placing.Stop.the-variants.{Full, Due}
@@ -63,7 +63,7 @@ pub record ReadHead (f : List ℕ) (lent : Lent) (ns₀ ats₀ : List ℕ) (st :
       (onFrom (roomOf ns₀ ats₀ st) (N f lent st) (st .opened) (tables f lent st) (body f lent st) ns ats c tree (now .stack)
       (take (st .notes .used) os) (st .notes .counts))
 
-pub read-first : (f : List ℕ) (lent : Lent) (ns ats : List ℕ) (st : State) (g : Good f lent ns ats st) → st .mode ≡ InBody
+pub read-first : (f : List ℕ) (lent : Lent) (ns ats : List ℕ) (st : State) (g : Good f lent ns ats st) → st .stage ≡ InBody
     → ReadHead f lent ns ats st g ns ats (st .cur) (st .tree)
 read-first f lent ns ats st g e =
     let r = g .onWay e in

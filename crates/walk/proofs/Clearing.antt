@@ -1,5 +1,5 @@
 -- The answer is known and the note table is cleared place by place: each call keeps the outcome. No contract cites this file.
--- In order: modes differ, a place cleared (`clear-step`, `clear-end`), `clears` for every way into clearing, `goes-clearing` for its own turns.
+-- In order: stages differ, a place cleared (`clear-step`, `clear-end`), `clears` for every way into clearing, `goes-clearing` for its own turns.
 use Prim.Native.Nat.{ℕ, suc, _+_, _-_, _≤_, _<_}
 use native.Mathlib.Omega.{arith}
 use native.Mathlib.Numerals.{add-one}
@@ -13,7 +13,8 @@ use lib.Dec.{ltb}
 use Rattle.anomaly.specs.declared.Note.{Note as NoteOf}
 use Rattle.errors.specs.declared.ReadAnswer.{ReadAnswer}
 use Rattle.system_types.specs.Names.{Lent}
-use Rattle.walk.specs.declared.Mode.the-variants.{Fresh, Reading as InBody, Clearing}
+use Rattle.walk.specs.declared.Stage.{Stage}
+use Rattle.walk.specs.declared.Stage.the-variants.{Fresh, Reading as InBody, Clearing}
 use Rattle.walk.specs.declared.State.{State}
 use Rattle.walk.specs.Reading.{Reading, zeroNote}
 use Rattle.walk.specs.Inner.Outcome.{clearingAt, clearNext, cleared, outcome, Good, left, Advanced}
@@ -24,8 +25,22 @@ true-false e = let z : _≡_ {A = ℕ} 0 1 = cc in omega arith
 pub false-true : false ≡ true → ⊥
 false-true e = true-false (sym e)
 
-clearing-not : Clearing ≡ InBody → ⊥
-clearing-not e = let z : _≡_ {A = ℕ} 0 1 = cc in omega arith
+clearing-not : (a : ReadAnswer) → Clearing a ≡ InBody → ⊥
+clearing-not a e = let z : _≡_ {A = ℕ} 0 1 = cc in omega arith
+
+pub fresh-clears : (a : ReadAnswer) → Fresh ≡ Clearing a → ⊥
+fresh-clears a e = let z : _≡_ {A = ℕ} 0 1 = cc in omega arith
+
+pub reading-clears : (a : ReadAnswer) → InBody ≡ Clearing a → ⊥
+reading-clears a e = clearing-not a (sym e)
+
+abbrev answer-at : ReadAnswer → Stage → ReadAnswer
+answer-at b Fresh = b
+answer-at b InBody = b
+answer-at b (Clearing a) = a
+
+pub clearing-same : {a b : ReadAnswer} → Clearing a ≡ Clearing b → a ≡ b
+clearing-same {a} {b} e = ap (answer-at b) e
 
 pub fresh-not : Fresh ≡ InBody → ⊥
 fresh-not e = let z : _≡_ {A = ℕ} 0 1 = cc in omega arith
@@ -58,25 +73,23 @@ module _ (f : List ℕ) (lent : Lent) (ns ats : List ℕ) (st : State) (g : Good
         done = d;
         slot = c;
         note = zeroNote;
-        answer = a;
         room = st .room;
         cap = st .cap;
-        mode = Clearing;
+        stage = Clearing a;
         opened = st .opened;
         cur = st .cur;
         tree = st .tree;
         notes = st .notes;
       })
-      good d = record { stack = []; onWay = λ z. absurd (clearing-not z) }
+      good d = record { stack = []; onWay = λ z. absurd (clearing-not a z) }
 
       go : (b : Bool) → ltb c (st .room) ≡ b → Advanced f lent ns ats st g (record {
         done = cond b false true;
         slot = c;
         note = zeroNote;
-        answer = a;
         room = st .room;
         cap = st .cap;
-        mode = Clearing;
+        stage = Clearing a;
         opened = st .opened;
         cur = st .cur;
         tree = st .tree;
@@ -96,23 +109,23 @@ module _ (f : List ℕ) (lent : Lent) (ns ats : List ℕ) (st : State) (g : Good
         room = refl;
         due = λ z. absurd (true-false z);
         goes = λ z. absurd (true-false z);
-        ends = λ _ os l. (out os l ∙ ap (gives a ns′ ats′) (clear-end os c (st .room) l (ltb-false _ _ e)));
+        ends = λ _ b h os l. (out os l ∙ rw (h a refl) (ap (gives a ns′ ats′) (clear-end os c (st .room) l (ltb-false _ _ e))));
       }
 
-  pub goes-clearing : st .mode ≡ Clearing → Advanced f lent ns ats st g (clearNext st) ns ats
-  goes-clearing t = go (ltb (st .slot) (st .room)) refl
+  pub goes-clearing : (a : ReadAnswer) → st .stage ≡ Clearing a → Advanced f lent ns ats st g (clearNext st a) ns ats
+  goes-clearing a t = go (ltb (st .slot) (st .room)) refl
     where
-      here : (os : List NoteOf) → outcome f lent ns ats os st (g .stack) ≡ gives (st .answer) ns ats (cleared os (st .slot + 1) (st .room))
+      here : (os : List NoteOf) → outcome f lent ns ats os st (g .stack) ≡ gives a ns ats (cleared os (st .slot + 1) (st .room))
       here os = rw t
 
       much : left f lent st ≡ st .room - st .slot
       much = rw t
 
       go : (b : Bool) → ltb (st .slot) (st .room) ≡ b
-          → Advanced f lent ns ats st g (clearingAt st (cond b (st .slot + 1) (st .slot)) (st .answer)) ns ats
-      go true e = clears ns ats (st .slot + 1) (st .answer) (λ lt. omega (arith, much)) (λ os l. here os)
+          → Advanced f lent ns ats st g (clearingAt st (cond b (st .slot + 1) (st .slot)) a) ns ats
+      go true e = clears ns ats (st .slot + 1) a (λ lt. omega (arith, much)) (λ os l. here os)
       go false e =
           let past : st .room ≤ st .slot = ltb-false _ _ e in
-          clears ns ats (st .slot) (st .answer) (λ lt. omega (arith, past))
+          clears ns ats (st .slot) a (λ lt. omega (arith, past))
           (λ os l.
-          here os ∙ ap (gives (st .answer) ns ats) (clear-end os (st .slot + 1) (st .room) l (omega arith) ∙ sym (clear-end os (st .slot) (st .room) l past)))
+          here os ∙ ap (gives a ns ats) (clear-end os (st .slot + 1) (st .room) l (omega arith) ∙ sym (clear-end os (st .slot) (st .room) l past)))

@@ -20,7 +20,7 @@ use Rattle.head.specs.declared.Opened.{Opened}
 use Rattle.head.specs.declared.Entered.the-variants.{In, Out}
 use Rattle.head.proofs.Entering.{Passed, passed, entered-in, entered-out}
 use Rattle.events.proofs.Steps.{pending-first, within-first}
-use Rattle.walk.specs.declared.Mode.the-variants.{Fresh, Reading as InBody}
+use Rattle.walk.specs.declared.Stage.the-variants.{Fresh, Reading as InBody}
 use Rattle.walk.specs.declared.State.{State}
 use Rattle.walk.specs.Settle.{Room}
 use Rattle.walk.specs.Reading.{Reading, settledIn, readingBy, reading, roomIn, Reads}
@@ -53,7 +53,7 @@ reading-by : (r : Room) (f : List ℕ) (lent : Lent) (c : Check) → firstOf (en
 unfolding reading
 reading-by r f lent c e = ap (readingBy r (settledIn r f lent (openedOf f))) e
 
-module _ (f : List ℕ) (lent : Lent) (ns ats : List ℕ) (st : State) (g : Good f lent ns ats st) (fresh : st .mode ≡ Fresh) where
+module _ (f : List ℕ) (lent : Lent) (ns ats : List ℕ) (st : State) (g : Good f lent ns ats st) (fresh : st .stage ≡ Fresh) where
   abbrev R : Room
   R = roomOf ns ats st
 
@@ -114,7 +114,7 @@ module _ (f : List ℕ) (lent : Lent) (ns ats : List ℕ) (st : State) (g : Good
     as-started s e = e ∙ ap (startedBy st) (entered-in f lent entered .1)
 
     -- what `read_on` asks
-    pub started-asks : (s : State) → s ≡ startedBy st o → Good f lent ns ats s × (s .mode ≡ InBody)
+    pub started-asks : (s : State) → s ≡ startedBy st o → Good f lent ns ats s × (s .stage ≡ InBody)
     started-asks s e = rw (as-started s e) (started-good, refl)
 
     started-same : (os : List NoteOf) → outcome f lent ns ats os st (g .stack) ≡ outcome f lent ns ats os started []
@@ -129,5 +129,5 @@ module _ (f : List ℕ) (lent : Lent) (ns ats : List ℕ) (st : State) (g : Good
           room = a .room;
           due = λ d. (a .due d .0, omega (arith, a .due d .1, much, body-le));
           goes = λ d os l. (started-same os ∙ a .goes d os l);
-          ends = λ d os l. (started-same os ∙ a .ends d os l);
+          ends = λ d b h os l. (started-same os ∙ a .ends d b h os l);
         }

@@ -6,7 +6,7 @@ ghost use Prim.Native.Nat.{_<_};
 ghost use lib.ListN.{getD};
 ghost use Rattle.anomaly.specs.Note.{kindIndex};
 ghost use Rattle.walk.specs.Inner.Outcome.{clearingAt, clearNext, notedBy, Refuses, Keepable, Finishes, Noted};
-use crate::Mode;
+use crate::Stage;
 use crate::State;
 use crate::tree::Tree;
 use crate::tree::kept_attributes;
@@ -41,10 +41,9 @@ fn to_clear(st: State, from: usize, answer: ReadAnswer) -> State
                 a: 0,
                 b: 0,
             },
-            answer,
             room: st.room,
             cap: st.cap,
-            mode: Mode::Clearing,
+            stage: Stage::Clearing(answer),
             opened,
             cur,
             tree,
@@ -59,10 +58,9 @@ fn to_clear(st: State, from: usize, answer: ReadAnswer) -> State
             a: 0,
             b: 0,
         },
-        answer,
         room: st.room,
         cap: st.cap,
-        mode: Mode::Clearing,
+        stage: Stage::Clearing(answer),
         opened,
         cur,
         tree,
@@ -71,11 +69,10 @@ fn to_clear(st: State, from: usize, answer: ReadAnswer) -> State
 }
 
 // The next place to clear, where there is one. Ruled out: a place passed over, and one behind the last.
-pub fn clear_next(st: State) -> State
-    ensures { λ r. ⌜ r ≡ clearNext st ⌝ }
+pub fn clear_next(st: State, answer: ReadAnswer) -> State
+    ensures { λ r. ⌜ r ≡ clearNext st answer ⌝ }
 {
     let slot = st.slot;
-    let answer = st.answer;
     if slot < st.room {
         return to_clear(st, slot + 1, answer);
     }
@@ -117,7 +114,6 @@ fn noted(st: State, cur: Cursor, tree: Tree, x: ResAnomaly) -> State
     requires { ⌜ (getD (st .notes .counts) (kindIndex x) 0 < st .cap) × (st .notes .used < st .room) ⌝ }
     ensures { λ r. ⌜ r ≡ notedBy st cur tree x ⌝ }
 {
-    let answer = st.answer;
     let opened = st.opened;
     let before = st.notes;
     let note = note_of(x);
@@ -126,10 +122,9 @@ fn noted(st: State, cur: Cursor, tree: Tree, x: ResAnomaly) -> State
         done: false,
         slot: before.used,
         note,
-        answer,
         room: st.room,
         cap: st.cap,
-        mode: Mode::Reading,
+        stage: Stage::Reading,
         opened,
         cur,
         tree,

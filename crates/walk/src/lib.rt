@@ -11,8 +11,8 @@ pub mod tree;
 
 ghost use mathlib.Core.Path.{_≡_};
 ghost use Rattle.system_types.specs.Names.{lends};
-ghost use Rattle.walk.specs.declared.Mode.the-variants.{Fresh, Reading as InBody};
-ghost use Rattle.walk.specs.Inner.Outcome.{noTree, first, startedBy, Good, Adv};
+ghost use Rattle.walk.specs.declared.Stage.the-variants.{Fresh, Reading as InBody};
+ghost use Rattle.walk.specs.Inner.Outcome.{noTree, first, startedBy, Good, Adv, Answers};
 use anomaly::Note;
 use anomaly::Notes;
 use anomaly::kind_index;
@@ -35,25 +35,25 @@ use res_string_pool::Garbage;
 use text::Head;
 use tree::Tree;
 
-pub enum Mode {
+// How far a reading has come. Before its last stage there is no answer.
+pub enum Stage {
     // nothing is read
     Fresh,
     // the head is opened, and events come
     Reading,
     // the answer is known, and the note table is cleared
-    Clearing,
+    Clearing(ReadAnswer),
 }
 
-// The reader between two notes: whether all is done, the place and the note that the caller is to write, the answer once it is known, how
-// many places the note table has and how many notes of a kind are kept, the head, where the reading stands, the tree and the note state.
+// The reader between two notes: whether all is done, the place and the note that the caller is to write, how many places the note table has
+// and how many notes of a kind are kept, the stage, the head, where the reading stands, the tree and the note state.
 pub struct State {
     pub done: bool,
     pub slot: usize,
     pub note: Note,
-    pub answer: ReadAnswer,
     pub room: usize,
     pub cap: u32,
-    pub mode: Mode,
+    pub stage: Stage,
     pub opened: Opened,
     pub cur: Cursor,
     pub tree: Tree,
@@ -107,10 +107,9 @@ pub fn begin(room: usize, cap: u32) -> State
             a: 0,
             b: 0,
         },
-        answer: ReadAnswer::Refused(Refusal::MissingRoot),
         room,
         cap,
-        mode: Mode::Fresh,
+        stage: Stage::Fresh,
         opened,
         cur,
         tree,
@@ -122,7 +121,6 @@ pub fn begin(room: usize, cap: u32) -> State
 fn started(st: State, opened: Opened) -> State
     ensures { λ r. ⌜ r ≡ startedBy st opened ⌝ }
 {
-    let answer = st.answer;
     let cur = first_cursor();
     let tree = no_tree();
     let notes = Notes::new();
@@ -134,10 +132,9 @@ fn started(st: State, opened: Opened) -> State
             a: 0,
             b: 0,
         },
-        answer,
         room: st.room,
         cap: st.cap,
-        mode: Mode::Reading,
+        stage: Stage::Reading,
         opened,
         cur,
         tree,
@@ -154,7 +151,7 @@ fn read_on(
     attributes: &mut [u32],
     st: State,
 ) -> State
-    requires { ⌜ Good (now file) (lends (now names) (now area)) (now nodes) (now attributes) st × (st .mode ≡ InBody) ⌝ }
+    requires { ⌜ Good (now file) (lends (now names) (now area)) (now nodes) (now attributes) st × (st .stage ≡ InBody) ⌝ }
     ensures { λ r. ⌜ Adv (now (file .entry)) (lends (now (names .entry)) (now (area .entry))) (now (nodes .entry)) (now (attributes .entry)) st r
         (now (nodes .exit)) (now (attributes .exit)) ⌝ }
 {
@@ -193,7 +190,7 @@ fn start(
     attributes: &mut [u32],
     st: State,
 ) -> State
-    requires { ⌜ Good (now file) (lends (now names) (now area)) (now nodes) (now attributes) st × (st .mode ≡ Fresh) ⌝ }
+    requires { ⌜ Good (now file) (lends (now names) (now area)) (now nodes) (now attributes) st × (st .stage ≡ Fresh) ⌝ }
     ensures { λ r. ⌜ Adv (now (file .entry)) (lends (now (names .entry)) (now (area .entry))) (now (nodes .entry)) (now (attributes .entry)) st r
         (now (nodes .exit)) (now (attributes .exit)) ⌝ }
 {
@@ -201,6 +198,19 @@ fn start(
     match entered {
         Entered::Out(x) => refuse(nodes, attributes, st, x),
         Entered::In(opened) => read_on(file, names, area, nodes, attributes, started(st, opened)),
+    }
+}
+
+// The answer of a reading that has one; a state without an answer is not asked, and what it gives of one is not promised.
+// Ruled out: another answer than the one that the reading came to.
+pub fn answer_of(st: State) -> ReadAnswer
+    ensures { λ r. ⌜ Answers st r ⌝ }
+{
+    let stage = st.stage;
+    match stage {
+        Stage::Fresh => ReadAnswer::Refused(Refusal::MissingRoot),
+        Stage::Reading => ReadAnswer::Refused(Refusal::MissingRoot),
+        Stage::Clearing(answer) => answer,
     }
 }
 
@@ -218,10 +228,10 @@ pub fn advance(
     ensures { λ r. ⌜ Adv (now (file .entry)) (lends (now (names .entry)) (now (area .entry))) (now (nodes .entry)) (now (attributes .entry)) st r
         (now (nodes .exit)) (now (attributes .exit)) ⌝ }
 {
-    let mode = st.mode;
-    match mode {
-        Mode::Fresh => start(file, names, area, nodes, attributes, st),
-        Mode::Reading => read_on(file, names, area, nodes, attributes, st),
-        Mode::Clearing => clear_next(st),
+    let stage = st.stage;
+    match stage {
+        Stage::Fresh => start(file, names, area, nodes, attributes, st),
+        Stage::Reading => read_on(file, names, area, nodes, attributes, st),
+        Stage::Clearing(answer) => clear_next(st, answer),
     }
 }

@@ -52,7 +52,7 @@ use denote.Signature.{plain}
 use Rattle.anomaly.specs.declared.Note.{Note}
 use Rattle.errors.specs.declared.ReadAnswer.{ReadAnswer as Answer}
 use Rattle.walk.specs.declared.State.{State}
-use Rattle.walk.specs.Inner.Outcome.{Adv, Good, first}
+use Rattle.walk.specs.Inner.Outcome.{Adv, Good, first, Answers}
 use Rattle.system_types.specs.Names.{lends}
 use Rattle.walk.specs.Reading.{Reads}
 use Rattle.axml.proofs.Fields.{gets}
@@ -74,6 +74,10 @@ use Rattle.walk.proofs.advance as advance
 use Rattle.walk.proofs.advance.Symbol as advance-def
 use Rattle.walk.proofs.advance.Symbol.{name as #walk·advance}
 use Rattle.walk.proofs.advance.Met as advance-thm
+use Rattle.walk.proofs.answer_of as answer-of
+use Rattle.walk.proofs.answer_of.Symbol as answer-of-def
+use Rattle.walk.proofs.answer_of.Symbol.{name as #walk·answer-of}
+use Rattle.walk.proofs.answer_of.Met as answer-of-thm
 use Rattle.axml.proofs.read.Key.{name as #axml·read}
 use Rattle.axml.proofs.read as read
 use Rattle.axml.proofs.read.Statement as stated
@@ -102,6 +106,9 @@ Begin 𝓤 H A mem run = tripleOf 𝓤 H A begin.signature (begin.spec 𝓤 H A 
 
 abbrev Advance : {M : Type 1} (𝓤 : URA M) (H : Heap 𝓤) (A : Atoms 𝓤) (mem : Memory → SProp 𝓤) (run : Routine → Fun 𝓤) → Contract 𝓤
 Advance 𝓤 H A mem run = tripleOf 𝓤 H A advance.signature (advance.spec 𝓤 H A mem run)
+
+abbrev Answer-of : {M : Type 1} (𝓤 : URA M) (H : Heap 𝓤) (A : Atoms 𝓤) (mem : Memory → SProp 𝓤) (run : Routine → Fun 𝓤) → Contract 𝓤
+Answer-of 𝓤 H A mem run = tripleOf 𝓤 H A answer-of.signature (answer-of.spec 𝓤 H A mem run)
 
 -- the types of the locals
 abbrev word : Ty
@@ -264,6 +271,15 @@ module _ {M : Type 1} (𝓤 : URA M) (H : Heap 𝓤) (A : Atoms 𝓤) (W : Given
       nothing ! $ owned ! u32 (Is u32) (uint-makes 𝓤 H A W w32) cap _ (refl, cap-fits) $ fjoin ! $
       owned ! usize (Is usize) (uint-makes 𝓤 H A W w64) (length xs-notes) _ (refl, fits) $ fjoin ! $ nothing ! $ join ! $ frame ! $ done !
 
+  -- what `answer_of`'s triple binds, and that it asks nothing but the state
+  abbrev to-answer : State → Answer-of 𝓤 H A at-mem run .Ghost
+  to-answer st = ((tt, tt, tt, (st, tt), (S′.lowered st ∷ [], tt)), tt)
+
+  goes-answer : (st : State) → Is S.the-row st (S′.lowered st ∷ []) → ent 𝓤 (emp 𝓤) (Answer-of 𝓤 H A at-mem run .pre (to-answer st))
+  goes-answer st is =
+      qed W [] ∵
+      nothing ! $ owned ! S.the-row (Is S.the-row) (LL.makes S.the-type S′.the-plain 𝓤 H A) st _ is $ fjoin ! $ nothing ! $ join ! $ frame ! $ done !
+
   -- what `advance`'s triple binds where each table is passed on for a lifetime ν, under a name δ, and what it asks
   abbrev to-advance : (ν-nodes ν-attributes : ℕ) (δ-nodes δ-attributes : GName) (st : State) (ws-nodes ws-attributes : List ℕ)
       → Advance 𝓤 H A at-mem run .Ghost
@@ -298,6 +314,7 @@ module _ {M : Type 1} (𝓤 : URA M) (H : Heap 𝓤) (A : Atoms 𝓤) (W : Given
   module _ (𝓣 : Tables 𝓤 H) (fm : FmC 𝓤 H (W .laws) (𝓣 .C))
       (known-begin : Triple 𝓤 (𝓣 .C #walk·begin) (Begin 𝓤 H A at-mem run))
       (known-advance : Triple 𝓤 (𝓣 .C #walk·advance) (Advance 𝓤 H A at-mem run))
+      (known-answer-of : Triple 𝓤 (𝓣 .C #walk·answer-of) (Answer-of 𝓤 H A at-mem run))
       (room-file : Room u8 (length xs-file)) (room-names : Room u32 (length xs-names)) (room-area : Room u8 (length xs-area))
       (room-nodes : Room u32 (length xs-nodes)) (room-attributes : Room u32 (length xs-attributes))
       (room-notes : Room N.the-row (length xs-notes)) where
@@ -338,9 +355,6 @@ module _ {M : Type 1} (𝓤 : URA M) (H : Heap 𝓤) (A : Atoms 𝓤) (W : Given
         note-holds : Is N.the-row (r .note) (N′.lowered (r .note) ∷ [])
         note-holds = LL.owed S.the-type S′.the-laws r _ is .1 .1 .0
 
-        answer-holds : Is B.the-row (r .answer) (B′.lowered (r .answer) ∷ [])
-        answer-holds = answer-is (r .answer) _ (LL.owed S.the-type S′.the-laws r _ is .1 .1 .1 .0)
-
         -- a field of the state is read
         done-in : (Γ : List (Item 𝓤)) (n : ℕ) → nth 𝓤 H A n Γ ≡ ‵ (fat fullShare S′.mir l₈ 0 (S′.lowered r))
             → Opd (Go {0}) W Γ En (copy (place 8 (field 0 ∷ []))) (vbool (r .done))
@@ -354,10 +368,6 @@ module _ {M : Type 1} (𝓤 : URA M) (H : Heap 𝓤) (A : Atoms 𝓤) (W : Given
             → Opd (Go {0}) W Γ En (copy (place 8 (field 2 ∷ []))) (N′.lowered (r .note))
         note-in Γ n h = gets Γ En ! 8 n 2 S′.mir l₈ (S′.lowered r) N′.mir 16 (N′.lowered (r .note)) tt tt refl h refl refl
 
-        answer-in : (Γ : List (Item 𝓤)) (n : ℕ) → nth 𝓤 H A n Γ ≡ ‵ (fat fullShare S′.mir l₈ 0 (S′.lowered r))
-            → Opd (Go {0}) W Γ En (copy (place 8 (field 3 ∷ []))) (B′.lowered (r .answer))
-        answer-in Γ n h = gets Γ En ! 8 n 3 S′.mir l₈ (S′.lowered r) B′.mir 32 (B′.lowered (r .answer)) tt tt refl h refl refl
-
         abbrev Next : SProp 𝓤
         Next = Below 𝓤 H A (Less xs-file (lends xs-names xs-area) xs-nodes xs-attributes xs-notes cap) I p
 
@@ -367,8 +377,19 @@ module _ {M : Type 1} (𝓤 : URA M) (H : Heap 𝓤) (A : Atoms 𝓤) (W : Given
         -- the turn that leaves the loop, and the rest of the body: the notes' borrow is shut
         out : r .done ≡ true → Sq W Tested (runs (𝓣 .C) (𝓣 .Λ) En mir.t-4 (atRet En Post))
         out d =
-            assigns ! (of-opd ! (answer-in _ 30 refl)) (from ! (stop !)) (init ! 46 refl
-            (EL.lawful B.the-type B′.the-laws 𝓤 H A W tt .typed (r .answer) _ answer-holds .0)) $
+            use0 W (raw (Answer-of 𝓤 H A at-mem run .pre (to-answer r))) (goes-answer r is) $
+            calls-at ! fm (Answer-of 𝓤 H A at-mem run) known-answer-of (to-answer r)
+            (and-then ! (load ! (from ! (stop !)) (look ! 31 refl)) (no-more !)) (λ v.
+            use1 W (later (some (λ (a : Answer). (‵ ftrue ⊛ ‵ (B.the-row .own a (v ∷ []))) ⊛ raw
+            (ensured 𝓤 H A answer-of.ended (answer-of.clauses 𝓤 H A at-mem run) tt (r, tt) tt a)))) (id⊢ 𝓤 _) $
+            await ! tt $ pick ! (λ a. split ! $ move ! (1 ∷ []) $
+            use1 W (some (λ (us : Unit {0} × Unit {0}). ‵ (lasts answer-of.ended tt (r, tt) us) ⊛ raw (fact 𝓤 (Answers r a)))) (id⊢ 𝓤 _) $
+            pick ! (λ us. split ! $ move ! (1 ∷ []) $ heard ! (Answers r a) (λ q. move ! (1 ∷ []) $ split ! $ move ! (1 ∷ []) $
+            facts ! B.the-row (Is B.the-row) (shows 𝓤 H A B.the-row) a (v ∷ []) (λ holds.
+            land ! (from ! (stop !)) (init ! 48 refl (EL.lawful B.the-type B′.the-laws 𝓤 H A W tt .typed a _ holds .0)) $
+            rewrite ! 48 (λ (u : Val). ‵ (fat fullShare B′.mir l₀ 0 u)) (ap only (B′.lowers .val-is a (v ∷ []) holds)) refl $
+            -- [tokens back; lasts; row; opened; nodes; token nodes; attributes; token attributes; file; token file; …]
+            drop ! $ drop ! $
             shuts ! tt N.the-row (named 5) κ-notes q-notes γ-notes b-notes o-notes xs-notes (v-notes ∷ []) (p .now-notes) (p .long-notes) $
             -- [notes; token notes; nodes; token nodes; attributes; token attributes; file; token file; names; token names; …]
             returns ! (look ! 46 refl) $ forget ! 46 refl $ forget ! 44 refl $ forget ! 42 refl $ forget ! 40 refl $ forget ! 38 refl $
@@ -378,9 +399,9 @@ module _ {M : Type 1} (𝓤 : URA M) (H : Heap 𝓤) (A : Atoms 𝓤) (W : Given
             move ! (28 ∷ 29 ∷ []) $ free1 ! $ move ! (26 ∷ 27 ∷ []) $ free1 ! $ move ! (24 ∷ 25 ∷ []) $ free1 ! $ move ! (22 ∷ 23 ∷ []) $ free1 ! $
             move ! (20 ∷ 21 ∷ []) $ free1 ! $ move ! (18 ∷ 19 ∷ []) $ free1 ! $ move ! (16 ∷ 17 ∷ []) $ free1 ! $ move ! (14 ∷ 15 ∷ []) $ free1 ! $
             move ! (12 ∷ 13 ∷ []) $ free1 ! $ free0 ! $
-            by ! (exits (r .answer) zs-nodes zs-attributes (p .now-notes) answer-holds
-            (leaves xs-file (lends xs-names xs-area) xs-nodes xs-attributes xs-notes cap p r zs-nodes zs-attributes e d) (lz-nodes ∙ p .long-nodes)
-            (lz-attributes ∙ p .long-attributes) (p .long-notes))
+            by ! (exits a zs-nodes zs-attributes (p .now-notes) (answer-is a (v ∷ []) holds)
+            (leaves xs-file (lends xs-names xs-area) xs-nodes xs-attributes xs-notes cap p r zs-nodes zs-attributes e d a q)
+            (lz-nodes ∙ p .long-nodes) (lz-attributes ∙ p .long-attributes) (p .long-notes)))))))
 
         -- the turn that stores a note
         stored : r .done ≡ false → Sq W Tested (runs (𝓣 .C) (𝓣 .Λ) En stores (anyQ (afterTurn 𝓤 H Next Left)))
@@ -542,8 +563,9 @@ module _ {M : Type 1} (𝓤 : URA M) (H : Heap 𝓤) (A : Atoms 𝓤) (W : Given
 
 module _ {M : Type 1} (𝓤 : URA M) (H : Heap 𝓤) (A : Atoms 𝓤) (W : Given 𝓤 H A) (mem : Memory → SProp 𝓤) (run : Routine → Fun 𝓤) (𝓣 : Tables 𝓤 H) where
   read-walks : Triple 𝓤 (𝓣 .C #walk·begin) (Begin 𝓤 H A mem run) → Triple 𝓤 (𝓣 .C #walk·advance) (Advance 𝓤 H A mem run)
-      → Walks 𝓤 H A read.ended stayed (WpFn 𝓤 H (𝓣 .C) (𝓣 .Λ) code.function) (read.clauses 𝓤 H A mem run)
-  read-walks known-begin known-advance =
+      → Triple 𝓤 (𝓣 .C #walk·answer-of) (Answer-of 𝓤 H A mem run) → Walks 𝓤 H A read.ended stayed (WpFn 𝓤 H (𝓣 .C) (𝓣 .Λ) code.function)
+      (read.clauses 𝓤 H A mem run)
+  read-walks known-begin known-advance known-answer-of =
       walked 𝓤 H A read.ended stayed (read.clauses 𝓤 H A mem run) (WpFn 𝓤 H (𝓣 .C) (𝓣 .Λ) code.function)
       (λ κs. (slice-vals, (slice-vals, (slice-vals, (slice-vals, (slice-vals, (slice-vals, (uint-vals w32, tt))))))))
       (λ κs. (
@@ -566,12 +588,13 @@ module _ {M : Type 1} (𝓤 : URA M) (H : Heap 𝓤) (A : Atoms 𝓤) (W : Given
       (a .1 .1 .0 .ptr .1) (a .1 .1 .0 .name) (a .1 .1 .0 .now) (a .1 .1 .1 .0 .ptr .0) (a .1 .1 .1 .0 .ptr .1) (a .1 .1 .1 .0 .name)
       (a .1 .1 .1 .0 .now) (a .1 .1 .1 .1 .0 .ptr .0) (a .1 .1 .1 .1 .0 .ptr .1) (a .1 .1 .1 .1 .0 .name) (a .1 .1 .1 .1 .0 .now)
       (a .1 .1 .1 .1 .1 .0 .ptr .0) (a .1 .1 .1 .1 .1 .0 .ptr .1) (a .1 .1 .1 .1 .1 .0 .name) (a .1 .1 .1 .1 .1 .0 .now) (a .1 .1 .1 .1 .1 .1 .0)
-      (are .1 .1 .1 .1 .1 .1 .0 .1) 𝓣 (fmOf 𝓤 H (W .laws) 𝓣) known-begin known-advance
+      (are .1 .1 .1 .1 .1 .1 .0 .1) 𝓣 (fmOf 𝓤 H (W .laws) 𝓣) known-begin known-advance known-answer-of
       (are .0 .0 .1) (are .1 .0 .0 .1) (are .1 .1 .0 .0 .1) (are .1 .1 .1 .0 .0 .1) (are .1 .1 .1 .1 .0 .0 .1) (are .1 .1 .1 .1 .1 .0 .0 .1)))
 
   read-meets : Triple 𝓤 (𝓣 .C #walk·begin) (Begin 𝓤 H A mem run) → Triple 𝓤 (𝓣 .C #walk·advance) (Advance 𝓤 H A mem run)
-      → Meets 𝓤 H A read.signature (WpFn 𝓤 H (𝓣 .C) (𝓣 .Λ) code.function) (read.spec 𝓤 H A mem run)
-  read-meets known-begin known-advance =
+      → Triple 𝓤 (𝓣 .C #walk·answer-of) (Answer-of 𝓤 H A mem run) → Meets 𝓤 H A read.signature (WpFn 𝓤 H (𝓣 .C) (𝓣 .Λ) code.function)
+      (read.spec 𝓤 H A mem run)
+  read-meets known-begin known-advance known-answer-of =
       walk-meets 𝓤 H A read.ended stayed W (
         goes-none-slice 𝓤 H A W 6 (0 ∷ []) tt (plain (λ _. u8)) yes,
         (
@@ -589,7 +612,7 @@ module _ {M : Type 1} (𝓤 : URA M) (H : Heap 𝓤) (A : Atoms 𝓤) (W : Given
         ),
       )
       (read.clauses 𝓤 H A mem run) (WpFn 𝓤 H (𝓣 .C) (𝓣 .Λ) code.function) (WpFn-mono 𝓤 H (W .laws) 𝓣 code.function)
-      (read-walks known-begin known-advance)
+      (read-walks known-begin known-advance known-answer-of)
 
 pub read-spec : {M : Type 1} → stated.statement M
 unfolding code.routine tablesOf
@@ -599,4 +622,6 @@ read-spec 𝓤 H 𝓜 𝓖 𝓡 =
     (read-meets 𝓤 H (𝓖 .A) (givenOf 𝓤 H 𝓜 𝓖) (𝓜 .mem) (𝓡 .run) (tablesOf 𝓤 H 𝓜 (tables 𝓤 H 𝓜 𝓡 code.env))
     (cited 𝓤 H (Begin 𝓤 H (𝓖 .A) (𝓜 .mem) (𝓡 .run)) 𝓜 𝓡 code.env #walk·begin begin-def.routine code.calls-walk·begin (begin-thm.met 𝓤 H 𝓜 𝓖 𝓡))
     (cited 𝓤 H (Advance 𝓤 H (𝓖 .A) (𝓜 .mem) (𝓡 .run)) 𝓜 𝓡 code.env #walk·advance advance-def.routine code.calls-walk·advance
-    (advance-thm.met 𝓤 H 𝓜 𝓖 𝓡)))
+    (advance-thm.met 𝓤 H 𝓜 𝓖 𝓡))
+    (cited 𝓤 H (Answer-of 𝓤 H (𝓖 .A) (𝓜 .mem) (𝓡 .run)) 𝓜 𝓡 code.env #walk·answer-of answer-of-def.routine code.calls-walk·answer-of
+    (answer-of-thm.met 𝓤 H 𝓜 𝓖 𝓡)))

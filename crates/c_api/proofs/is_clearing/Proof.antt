@@ -1,4 +1,4 @@
--- `c_api::is_clearing` meets its contract: mode by mode.
+-- `c_api::is_clearing` meets its contract: stage by stage.
 use borrow.Author.Needs.{needs}
 use Rattle.c_api.proofs.is_clearing.Statement.{statement}
 use Rattle.c_api.proofs.is_clearing.Tie as tie

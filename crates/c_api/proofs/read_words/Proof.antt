@@ -39,36 +39,39 @@ mul-zero-from c =
 zero-from-requires : tie.Need-zero-from-requires Inv-loop μ-loop
 zero-from-requires c κs = search needs
 
+answer-of-requires : tie.Need-answer-of-requires Inv-loop μ-loop
+answer-of-requires c κs = search needs
+
 same-length : tie.Need-same-length Inv-loop μ-loop
 same-length c =
-    let at-advance = c .before .before .before .before .before .before .before .before .before in
+    let at-advance = c .before .before .before .before .before .before .before .before .before .before in
     let at-loop = at-advance .before .before .before in
     at-advance .advance .kept .1 .1 .1 .0 ∙ at-loop .loop .inv .long-nodes
 
 same-length-2 : tie.Need-same-length-2 Inv-loop μ-loop
 same-length-2 c =
-    let at-advance = c .before .before .before .before .before .before .before .before .before in
+    let at-advance = c .before .before .before .before .before .before .before .before .before .before in
     let at-loop = at-advance .before .before .before in
     at-advance .advance .kept .1 .1 .1 .1 .0 ∙ at-loop .loop .inv .long-attributes
 
 same-length-3 : tie.Need-same-length-3 Inv-loop μ-loop
 same-length-3 c =
-    let at-zero = c .before .before in
-    let at-loop = c .before .before .before .before .before .before .before .before .before .before .before .before in
+    let at-zero = c .before .before .before in
+    let at-loop = c .before .before .before .before .before .before .before .before .before .before .before .before .before in
     at-zero .zero-from .kept .0 ∙ at-loop .loop .inv .long-words
 
 returns : tie.Need-returns Inv-loop μ-loop
 returns c =
-    let at-advance = c .before .before .before .before .before .before .before .before .before in
+    let at-advance = c .before .before .before .before .before .before .before .before .before .before in
     let at-loop = at-advance .before .before .before in
     let at-start = at-loop .before .before .before .before .before .before .before .before in
     let a = at-start .args in
     let l = at-loop .loop in
     let q = at-advance .advance in
-    let z = c .before .before .zero-from in
+    let z = c .before .before .before .zero-from in
     point-last (a .file .now) (lends (a .names .now) (a .area .now)) (a .nodes .now) (a .attributes .now) (a .notes .now) (a .cap)
     (l .nodes) (l .attributes) (l .notes) (l .st) (l .inv) (q .result) (q .last .1 .1 .1 .0) (q .last .1 .1 .1 .1 .0) (q .ensures)
-    (c .before .before .before .before .if1 .taken) (z .last .0) (z .ensures)
+    (c .before .before .before .before .before .if1 .taken) (z .last .0) (z .ensures) (c .answer-of .result) (c .answer-of .ensures)
 
 put-note-requires : tie.Need-put-note-requires Inv-loop μ-loop
 put-note-requires c κs =
@@ -124,46 +127,49 @@ zero-from-requires-2 c κs =
     (c .before .before .before .before .before .before .before .before .if1 .left) in
     omega (arith, fits, c .before .before .before .before .before .put-note .kept .0)
 
+answer-of-requires-2 : tie.Need-answer-of-requires-2 Inv-loop μ-loop
+answer-of-requires-2 c κs = search needs
+
 same-length-4 : tie.Need-same-length-4 Inv-loop μ-loop
 same-length-4 c =
-    let at-advance = c .before .before .before .before .before .before .before .before .before .before .before .before .before .before .before .before in
+    let at-advance = c .before .before .before .before .before .before .before .before .before .before .before .before .before .before .before .before .before in
     let at-loop = at-advance .before .before .before in
     at-advance .advance .kept .1 .1 .1 .0 ∙ at-loop .loop .inv .long-nodes
 
 same-length-5 : tie.Need-same-length-5 Inv-loop μ-loop
 same-length-5 c =
-    let at-advance = c .before .before .before .before .before .before .before .before .before .before .before .before .before .before .before .before in
+    let at-advance = c .before .before .before .before .before .before .before .before .before .before .before .before .before .before .before .before .before in
     let at-loop = at-advance .before .before .before in
     at-advance .advance .kept .1 .1 .1 .1 .0 ∙ at-loop .loop .inv .long-attributes
 
 same-length-6 : tie.Need-same-length-6 Inv-loop μ-loop
 same-length-6 c =
-    let at-zero = c .before .before in
+    let at-zero = c .before .before .before in
     let at-put = at-zero .before .before .before .before .before .before in
     let at-loop = at-put .before .before .before .before .before .before .before .before .before .before .before in
     at-zero .zero-from2 .kept .0 ∙ at-put .put-note .kept .0 ∙ at-loop .loop .inv .long-words
 
 returns-2 : tie.Need-returns-2 Inv-loop μ-loop
 returns-2 c =
-    let at-advance = c .before .before .before .before .before .before .before .before .before .before .before .before .before .before .before .before in
+    let at-advance = c .before .before .before .before .before .before .before .before .before .before .before .before .before .before .before .before .before in
     let at-loop = at-advance .before .before .before in
     let at-start = at-loop .before .before .before .before .before .before .before .before in
     let a = at-start .args in
     let l = at-loop .loop in
     let q = at-advance .advance in
-    let w = c .before .before .before .before .before .before .before .before .put-note in
-    let z = c .before .before .zero-from2 in
-    let due = c .before .before .before .before .before .before .before .before .before .before .before .if1 .left in
+    let w = c .before .before .before .before .before .before .before .before .before .put-note in
+    let z = c .before .before .before .zero-from2 in
+    let due = c .before .before .before .before .before .before .before .before .before .before .before .before .if1 .left in
     let p =
     point-next (a .file .now) (lends (a .names .now) (a .area .now)) (a .nodes .now) (a .attributes .now) (a .notes .now) (a .cap)
     (l .nodes) (l .attributes) (l .notes) (l .st) (l .inv) (q .result) (q .last .1 .1 .1 .0) (q .last .1 .1 .1 .1 .0) (q .ensures)
     due (q .kept .1 .1 .1 .0) (q .kept .1 .1 .1 .1 .0) (w .last .0) (w .ensures) (w .kept .0) in
     point-cleared (a .file .now) (lends (a .names .now) (a .area .now)) (a .nodes .now) (a .attributes .now) (a .notes .now) (a .cap)
     (q .last .1 .1 .1 .0) (q .last .1 .1 .1 .1 .0) (w .last .0) (q .result) p
-    (sym (c .before .before .before .before .before .is-clearing .ensures) ∙ c .before .before .before .before .if2 .taken)
+    (sym (c .before .before .before .before .before .before .is-clearing .ensures) ∙ c .before .before .before .before .before .if2 .taken)
     (point-slot (a .file .now) (lends (a .names .now) (a .area .now)) (a .nodes .now) (a .attributes .now) (a .notes .now) (a .cap)
     (l .nodes) (l .attributes) (l .notes) (l .st) (l .inv) (q .result) (q .last .1 .1 .1 .0) (q .last .1 .1 .1 .1 .0) (q .ensures) due)
-    (z .last .0) (z .ensures)
+    (z .last .0) (z .ensures) (c .answer-of2 .result) (c .answer-of2 .ensures)
 
 loop-less : tie.Need-loop-less Inv-loop μ-loop
 loop-less c =
@@ -201,6 +207,7 @@ read-words-spec =
     advance-requires
     mul-zero-from
     zero-from-requires
+    answer-of-requires
     same-length
     same-length-2
     same-length-3
@@ -210,6 +217,7 @@ read-words-spec =
     mul-zero-from-2
     add-zero-from
     zero-from-requires-2
+    answer-of-requires-2
     same-length-4
     same-length-5
     same-length-6

@@ -1,4 +1,4 @@
--- `walk::advance` meets its contract: each mode has its own function, and clearing goes on (proofs/Clearing.antt).
+-- `walk::advance` meets its contract: each stage has its own function, and clearing goes on (proofs/Clearing.antt).
 use Rattle.walk.proofs.Clearing.{goes-clearing}
 use borrow.Author.Needs.{needs}
 use Rattle.system_types.specs.Names.{lends}
@@ -17,8 +17,8 @@ enum-told-2 c = search needs
 read-on-requires : tie.Need-read-on-requires
 read-on-requires c κs = search needs
 
-enum-told-3 : tie.Need-enum-told-3
-enum-told-3 c = search needs
+enum-known-stage : tie.Need-enum-known-stage
+enum-known-stage c = search needs
 
 clear-next-requires : tie.Need-clear-next-requires
 clear-next-requires c κs = search needs
@@ -43,11 +43,11 @@ returns-2 c = search needs
 
 returns-3 : tie.Need-returns-3
 returns-3 c =
-    let at-start = c .before .before .before .before .before .before .before .before in
+    let at-start = c .before .before .before .before .before .before .before .before .before in
     let a = at-start .args in
     λ g.
     rw (c .clear-next .ensures)
-    (goes-clearing (a .file .now) (lends (a .names .now) (a .area .now)) (a .nodes .now) (a .attributes .now) (a .st) g (c .before .enum-told3 .given .1))
+    (goes-clearing (a .file .now) (lends (a .names .now) (a .area .now)) (a .nodes .now) (a .attributes .now) (a .st) g _ (c .before .before .stage .given .1))
 
 pub advance-spec : {M : Type 1} → statement M
 advance-spec =
@@ -57,7 +57,7 @@ advance-spec =
     start-requires
     enum-told-2
     read-on-requires
-    enum-told-3
+    enum-known-stage
     clear-next-requires
     same-length
     same-length-2

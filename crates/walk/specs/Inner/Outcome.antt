@@ -17,7 +17,7 @@ use Rattle.anomaly.specs.Kept.{noNotes, storedIn}
 use Rattle.anomaly.specs.declared.Note.{Note as NoteOf}
 use Rattle.anomaly.specs.declared.ResAnomaly.{ResAnomaly}
 use Rattle.errors.specs.declared.Refusal.{Refusal}
-use Rattle.errors.specs.declared.Refusal.the-variants.{MissingRoot, NotesFull}
+use Rattle.errors.specs.declared.Refusal.the-variants.{NotesFull}
 use Rattle.errors.specs.declared.ReadAnswer.{ReadAnswer}
 use Rattle.errors.specs.declared.ReadAnswer.the-variants.{Done, Refused}
 use Rattle.records.specs.Words.{nodeWidth, attributeWidth}
@@ -30,8 +30,8 @@ use Rattle.events.specs.Events.{namesIn}
 use Rattle.events.specs.Inner.Steps.{firstCursor}
 use Rattle.events.specs.Inner.Pending.{Ready, Within, steps}
 use Rattle.walk.specs.declared.tree.Tree.{Tree}
-use Rattle.walk.specs.declared.Mode.{Mode}
-use Rattle.walk.specs.declared.Mode.the-variants.{Fresh, Reading as InBody, Clearing}
+use Rattle.walk.specs.declared.Stage.{Stage}
+use Rattle.walk.specs.declared.Stage.the-variants.{Fresh, Reading as InBody, Clearing}
 use Rattle.walk.specs.declared.State.{State}
 use Rattle.walk.specs.Settle.{Room}
 use Rattle.walk.specs.Reading.{Reading, zeroNote, finalOf, reading, roomIn}
@@ -43,16 +43,15 @@ use Rattle.walk.specs.Inner.Run.{onFrom}
 abbrev pub noTree : Tree
 noTree = record { nodes = 0; attributes = 0; first = 0; inner = 0; second = 0; upto = 0 }
 
--- the answer and the head are none yet
+-- there is no head yet
 abbrev pub first : ℕ → ℕ → State
 first room cap = record {
   done = false;
   slot = 0;
   note = zeroNote;
-  answer = Refused MissingRoot;
   room = room;
   cap = cap;
-  mode = Fresh;
+  stage = Fresh;
   opened = unopened Whole;
   cur = firstCursor;
   tree = noTree;
@@ -65,10 +64,9 @@ startedBy st o = record {
   done = false;
   slot = 0;
   note = zeroNote;
-  answer = st .answer;
   room = st .room;
   cap = st .cap;
-  mode = InBody;
+  stage = InBody;
   opened = o;
   cur = firstCursor;
   tree = noTree;
@@ -81,18 +79,17 @@ clearingAt st c a = record {
   done = cond (ltb c (st .room)) false true;
   slot = c;
   note = zeroNote;
-  answer = a;
   room = st .room;
   cap = st .cap;
-  mode = Clearing;
+  stage = Clearing a;
   opened = st .opened;
   cur = st .cur;
   tree = st .tree;
   notes = st .notes;
 }
 
-abbrev pub clearNext : State → State
-clearNext st = clearingAt st (cond (ltb (st .slot) (st .room)) (st .slot + 1) (st .slot)) (st .answer)
+abbrev pub clearNext : State → ReadAnswer → State
+clearNext st a = clearingAt st (cond (ltb (st .slot) (st .room)) (st .slot + 1) (st .slot)) a
 
 -- a note is to be written
 abbrev pub notedBy : State → Cursor → Tree → ResAnomaly → State
@@ -100,10 +97,9 @@ notedBy st c t x = record {
   done = false;
   slot = st .notes .used;
   note = noteOf x;
-  answer = st .answer;
   room = st .room;
   cap = st .cap;
-  mode = InBody;
+  stage = InBody;
   opened = st .opened;
   cur = c;
   tree = t;
@@ -112,6 +108,10 @@ notedBy st c t x = record {
 
 abbrev pub doneAnswer : Tree → ℕ → ReadAnswer
 doneAnswer t n = Done (record { starts = t .nodes; nodes = keptNodes t; attributes = keptAttributes t; notes = n })
+
+-- the answer of a state that has one is r
+abbrev pub Answers : State → ReadAnswer → Type 0
+Answers st r = (a : ReadAnswer) → st .stage ≡ Clearing a → r ≡ a
 
 -- ---- ends
 
@@ -153,7 +153,7 @@ roomOf ns ats st = record { nodes = length ns; attributes = length ats; notes = 
 abbrev pub cleared : List NoteOf → ℕ → ℕ → List NoteOf
 cleared os c room = take c os ++ replicate (room - c) zeroNote
 
-abbrev pub outcomeBy : Mode → List ℕ → Lent → List ℕ → List ℕ → List NoteOf → State → List ℕ → Reading
+abbrev pub outcomeBy : Stage → List ℕ → Lent → List ℕ → List ℕ → List NoteOf → State → List ℕ → Reading
 outcomeBy Fresh f lent ns ats os st stack = reading (roomOf ns ats st) f lent
 outcomeBy InBody f lent ns ats os st stack =
     let t = tablesIn f (st .opened .head) in
@@ -161,11 +161,11 @@ outcomeBy InBody f lent ns ats os st stack =
     finalOf (roomOf ns ats st)
     (onFrom (roomOf ns ats st) N (st .opened) t (bodyIn f (st .opened .head)) ns ats (st .cur) (st .tree) stack (take (st .notes .used) os)
     (st .notes .counts))
-outcomeBy Clearing f lent ns ats os st stack =
-    record { answer = st .answer; nodes = ns; attributes = ats; notes = cleared os (st .slot + 1) (st .room) }
+outcomeBy (Clearing a) f lent ns ats os st stack =
+    record { answer = a; nodes = ns; attributes = ats; notes = cleared os (st .slot + 1) (st .room) }
 
 abbrev pub outcome : List ℕ → Lent → List ℕ → List ℕ → List NoteOf → State → List ℕ → Reading
-outcome f lent ns ats os st stack = outcomeBy (st .mode) f lent ns ats os st stack
+outcome f lent ns ats os st stack = outcomeBy (st .stage) f lent ns ats os st stack
 
 -- ---- what holds at the head of the loop
 
@@ -179,16 +179,16 @@ pub record OnWay (f : List ℕ) (lent : Lent) (ns ats : List ℕ) (st : State) (
 
 pub record Good (f : List ℕ) (lent : Lent) (ns ats : List ℕ) (st : State) : Type 0 where
   pub stack : List ℕ
-  pub onWay : st .mode ≡ InBody → OnWay f lent ns ats st stack
+  pub onWay : st .stage ≡ InBody → OnWay f lent ns ats st stack
 
 -- a fresh state has at most 20 steps for each byte, and 15 for the head, before it
-abbrev pub leftBy : Mode → List ℕ → State → ℕ
+abbrev pub leftBy : Stage → List ℕ → State → ℕ
 leftBy Fresh f st = 20 * length f + 15 + st .room + 1
 leftBy InBody f st = steps (bodyIn f (st .opened .head)) (st .cur) + st .room + 1
-leftBy Clearing f st = st .room - st .slot
+leftBy (Clearing a) f st = st .room - st .slot
 
 abbrev pub left : List ℕ → Lent → State → ℕ
-left f lent st = leftBy (st .mode) f st
+left f lent st = leftBy (st .stage) f st
 
 pub record Advanced (f : List ℕ) (lent : Lent) (ns ats : List ℕ) (st : State) (g : Good f lent ns ats st) (r : State) (ns′ ats′ : List ℕ) : Type 0 where
   pub good : Good f lent ns′ ats′ r
@@ -196,8 +196,8 @@ pub record Advanced (f : List ℕ) (lent : Lent) (ns ats : List ℕ) (st : State
   pub due : r .done ≡ false → (r .slot < r .room) × (left f lent r < left f lent st)
   pub goes : r .done ≡ false → (os : List NoteOf) → length os ≡ st .room
       → outcome f lent ns ats os st (g .stack) ≡ outcome f lent ns′ ats′ (set os (r .slot) (r .note)) r (good .stack)
-  pub ends : r .done ≡ true → (os : List NoteOf) → length os ≡ st .room
-      → outcome f lent ns ats os st (g .stack) ≡ record { answer = r .answer; nodes = ns′; attributes = ats′; notes = os }
+  pub ends : r .done ≡ true → (a : ReadAnswer) → Answers r a → (os : List NoteOf) → length os ≡ st .room
+      → outcome f lent ns ats os st (g .stack) ≡ record { answer = a; nodes = ns′; attributes = ats′; notes = os }
 
 abbrev pub Adv : List ℕ → Lent → List ℕ → List ℕ → State → State → List ℕ → List ℕ → Type 0
 Adv f lent ns ats st r ns′ ats′ = (g : Good f lent ns ats st) → Advanced f lent ns ats st g r ns′ ats′

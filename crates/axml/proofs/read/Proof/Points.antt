@@ -18,11 +18,12 @@ use lib.WfN.{Nat·lt-wfRel}
 use denote.Laws.{Is}
 use Rattle.anomaly.specs.declared.Note.{Note}
 use Rattle.walk.specs.declared.State.{State}
+use Rattle.errors.specs.declared.ReadAnswer.{ReadAnswer}
 use Rattle.errors.specs.Refusal.{numbersOf}
 use Rattle.system_types.specs.Names.{Lent}
-use Rattle.walk.specs.declared.Mode.the-variants.{Fresh, Reading as InBody}
+use Rattle.walk.specs.declared.Stage.the-variants.{Fresh, Reading as InBody}
 use Rattle.walk.specs.Reading.{Reading, Reads, roomIn, reading}
-use Rattle.walk.specs.Inner.Outcome.{Adv, Advanced, Good, first, left, outcome}
+use Rattle.walk.specs.Inner.Outcome.{Adv, Advanced, Answers, Good, first, left, outcome}
 use Rattle.walk.proofs.State as S
 use Rattle.walk.proofs.State.Laws as S′
 
@@ -55,7 +56,7 @@ module _ (file : List ℕ) (lent : Lent) (nodes attributes : List ℕ) (notes : 
   -- ---- before the first turn
   -- the ghost is written out, so that `start`'s outcome is that of the empty stack
   abbrev pub first-good : (st : State) → st ≡ first (length notes) cap → Good file lent nodes attributes st
-  first-good st e = record { stack = []; onWay = λ m. absurd (fresh-reads (sym (ap (λ (s : State). s .mode) e) ∙ m)) }
+  first-good st e = record { stack = []; onWay = λ m. absurd (fresh-reads (sym (ap (λ (s : State). s .stage) e) ∙ m)) }
 
   pub first-same : outcome file lent nodes attributes notes (first (length notes) cap) [] ≡ reading (roomIn nodes attributes notes cap) file lent
   first-same = refl
@@ -112,10 +113,10 @@ module _ (file : List ℕ) (lent : Lent) (nodes attributes : List ℕ) (notes : 
     unfolding onward
     fewer d is ln la = omega (arith, advanced .due d .1, p .enough)
 
-    pub leaves : r .done ≡ true → Reads file lent nodes attributes notes cap (r .answer) nodes′ attributes′ (p .now-notes)
-    leaves d =
-        let e : _≡_ {A = Reading} (record { answer = r .answer; nodes = nodes′; attributes = attributes′; notes = p .now-notes })
-        (reading (roomIn nodes attributes notes cap) file lent) = sym (advanced .ends d (p .now-notes) all-places) ∙ p .same in
+    pub leaves : r .done ≡ true → (a : ReadAnswer) → Answers r a → Reads file lent nodes attributes notes cap a nodes′ attributes′ (p .now-notes)
+    leaves d a is =
+        let e : _≡_ {A = Reading} (record { answer = a; nodes = nodes′; attributes = attributes′; notes = p .now-notes })
+        (reading (roomIn nodes attributes notes cap) file lent) = sym (advanced .ends d a is (p .now-notes) all-places) ∙ p .same in
         record {
           answer = ap (λ (x : Reading). numbersOf (x .answer)) e;
           nodes = ap (λ (x : Reading). x .nodes) e;
