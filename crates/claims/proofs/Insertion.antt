@@ -50,7 +50,7 @@ module _ (r : Room) (f : List ℕ) (lent : Lent) (c : ReadCounts) (one : 1 ≤ r
   t = tablesIn f (o .head)
 
   abbrev N : Names
-  N = namesIn (o .head) t lent
+  N = namesIn (r .mode) (o .head) t lent
 
   abbrev l : List ℕ
   l = bodyIn f (o .head)
@@ -104,7 +104,8 @@ module _ (r : Room) (f : List ℕ) (lent : Lent) (c : ReadCounts) (one : 1 ≤ r
       let e : length (s .tables .attributes) ≡ attributeWidth * attributesKept (s .tables) = rw no-second (omega (arith, shaped .attributes)) in
       e ∙ ap (λ (d : ReadCounts). attributeWidth * d .attributes) (s .counts)
 
-  module _ (places : List (List ForeignChunk)) (few : length places ≤ placesIn f) (limit : length (insertedFile places f) ≤ fileLimit) (r′ : Room) where
+  module _ (places : List (List ForeignChunk)) (few : length places ≤ placesIn f) (limit : length (insertedFile places f) ≤ fileLimit) (r′ : Room)
+      (alike : r′ .mode ≡ r .mode) where
     abbrev es′ : List Event
     es′ = fileEvents N o t (inserted places l)
 
@@ -117,6 +118,7 @@ module _ (r : Room) (f : List ℕ) (lent : Lent) (c : ReadCounts) (one : 1 ≤ r
         same : settledIn r′ (insertedFile places f) lent (openedOf (insertedFile places f)) ≡ settle (N .repeats) r′ nothingYet es′
         same =
             rw (
+              alike,
               longer-opened f (s .short) head-whole places,
               longer-tables f (s .short) head-whole places,
               longer-body f (s .short) head-whole places,

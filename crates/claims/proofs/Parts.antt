@@ -152,7 +152,7 @@ module _ (f : List ℕ) (lent : Lent) (x : Refusal) (part : isPart x ≡ true) w
       t = tablesIn f (o .head)
 
       N : Names
-      N = namesIn (o .head) t lent
+      N = namesIn (r .mode) (o .head) t lent
 
       said : InOut (λ u. Unit {0}) (OfHead o) (settledIn r f lent o)
       said = settled-says o r (N .repeats) N t (bodyIn f (o .head))
@@ -244,7 +244,7 @@ module _ (f : List ℕ) (lent : Lent) (x : Refusal) (p : PartOf f lent x) where
   part-cut r =
       let o = openedOf f in
       let t = tablesIn f (o .head) in
-      let N = namesIn (o .head) t lent in
+      let N = namesIn (r .mode) (o .head) t lent in
       let events = short-body N o t (bodyIn c (o .head)) (bodyIn f (o .head)) x (p .short) in
       rw (still, p .passes, here .same, tables-same, events)
 

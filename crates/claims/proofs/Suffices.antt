@@ -148,7 +148,7 @@ module _ (r : Room) (f : List ℕ) (lent : Lent) (nodes : nodesFor (length f) �
   settled : (o : Opened) → InOut (Enough r []) Other (settledIn r f lent o)
   settled o =
       let t = tablesIn f (o .head) in
-      let N = namesIn (o .head) t lent in
+      let N = namesIn (r .mode) (o .head) t lent in
       let b = bodyIn f (o .head) in
       let few = file-few N o t b in
       let l : length b ≡ length f - (8 + headLen (o .head)) = length-drop (8 + headLen (o .head)) f in
@@ -166,11 +166,11 @@ module _ (r : Room) (f : List ℕ) (lent : Lent) (nodes : nodesFor (length f) �
 
 -- ---- a call
 
-pub read-suffices : (f : List ℕ) (lent : Lent) (ns ats : List ℕ) (os : List NoteOf) (cap : ℕ) (a : ReadAnswer) (ns′ ats′ : List ℕ) (os′ : List NoteOf)
+pub read-suffices : (f : List ℕ) (lent : Lent) (ns ats : List ℕ) (os : List NoteOf) (cap mode : ℕ) (a : ReadAnswer) (ns′ ats′ : List ℕ) (os′ : List NoteOf)
     → nodesFor (length f) ≤ length ns → attributesFor (length f) ≤ length ats → placesFor cap ≤ length os
-    → Reads f lent ns ats os cap a ns′ ats′ os′ → HasRoom a
-read-suffices f lent ns ats os cap a ns′ ats′ os′ n m o h =
-    subst HasRoom (sym (numbersOf-unique _ _ (h .answer))) (suffices (roomIn ns ats os cap) f lent n m o)
+    → Reads f lent ns ats os cap mode a ns′ ats′ os′ → HasRoom a
+read-suffices f lent ns ats os cap mode a ns′ ats′ os′ n m o h =
+    subst HasRoom (sym (numbersOf-unique _ _ (h .answer))) (suffices (roomIn ns ats os cap mode) f lent n m o)
 
 -- ---- a listing
 
@@ -180,8 +180,8 @@ listing-suffices n short = (omega arith, omega arith, omega arith)
 
 pub read-listed-suffices : (f ns ats : List ℕ) (a : ReadAnswer) (ns′ ats′ : List ℕ) (os′ : List NoteOf)
     → length f ≤ listedFile → length ns ≡ listingRoom .nodes → length ats ≡ listingRoom .attributes
-    → Reads f (lends [] []) ns ats (replicate (listingRoom .notes) zeroNote) (listingRoom .cap) a ns′ ats′ os′ → HasRoom a
+    → Reads f (lends [] []) ns ats (replicate (listingRoom .notes) zeroNote) (listingRoom .cap) (listingRoom .mode) a ns′ ats′ os′ → HasRoom a
 read-listed-suffices f ns ats a ns′ ats′ os′ short n m h =
     let s = listing-suffices (length f) short in
-    read-suffices f (lends [] []) ns ats _ (listingRoom .cap) a ns′ ats′ os′ (omega (arith, s .0)) (omega (arith, s .1))
+    read-suffices f (lends [] []) ns ats _ (listingRoom .cap) (listingRoom .mode) a ns′ ats′ os′ (omega (arith, s .0)) (omega (arith, s .1))
     (omega (arith, s .2, length-replicate (listingRoom .notes) zeroNote)) h

@@ -29,17 +29,17 @@ use Rattle.walk.proofs.Clearing.{fresh-not, clears}
 
 -- ---- the first state
 
-abbrev pub first-good : (f : List ℕ) (lent : Lent) (ns ats : List ℕ) (room cap : ℕ) → Good f lent ns ats (first room cap)
-first-good f lent ns ats room cap = record { stack = []; onWay = λ e. absurd (fresh-not e) }
+abbrev pub first-good : (f : List ℕ) (lent : Lent) (ns ats : List ℕ) (room cap mode : ℕ) → Good f lent ns ats (first room cap mode)
+first-good f lent ns ats room cap mode = record { stack = []; onWay = λ e. absurd (fresh-not e) }
 
-pub first-same : (f : List ℕ) (lent : Lent) (ns ats : List ℕ) (os : List NoteOf) (cap : ℕ)
-    → outcome f lent ns ats os (first (length os) cap) [] ≡ reading (roomIn ns ats os cap) f lent
-first-same f lent ns ats os cap = refl
+pub first-same : (f : List ℕ) (lent : Lent) (ns ats : List ℕ) (os : List NoteOf) (cap mode : ℕ)
+    → outcome f lent ns ats os (first (length os) cap mode) [] ≡ reading (roomIn ns ats os cap mode) f lent
+first-same f lent ns ats os cap mode = refl
 
 -- the one equation says the numbers and the tables
-pub reads-of-whole : (f : List ℕ) (lent : Lent) (ns ats : List ℕ) (os : List NoteOf) (cap : ℕ) (r : ReadAnswer) (ns′ ats′ : List ℕ) (os′ : List NoteOf)
-    → Leaves f lent ns ats os cap r ns′ ats′ os′ → Reads f lent ns ats os cap r ns′ ats′ os′
-reads-of-whole f lent ns ats os cap r ns′ ats′ os′ h = record {
+pub reads-of-whole : (f : List ℕ) (lent : Lent) (ns ats : List ℕ) (os : List NoteOf) (cap mode : ℕ) (r : ReadAnswer) (ns′ ats′ : List ℕ) (os′ : List NoteOf)
+    → Leaves f lent ns ats os cap mode r ns′ ats′ os′ → Reads f lent ns ats os cap mode r ns′ ats′ os′
+reads-of-whole f lent ns ats os cap mode r ns′ ats′ os′ h = record {
   answer = ap (λ (x : Reading). numbersOf (x .answer)) (h .whole);
   nodes = ap (λ (x : Reading). x .nodes) (h .whole);
   attributes = ap (λ (x : Reading). x .attributes) (h .whole);

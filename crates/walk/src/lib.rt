@@ -46,13 +46,14 @@ pub enum Stage {
 }
 
 // The reader between two notes: whether all is done, the place and the note that the caller is to write, how many places the note table has
-// and how many notes of a kind are kept, the stage, the head, where the reading stands, the tree and the note state.
+// and how many notes of a kind are kept, the mode, the stage, the head, where the reading stands, the tree and the note state.
 pub struct State {
     pub done: bool,
     pub slot: usize,
     pub note: Note,
     pub room: usize,
     pub cap: u32,
+    pub mode: u32,
     pub stage: Stage,
     pub opened: Opened,
     pub cur: Cursor,
@@ -73,10 +74,10 @@ fn no_tree() -> Tree
     }
 }
 
-// The state before the first call, for a note table of `room` places and `cap` notes of each kind.
+// The state before the first call, for a note table of `room` places, `cap` notes of each kind, and the mode of the reading.
 // Ruled out: a state that has counted notes, and one that takes the head for opened.
-pub fn begin(room: usize, cap: u32) -> State
-    ensures { λ r. ⌜ r ≡ first room cap ⌝ }
+pub fn begin(room: usize, cap: u32, mode: u32) -> State
+    ensures { λ r. ⌜ r ≡ first room cap mode ⌝ }
 {
     let cur = first_cursor();
     let tree = no_tree();
@@ -109,6 +110,7 @@ pub fn begin(room: usize, cap: u32) -> State
         },
         room,
         cap,
+        mode,
         stage: Stage::Fresh,
         opened,
         cur,
@@ -134,6 +136,7 @@ fn started(st: State, opened: Opened) -> State
         },
         room: st.room,
         cap: st.cap,
+        mode: st.mode,
         stage: Stage::Reading,
         opened,
         cur,
@@ -160,7 +163,7 @@ fn read_on(
     let mut cur = st.cur;
     let mut tree = st.tree;
     loop {
-        let h = run_in(file, names, area, opened, nodes, attributes, cur, tree);
+        let h = run_in(file, names, area, st.mode, opened, nodes, attributes, cur, tree);
         cur = h.cur;
         tree = h.tree;
         let stop = h.stop;
