@@ -19,10 +19,10 @@ returns-2 c =
     let h = c .before .before .before in
     let a = h .before .before .before .before .args in
     rw (
+      c .apart-prefix .ensures,
       ← h .has-text .ensures,
       not-false (h .has-text .result) (c .before .before .if1 .left),
       eq-eqb (a .mode) apart (c .before .if2 .taken),
-      c .apart-prefix .ensures,
     )
 
 returns-3 : tie.Need-returns-3
