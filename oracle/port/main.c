@@ -13,7 +13,7 @@
 #include <string.h>
 #include "axml.h"
 
-enum { TEXTS = 1, NAMES = 2, ROOMS = 16, NONE = 0xffffffff };
+enum { TEXTS = 1, NAMES = 2, ROOMS = 16, APART = 32, NONE = 0xffffffff };
 
 static void fail(const char *why)
 {

@@ -93,6 +93,15 @@ pub fn read_listed(file: &[u8], nodes: &mut [u32], attributes: &mut [u32]) -> Li
         a: 0,
         b: 0,
     }; LISTED_NOTES];
-    let answer = read(file, &[], &[], nodes, attributes, &mut notes, LISTED_CAP, MERGED);
+    let answer = read(
+        file,
+        &[],
+        &[],
+        nodes,
+        attributes,
+        &mut notes,
+        LISTED_CAP,
+        MERGED,
+    );
     Listed { answer, notes }
 }

@@ -163,7 +163,17 @@ fn read_on(
     let mut cur = st.cur;
     let mut tree = st.tree;
     loop {
-        let h = run_in(file, names, area, st.mode, opened, nodes, attributes, cur, tree);
+        let h = run_in(
+            file,
+            names,
+            area,
+            st.mode,
+            opened,
+            nodes,
+            attributes,
+            cur,
+            tree,
+        );
         cur = h.cur;
         tree = h.tree;
         let stop = h.stop;

@@ -200,7 +200,16 @@ pub fn keep(
         return Put::Full;
     }
     let last = n - 1;
-    put_attribute(attributes, used, last, prefix, name.0, a.data_type, a.data, ns.0);
+    put_attribute(
+        attributes,
+        used,
+        last,
+        prefix,
+        name.0,
+        a.data_type,
+        a.data,
+        ns.0,
+    );
     put_one(
         nodes,
         node_place(last) + NODE_COUNT,
