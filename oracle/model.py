@@ -67,7 +67,7 @@ WRONG = {
     "note_12_never": "W27", "note_12_counts_open": "W27", "note_12_only_if_whole": "W27", "no_start_is_empty": "W28",
     "finished_children_kept": "W29", "nothing_dropped": "W29", "starts_are_nodes": "B15", "dropped_notes_too": "W29", "dropped_attributes_counted": "W29",
     "node_before_note_9": "B3", "past_cap_due": "B4", "repeat_due": "B4", "dropped_need_no_room": "B5", "places_rounded_up": "B6",
-    "first_zero_if_none": "B10", "parent_is_one_up": "B9", "cap_over_all_kinds": "B13", "last_kept": "B13", "cap_plus_1": "B13", "cap_0_is_1": "B13",
+    "first_zero_if_none": "B10", "parent_is_one_up": "B9", "cap_over_all_kinds": "B13", "last_kept": "B13", "cap_plus_1": "B13", "cap_0_read": "B2", "cap_0_is_1": "B2",
     "value_10_is_used": "B1", "value_1_is_0": "B1", "value_3_is_0": "B1",
 }
 
@@ -102,6 +102,10 @@ class Refused(Exception):
 
 # the refusal of each part of the head that is short (H15)
 PARTS = {"garbage": 41, "header": 42, "second": 42, "numbers": 42, "offsets": 43, "styles": 44, "data": 45, "map-header": 51, "map-ids": 52}
+
+
+# a reading that would keep no note
+OFF = 27, 0, 0, [], [], []
 
 
 def coarse(answer):
@@ -527,7 +531,7 @@ class Walk:
         hits.add(f"note-{kind}")
         count = len(self.notes) if w == "cap_over_all_kinds" else self.counts[kind]
         if count >= self.cap:
-            hits.add("B13" if self.cap else "B13-0")
+            hits.add("B13")
             if w == "past_cap_due" and len(self.notes) >= self.note_places:
                 raise Refused(10, self.note_places)
             if w == "last_kept" and self.cap:
@@ -906,6 +910,9 @@ def read(file, names=NO_NAMES, cap=16, room=(1 << 40, 1 << 40, 1 << 40), hits=No
     if len(file) > LIMIT:
         hits.add("B1-2")
         return 2, 0, 0, [], [], []
+    if cap == 0 and w not in ("cap_0_read", "cap_0_is_1"):
+        hits.add("B1-27")
+        return OFF
     if bad is not None:
         hits.add("B1-7")
         return 7, bad, 0, [], [], []

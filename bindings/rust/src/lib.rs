@@ -81,7 +81,7 @@ impl Manifest {
         Manifest::read_with(file, &SystemNames::new(), 16)
     }
 
-    /// Reads a file with these system names, and keeps the first `cap` notes of each kind.
+    /// Reads a file with these system names, and keeps the first `cap` notes of each kind. A cap of 0 is refused with [`Refusal::NotesOff`].
     pub fn read_with(file: &[u8], names: &SystemNames, cap: u32) -> Result<Manifest, Refusal> {
         let mut nodes = vec![0; sys::NODE_WORDS * (file.len() / 36 + 1)];
         let mut attributes = vec![0; sys::ATTRIBUTE_WORDS * (file.len() / 20 + 1)];

@@ -17,7 +17,8 @@ ghost use Rattle.resource_map.specs.Map.{mapOf};
 ghost use Rattle.text.specs.Inner.Found.{Fits};
 ghost use Rattle.head.specs.Head.{headBy, unopened, wholeHead, cutPool, cutMap, mappedBy, tablesOf, openedOf};
 ghost use Rattle.head.specs.Head.{headLen, tablesIn, bodyIn, isWhole, poolRefusal, mapRefusal, refusalOf, outsideIn};
-ghost use Rattle.head.specs.Inner.Entered.{enteredOf};
+ghost use Rattle.head.specs.Entry.{keepsNone};
+ghost use Rattle.head.specs.Inner.Entered.{askedBy, enteredOf};
 use errors::Refusal;
 use field::u16_at;
 use records::FILE_LIMIT;
@@ -66,6 +67,12 @@ pub struct Opened {
     pub declared: u32,
     pub end: HeadEnd,
     pub head: Head,
+}
+
+// Who asks for a file: a question, or a reading, with how many notes of a kind it keeps.
+pub enum Asker {
+    Question,
+    Reading(u32),
 }
 
 // A file behind what every entry point checks: its head, opened, which may still be amiss.
@@ -247,14 +254,27 @@ fn open_head(file: &[u8]) -> Opened
 
 // ---- the way in
 
-// The way into a file, for every entry point: its length, the lent names, then the head opened. What is amiss with the head is the
-// caller's to say, since notes can come before it.
-// Ruled out: 1 for a file of 7 bytes with names that break their rule, and a head for a file past the limit.
-pub fn enter(file: &[u8], names: &[u32], area: &[u8]) -> Entered
-    ensures { λ r. ⌜ r ≡ enteredOf (now (file .entry)) (lends (now (names .entry)) (now (area .entry))) ⌝ }
+// Whether a reading would keep no note. Ruled out: a question that is taken for one.
+fn keeps_none(asker: Asker) -> bool
+    ensures { λ r. ⌜ r ≡ keepsNone asker ⌝ }
+{
+    match asker {
+        Asker::Question => false,
+        Asker::Reading(cap) => cap == 0,
+    }
+}
+
+// The way into a file, for every entry point: its length, the cap, the lent names, then the head opened. What is amiss with the head is
+// the caller's to say, since notes can come before it; a caller that is lent items checks them behind this.
+// Ruled out: 1 for a file of 7 bytes with names that break their rule, a head for a file past the limit, and 7 for a cap of 0.
+pub fn enter(file: &[u8], names: &[u32], area: &[u8], asker: Asker) -> Entered
+    ensures { λ r. ⌜ r ≡ enteredOf (now (file .entry)) (lends (now (names .entry)) (now (area .entry))) (askedBy asker) ⌝ }
 {
     if FILE_LIMIT < file.len() {
         return Entered::Out(Refusal::TooLargeError);
+    }
+    if keeps_none(asker) {
+        return Entered::Out(Refusal::NotesOff);
     }
     let read = check_names(names, area);
     match read {
