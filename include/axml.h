@@ -20,7 +20,7 @@ extern "C" {
 
 /* The form of this interface: raised whenever a record, a signature or a number below changes or is added. A library is of this form exactly if
  * axml_abi() == AXML_ABI; one that is of another must not be called. */
-#define AXML_ABI 5u
+#define AXML_ABI 6u
 uint32_t axml_abi(void);
 
 /* The longest file that is read, in bytes: one byte more is refused with AXML_TOO_LARGE. */
@@ -59,6 +59,7 @@ enum axml_refusal {
   AXML_NOTHING_FOUND = 12,   /* no such text, or no such value: 0 */
   AXML_TABLES = 13,          /* the lent tables do not fit the question: the node count, or the first bad node (Q6) */
   AXML_MODE = 16,            /* the mode is none of enum axml_mode: that number (B16) */
+  AXML_NOTES_OFF = 27,       /* a reading at a cap of 0, which would keep no note: 0 */
   AXML_ROUND_UP_FULL = 29,   /* a count of a round-up would pass 4294967295: 0 (R6) */
   /* a part of the head is cut, and the value is the file offset at which it should begin (H15) */
   AXML_POOL_GARBAGE = 41,   /* a chunk in the pool's place is cut */
@@ -178,7 +179,7 @@ struct axml_first_answer {
 /* Reads a file into three lent tables, whose words behind the last record are zeros afterwards (B8).
  * file, file_bytes: the file. names, name_words: the lent system names, `struct axml_name` each, over area, area_bytes; 0 words are no names.
  * nodes, attributes, notes: the tables, as words of `struct axml_node`, `struct axml_attribute`, `struct axml_note`.
- * cap: how many notes of each kind are kept (B13). mode: enum axml_mode. */
+ * cap: how many notes of each kind are kept (B13), 1 at least: 0 is refused with AXML_NOTES_OFF. mode: enum axml_mode. */
 struct axml_answer axml_read(const uint8_t *file, size_t file_bytes, const uint32_t *names, size_t name_words, const uint8_t *area,
                              size_t area_bytes, uint32_t *nodes, size_t node_words, uint32_t *attributes, size_t attribute_words,
                              uint32_t *notes, size_t note_words, uint32_t cap, uint32_t mode);

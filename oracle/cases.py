@@ -244,6 +244,11 @@ def due_answer(a, room):
     return a.reading()
 
 
+def told_answer(a, cap, room):
+    """The same at a cap, of which the Rust has no rule: it keeps no note at 0, and a reading here is refused (docs/FORMAT.md, B2)."""
+    return model.OFF if cap == 0 else due_answer(a, room)
+
+
 def read_case(names_set, cap, mode, room, file, answer):
     refusal, value, starts, nodes, attributes, notes = answer
     out = words(2, names_set, cap, mode, *room) + text(file) + words(refusal, value, starts, len(nodes), len(attributes), len(notes))
@@ -398,7 +403,7 @@ def make_reads(program, path):
         if room is None:
             due = [a.due.count(c) for c in b"EAN"]
             room = rust.NODE * due[0] + r.randrange(12), rust.ATTRIBUTE * due[1] + r.randrange(12), due[2] + r.randrange(3)
-        answer = due_answer(a, room)
+        answer = told_answer(a, cap, room)
         right, told = look(f, k, cap, room)
         assert model.coarse(right) == answer, f.hex()
         for x in told:
@@ -634,9 +639,11 @@ def replay_cases(reads, questions):
             yield names[0], 6, c.words(3), []
     # names that may break their rule, which comes before all rules of the file: the model's answers
     node, attribute = [0, 0, NONE, 0, 1, 2], [0, 0, 1, 3, 7, 0]
+    broken = next(own for own in tried.values() if own.bad() is not None)
     for (_, _, f), own in tried.items():
-        refusal, value, starts, *tables = model.read(f, own, 8, (13, 6, 2))
-        yield read_row(own, [8, 13, 6, 2], 1, f, [refusal, value, starts, *map(len, tables)], [[x for row in t for x in row] for t in tables])
+        for cap in (8, 0) if own is broken else (8,):  # a cap of 0 refuses before they do
+            refusal, value, starts, *tables = model.read(f, own, cap, (13, 6, 2))
+            yield read_row(own, [cap, 13, 6, 2], 1, f, [refusal, value, starts, *map(len, tables)], [[x for row in t for x in row] for t in tables])
         asked = [b"name", "é".encode()]
         answer = model.first_value(f, own, node, attribute, *asked, 1, 1)
         yield own, 4, [1, 1, *answer], [f, words(*node), words(*attribute), *asked]

@@ -72,7 +72,7 @@ WRONG = {
     "nodes_of_five_words": "B6", "attributes_of_five_words": "B6", "ns_0_without_text": "B11", "ns_of_last": "B11", "lead_ns_none": "B11",
     "own_is_android": "W22", "android_by_front": "W22", "own_0_if_empty": "W22", "own_merged_by_name": "W23", "own_by_index": "W23",
     "mode_0_is_1": "B16", "mode_over_2_is_2": "B16", "mode_behind_1": "B16", "comment_for_line": "B9", "line_of_end": "B9", "line_only_if_valid": "B9",
-    "first_zero_if_none": "B10", "parent_is_one_up": "B9", "cap_over_all_kinds": "B13", "last_kept": "B13", "cap_plus_1": "B13", "cap_0_is_1": "B13",
+    "first_zero_if_none": "B10", "parent_is_one_up": "B9", "cap_over_all_kinds": "B13", "last_kept": "B13", "cap_plus_1": "B13", "cap_0_read": "B2", "cap_0_is_1": "B2",
     "value_10_is_used": "B1", "value_1_is_0": "B1", "value_3_is_0": "B1",
 }
 
@@ -107,6 +107,10 @@ class Refused(Exception):
 
 # the refusal of each part of the head that is short (H15)
 PARTS = {"garbage": 41, "header": 42, "second": 42, "numbers": 42, "offsets": 43, "styles": 44, "data": 45, "map-header": 51, "map-ids": 52}
+
+
+# a reading that would keep no note
+OFF = 27, 0, 0, [], [], []
 
 
 def coarse(answer):
@@ -534,7 +538,7 @@ class Walk:
         hits.add(f"note-{kind}")
         count = len(self.notes) if w == "cap_over_all_kinds" else self.counts[kind]
         if count >= self.cap:
-            hits.add("B13" if self.cap else "B13-0")
+            hits.add("B13")
             if w == "past_cap_due" and len(self.notes) >= self.note_places:
                 raise Refused(10, self.note_places)
             if w == "last_kept" and self.cap:
@@ -925,6 +929,9 @@ def read(file, names=NO_NAMES, cap=16, room=(1 << 40, 1 << 40, 1 << 40), hits=No
     if len(file) > LIMIT:
         hits.add("B1-2")
         return 2, 0, 0, [], [], []
+    if cap == 0 and w not in ("cap_0_read", "cap_0_is_1"):
+        hits.add("B1-27")
+        return OFF
     if bad is not None:
         hits.add("B1-7")
         return 7, bad, 0, [], [], []

@@ -123,9 +123,12 @@ static void readings(void) {
   reads_in(S, S_BYTES, no_words, 0, TABLE, 5, NOTES, 8, AXML_MODE_MERGED, &no_attribute);
   const struct expected no_note = {"one place for two notes", {AXML_NOTES_FULL, 1, 0, 0, 0, 0}, {0}, {0}, {0}};
   reads_in(S, 103, no_words, 0, TABLE, TABLE, 5, 8, AXML_MODE_MERGED, &no_note);
-  const struct expected silent = {"cap 0", {0, 0, 1, 1, 1, 0}, {ROOT}, {LEADING}, {0}};
-  reads_in(S, 103, no_words, 0, TABLE, TABLE, 2, 0, AXML_MODE_MERGED, &silent);
   const uint32_t low[3] = {0x02000000u, 0, 1};
+  const struct expected silent = {"cap 0", {AXML_NOTES_OFF, 0, 0, 0, 0, 0}, {0}, {0}, {0}};
+  reads_in(S, S_BYTES, no_words, 0, TABLE, TABLE, NOTES, 0, AXML_MODE_MERGED, &silent);
+  reads_in(S, 7, low, 3, 4, 4, 2, 0, 9, &silent);
+  const struct expected once = {"cap 1", {0, 0, 1, 1, 1, 0}, {ROOT}, {LEADING}, {0}};
+  reads_in(S, S_BYTES, no_words, 0, TABLE, TABLE, NOTES, 1, AXML_MODE_MERGED, &once);
   const struct expected names = {"names", {AXML_SYSTEM_NAMES, 0, 0, 0, 0, 0}, {0}, {0}, {0}};
   reads_in(S, S_BYTES, low, 3, TABLE, TABLE, NOTES, 8, AXML_MODE_MERGED, &names);
 }

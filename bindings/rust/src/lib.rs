@@ -101,7 +101,8 @@ impl Manifest {
         Manifest::read_with(file, &SystemNames::new(), 16)
     }
 
-    /// Reads a file with these system names, and keeps the first `cap` notes of each kind; every namespace is Android's, as in the Rust original.
+    /// Reads a file with these system names, and keeps the first `cap` notes of each kind; every namespace is Android's, as in the Rust original. A cap of 0 is refused with
+    /// [`Refusal::NotesOff`].
     pub fn read_with(file: &[u8], names: &SystemNames, cap: u32) -> Result<Manifest, Refusal> {
         Manifest::read_in(file, names, cap, Mode::Merged)
     }

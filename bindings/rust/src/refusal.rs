@@ -32,6 +32,8 @@ pub enum Refusal {
     Tables(u64),
     /// There is no such mode of a reading, with its number.
     Mode(u64),
+    /// A cap of 0, at which a reading would keep no note.
+    NotesOff,
     /// A count of a round-up would pass 4,294,967,295.
     RoundUpFull,
     /// A chunk in the string pool's place is cut, with the file offset at which its bytes should begin.
@@ -69,6 +71,7 @@ impl Refusal {
             12 => Refusal::NothingFound,
             13 => Refusal::Tables(value),
             16 => Refusal::Mode(value),
+            27 => Refusal::NotesOff,
             29 => Refusal::RoundUpFull,
             41 => Refusal::PoolGarbage(value),
             42 => Refusal::PoolHeader(value),
@@ -96,6 +99,7 @@ impl Refusal {
             Refusal::NothingFound => 12,
             Refusal::Tables(_) => 13,
             Refusal::Mode(_) => 16,
+            Refusal::NotesOff => 27,
             Refusal::RoundUpFull => 29,
             Refusal::PoolGarbage(_) => 41,
             Refusal::PoolHeader(_) => 42,
@@ -115,7 +119,7 @@ impl Refusal {
             Refusal::AttributesFull(v) | Refusal::NotesFull(v) | Refusal::TextShort(v) | Refusal::Tables(v) | Refusal::Mode(v) => v,
             Refusal::PoolGarbage(v) | Refusal::PoolHeader(v) | Refusal::PoolOffsets(v) | Refusal::PoolStyles(v) | Refusal::PoolData(v) => v,
             Refusal::MapHeader(v) | Refusal::MapIds(v) | Refusal::Other(_, v) => v,
-            Refusal::TooLarge | Refusal::NoElement | Refusal::NothingFound | Refusal::RoundUpFull => 0,
+            Refusal::TooLarge | Refusal::NoElement | Refusal::NothingFound | Refusal::NotesOff | Refusal::RoundUpFull => 0,
         }
     }
 
@@ -134,6 +138,7 @@ impl Refusal {
             Refusal::NothingFound => "nothing was found",
             Refusal::Tables(_) => "the tables do not fit the question",
             Refusal::Mode(_) => "there is no such mode",
+            Refusal::NotesOff => "a cap of 0 would keep no notes: ask for 1 or more of each kind",
             Refusal::RoundUpFull => "a count of the round-up is full",
             Refusal::PoolGarbage(_) => "the chunk before the string pool is cut short",
             Refusal::PoolHeader(_) => "the string pool's header is cut short",
@@ -161,7 +166,7 @@ impl fmt::Display for Refusal {
             Refusal::PoolGarbage(n) | Refusal::PoolHeader(n) | Refusal::PoolData(n) | Refusal::MapHeader(n) => write!(f, ": byte {n} should be the first of it"),
             Refusal::PoolOffsets(n) | Refusal::PoolStyles(n) | Refusal::MapIds(n) => write!(f, ": byte {n} should be the first of them"),
             Refusal::Other(number, value) => write!(f, " (number {number}, value {value})"),
-            Refusal::NoElement | Refusal::NothingFound | Refusal::RoundUpFull => Ok(()),
+            Refusal::NoElement | Refusal::NothingFound | Refusal::NotesOff | Refusal::RoundUpFull => Ok(()),
         }
     }
 }

@@ -5,7 +5,7 @@
 use crate::SystemNames;
 
 /// The form of the C interface that this file declares: the header's AXML_ABI.
-pub const ABI: u32 = 5;
+pub const ABI: u32 = 6;
 
 /// Bytes of the longest file that is read.
 pub const LONGEST_FILE: usize = 16_777_216;

@@ -125,6 +125,8 @@ fn refusals_say_what_to_do() {
     assert!(Manifest::read(b"PK\x03\x04\0\0\0\0\0").unwrap_err().to_string().contains("zip"));
     let falling: SystemNames = [(0x0101_0003, "name"), (0x0101_0001, "label")].into_iter().collect();
     assert_eq!(Manifest::read_with(&file(&[START, END]), &falling, 16).unwrap_err(), Refusal::SystemNames(1));
+    assert_eq!(Manifest::read_with(&file(&[START, END]), &falling, 0).unwrap_err(), Refusal::NotesOff);
+    assert_eq!(Manifest::read_with(&file(&[START, END]), &SystemNames::new(), 1).unwrap().starts(), 1);
 }
 
 #[test]

@@ -5,8 +5,9 @@
 --         2: refusals 41 to 45, 51, 52 in place of 4 and 5
 --         3: axml_round_up_add
 --         4: nodes of six words, the line behind the others
---         5: attributes of six words, the namespace index behind the others; axml_read takes a mode, and refusal 16
+--         5: refusal 27, a cap of 0
+--         6: attributes of six words, the namespace index behind the others; axml_read takes a mode, and refusal 16
 use Prim.Native.Nat.{ℕ}
 
 abbrev pub abi : ℕ
-abi = 5
+abi = 6

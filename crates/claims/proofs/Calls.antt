@@ -40,7 +40,7 @@ reading-left f lent ns ats k cap mode R is a e =
       notes = ap (λ (x : Reading). x .notes) same;
     }
 
-module _ (f : List ℕ) (lent : Lent) (ns ats : List ℕ) (os : List NoteOf) (cap mode : ℕ) (c : ReadCounts) (ns₁ ats₁ : List ℕ) (os₁ : List NoteOf) (one : 1 ≤ cap)
+module _ (f : List ℕ) (lent : Lent) (ns ats : List ℕ) (os : List NoteOf) (cap mode : ℕ) (c : ReadCounts) (ns₁ ats₁ : List ℕ) (os₁ : List NoteOf)
     (first : Reads f lent ns ats os cap mode (Done c) ns₁ ats₁ os₁) (none : c .notes ≡ 0) where
   abbrev shorter : Reading
   shorter = reading (roomIn ns ats os cap mode) f lent
@@ -52,7 +52,7 @@ module _ (f : List ℕ) (lent : Lent) (ns ats : List ℕ) (os : List NoteOf) (ca
   done₁ = sym (ap (λ (x : Reading). x .answer) was)
 
   module _ (places : List (List ForeignChunk)) (few : length places ≤ placesIn f) (limit : length (insertedFile places f) ≤ fileLimit) (ns′ ats′ : List ℕ)
-      (os′ : List NoteOf) (cap′ : ℕ) (a : ReadAnswer) (ns₂ ats₂ : List ℕ) (os₂ : List NoteOf)
+      (os′ : List NoteOf) (cap′ : ℕ) (one : 1 ≤ cap′) (a : ReadAnswer) (ns₂ ats₂ : List ℕ) (os₂ : List NoteOf)
       (second : Reads (insertedFile places f) lent ns′ ats′ os′ cap′ mode a ns₂ ats₂ os₂) where
     r₂ : left a ns₂ ats₂ os₂ ≡ reading (roomIn ns′ ats′ os′ cap′ mode) (insertedFile places f) lent
     r₂ = left-reading (insertedFile places f) lent ns′ ats′ os′ cap′ mode a ns₂ ats₂ os₂ second
@@ -63,7 +63,7 @@ module _ (f : List ℕ) (lent : Lent) (ns ats : List ℕ) (os : List NoteOf) (ca
     insertion-read room =
         let room′ : HasRoom (reading (roomIn ns′ ats′ os′ cap′ mode) (insertedFile places f) lent .answer) =
         subst (λ (x : Reading). HasRoom (x .answer)) r₂ room in
-        r₂ ∙ insertion (roomIn ns ats os cap mode) f lent c one done₁ none places few limit (roomIn ns′ ats′ os′ cap′ mode) refl room′
+        r₂ ∙ insertion (roomIn ns ats os cap mode) f lent c done₁ none places few limit (roomIn ns′ ats′ os′ cap′ mode) one refl room′
         ∙ ap (λ (x : Reading). withNotes (roomIn ns′ ats′ os′ cap′ mode) x c (keptNotes cap′ (placeNotes places))) (sym was)
 
     -- in tables of the same lengths, the tables are the same, whole
@@ -71,12 +71,12 @@ module _ (f : List ℕ) (lent : Lent) (ns ats : List ℕ) (os : List NoteOf) (ca
     insertion-read-same n m room =
         let room′ : HasRoom (reading (roomIn ns′ ats′ os′ cap′ mode) (insertedFile places f) lent .answer) =
         subst (λ (x : Reading). HasRoom (x .answer)) r₂ room in
-        let e = insertion-same (roomIn ns ats os cap mode) f lent c one done₁ none places few limit (roomIn ns′ ats′ os′ cap′ mode) refl n m room′ in
+        let e = insertion-same (roomIn ns ats os cap mode) f lent c done₁ none places few limit (roomIn ns′ ats′ os′ cap′ mode) one refl n m room′ in
         (second .nodes ∙ e .0 ∙ sym (first .nodes), second .attributes ∙ e .1 ∙ sym (first .attributes))
 
     -- places for the records that the first call kept, and for twice the cap of notes, are room
     pub insertion-read-room : nodeWidth * c .nodes ≤ length ns′ → attributeWidth * c .attributes ≤ length ats′ → 2 * cap′ ≤ length os′ → HasRoom a
     insertion-read-room n m k =
         subst (λ (x : Reading). HasRoom (x .answer)) (sym r₂)
-        (insertion-room (roomIn ns ats os cap mode) f lent c one done₁ none places few limit (roomIn ns′ ats′ os′ cap′ mode) refl n m
+        (insertion-room (roomIn ns ats os cap mode) f lent c done₁ none places few limit (roomIn ns′ ats′ os′ cap′ mode) one refl n m
         (le-trans (placeNotes-room cap′ places) k))

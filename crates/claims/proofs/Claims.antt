@@ -142,68 +142,70 @@ first-numbers-unique a b e = firstNumbersOf-unique a b e
 
 -- ---- insertion
 
--- A file reads with no refusal and no note, at a cap of at least 1; `places` are lists of complete foreign chunks: the first list stands before the
--- first chunk that the walk meets behind the map, the next before the next, and one more at the end if the last chunk is whole and nothing follows it.
-module _ (r : Room) (f : List ℕ) (lent : Lent) (c : ReadCounts) (one : 1 ≤ r .cap) (done : reading r f lent .answer ≡ Done c) (none : c .notes ≡ 0)
+-- A file reads with no refusal and no note, so that its cap is at least 1, as that of the other reading has to be (27); `places` are lists of complete
+-- foreign chunks: the first list stands before the first chunk that the walk meets behind the map, the next before the next, and one more at the end if the
+-- last chunk is whole and nothing follows it.
+module _ (r : Room) (f : List ℕ) (lent : Lent) (c : ReadCounts) (done : reading r f lent .answer ≡ Done c) (none : c .notes ≡ 0)
     (places : List (List ForeignChunk)) (few : length places ≤ placesIn f) (limit : length (insertedFile places f) ≤ fileLimit) (r′ : Room)
-    (alike : r′ .mode ≡ r .mode) where
+    (one : 1 ≤ r′ .cap) (alike : r′ .mode ≡ r .mode) where
   -- In the same mode, where every table has room: starts, kept nodes and attributes are the same, word for word, and the notes are one for each stretch, up to the cap of each kind.
   pub insertion : HasRoom (reading r′ (insertedFile places f) lent .answer)
       → reading r′ (insertedFile places f) lent ≡ withNotes r′ (reading r f lent) c (keptNotes (r′ .cap) (placeNotes places))
-  insertion room = proved.insertion r f lent c one done none places few limit r′ alike room
+  insertion room = proved.insertion r f lent c done none places few limit r′ one alike room
 
   -- in tables of the same lengths, the tables are the same, whole
   pub insertion-same : r′ .nodes ≡ r .nodes → r′ .attributes ≡ r .attributes → HasRoom (reading r′ (insertedFile places f) lent .answer)
       → (reading r′ (insertedFile places f) lent .nodes ≡ reading r f lent .nodes)
       × (reading r′ (insertedFile places f) lent .attributes ≡ reading r f lent .attributes)
-  insertion-same n a room = proved.insertion-same r f lent c one done none places few limit r′ alike n a room
+  insertion-same n a room = proved.insertion-same r f lent c done none places few limit r′ one alike n a room
 
   -- places for the kept records and for the notes are room
   pub insertion-room : nodeWidth * c .nodes ≤ r′ .nodes → attributeWidth * c .attributes ≤ r′ .attributes
       → length (keptNotes (r′ .cap) (placeNotes places)) ≤ r′ .notes → HasRoom (reading r′ (insertedFile places f) lent .answer)
-  insertion-room n a m = proved.insertion-room r f lent c one done none places few limit r′ alike n a m
+  insertion-room n a m = proved.insertion-room r f lent c done none places few limit r′ one alike n a m
 
   -- the head is untouched
   pub insertion-head : (openedOf (insertedFile places f) ≡ openedOf f)
       × (take (8 + headLen (openedOf f .head)) (insertedFile places f) ≡ take (8 + headLen (openedOf f .head)) f)
-  insertion-head = proved.insertion-head r f lent c one done none places
+  insertion-head = proved.insertion-head r f lent c done none places
 
   -- nothing was dropped
   pub insertion-kept : c .nodes ≡ c .starts
-  insertion-kept = proved.nothing-dropped r f lent c one done none
+  insertion-kept = proved.nothing-dropped r f lent c done none
 
 -- The same of two calls, whatever results the promise allows: `left` is an answer and what stands in the three tables.
-module _ (f : List ℕ) (lent : Lent) (ns ats : List ℕ) (os : List Note) (cap mode : ℕ) (c : ReadCounts) (ns₁ ats₁ : List ℕ) (os₁ : List Note) (one : 1 ≤ cap)
+module _ (f : List ℕ) (lent : Lent) (ns ats : List ℕ) (os : List Note) (cap mode : ℕ) (c : ReadCounts) (ns₁ ats₁ : List ℕ) (os₁ : List Note)
     (first : Reads f lent ns ats os cap mode (Done c) ns₁ ats₁ os₁) (none : c .notes ≡ 0) (places : List (List ForeignChunk))
     (few : length places ≤ placesIn f) (limit : length (insertedFile places f) ≤ fileLimit) (ns′ ats′ : List ℕ) (os′ : List Note) (cap′ : ℕ)
-    (a : ReadAnswer) (ns₂ ats₂ : List ℕ) (os₂ : List Note) (second : Reads (insertedFile places f) lent ns′ ats′ os′ cap′ mode a ns₂ ats₂ os₂) where
+    (one : 1 ≤ cap′) (a : ReadAnswer) (ns₂ ats₂ : List ℕ) (os₂ : List Note)
+    (second : Reads (insertedFile places f) lent ns′ ats′ os′ cap′ mode a ns₂ ats₂ os₂) where
   pub insertion-read : HasRoom a
       → left a ns₂ ats₂ os₂ ≡ withNotes (roomIn ns′ ats′ os′ cap′ mode) (left (Done c) ns₁ ats₁ os₁) c (keptNotes cap′ (placeNotes places))
   insertion-read room =
-      calls.insertion-read f lent ns ats os cap mode c ns₁ ats₁ os₁ one first none places few limit ns′ ats′ os′ cap′ mode a ns₂ ats₂ os₂ second room
+      calls.insertion-read f lent ns ats os cap mode c ns₁ ats₁ os₁ first none places few limit ns′ ats′ os′ cap′ mode one a ns₂ ats₂ os₂ second room
 
   pub insertion-read-same : length ns′ ≡ length ns → length ats′ ≡ length ats → HasRoom a → (ns₂ ≡ ns₁) × (ats₂ ≡ ats₁)
   insertion-read-same n m room =
-      calls.insertion-read-same f lent ns ats os cap mode c ns₁ ats₁ os₁ one first none places few limit ns′ ats′ os′ cap′ mode a ns₂ ats₂ os₂ second n m room
+      calls.insertion-read-same f lent ns ats os cap mode c ns₁ ats₁ os₁ first none places few limit ns′ ats′ os′ cap′ mode one a ns₂ ats₂ os₂ second n m room
 
   pub insertion-read-room : nodeWidth * c .nodes ≤ length ns′ → attributeWidth * c .attributes ≤ length ats′ → 2 * cap′ ≤ length os′ → HasRoom a
   insertion-read-room n m k =
-      calls.insertion-read-room f lent ns ats os cap mode c ns₁ ats₁ os₁ one first none places few limit ns′ ats′ os′ cap′ mode a ns₂ ats₂ os₂ second n m k
+      calls.insertion-read-room f lent ns ats os cap mode c ns₁ ats₁ os₁ first none places few limit ns′ ats′ os′ cap′ mode one a ns₂ ats₂ os₂ second n m k
 
 -- Text, content and first value, asked of the longer file, are those of the file: of any two results that the promises allow.
-module _ (r : Room) (f : List ℕ) (lent : Lent) (c : ReadCounts) (one : 1 ≤ r .cap) (done : reading r f lent .answer ≡ Done c) (none : c .notes ≡ 0)
+module _ (r : Room) (f : List ℕ) (lent : Lent) (c : ReadCounts) (done : reading r f lent .answer ≡ Done c) (none : c .notes ≡ 0)
     (places : List (List ForeignChunk)) (limit : length (insertedFile places f) ≤ fileLimit) where
   pub insertion-text : (before : List ℕ) (i : ℕ) (a a′ : TextAnswer) (after after′ : List ℕ) → TextReads f lent before i a after
       → TextReads (insertedFile places f) lent before i a′ after′ → (a′ ≡ a) × (after′ ≡ after)
-  insertion-text = values.insertion-text r f lent c one done none places limit
+  insertion-text = values.insertion-text r f lent c done none places limit
 
   pub insertion-content : (i : ℕ) (s s′ : List ℕ) → s ≡ contentAnswer f lent i → s′ ≡ contentAnswer (insertedFile places f) lent i → s′ ≡ s
-  insertion-content = values.insertion-content r f lent c one done none places limit
+  insertion-content = values.insertion-content r f lent c done none places limit
 
   pub insertion-first : (ns ats tag name : List ℕ) (nodes attributes : ℕ) (a a′ : FirstAnswer)
       → FirstReads f lent ns ats tag name nodes attributes a → FirstReads (insertedFile places f) lent ns ats tag name nodes attributes a′
       → a′ ≡ a
-  insertion-first = values.insertion-first r f lent c one done none places limit
+  insertion-first = values.insertion-first r f lent c done none places limit
 
 -- with nothing put in it is the same file
 pub insertion-none : (f : List ℕ) → insertedFile [] f ≡ f
@@ -226,7 +228,7 @@ insertion-cap cap k places = (keptNotes-of-kind cap k (placeNotes places), place
 
 -- ---- room that always suffices (L1): none is refused with 8, 9 or 10
 
--- a file of any length, with any names and any cap
+-- a file of any length, with any names and any cap (one of 0 is refused with 27)
 pub suffices : (r : Room) (f : List ℕ) (lent : Lent) → nodesFor (length f) ≤ r .nodes → attributesFor (length f) ≤ r .attributes → placesFor (r .cap) ≤ r .notes
     → HasRoom (reading r f lent .answer)
 suffices = room.suffices
@@ -252,11 +254,11 @@ read-listed-suffices = room.read-listed-suffices
 module _ (r : Room) (f : List ℕ) (lent : Lent) (x : Refusal) (part : isPart x ≡ true) (refused : reading r f lent .answer ≡ Refused x) where
   -- a place in the file, behind its header
   pub part-offset : (8 ≤ valueOf x) × (valueOf x ≤ length f)
-  part-offset = parts.part-offset f lent x (parts.reading-part f lent x part r refused)
+  part-offset = parts.part-offset f lent _ x (parts.reading-part f lent x part r refused)
 
   -- the file cut there leaves the same, every word
   pub part-cut : reading r (take (valueOf x) f) lent ≡ reading r f lent
-  part-cut = parts.part-cut f lent x (parts.reading-part f lent x part r refused) r
+  part-cut = parts.part-cut f lent x r (parts.reading-part f lent x part r refused)
 
 -- and so does the text question of any index, whatever the buffer
 module _ (f : List ℕ) (lent : Lent) (n i : ℕ) (x : Refusal) (part : isPart x ≡ true) (refused : textAnswer f lent n i ≡ textIs.Refused x) where
@@ -264,7 +266,7 @@ module _ (f : List ℕ) (lent : Lent) (n i : ℕ) (x : Refusal) (part : isPart x
   text-part-cut =
       let e = parts.text-part f lent x part n i refused in
       let p = parts.open-part f lent x part e in
-      (parts.part-offset f lent x p .0, parts.part-offset f lent x p .1, parts.part-cut-text f lent x p n i e)
+      (parts.part-offset f lent _ x p .0, parts.part-offset f lent _ x p .1, parts.part-cut-text f lent x p n i e)
 
 -- ---- zeros (B7, B8), and the structure of a success (W25 to W29, B9 to B15)
 
@@ -310,23 +312,23 @@ module _ (f : List ℕ) (lent : Lent) (ns ats tag name : List ℕ) (nodes attrib
   c-first-unique p q = p ∙ sym q
 
 -- insertion, of two calls of `axml_read`
-module _ (f : List ℕ) (lent : Lent) (ns ats ws : List ℕ) (cap mode : ℕ) (a : AxmlAnswer) (ns₁ ats₁ ws₁ : List ℕ) (one : 1 ≤ cap)
+module _ (f : List ℕ) (lent : Lent) (ns ats ws : List ℕ) (cap mode : ℕ) (a : AxmlAnswer) (ns₁ ats₁ ws₁ : List ℕ)
     (first : ReadsWords f lent ns ats ws cap mode a ns₁ ats₁ ws₁) (done : a .refusal ≡ 0) (none : a .notes ≡ 0) (places : List (List ForeignChunk))
-    (few : length places ≤ placesIn f) (limit : length (insertedFile places f) ≤ fileLimit) (ns′ ats′ ws′ : List ℕ) (cap′ : ℕ) (a′ : AxmlAnswer)
-    (ns₂ ats₂ ws₂ : List ℕ) (second : ReadsWords (insertedFile places f) lent ns′ ats′ ws′ cap′ mode a′ ns₂ ats₂ ws₂) where
+    (few : length places ≤ placesIn f) (limit : length (insertedFile places f) ≤ fileLimit) (ns′ ats′ ws′ : List ℕ) (cap′ : ℕ)
+    (one : 1 ≤ cap′) (a′ : AxmlAnswer) (ns₂ ats₂ ws₂ : List ℕ) (second : ReadsWords (insertedFile places f) lent ns′ ats′ ws′ cap′ mode a′ ns₂ ats₂ ws₂) where
   pub c-insertion : isFullNumber (a′ .refusal) ≡ false
       → leftInC a′ ns₂ ats₂ ws₂ ≡ withNotesInC (length ns′) (length ats′) (length ws′) (leftInC a ns₁ ats₁ ws₁) (keptNotes cap′ (placeNotes places))
   c-insertion =
-      inC.insertion f lent ns ats ws cap mode a ns₁ ats₁ ws₁ one first done none places few limit ns′ ats′ ws′ cap′ mode a′ ns₂ ats₂ ws₂ second
+      inC.insertion f lent ns ats ws cap mode a ns₁ ats₁ ws₁ first done none places few limit ns′ ats′ ws′ cap′ mode one a′ ns₂ ats₂ ws₂ second
 
   pub c-insertion-same : length ns′ ≡ length ns → length ats′ ≡ length ats → isFullNumber (a′ .refusal) ≡ false → (ns₂ ≡ ns₁) × (ats₂ ≡ ats₁)
   c-insertion-same =
-      inC.insertion-same f lent ns ats ws cap mode a ns₁ ats₁ ws₁ one first done none places few limit ns′ ats′ ws′ cap′ mode a′ ns₂ ats₂ ws₂ second
+      inC.insertion-same f lent ns ats ws cap mode a ns₁ ats₁ ws₁ first done none places few limit ns′ ats′ ws′ cap′ mode one a′ ns₂ ats₂ ws₂ second
 
   pub c-insertion-room : nodeWidth * a .nodes ≤ length ns′ → attributeWidth * a .attributes ≤ length ats′ → noteWidth * (2 * cap′) ≤ length ws′
       → isFullNumber (a′ .refusal) ≡ false
   c-insertion-room =
-      inC.insertion-room f lent ns ats ws cap mode a ns₁ ats₁ ws₁ one first done none places few limit ns′ ats′ ws′ cap′ mode a′ ns₂ ats₂ ws₂ second
+      inC.insertion-room f lent ns ats ws cap mode a ns₁ ats₁ ws₁ first done none places few limit ns′ ats′ ws′ cap′ mode one a′ ns₂ ats₂ ws₂ second
 
 -- zeros
 module _ (f : List ℕ) (lent : Lent) (ns ats ws : List ℕ) (cap mode : ℕ) (a : AxmlAnswer) (ns′ ats′ ws′ : List ℕ) where

@@ -142,7 +142,7 @@ module _ (f : List ℕ) (lent : Lent) (ns ats ws : List ℕ) (cap mode : ℕ) wh
 
 -- ---- insertion
 
-module _ (f : List ℕ) (lent : Lent) (ns ats ws : List ℕ) (cap mode : ℕ) (a : AxmlAnswer) (ns₁ ats₁ ws₁ : List ℕ) (one : 1 ≤ cap)
+module _ (f : List ℕ) (lent : Lent) (ns ats ws : List ℕ) (cap mode : ℕ) (a : AxmlAnswer) (ns₁ ats₁ ws₁ : List ℕ)
     (first : ReadsWords f lent ns ats ws cap mode a ns₁ ats₁ ws₁) (done : a .refusal ≡ 0) (none : a .notes ≡ 0) where
   abbrev shorter : Reading
   shorter = reading (wordRoom ns ats ws cap mode) f lent
@@ -161,7 +161,7 @@ module _ (f : List ℕ) (lent : Lent) (ns ats ws : List ℕ) (cap mode : ℕ) (a
   no-notes = sym (ap (λ (x : AxmlAnswer). x .notes) told) ∙ none
 
   module _ (places : List (List ForeignChunk)) (few : length places ≤ placesIn f) (limit : length (insertedFile places f) ≤ fileLimit)
-      (ns′ ats′ ws′ : List ℕ) (cap′ : ℕ) (a′ : AxmlAnswer) (ns₂ ats₂ ws₂ : List ℕ)
+      (ns′ ats′ ws′ : List ℕ) (cap′ : ℕ) (one : 1 ≤ cap′) (a′ : AxmlAnswer) (ns₂ ats₂ ws₂ : List ℕ)
       (second : ReadsWords (insertedFile places f) lent ns′ ats′ ws′ cap′ mode a′ ns₂ ats₂ ws₂) where
     abbrev longer : Reading
     longer = reading (wordRoom ns′ ats′ ws′ cap′ mode) (insertedFile places f) lent
@@ -173,7 +173,7 @@ module _ (f : List ℕ) (lent : Lent) (ns ats ws : List ℕ) (cap mode : ℕ) (a
     has h = room-of (longer .answer) (sym (ap (λ (x : AxmlAnswer). isFullNumber (x .refusal)) (second .answer)) ∙ h)
 
     is : isFullNumber (a′ .refusal) ≡ false → longer ≡ withNotes (wordRoom ns′ ats′ ws′ cap′ mode) shorter c ks
-    is h = proved.insertion (wordRoom ns ats ws cap mode) f lent c one (counted .1) no-notes places few limit (wordRoom ns′ ats′ ws′ cap′ mode) refl (has h)
+    is h = proved.insertion (wordRoom ns ats ws cap mode) f lent c (counted .1) no-notes places few limit (wordRoom ns′ ats′ ws′ cap′ mode) one refl (has h)
 
     pub insertion : isFullNumber (a′ .refusal) ≡ false
         → leftInC a′ ns₂ ats₂ ws₂ ≡ withNotesInC (length ns′) (length ats′) (length ws′) (leftInC a ns₁ ats₁ ws₁) ks
@@ -199,7 +199,7 @@ module _ (f : List ℕ) (lent : Lent) (ns ats ws : List ℕ) (cap mode : ℕ) (a
 
     pub insertion-same : length ns′ ≡ length ns → length ats′ ≡ length ats → isFullNumber (a′ .refusal) ≡ false → (ns₂ ≡ ns₁) × (ats₂ ≡ ats₁)
     insertion-same n m h =
-        let e = proved.insertion-same (wordRoom ns ats ws cap mode) f lent c one (counted .1) no-notes places few limit (wordRoom ns′ ats′ ws′ cap′ mode) refl n m
+        let e = proved.insertion-same (wordRoom ns ats ws cap mode) f lent c (counted .1) no-notes places few limit (wordRoom ns′ ats′ ws′ cap′ mode) one refl n m
         (has h) in
         (second .nodes ∙ e .0 ∙ sym (first .nodes), second .attributes ∙ e .1 ∙ sym (first .attributes))
 
@@ -209,7 +209,7 @@ module _ (f : List ℕ) (lent : Lent) (ns ats ws : List ℕ) (cap mode : ℕ) (a
     insertion-room n m k =
         let rn : nodeWidth * c .nodes ≤ length ns′ = rw (ap (λ (x : AxmlAnswer). x .nodes) told) at n in
         let rm : attributeWidth * c .attributes ≤ length ats′ = rw (ap (λ (x : AxmlAnswer). x .attributes) told) at m in
-        let h = proved.insertion-room (wordRoom ns ats ws cap mode) f lent c one (counted .1) no-notes places few limit (wordRoom ns′ ats′ ws′ cap′ mode) refl rn rm
+        let h = proved.insertion-room (wordRoom ns ats ws cap mode) f lent c (counted .1) no-notes places few limit (wordRoom ns′ ats′ ws′ cap′ mode) one refl rn rm
         (omega (arith, placeNotes-room cap′ places, k)) in
         ap (λ (x : AxmlAnswer). isFullNumber (x .refusal)) (second .answer) ∙ room-in (longer .answer) h
 

@@ -25,6 +25,7 @@ use Rattle.system_types.specs.Names.{Lent}
 use Rattle.walk.specs.Reading.{Reading, secondOf, nodesKept, attributesKept, succeeds, finalOf, settledIn, reading}
 use Rattle.claims.specs.Insertion.{ForeignChunk, placesIn, inserted, insertedFile, placeNotes, withNotes}
 use Rattle.claims.specs.Room.{HasRoom}
+use Rattle.head.specs.Entry.{isMode}
 use Rattle.claims.specs.Counts.{notesIn}
 use Rattle.claims.proofs.Erased.{othersIn}
 use Rattle.claims.proofs.Grown.{bare, grown}
@@ -38,7 +39,7 @@ use Rattle.claims.proofs.Success.{Success, KeptThere, success, reading-
 true-false : true ≡ false → ⊥
 true-false e = let z : _≡_ {A = ℕ} 0 1 = cc in omega arith
 
-module _ (r : Room) (f : List ℕ) (lent : Lent) (c : ReadCounts) (one : 1 ≤ r .cap) (done : reading r f lent .answer ≡ Done c) (none : c .notes ≡ 0) where
+module _ (r : Room) (f : List ℕ) (lent : Lent) (c : ReadCounts) (done : reading r f lent .answer ≡ Done c) (none : c .notes ≡ 0) where
   abbrev s : Success r f lent c
   s = success r f lent c done
 
@@ -64,7 +65,7 @@ module _ (r : Room) (f : List ℕ) (lent : Lent) (c : ReadCounts) (one : 1 ≤ r
   no-notes : notesIn es ≡ []
   no-notes =
       let len : length (s .tables .notes) ≡ 0 = ap (λ (d : ReadCounts). d .notes) (s .counts) ∙ none in
-      none-kept (r .cap) one (notesIn es) (sym (length-map (keptNotes (r .cap) (notesIn es)) noteOf) ∙ sym (ap length (told .notes)) ∙ len)
+      none-kept (r .cap) (s .cap) (notesIn es) (sym (length-map (keptNotes (r .cap) (notesIn es)) noteOf) ∙ sym (ap length (told .notes)) ∙ len)
 
   pub head-whole : o .end ≡ Whole
   head-whole = whole-of N o t l (told .stay)
@@ -105,7 +106,7 @@ module _ (r : Room) (f : List ℕ) (lent : Lent) (c : ReadCounts) (one : 1 ≤ r
       e ∙ ap (λ (d : ReadCounts). attributeWidth * d .attributes) (s .counts)
 
   module _ (places : List (List ForeignChunk)) (few : length places ≤ placesIn f) (limit : length (insertedFile places f) ≤ fileLimit) (r′ : Room)
-      (alike : r′ .mode ≡ r .mode) where
+      (one : 1 ≤ r′ .cap) (alike : r′ .mode ≡ r .mode) where
     abbrev es′ : List Event
     es′ = fileEvents N o t (inserted places l)
 
@@ -113,7 +114,7 @@ module _ (r : Room) (f : List ℕ) (lent : Lent) (c : ReadCounts) (one : 1 ≤ r
     ns = keptNotes (r′ .cap) (placeNotes places)
 
     longer : reading r′ (insertedFile places f) lent ≡ finalOf r′ (settle (N .repeats) r′ nothingYet es′)
-    longer = reading-of r′ (insertedFile places f) lent limit (s .good) ∙ ap (finalOf r′) same
+    longer = reading-of r′ (insertedFile places f) lent limit one (s .good) (ap isMode alike ∙ s .mode) ∙ ap (finalOf r′) same
       where
         same : settledIn r′ (insertedFile places f) lent (openedOf (insertedFile places f)) ≡ settle (N .repeats) r′ nothingYet es′
         same =

@@ -28,7 +28,10 @@ use Rattle.head.specs.declared.Opened.{Opened}
 use Rattle.head.specs.declared.OpenRead.{OpenRead}
 use Rattle.head.specs.declared.OpenRead.the-variants.{Open, Closed}
 use Rattle.head.specs.Head.{openedOf, tablesIn, bodyIn, headLen, isWhole, refusalOf, garbageNotes, countNotes}
-use Rattle.head.specs.Entry.{Check, passes, fails, firstOf, lengthCheck, namesCheckBy, entryChecks}
+use Rattle.head.specs.declared.Asker.{Asker}
+use Rattle.head.specs.declared.Asker.the-variants as askers
+use Rattle.head.specs.Inner.Entered.{askedBy}
+use Rattle.head.specs.Entry.{Check, passes, fails, firstOf, lengthCheck, keepsNone, capCheck, namesCheckBy, modeOf, isMode, modeCheck, entryChecks}
 use Rattle.head.specs.Ask.{openBy, openOf, fitted, textBy, contentAsked, textAnswerBy, textAnswer}
 use Rattle.head.proofs.Entering.{Passed, passed, passes-all}
 use Rattle.head.proofs.Laws.{tablesIn-append}
@@ -112,19 +115,36 @@ length-not : (f : List ℕ) → NotPart (lengthCheck f)
 unfolding lengthCheck numberOf
 length-not f = cond-by NotPart (ltb fileLimit (length f)) (λ e. refl) (λ e. tt)
 
+cap-not : (a : Asker) → NotPart (capCheck a)
+unfolding numberOf
+cap-not a = cond-by NotPart (keepsNone a) (λ e. refl) (λ e. tt)
+
+mode-not : (a : Asker) → NotPart (modeCheck a)
+unfolding numberOf
+mode-not a = cond-by NotPart (isMode (modeOf a)) (λ e. tt) (λ e. refl)
+
 names-not : (n : NamesRead) → NotPart (namesCheckBy n)
 unfolding numberOf
 names-not Good = tt
 names-not (Bad k) = refl
 
 -- a line for each check
-entry-not : (f : List ℕ) (lent : Lent) → NotPart (firstOf (entryChecks f lent))
-entry-not f lent =
-    first-not (entryChecks f lent) (
+entry-not : (f : List ℕ) (lent : Lent) (a : Asker) → NotPart (firstOf (entryChecks f lent (askedBy a)))
+entry-not f lent a =
+    first-not (entryChecks f lent (askedBy a)) (
       length-not f,
       (
-        names-not (namesOf lent),
-        tt,
+        cap-not a,
+        (
+          names-not (namesOf lent),
+          (
+            mode-not a,
+            (
+              tt,
+              tt,
+            ),
+          ),
+        ),
       ),
     )
 
@@ -133,17 +153,17 @@ IsRefused x (Done c) = ⊥
 IsRefused x (Refused y) = y ≡ x
 
 -- what refuses for a part passed the checks, and its head is short by it
-pub record PartOf (f : List ℕ) (lent : Lent) (x : Refusal) : Type 0 where
-  pub passes : firstOf (entryChecks f lent) ≡ passes
+pub record PartOf (f : List ℕ) (lent : Lent) (a : Asker) (x : Refusal) : Type 0 where
+  pub passes : firstOf (entryChecks f lent (askedBy a)) ≡ passes
   pub short : ShortBy (openedOf f .end) x
 
 module _ (f : List ℕ) (lent : Lent) (x : Refusal) (part : isPart x ≡ true) where
-  no-check : {y : Refusal} → firstOf (entryChecks f lent) ≡ fails y → y ≡ x → ⊥
-  no-check {y} p e = no-part (rw e part) (rw p at (entry-not f lent))
+  no-check : (a : Asker) {y : Refusal} → firstOf (entryChecks f lent (askedBy a)) ≡ fails y → y ≡ x → ⊥
+  no-check a {y} p e = no-part (rw e part) (rw p at (entry-not f lent a))
 
-  pub reading-part : (r : Room) → reading r f lent .answer ≡ Refused x → PartOf f lent x
+  pub reading-part : (r : Room) → reading r f lent .answer ≡ Refused x → PartOf f lent (askers.Reading (r .cap) (r .mode)) x
   unfolding reading
-  reading-part r h = go (firstOf (entryChecks f lent)) refl (subst (IsRefused x) (sym h) refl)
+  reading-part r h = go (firstOf (entryChecks f lent (askedBy (askers.Reading (r .cap) (r .mode))))) refl (subst (IsRefused x) (sym h) refl)
     where
       o : Opened
       o = openedOf f
@@ -161,13 +181,14 @@ module _ (f : List ℕ) (lent : Lent) (x : Refusal) (part : isPart x ≡ true) w
       settled (going u) s q = absurd q
       settled (refused y) s q = rw q at s part
 
-      go : (c : Check) → firstOf (entryChecks f lent) ≡ c → IsRefused x (readingBy r (settledIn r f lent o) c .answer) → PartOf f lent x
-      go (fails y) p q = absurd (no-check p q)
+      go : (c : Check) → firstOf (entryChecks f lent (askedBy (askers.Reading (r .cap) (r .mode)))) ≡ c
+          → IsRefused x (readingBy r (settledIn r f lent o) c .answer) → PartOf f lent (askers.Reading (r .cap) (r .mode)) x
+      go (fails y) p q = absurd (no-check (askers.Reading (r .cap) (r .mode)) p q)
       go passes p q = record { passes = p; short = settled (settledIn r f lent o) said q }
 
-  pub open-part : openOf f lent ≡ Closed x → PartOf f lent x
+  pub open-part : openOf f lent ≡ Closed x → PartOf f lent askers.Question x
   unfolding openOf
-  open-part h = go (firstOf (entryChecks f lent)) refl h
+  open-part h = go (firstOf (entryChecks f lent (askedBy askers.Question))) refl h
     where
       -- a head that is not whole closes the file by its refusal
       head : (e : HeadEnd) → openedOf f .end ≡ e → cond (isWhole e) (Open (openedOf f .head)) (Closed (refusalOf e)) ≡ Closed x → ShortBy (openedOf f .end) x
@@ -177,8 +198,8 @@ module _ (f : List ℕ) (lent : Lent) (x : Refusal) (part : isPart x ≡ true) w
       head (PoolShort e) q z = let y : refusalOf (PoolShort e) ≡ x = cc in rw y at (head-says (openedOf f) (PoolShort e) q) part
       head (MapShort e) q z = let y : refusalOf (MapShort e) ≡ x = cc in rw y at (head-says (openedOf f) (MapShort e) q) part
 
-      go : (c : Check) → firstOf (entryChecks f lent) ≡ c → openBy (openedOf f) c ≡ Closed x → PartOf f lent x
-      go (fails y) p q = let e : y ≡ x = cc in absurd (no-check p e)
+      go : (c : Check) → firstOf (entryChecks f lent (askedBy askers.Question)) ≡ c → openBy (openedOf f) c ≡ Closed x → PartOf f lent askers.Question x
+      go (fails y) p q = let e : y ≡ x = cc in absurd (no-check askers.Question p e)
       go passes p q = record { passes = p; short = head (openedOf f .end) refl q }
 
   -- a text that is there is refused for no part
@@ -218,9 +239,9 @@ short-body N o t b b′ x s = go (o .end) s
     go (PoolShort e) s = refl
     go (MapShort e) s = refl
 
-module _ (f : List ℕ) (lent : Lent) (x : Refusal) (p : PartOf f lent x) where
-  told : Passed f lent
-  told = passed f lent (p .passes)
+module _ (f : List ℕ) (lent : Lent) (a : Asker) (x : Refusal) (p : PartOf f lent a x) where
+  told : Passed f lent (askedBy a)
+  told = passed f lent (askedBy a) (p .passes)
 
   here : OpenedCut f (valueOf x)
   here = opened-cut f x (p .short)
@@ -231,27 +252,31 @@ module _ (f : List ℕ) (lent : Lent) (x : Refusal) (p : PartOf f lent x) where
   abbrev c : List ℕ
   c = take (valueOf x) f
 
-  still : firstOf (entryChecks c lent) ≡ passes
-  still = passes-all c lent (omega (arith, length-take-le (valueOf x) f (here .high), here .high, told .short)) (told .good)
+  still : firstOf (entryChecks c lent (askedBy a)) ≡ passes
+  still =
+      passes-all c lent (askedBy a) (omega (arith, length-take-le (valueOf x) f (here .high), here .high, told .short)) (told .cap) (told .good) (told .mode) refl
 
   tables-same : tablesIn c (openedOf f .head) ≡ tablesIn f (openedOf f .head)
   tables-same =
       let long : 8 + headLen (openedOf f .head) ≤ length c = omega (arith, length-take-le (valueOf x) f (here .high), here .low) in
       sym (tablesIn-append c (drop (valueOf x) f) (openedOf f .head) long) ∙ ap (λ (l : List ℕ). tablesIn l (openedOf f .head)) (take-append-drop (valueOf x) f)
 
-  pub part-cut : (r : Room) → reading r c lent ≡ reading r f lent
-  unfolding reading
-  part-cut r =
-      let o = openedOf f in
-      let t = tablesIn f (o .head) in
-      let N = namesIn (r .mode) (o .head) t lent in
-      let events = short-body N o t (bodyIn c (o .head)) (bodyIn f (o .head)) x (p .short) in
-      rw (still, p .passes, here .same, tables-same, events)
+pub part-cut : (f : List ℕ) (lent : Lent) (x : Refusal) (r : Room) → PartOf f lent (askers.Reading (r .cap) (r .mode)) x
+    → reading r (take (valueOf x) f) lent ≡ reading r f lent
+unfolding reading
+part-cut f lent x r p =
+    let a = askers.Reading (r .cap) (r .mode) in
+    let o = openedOf f in
+    let t = tablesIn f (o .head) in
+    let N = namesIn (r .mode) (o .head) t lent in
+    let events = short-body N o t (bodyIn (take (valueOf x) f) (o .head)) (bodyIn f (o .head)) x (p .short) in
+    rw (still f lent a x p, p .passes, here f lent a x p .same, tables-same f lent a x p, events)
 
-  part-cut-open : openOf c lent ≡ openOf f lent
+module _ (f : List ℕ) (lent : Lent) (x : Refusal) (p : PartOf f lent askers.Question x) where
+  part-cut-open : openOf (take (valueOf x) f) lent ≡ openOf f lent
   unfolding openOf
-  part-cut-open = rw (still, p .passes, here .same)
+  part-cut-open = rw (still f lent askers.Question x p, p .passes, here f lent askers.Question x p .same)
 
-  pub part-cut-text : (n i : ℕ) → openOf f lent ≡ Closed x → textAnswer c lent n i ≡ textIs.Refused x
+  pub part-cut-text : (n i : ℕ) → openOf f lent ≡ Closed x → textAnswer (take (valueOf x) f) lent n i ≡ textIs.Refused x
   unfolding textAnswer
-  part-cut-text n i h = let e : openOf c lent ≡ Closed x = part-cut-open ∙ h in rw e
+  part-cut-text n i h = let e : openOf (take (valueOf x) f) lent ≡ Closed x = part-cut-open ∙ h in rw e

@@ -11,7 +11,7 @@ use Rattle.anomaly.specs.declared.Note.{Note}
 use Rattle.errors.specs.declared.ReadAnswer.the-variants.{Done}
 use Rattle.errors.specs.declared.ReadCounts.{ReadCounts}
 use Rattle.errors.proofs.Laws.{numbersOf-unique}
-use Rattle.head.specs.Entry.{Check, passes, fails, firstOf, entryChecks}
+use Rattle.head.specs.Entry.{readingAt, Check, passes, fails, firstOf, entryChecks}
 use Rattle.records.specs.Words.{nodeWidth}
 use Rattle.system_types.specs.Names.{Lent}
 use Rattle.walk.specs.Settle.{Room, Tables, Out, going, refused, settle, nothingYet}
@@ -57,7 +57,7 @@ module _ (f : List ℕ) (lent : Lent) (ns ats : List ℕ) (os : List Note) (cap 
   pub done-by : (c : ReadCounts) (ns′ ats′ : List ℕ) (os′ : List Note) → Reads f lent ns ats os cap mode (Done c) ns′ ats′ os′
       → DoneBy room outOf c (reading room f lent)
   unfolding reading
-  done-by c ns′ ats′ os′ h = final-by room outOf (firstOf (entryChecks f lent)) c (numbersOf-unique _ _ (h .answer))
+  done-by c ns′ ats′ os′ h = final-by room outOf (firstOf (entryChecks f lent (readingAt cap mode))) c (numbersOf-unique _ _ (h .answer))
 
   pub done-shaped : (t : Tables) → outOf ≡ going t → Shaped room t
   done-shaped t e = rw e at (settled-shaped room (namesFor mode f lent .repeats) (eventsOf mode f lent))

@@ -29,7 +29,9 @@ use Rattle.system_types.specs.declared.NamesRead.{NamesRead}
 use Rattle.system_types.specs.declared.NamesRead.the-variants.{Good, Bad}
 use Rattle.head.specs.declared.Opened.{Opened}
 use Rattle.head.specs.Head.{openedOf, tablesIn, bodyIn, headLen}
-use Rattle.head.specs.Entry.{Check, passes, fails, firstOf, lengthCheck, namesCheckBy, entryChecks}
+use Rattle.head.specs.declared.Asker.{Asker}
+use Rattle.head.specs.declared.Asker.the-variants as askers
+use Rattle.head.specs.Entry.{readingAt, Check, passes, fails, firstOf, lengthCheck, keepsNone, capCheck, namesCheckBy, modeOf, isMode, modeCheck, entryChecks}
 use Rattle.xml_elements.proofs.Laws.{cond-by}
 use Rattle.events.specs.declared.Event.{Event}
 use Rattle.events.specs.Events.{namesIn, fileEvents}
@@ -113,6 +115,14 @@ length-under : (f : List ℕ) → Under (lengthCheck f)
 unfolding lengthCheck numberOf
 length-under f = cond-by Under (ltb fileLimit (length f)) (λ e. refl) (λ e. tt)
 
+cap-under : (a : Asker) → Under (capCheck a)
+unfolding numberOf
+cap-under a = cond-by Under (keepsNone a) (λ e. refl) (λ e. tt)
+
+mode-under : (a : Asker) → Under (modeCheck a)
+unfolding numberOf
+mode-under a = cond-by Under (isMode (modeOf a)) (λ e. tt) (λ e. refl)
+
 names-under : (n : NamesRead) → Under (namesCheckBy n)
 unfolding numberOf
 names-under Good = tt
@@ -128,13 +138,22 @@ first-under (passes ∷ cs) p = first-under cs (p .1)
 first-under (fails x ∷ cs) p = p .0
 
 -- a line for each check
-entry-under : (f : List ℕ) (lent : Lent) → Under (firstOf (entryChecks f lent))
-entry-under f lent =
-    first-under (entryChecks f lent) (
+entry-under : (f : List ℕ) (lent : Lent) (cap mode : ℕ) → Under (firstOf (entryChecks f lent (readingAt cap mode)))
+entry-under f lent cap mode =
+    first-under (entryChecks f lent (readingAt cap mode)) (
       length-under f,
       (
-        names-under (namesOf lent),
-        tt,
+        cap-under (askers.Reading cap mode),
+        (
+          names-under (namesOf lent),
+          (
+            mode-under (askers.Reading cap mode),
+            (
+              tt,
+              tt,
+            ),
+          ),
+        ),
       ),
     )
 
@@ -162,7 +181,7 @@ module _ (r : Room) (f : List ℕ) (lent : Lent) (nodes : nodesFor (length f) �
   pub suffices : HasRoom (reading r f lent .answer)
   unfolding reading
   suffices =
-      final-under r (settledIn r f lent (openedOf f)) (firstOf (entryChecks f lent)) (settled (openedOf f)) (entry-under f lent)
+      final-under r (settledIn r f lent (openedOf f)) (firstOf (entryChecks f lent (readingAt (r .cap) (r .mode)))) (settled (openedOf f)) (entry-under f lent (r .cap) (r .mode))
 
 -- ---- a call
 

@@ -15,7 +15,7 @@ use Rattle.records.specs.Limits.{fileLimit}
 use Rattle.system_types.specs.Names.{Lent}
 use Rattle.head.specs.declared.HeadEnd.the-variants.{Whole}
 use Rattle.head.specs.Head.{openedOf, tablesIn}
-use Rattle.head.specs.Entry.{Check, passes, fails, firstOf, lengthCheck, entryChecks}
+use Rattle.head.specs.Entry.{question, Check, passes, fails, firstOf, lengthCheck, entryChecks}
 use Rattle.head.specs.Ask.{openBy, openOf, askedBy}
 use Rattle.head.specs.Ask.{textAnswer, textBuffer, contentAnswer, TextReads}
 use Rattle.first_value.specs.Question as first
@@ -27,7 +27,7 @@ use Rattle.claims.proofs.Success.{success}
 use Rattle.claims.proofs.Insertion.{head-whole, insertion-head}
 use Rattle.claims.proofs.Longer.{longer-tables}
 
-module _ (r : Room) (f : List ℕ) (lent : Lent) (c : ReadCounts) (one : 1 ≤ r .cap) (done : reading r f lent .answer ≡ Done c) (none : c .notes ≡ 0)
+module _ (r : Room) (f : List ℕ) (lent : Lent) (c : ReadCounts) (done : reading r f lent .answer ≡ Done c) (none : c .notes ≡ 0)
     (places : List (List ForeignChunk)) (limit : length (insertedFile places f) ≤ fileLimit) where
   abbrev g : List ℕ
   g = insertedFile places f
@@ -36,10 +36,10 @@ module _ (r : Room) (f : List ℕ) (lent : Lent) (c : ReadCounts) (one : 1 ≤ r
   short = success r f lent c done .short
 
   whole : openedOf f .end ≡ Whole
-  whole = head-whole r f lent c one done none
+  whole = head-whole r f lent c done none
 
   opened-same : openedOf g ≡ openedOf f
-  opened-same = insertion-head r f lent c one done none places .0
+  opened-same = insertion-head r f lent c done none places .0
 
   tables-same : tablesIn g (openedOf f .head) ≡ tablesIn f (openedOf f .head)
   tables-same = longer-tables f short whole places
@@ -51,7 +51,7 @@ module _ (r : Room) (f : List ℕ) (lent : Lent) (c : ReadCounts) (one : 1 ≤ r
 
   asked-same : (i : ℕ) → askedBy g lent i (openOf g lent) ≡ askedBy f lent i (openOf f lent)
   unfolding openOf
-  asked-same i = ap (askedBy g lent i) open-same ∙ go (firstOf (entryChecks f lent))
+  asked-same i = ap (askedBy g lent i) open-same ∙ go (firstOf (entryChecks f lent question))
     where
       go : (x : Check) → askedBy g lent i (openBy (openedOf f) x) ≡ askedBy f lent i (openBy (openedOf f) x)
       go passes = rw (whole, tables-same)
@@ -82,7 +82,7 @@ module _ (r : Room) (f : List ℕ) (lent : Lent) (c : ReadCounts) (one : 1 ≤ r
 
     first-same : firstAnswer g lent ns ats tag name nodes attributes ≡ firstAnswer f lent ns ats tag name nodes attributes
     unfolding firstAnswer openOf
-    first-same = ap (first.askedBy g lent ns ats tag name nodes attributes) open-same ∙ asked-first (firstOf (entryChecks f lent))
+    first-same = ap (first.askedBy g lent ns ats tag name nodes attributes) open-same ∙ asked-first (firstOf (entryChecks f lent question))
 
     pub insertion-first : (a a′ : FirstAnswer) → FirstReads f lent ns ats tag name nodes attributes a
         → FirstReads g lent ns ats tag name nodes attributes a′ → a′ ≡ a

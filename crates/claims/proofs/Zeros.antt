@@ -24,7 +24,7 @@ use Rattle.errors.specs.declared.TextAnswer.the-variants as textIs
 use Rattle.errors.specs.declared.FirstAnswer.the-variants as firstIs
 use Rattle.errors.proofs.Laws.{numbersOf-unique, textNumbersOf-unique}
 use Rattle.head.specs.Head.{openedOf}
-use Rattle.head.specs.Entry.{Check, passes, fails, firstOf, entryChecks}
+use Rattle.head.specs.Entry.{readingAt, Check, passes, fails, firstOf, entryChecks}
 use Rattle.head.specs.Ask.{openOf, contentAsked}
 use Rattle.head.specs.Ask.{textAnswerBy, textAnswer, textBuffer, TextReads}
 use Rattle.head.specs.declared.OpenRead.{OpenRead}
@@ -63,7 +63,7 @@ module _ (f : List ℕ) (lent : Lent) (ns ats : List ℕ) (os : List Note) (cap 
   unfolding reading numbersOf
   refused-zeros x ns′ ats′ os′ h =
       let r = roomIn ns ats os cap mode in
-      let c = firstOf (entryChecks f lent) in
+      let c = firstOf (entryChecks f lent (readingAt cap mode)) in
       let o = settledIn r f lent (openedOf f) in
       let z = final-zeros r o c x (numbersOf-unique _ _ (h .answer)) in
       record {

@@ -23,7 +23,7 @@ use Rattle.text.specs.declared.Found.the-variants.{Nothing, Cut, System, Pool}
 use Rattle.text.specs.Content.{Content, none, contentOf, textIn, rawOf}
 use Rattle.text.specs.Inner.Found.{partOf, isFound, Asks, Wrote}
 use Rattle.head.specs.Head.{openedOf, tablesIn, isWhole, refusalOf, PoolThere}
-use Rattle.head.specs.Entry.{Check, passes, fails, firstOf, entryChecks}
+use Rattle.head.specs.Entry.{question, Check, passes, fails, firstOf, entryChecks}
 use Rattle.head.specs.Inner.Entered.{enteredOf}
 use Rattle.head.specs.Ask.{headRead, openBy, openOf, fitted, textBy, textAnswer}
 use Rattle.head.specs.Ask.{textBuffer, contentAnswer, Gives, TextReads}
@@ -45,18 +45,18 @@ pub headRead-cut : (o : Opened) → isWhole (o .end) ≡ false → Closed (refus
 headRead-cut o w = rw w
 
 module _ (f : List ℕ) (lent : Lent) where
-  pub openOf-in : {o : Opened} → enteredOf f lent ≡ In o → headRead o ≡ openOf f lent
+  pub openOf-in : {o : Opened} → enteredOf f lent question ≡ In o → headRead o ≡ openOf f lent
   unfolding openOf
-  openOf-in {o} e = let q = entered-in f lent e in rw (q .1, q .0)
+  openOf-in {o} e = let q = entered-in f lent question e in rw (q .1, q .0)
 
-  pub openOf-out : {why : Refusal} → enteredOf f lent ≡ Out why → Closed why ≡ openOf f lent
+  pub openOf-out : {why : Refusal} → enteredOf f lent question ≡ Out why → Closed why ≡ openOf f lent
   unfolding openOf
-  openOf-out {why} e = rw (entered-out f lent e)
+  openOf-out {why} e = rw (entered-out f lent question e)
 
 -- ---- what an open file tells
 
 pub record Opens (f : List ℕ) (lent : Lent) (h : Head) : Type 0 where
-  pub passed : Passed f lent
+  pub passed : Passed f lent question
   pub whole : isWhole (openedOf f .end) ≡ true
   pub head : openedOf f .head ≡ h
 
@@ -70,10 +70,10 @@ there-of-whole (PoolShort p) w = let z : _≡_ {A = ℕ} 0 1 = cc in absurd (let
 module _ (f : List ℕ) (lent : Lent) {h : Head} (open′ : openOf f lent ≡ Open h) where
   pub openOf-open : Opens f lent h
   unfolding openOf
-  openOf-open = go (firstOf (entryChecks f lent)) refl (isWhole (openedOf f .end)) refl open′
+  openOf-open = go (firstOf (entryChecks f lent question)) refl (isWhole (openedOf f .end)) refl open′
     where
       go
-          : (c : Check) → firstOf (entryChecks f lent) ≡ c
+          : (c : Check) → firstOf (entryChecks f lent question) ≡ c
           → (w : Bool) → isWhole (openedOf f .end) ≡ w
           → openBy (openedOf f) c ≡ Open h
           → Opens f lent h
@@ -82,7 +82,7 @@ module _ (f : List ℕ) (lent : Lent) {h : Head} (open′ : openOf f lent ≡ Op
           let e′ = headRead-cut (openedOf f) q ∙ e in
           let z : _≡_ {A = ℕ} 0 1 = cc in
           absurd (let y : ⊥ = omega arith in y)
-      go passes p true q e = let e′ = headRead-whole (openedOf f) q ∙ e in record { passed = passed f lent p; whole = q; head = cc }
+      go passes p true q e = let e′ = headRead-whole (openedOf f) q ∙ e in record { passed = passed f lent question p; whole = q; head = cc }
 
   pub openOf-asks : Asks (tablesIn f h) lent h
   openOf-asks =

@@ -21,7 +21,7 @@ use Rattle.system_types.specs.Names.{Lent}
 use Rattle.text.specs.declared.Head.{Head}
 use Rattle.text.specs.Content.{Content, none, cut, some, contentOf, textIn, rawOf}
 use Rattle.head.specs.Head.{openedOf, isWhole, refusalOf, tablesIn}
-use Rattle.head.specs.Entry.{Check, passes, fails, firstOf, entryChecks}
+use Rattle.head.specs.Entry.{question, Check, passes, fails, firstOf, entryChecks}
 use Rattle.head.specs.declared.Opened.{Opened}
 use Rattle.head.specs.declared.OpenRead.{OpenRead}
 use Rattle.head.specs.declared.OpenRead.the-variants.{Open, Closed}
@@ -37,7 +37,7 @@ openBy o passes = headRead o
 openBy o (fails r) = Closed r
 
 unfoldable pub openOf : List ℕ → Lent → OpenRead
-openOf f lent = openBy (openedOf f) (firstOf (entryChecks f lent))
+openOf f lent = openBy (openedOf f) (firstOf (entryChecks f lent question))
 
 -- ---- the text question
 

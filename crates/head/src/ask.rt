@@ -2,6 +2,7 @@
 //
 // Mirrors structs/res_string_pool.rs (apk-info 13770539b8), `get_with_resources`, for a caller who holds the file alone.
 // Answers: `TextAnswer`, the length of the text or a refusal. Definitions: specs/Ask.antt.
+use super::Asker;
 use super::Entered;
 use super::OpenRead;
 use super::Opened;
@@ -47,7 +48,7 @@ fn head_read(opened: Opened) -> OpenRead
 pub fn open_file(file: &[u8], names: &[u32], area: &[u8]) -> OpenRead
     ensures { λ r. ⌜ r ≡ openOf (now (file .entry)) (lends (now (names .entry)) (now (area .entry))) ⌝ }
 {
-    let entered = enter(file, names, area);
+    let entered = enter(file, names, area, Asker::Question);
     match entered {
         Entered::In(opened) => head_read(opened),
         Entered::Out(why) => OpenRead::Closed(why),

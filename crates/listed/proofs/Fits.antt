@@ -19,7 +19,7 @@ use Rattle.errors.specs.declared.Refusal.the-variants.{AttributesFull, NotesFul
 use Rattle.errors.specs.declared.TextAnswer.{TextAnswer}
 use Rattle.errors.specs.declared.TextAnswer.the-variants.{Text, Refused}
 use Rattle.errors.proofs.Laws.{textNumbersOf-unique}
-use Rattle.head.specs.Entry.{Check, passes, fails, firstOf, entryChecks}
+use Rattle.head.specs.Entry.{readingAt, Check, passes, fails, firstOf, entryChecks}
 use Rattle.head.specs.Head.{openedOf}
 use Rattle.xml_elements.proofs.Laws.{cond-by}
 use Rattle.events.specs.declared.Event.{Event}
@@ -121,7 +121,7 @@ readingBy-le r o (fails x) h = refuses-le r x
 pub reading-le : (r : Room) (f : List ℕ) (lent : Lent) → Left r (reading r f lent)
 unfolding reading
 reading-le r f lent =
-    readingBy-le r (settledIn r f lent (openedOf f)) (firstOf (entryChecks f lent))
+    readingBy-le r (settledIn r f lent (openedOf f)) (firstOf (entryChecks f lent (readingAt (r .cap) (r .mode))))
     (settle-held _ r nothingYet _ (record { nodes = omega arith; attributes = omega arith; notes = omega arith }))
 
 -- ---- the text of a listing

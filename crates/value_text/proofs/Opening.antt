@@ -15,7 +15,8 @@ use Rattle.system_types.specs.Names.{Lent}
 use Rattle.text.specs.declared.Head.{Head}
 use Rattle.text.specs.Inner.Found.{Asks}
 use Rattle.head.specs.Head.{openedOf, tablesIn}
-use Rattle.head.specs.Entry.{Check, passes, fails, firstOf, entryChecks}
+use Rattle.head.specs.declared.Asker.the-variants.{Question}
+use Rattle.head.specs.Entry.{question, valueWith, Check, passes, fails, firstOf, lengthCheck, capCheck, namesCheck, itemsCheckBy, entryChecks}
 use Rattle.head.specs.Ask.{headRead, openBy, openOf}
 use Rattle.head.specs.Inner.Entered.{enteredOf}
 use Rattle.head.specs.declared.Opened.{Opened}
@@ -28,7 +29,7 @@ use Rattle.items.specs.Items.{tableOf}
 use Rattle.items.specs.declared.ItemsRead.{ItemsRead}
 use Rattle.items.specs.declared.ItemsRead.the-variants.{Good, Bad}
 use Rattle.value_text.specs.declared.Attribute.{Attribute}
-use Rattle.value_text.specs.Value.{itemsCheckBy, valueOpen, valueOf, valueAnswer, valueBuffer, ValueReads}
+use Rattle.value_text.specs.Value.{valueOpen, valueOf, valueAnswer, valueBuffer, ValueReads}
 use Rattle.value_text.specs.Inner.Leads.{Gives, behindItems}
 
 -- ---- the checks
@@ -42,16 +43,22 @@ firstOf-one : (c : Check) → firstOf (c ∷ []) ≡ c
 firstOf-one passes = refl
 firstOf-one (fails r) = refl
 
-firstOf-behind : (cs : List Check) (d : Check) → firstOf (cs ++ (d ∷ [])) ≡ orCheck (firstOf cs) d
+firstOf-behind : (cs : List Check) (d : Check) → firstOf (cs ++ (d ∷ [])) ≡ orCheck (firstOf (cs ++ (passes ∷ []))) d
 unfolding orCheck
 firstOf-behind [] d = firstOf-one d
 firstOf-behind (passes ∷ cs) d = firstOf-behind cs d
 firstOf-behind (fails r ∷ cs) d = refl
 
+-- the items are the last check, and a question has the others
+items-last : (f : List ℕ) (lent : Lent) (items area : List ℕ)
+    → firstOf (entryChecks f lent (valueWith items area)) ≡ orCheck (firstOf (entryChecks f lent question)) (itemsCheckBy (tableOf area items))
+items-last f lent items area =
+    firstOf-behind (lengthCheck f ∷ capCheck Question ∷ namesCheck lent ∷ []) (itemsCheckBy (tableOf area items))
+
 module _ (f : List ℕ) (lent : Lent) (items area : List ℕ) where
-  pub open-out : {why : Refusal} → enteredOf f lent ≡ Out why → Closed why ≡ valueOpen f lent items area
+  pub open-out : {why : Refusal} → enteredOf f lent question ≡ Out why → Closed why ≡ valueOpen f lent items area
   unfolding valueOpen orCheck
-  open-out e = rw (firstOf-behind (entryChecks f lent) (itemsCheckBy (tableOf area items)), entered-out f lent e)
+  open-out e = rw (items-last f lent items area, entered-out f lent question e)
 
   open-by : (r : ItemsRead) → behindItems (openedOf f) r ≡ openBy (openedOf f) (itemsCheckBy r)
   open-by Good = refl
@@ -59,14 +66,14 @@ module _ (f : List ℕ) (lent : Lent) (items area : List ℕ) where
 
   pub open-in :
       {o : Opened} {r : ItemsRead} {x : OpenRead} →
-      enteredOf f lent ≡ In o →
+      enteredOf f lent question ≡ In o →
       r ≡ tableOf area items →
       x ≡ behindItems o r →
       x ≡ valueOpen f lent items area
   unfolding valueOpen orCheck
   open-in {o} {r} {x} e q s =
-      let p = entered-in f lent e in
-      rw (firstOf-behind (entryChecks f lent) (itemsCheckBy (tableOf area items)), p .0, ← q)
+      let p = entered-in f lent question e in
+      rw (items-last f lent items area, p .0, ← q)
       (s ∙ rw (p .1) (open-by r))
 
 -- ---- what an open file tells
@@ -79,15 +86,15 @@ module _ (f : List ℕ) (lent : Lent) (items area : List ℕ) {h : Head} (open�
   pub opens : Opens f lent items area h
   unfolding valueOpen orCheck openOf
   opens =
-      go (firstOf (entryChecks f lent)) refl (tableOf area items) refl
-      (sym (ap (openBy (openedOf f)) (firstOf-behind (entryChecks f lent) (itemsCheckBy (tableOf area items)))) ∙ open′)
+      go (firstOf (entryChecks f lent question)) refl (tableOf area items) refl
+      (sym (ap (openBy (openedOf f)) (items-last f lent items area)) ∙ open′)
     where
       go :
           (c : Check) →
-          firstOf (entryChecks f lent) ≡ c →
+          firstOf (entryChecks f lent question) ≡ c →
           (r : ItemsRead) →
           tableOf area items ≡ r →
-          openBy (openedOf f) (orCheck (firstOf (entryChecks f lent)) (itemsCheckBy (tableOf area items))) ≡ Open h →
+          openBy (openedOf f) (orCheck (firstOf (entryChecks f lent question)) (itemsCheckBy (tableOf area items))) ≡ Open h →
           Opens f lent items area h
       go (fails why) p r q e =
           let e′ = rw p at e in

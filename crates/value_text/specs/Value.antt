@@ -2,7 +2,7 @@
 --
 --   plainBy       the text of a value by its type alone, or nothing: that of a string of the pool, of the name of a resource, of a number
 --   valueOf       the text of an attribute's value: what the items of its name say, else the plain text; and how many set bits no name covers
---   valueOpen     the head of the file, or the first refusal, in order: 2, 7 (the entry checks), 14 (the items), then the head's own
+--   valueOpen     the head of the file, or the first refusal: the entry checks, the items' 14 among them, then the head's own
 --   valueAnswer   the answer of the question; valueBuffer what then stands in the lent buffer, whole
 --   ValueReads    THE PROMISE: the numbers of the answer and every byte of the buffer
 --
@@ -15,7 +15,7 @@ use mathlib.Core.Bool.{Bool, true, false, cond}
 use lib.ListN.{length, replicate}
 use lib.Dec.{eqb, leb}
 use Rattle.errors.specs.Refusal.{valueNumbersOf}
-use Rattle.errors.specs.declared.Refusal.the-variants.{NothingFound, TextShort, ItemsError, NoPlainText}
+use Rattle.errors.specs.declared.Refusal.the-variants.{NothingFound, TextShort, NoPlainText}
 use Rattle.errors.specs.declared.ValueAnswer.{ValueAnswer}
 use Rattle.errors.specs.declared.ValueAnswer.the-variants.{Value as Answered, Refused}
 use Rattle.digits.specs.Digits.{signedText, hexText}
@@ -32,14 +32,12 @@ use Rattle.system_types.specs.declared.Lookup.the-variants.{Name, Missing}
 use Rattle.text.specs.declared.Head.{Head}
 use Rattle.text.specs.Content.{Content, none, cut, some, contentOf, stringOf, textIn, androidUri}
 use Rattle.head.specs.Head.{openedOf, tablesIn}
-use Rattle.head.specs.Entry.{Check, passes, fails, firstOf, entryChecks}
+use Rattle.head.specs.Entry.{valueWith, firstOf, entryChecks}
 use Rattle.head.specs.Ask.{openBy}
 use Rattle.head.specs.declared.OpenRead.{OpenRead}
 use Rattle.head.specs.declared.OpenRead.the-variants.{Open, Closed}
-use Rattle.items.specs.Items.{partIn, itemsOf, namedIn, tableOf}
+use Rattle.items.specs.Items.{partIn, itemsOf, namedIn}
 use Rattle.items.specs.Values.{Text, nothing, says, attrText, uncoveredOf}
-use Rattle.items.specs.declared.ItemsRead.{ItemsRead}
-use Rattle.items.specs.declared.ItemsRead.the-variants.{Good, Bad}
 use Rattle.value_text.specs.declared.Attribute.{Attribute}
 
 -- ---- fixed texts
@@ -117,12 +115,8 @@ module _ (h : Head) (t : List ℕ) (lent : Lent) (items area : List ℕ) where
 
 -- ---- the checks
 
-abbrev pub itemsCheckBy : ItemsRead → Check
-itemsCheckBy Good = passes
-itemsCheckBy (Bad k) = fails (ItemsError k)
-
 unfoldable pub valueOpen : List ℕ → Lent → List ℕ → List ℕ → OpenRead
-valueOpen f lent items area = openBy (openedOf f) (firstOf (entryChecks f lent ++ (itemsCheckBy (tableOf area items) ∷ [])))
+valueOpen f lent items area = openBy (openedOf f) (firstOf (entryChecks f lent (valueWith items area)))
 
 -- ---- the answer
 

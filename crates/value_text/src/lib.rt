@@ -31,6 +31,7 @@ use digits::put_bytes;
 use digits::zero;
 use errors::Refusal;
 use errors::ValueAnswer;
+use head::Asker;
 use head::Entered;
 use head::OpenRead;
 use head::Opened;
@@ -236,7 +237,7 @@ fn head_of(opened: Opened) -> OpenRead
 fn open_value(file: &[u8], names: &[u32], area: &[u8], items: &[u32], item_area: &[u8]) -> OpenRead
     ensures { λ r. ⌜ r ≡ valueOpen (now (file .entry)) (lends (now (names .entry)) (now (area .entry))) (now (items .entry)) (now («item_area» .entry)) ⌝ }
 {
-    let entered = enter(file, names, area);
+    let entered = enter(file, names, area, Asker::Question);
     match entered {
         Entered::In(opened) => open_behind(opened, check_items(items, item_area)),
         Entered::Out(why) => OpenRead::Closed(why),

@@ -18,7 +18,7 @@ use Rattle.errors.specs.declared.ReadAnswer.the-variants.{Done, Refused}
 use Rattle.errors.specs.Refusal.{numbersOf}
 use Rattle.head.specs.declared.Opened.{Opened}
 use Rattle.head.specs.Head.{openedOf, tablesIn, bodyIn}
-use Rattle.head.specs.Entry.{Check, passes, fails, firstOf, entryChecks}
+use Rattle.head.specs.Entry.{readingAt, Check, passes, fails, firstOf, entryChecks}
 use Rattle.events.specs.Events.{namesIn, fileEvents}
 use Rattle.records.specs.Words.{nodeWidth, nodeFirst, attributeWidth}
 use Rattle.system_types.specs.Names.{Lent}
@@ -81,7 +81,7 @@ readingBy r o passes = finalOf r o
 readingBy r o (fails x) = refuses r x
 
 unfoldable pub reading : Room → List ℕ → Lent → Reading
-reading r f lent = readingBy r (settledIn r f lent (openedOf f)) (firstOf (entryChecks f lent))
+reading r f lent = readingBy r (settledIn r f lent (openedOf f)) (firstOf (entryChecks f lent (readingAt (r .cap) (r .mode))))
 
 -- the room of tables with these contents before the call
 abbrev pub roomIn : List ℕ → List ℕ → List NoteOf → ℕ → ℕ → Room

@@ -11,9 +11,10 @@
 use Prim.Native.Nat.{ℕ, _+_, _-_, _*_, _/_}
 use mathlib.Core.List.{List, [], _∷_, _++_}
 use mathlib.Core.Bool.{Bool, cond}
-use lib.ListN.{length, drop, set, getD, replicate}
+use lib.ListN.{length, drop, set}
 use lib.Dec.{ltb, leb, eqb}
-use Rattle.anomaly.specs.Note.{kinds, kindIndex, noteOf}
+use Rattle.anomaly.specs.Note.{kindIndex, noteOf}
+use Rattle.anomaly.specs.Kept.{isDue, counted, none}
 use Rattle.anomaly.specs.declared.Note.{Note as NoteOf}
 use Rattle.anomaly.specs.declared.ResAnomaly.{ResAnomaly}
 use Rattle.errors.specs.declared.Refusal.{Refusal}
@@ -103,7 +104,7 @@ noted t x = record {
   first = t .first;
   stack = t .stack;
   notes = t .notes ++ (noteOf x ∷ []);
-  counts = set (t .counts) (kindIndex x) (getD (t .counts) (kindIndex x) 0 + 1);
+  counts = counted (t .counts) (kindIndex x);
 }
 
 abbrev pub push : Rule → Room → Out → Event → Out
@@ -120,7 +121,7 @@ push rule r (going t) (Attribute p a) =
     (cond (repeated rule t p a) (going t)
     (cond (leb (length (t .attributes) + attributeWidth) (r .attributes)) (going (kept t p a)) (refused (AttributesFull (r .attributes / attributeWidth)))))
 push rule r (going t) (Note x) =
-    cond (ltb (getD (t .counts) (kindIndex x) 0) (r .cap))
+    cond (isDue (r .cap) (t .counts) (kindIndex x))
     (cond (ltb (length (t .notes)) (r .notes)) (going (noted t x)) (refused (NotesFull (r .notes))))
     (going t)
 
@@ -131,4 +132,4 @@ settle rule r o [] = o
 settle rule r o (e ∷ es) = settle rule r (push rule r o e) es
 
 abbrev pub nothingYet : Out
-nothingYet = going (record { nodes = []; attributes = []; first = 0; stack = []; notes = []; counts = replicate kinds 0 })
+nothingYet = going (record { nodes = []; attributes = []; first = 0; stack = []; notes = []; counts = none })

@@ -24,6 +24,7 @@ use errors::ReadAnswer;
 use errors::Refusal;
 use events::Cursor;
 use events::first_cursor;
+use head::Asker;
 use head::Entered;
 use head::HeadEnd;
 use head::Opened;
@@ -194,7 +195,7 @@ fn read_on(
     }
 }
 
-// The first call: the way in (B2), and then the file.
+// The first call: the way in (B2), with the cap and the mode, and then the file.
 fn start(
     file: &[u8],
     names: &[u32],
@@ -207,7 +208,7 @@ fn start(
     ensures { λ r. ⌜ Adv (now (file .entry)) (lends (now (names .entry)) (now (area .entry))) (now (nodes .entry)) (now (attributes .entry)) st r
         (now (nodes .exit)) (now (attributes .exit)) ⌝ }
 {
-    let entered = enter(file, names, area);
+    let entered = enter(file, names, area, Asker::Reading(st.cap, st.mode));
     match entered {
         Entered::Out(x) => refuse(nodes, attributes, st, x),
         Entered::In(opened) => read_on(file, names, area, nodes, attributes, started(st, opened)),

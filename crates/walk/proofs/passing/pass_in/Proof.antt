@@ -1,6 +1,6 @@
 -- `walk::passing::pass_in` meets its contract: the cursor stays, or it goes behind the foreign chunks (proofs/Quiet.antt).
 use borrow.Author.Needs.{needs}
-use Rattle.anomaly.specs.declared.ResAnomaly.the-variants.{NonXmlChunk, XmlNodeHeaderSize}
+use Rattle.anomaly.specs.declared.ResAnomaly.the-variants.{NonXmlChunk}
 use Rattle.anomaly.proofs.Laws.{kindIndex-lt}
 use Rattle.head.specs.Head.{bodyIn}
 use Rattle.walk.proofs.Quiet.{past-cap, on-here, on-chunk}
@@ -20,7 +20,7 @@ kind-index-requires-2 : tie.Need-kind-index-requires-2
 kind-index-requires-2 c κs = search needs
 
 is-due-requires-2 : tie.Need-is-due-requires-2
-is-due-requires-2 c κs = rw (c .kind-index2 .ensures) (kindIndex-lt (XmlNodeHeaderSize 0))
+is-due-requires-2 c κs = rw (c .kind-index2 .ensures) (kindIndex-lt _)
 
 returns-2 : tie.Need-returns-2
 returns-2 c = on-here _ _ _ _
