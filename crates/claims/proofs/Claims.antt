@@ -13,6 +13,7 @@
 -- Room (L1): suffices of a file of any length, read-suffices of a call; listing-suffices, read-listed-suffices of a listing.
 -- A part of the head that is short (P6): part-offset, part-cut of a reading, text-part-cut of the text question.
 -- Zeros (P1, B7, B8): refused-zeros, done-zeros, text-refused-zeros, text-done-zeros. Every success: structured, notes-kept.
+-- The two modes (W22, W23, B16): mode-merged, the attributes of the first are those of the second without what it merges.
 -- Readers that break the promise (P5): refuses-all-broken to wrong-kinds-broken, each of every reader of its sort (specs/Readers.antt); meets-some.
 -- The C interface: c-read-unique to c-first-refused-zeros, the same of its words: one answer, insertion, zeros.
 -- The listing's function: list-unique to list-suffices: one answer, zeros, room.
@@ -53,7 +54,7 @@ use Rattle.xml.specs.NCName.{validName}
 use Rattle.head.specs.Ask.{textAnswer, TextReads, contentAnswer}
 use Rattle.head.specs.Head.{openedOf, headLen}
 use Rattle.first_value.specs.Question.{firstAnswer, FirstReads}
-use Rattle.records.specs.Words.{nodeWidth, attributeWidth, noteWidth}
+use Rattle.records.specs.Words.{nodeWidth, attributeWidth, noteWidth, merged, apart}
 use Rattle.system_types.specs.Names.{Lent, lends}
 use Rattle.walk.specs.Settle.{Room}
 use Rattle.walk.specs.Reading.{reading, roomIn, zeroNote, Reads}
@@ -69,6 +70,7 @@ use Rattle.claims.specs.Room.{isFullNumber, HasRoom, nodesFor, attribute
 use Rattle.claims.specs.Parts.{isPart}
 use Rattle.claims.specs.Cleared.{ZeroBehind, RefusedZero, DoneZero, TextRefusedZero, TextDoneZero}
 use Rattle.claims.specs.Shape.{Structured}
+use Rattle.claims.specs.Modes.{Merges}
 use Rattle.claims.specs.Readers.{Call, Reader, Meets, eventsOf, kindsOf, RefusesAll, Constant, ConstantOnRead, StopsAtStart}
 use Rattle.claims.specs.Readers.{LeavesNodes, LeavesAttributes, LeavesNotes, ClearsNodes, ClearsAttributes, ClearsNotes}
 use Rattle.claims.proofs.Longer.{insertedFile-none}
@@ -81,6 +83,7 @@ use Rattle.claims.proofs.Parts as parts
 use Rattle.claims.proofs.Zeros as zeros
 use Rattle.claims.proofs.Structure as tree
 use Rattle.claims.proofs.Broken as broken
+use Rattle.claims.proofs.Modes as modes
 use Rattle.claims.proofs.InC as inC
 use Rattle.claims.proofs.Lists as lists
 use mathlib.Core.List.{List·Permᴰ}
@@ -292,6 +295,14 @@ module _ (f : List ℕ) (lent : Lent) (before : List ℕ) (i : ℕ) (after : Lis
 
   pub text-done-zeros : (k : ℕ) → TextReads f lent before i (textIs.Text k) after → TextDoneZero (textNumbersOf (textIs.Text k)) before after
   text-done-zeros k h = zeros.text-done-zeros f lent before i k after h
+
+-- ---- the two modes (W22, W23, B16), whatever the room and the cap of each
+
+module _ (f : List ℕ) (lent : Lent) (ns ats : List ℕ) (os : List Note) (cap : ℕ) (c : ReadCounts) (ns₁ ats₁ : List ℕ) (os₁ : List Note)
+    (first : Reads f lent ns ats os cap merged (Done c) ns₁ ats₁ os₁) (ns′ ats′ : List ℕ) (os′ : List Note) (cap′ : ℕ) (c′ : ReadCounts)
+    (ns₂ ats₂ : List ℕ) (os₂ : List Note) (second : Reads f lent ns′ ats′ os′ cap′ apart (Done c′) ns₂ ats₂ os₂) where
+  pub mode-merged : Merges (take (attributeWidth * c .attributes) ats₁) (take (attributeWidth * c′ .attributes) ats₂)
+  mode-merged = modes.mode-merged f lent ns ats os cap c ns₁ ats₁ os₁ first ns′ ats′ os′ cap′ c′ ns₂ ats₂ os₂ second
 
 -- ---- the C interface: the same of its words and of its structs of numbers
 
