@@ -8,7 +8,7 @@ use lib.ListN.{length, drop}
 use lib.Dec.{eqb, ltb}
 use Rattle.chunk.specs.Walk.{turn, traceFrom, trace}
 use Rattle.anomaly.specs.declared.ResAnomaly.{ResAnomaly}
-use Rattle.anomaly.specs.declared.ResAnomaly.the-variants.{AttributeStartShifted, AttributeSizeMismatch, ElementTrailingBytes, InvalidElementName}
+use Rattle.anomaly.specs.declared.ResAnomaly.the-variants.{AttributeStartShifted, AttributeSizeMismatch, ElementTrailingBytes}
 use Rattle.records.specs.Words.{merged, apart}
 use Rattle.system_types.specs.Names.{Lent}
 use Rattle.text.specs.Content.{Content, contentOf, hasText, isAndroid, stateIn}
@@ -30,7 +30,7 @@ use Rattle.xml_elements.specs.declared.Turn.the-variants.{Stop, Foreign, Met, C
 use Rattle.xml_elements.specs.Chunk.{strideOf, attributesAt, trailingOf, attributeAt, turnOf}
 use Rattle.events.specs.declared.Event.{Event}
 use Rattle.events.specs.declared.Event.the-variants.{Nothing, Open, Attribute, LeftOut, Close, Note, Refuse, Finish}
-use Rattle.events.specs.Events.{Names, prefixIn, namesIn, when, isValid, hasOne, fixedOf, leading, attributeBy, attributeEvent, attributesOf, cutShort}
+use Rattle.events.specs.Events.{Names, prefixIn, namesIn, when, isValid, fixedOf, leading, attributeBy, attributeEvent, attributesOf, cutShort}
 use Rattle.events.specs.Events.{fromLead, fromOpen, fromName, fromTrailing, fromSize, fromGap, Spot, chunkYield, cutYield, yieldOf, foreignNote}
 use Rattle.events.specs.Events.{lastOf, fromRoot, used, out, next, eventsOn, bodyEvents, notesOf, afterPool, fileEvents}
 use Rattle.claims.specs.Modes.{mergedPrefix}
@@ -135,7 +135,7 @@ module _ (h : Head) (t : List ℕ) (lent : Lent) where
 
     name-map : mergeAll (fromName N₂ s k l) ≡ fromName N₁ s k l
     unfolding fromName
-    name-map = merge-parts (merge-when (not (isValid (N₂ .state (s .name .0)))) (Note (InvalidElementName (s .name .0) (hasOne (N₂ .state (s .name .0)))))) open-map
+    name-map = merge-parts (merge-when (not (isValid (N₂ .state (s .name .0)))) _) open-map
 
     trailing-map : (reach : ℕ) → mergeAll (fromTrailing N₂ s reach k l) ≡ fromTrailing N₁ s reach k l
     unfolding fromTrailing
