@@ -641,9 +641,9 @@ def replay_cases(reads, questions):
     node, attribute = [0, 0, NONE, 0, 1, 2], [0, 0, 1, 3, 7, 0]
     broken = next(own for own in tried.values() if own.bad() is not None)
     for (_, _, f), own in tried.items():
-        for cap in (8, 0) if own is broken else (8,):  # a cap of 0 refuses before they do
-            refusal, value, starts, *tables = model.read(f, own, cap, (13, 6, 2))
-            yield read_row(own, [cap, 13, 6, 2], 1, f, [refusal, value, starts, *map(len, tables)], [[x for row in t for x in row] for t in tables])
+        for cap, mode in ((8, 1), (0, 1), (8, 3), (0, 3)) if own is broken else ((8, 1),):  # a cap of 0 refuses before they do, a mode behind them
+            refusal, value, starts, *tables = model.read(f, own, cap, (13, 6, 2), mode=mode)
+            yield read_row(own, [cap, 13, 6, 2], mode, f, [refusal, value, starts, *map(len, tables)], [[x for row in t for x in row] for t in tables])
         asked = [b"name", "é".encode()]
         answer = model.first_value(f, own, node, attribute, *asked, 1, 1)
         yield own, 4, [1, 1, *answer], [f, words(*node), words(*attribute), *asked]
