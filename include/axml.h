@@ -20,15 +20,15 @@ extern "C" {
 
 /* The form of this interface: raised whenever a record, a signature or a number below changes or is added. A library is of this form exactly if
  * axml_abi() == AXML_ABI; one that is of another must not be called. */
-#define AXML_ABI 6u
+#define AXML_ABI 7u
 uint32_t axml_abi(void);
 
 /* The longest file that is read, in bytes: one byte more is refused with AXML_TOO_LARGE. */
 #define AXML_LONGEST_FILE 16777216u
 
-/* Words of one record. A table has words / 6 places for nodes, words / 5 for attributes, words / 3 for notes, words / 6 for answers, rounded down (B6). */
+/* Words of one record. A table has words / 6 places for nodes and attributes, words / 3 for notes, words / 6 for answers, rounded down (B6). */
 #define AXML_NODE_WORDS 6u
-#define AXML_ATTRIBUTE_WORDS 5u
+#define AXML_ATTRIBUTE_WORDS 6u
 #define AXML_NOTE_WORDS 3u
 #define AXML_NAME_WORDS 3u
 #define AXML_ITEM_WORDS 6u
@@ -62,6 +62,7 @@ enum axml_refusal {
   AXML_TABLES = 13,          /* the lent tables do not fit the question: the node count, or the first bad node (Q6); of many texts the attribute count (V15) */
   AXML_ITEMS = 14,           /* the lent items break their rule: the first such item, or how many whole ones there are (V3) */
   AXML_NO_PLAIN_TEXT = 15,   /* a value of this type has no plain text: the type (V10) */
+  AXML_MODE = 16,            /* the mode is none of enum axml_mode: that number (B16) */
   AXML_ANSWERS_FULL = 21,    /* an answer has no place: the places that there are (V15) */
   AXML_NOTES_OFF = 27,       /* a reading at a cap of 0, which would keep no note: 0 */
   AXML_ROUND_UP_FULL = 29,   /* a count of a round-up would pass 4294967295: 0 (R6) */
@@ -92,11 +93,18 @@ enum axml_note_kind {
   AXML_UNCLOSED_ELEMENTS = 12             /* a: depth */
 };
 
+/* How a reading tells the namespace of an attribute (B16). */
+enum axml_mode {
+  AXML_MODE_MERGED = 1,  /* any namespace with a text is Android's, as in apk-info; attributes that differ by it alone are one */
+  AXML_MODE_APART = 2    /* Android's namespace is told from all others, which have AXML_PREFIX_OWN */
+};
+
 /* The prefix of an attribute (W22, W24). */
 enum axml_prefix {
   AXML_PREFIX_NONE = 0,
   AXML_PREFIX_ANDROID = 1,
-  AXML_PREFIX_XMLNS = 2  /* the leading attribute of the first node: `android`, the Android namespace */
+  AXML_PREFIX_XMLNS = 2,  /* the leading attribute of the first node: `android`, the Android namespace */
+  AXML_PREFIX_OWN = 3     /* in AXML_MODE_APART: a namespace that is not Android's, the attribute's word `ns` */
 };
 
 /* Which of the lent slices a content is a part of (N8). */
@@ -116,13 +124,14 @@ struct axml_node {
   uint32_t line;    /* line number of its start chunk, as the file has it */
 };
 
-/* Five words of the attribute table (B11). */
+/* Six words of the attribute table (B11). */
 struct axml_attribute {
   uint32_t owner;   /* number of its node */
   uint32_t prefix;  /* enum axml_prefix */
   uint32_t name;    /* string index of its name */
   uint32_t type;    /* type of its value (C5) */
   uint32_t data;    /* data of its value */
+  uint32_t ns;      /* string index of its namespace, as the file has it; of AXML_PREFIX_XMLNS 0, which is no index */
 };
 
 /* Three words of the note table (B12). */
@@ -217,10 +226,10 @@ struct axml_first_answer {
 /* Reads a file into three lent tables, whose words behind the last record are zeros afterwards (B8).
  * file, file_bytes: the file. names, name_words: the lent system names, `struct axml_name` each, over area, area_bytes; 0 words are no names.
  * nodes, attributes, notes: the tables, as words of `struct axml_node`, `struct axml_attribute`, `struct axml_note`.
- * cap: how many notes of each kind are kept (B13), 1 at least: 0 is refused with AXML_NOTES_OFF. */
+ * cap: how many notes of each kind are kept (B13), 1 at least: 0 is refused with AXML_NOTES_OFF. mode: enum axml_mode. */
 struct axml_answer axml_read(const uint8_t *file, size_t file_bytes, const uint32_t *names, size_t name_words, const uint8_t *area,
                              size_t area_bytes, uint32_t *nodes, size_t node_words, uint32_t *attributes, size_t attribute_words,
-                             uint32_t *notes, size_t note_words, uint32_t cap);
+                             uint32_t *notes, size_t note_words, uint32_t cap, uint32_t mode);
 
 /* The text of a string index in UTF-8, at the front of out and zeros behind it; zeros alone where it is refused (Q1, Q2). No 0 ends it.
  * file, names, area: as for axml_read. out, out_bytes: the buffer. index: the string index, as a table has it. */

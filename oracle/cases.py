@@ -21,8 +21,8 @@ Layout. A word is four bytes, the low one first. A text is a word n, n bytes, an
                     or the single word 4294967295 where the index has none. The C indices are 0, 1, .. , C - 1, two past the
                     longer of pool and map. Refused: C and K are 0, and the answer holds for every index and set.
                     where, start, length: the content, 0 empty (0, 0), 1 a part of the file, 2 a part of the set's area.
-  kind 2, read:     words set, cap, node words, attribute words, note places; text: the file; words refusal, value, starts, nodes,
-                    attributes, notes; then 6 words for each node, 5 for each attribute, 3 for each note. All else is zero.
+  kind 2, read:     words set, cap, mode, node words, attribute words, note places; text: the file; words refusal, value, starts, nodes,
+                    attributes, notes; then 6 words for each node and each attribute, 3 for each note. All else is zero.
   kind 3, text:     words W; W words; text: the area; words room, index; text: the file; words refusal, value; text: the answer;
                     words where, start, length of the content. These names may break their rule.
   kind 4, first:    word set; text: the file; word n, n node words; word n, n attribute words; texts: tag, name; words node count,
@@ -41,9 +41,9 @@ Layout of pack-replay's OUT, with places as above:
 
   place of the list of sets; then all parts, the lists among them
   list of sets:     places of words, area and cases of a set, 24 bytes each
-  case:             80 bytes, zeros at their end; a word, its kind, and then
+  case:             84 bytes, zeros at their end; a word, its kind, and then
     2, read:        words cap, node words, attribute words, note places, 1 if `read_listed` answers the same, else 0; words refusal, value,
-                    starts, nodes, attributes, notes; places of the file and of the records of nodes, attributes, notes
+                    starts, nodes, attributes, notes; places of the file and of the records of nodes, attributes, notes; word mode
     4, first:       words node count, attribute count, refusal, value, type, data, reference; places of file, node words, attribute words, tag, name
     5, name:        word 1 if it is a valid name, else 0; place of the text
     6, complex:     words data, low half and high half of the f64's bits
@@ -216,11 +216,25 @@ def room_files():
     yield S + START
 
 
+def space_files():
+    """Attributes of one name and several namespaces: Android's, its UTF-16, others that begin or end like it, own ones, two of one text, empty, cut, none."""
+    uri = model.ANDROID.decode()
+    for make, flags in ((utf8, 0x100), (utf16, 0)):
+        p = pool([make("a"), make(uri), make("u"), make("u"), make(uri + "/"), make(uri[:-1]), make(""), make(uri.upper())], flags=flags)
+        for spaces in ((1, 2, NONE), (2, 1, NONE), (2, 3, 1), (3, 2), (4, 1, 5), (6, 7, 2, 6), (77, NONE, 1), (1, 1, 2, 2), (6, 99, 9)):
+            yield whole(p, id_map(), start(0, *((ns, 0, 16, 7 + i) for i, ns in enumerate(spaces))), END)
+    p = pool([utf8("a"), utf8(b"\xff"), utf8(b"\xfe"), utf8(uri)], offsets=[0, 4, 8, 12, 900, 901])
+    for spaces in ((1, 2, 3), (2, 1), (4, 5, 3), (5, 4), (0, 4, 1)):
+        yield whole(p, id_map(), start(0, *((ns, 0, 16, 7 + i) for i, ns in enumerate(spaces))), END)
+    # a system name is the text of its index
+    yield whole(pool([utf8("a"), utf8(uri)]), id_map(0x7F000001, 0x01010003), start(0, (1, 0, 16, 7), (0, 0, 16, 8)), END)
+
+
 # ---- the Rust's answers
 
 def due_answer(a, room):
     """What follows from the order in which the Rust's records fall due: the first without a place refuses."""
-    places = {ord("E"): (8, room[0] // rust.NODE), ord("A"): (9, room[1] // 5), ord("N"): (10, room[2])}
+    places = {ord("E"): (8, room[0] // rust.NODE), ord("A"): (9, room[1] // rust.ATTRIBUTE), ord("N"): (10, room[2])}
     used = dict.fromkeys(places, 0)
     for d in a.due:
         number, most = places[d]
@@ -235,9 +249,9 @@ def told_answer(a, cap, room):
     return model.OFF if cap == 0 else due_answer(a, room)
 
 
-def read_case(names_set, cap, room, file, answer):
+def read_case(names_set, cap, mode, room, file, answer):
     refusal, value, starts, nodes, attributes, notes = answer
-    out = words(2, names_set, cap, *room) + text(file) + words(refusal, value, starts, len(nodes), len(attributes), len(notes))
+    out = words(2, names_set, cap, mode, *room) + text(file) + words(refusal, value, starts, len(nodes), len(attributes), len(notes))
     for record in (*nodes, *attributes, *notes):
         out += words(*record)
     return out
@@ -334,10 +348,10 @@ def make_reads(program, path):
     candidates = []
     labels = list(model.WRONG)
 
-    def look(f, k, cap, room, only=None):
+    def look(f, k, cap, room, only=None, mode=1):
         hits = set()
-        right = model.read(f, NAMES[k], cap, room, hits, trusted=True)
-        told = {w for w in (only or labels) if model.read(f, NAMES[k], cap, room, set(), w, trusted=True) != right}
+        right = model.read(f, NAMES[k], cap, room, hits, trusted=True, mode=mode)
+        told = {w for w in (only or labels) if model.read(f, NAMES[k], cap, room, set(), w, trusted=True, mode=mode) != right}
         return right, told | hits
 
     pool_ = [(f, k, cap) for f in files for k, cap in ((0, 8), (1, 2))]
@@ -353,12 +367,12 @@ def make_reads(program, path):
         k, cap = (0, 16) if i < len(by_hand) else r.choice(((0, 16), (1, 8), (0, 1), (0, 2), (0, 0)))
         a = next(rust.ask(program, SETS, [(rust.DUE, cap, k, f, [])]))
         due = [a.due.count(c) for c in b"EAN"]
-        ample = rust.NODE * due[0] + 3, 5 * due[1] + 3, due[2] + 2
-        rooms = [(0, 0, 0), (0, ample[1], 0), (ample[0], 0, 0), (5, 4, due[2])]
+        ample = rust.NODE * due[0] + 3, rust.ATTRIBUTE * due[1] + 3, due[2] + 2
+        rooms = [(0, 0, 0), (0, ample[1], 0), (ample[0], 0, 0), (5, 5, due[2])]
         for t in range(3):
             for places in sorted({0, 1, due[t] - 1, due[t]} - {-1}):
                 room = list(ample)
-                room[t] = places if t == 2 else rust.NODE * places + r.choice((0, 1, 5)) if t == 0 else 5 * places + r.choice((0, 1, 4))
+                room[t] = places if t == 2 else (rust.NODE, rust.ATTRIBUTE)[t] * places + r.choice((0, 1, 5))
                 rooms.append(tuple(room))
         for room in rooms:
             if (f, k, cap, room) not in seen:
@@ -388,13 +402,26 @@ def make_reads(program, path):
     for (f, k, cap, room), a in zip(chosen, answers):
         if room is None:
             due = [a.due.count(c) for c in b"EAN"]
-            room = rust.NODE * due[0] + r.randrange(12), 5 * due[1] + r.randrange(12), due[2] + r.randrange(3)
+            room = rust.NODE * due[0] + r.randrange(12), rust.ATTRIBUTE * due[1] + r.randrange(12), due[2] + r.randrange(3)
         answer = told_answer(a, cap, room)
         right, told = look(f, k, cap, room)
         assert model.coarse(right) == answer, f.hex()
         for x in told:
             counted[x] = counted.get(x, 0) + 1
-        cases.append(read_case(k, cap, room, f, right))
+        cases.append(read_case(k, cap, 1, room, f, right))
+    # the second mode, which the Rust does not have, and modes that are none: the model's answers
+    asked = [(f, k, cap, mode, room) for f in space_files() for k, cap, mode, room in
+             [(0, 8, 1, (20, 40, 2)), (0, 8, 2, (20, 40, 2)), (1, 8, 2, (20, 40, 2)), (0, 8, 2, (20, 12, 2)), (0, 8, 2, (20, 17, 2)), (0, 8, 2, (20, 18, 2))]]
+    asked += [(f, 0, 8, mode, (20, 40, 2)) for f in (S, S[:3], S[:7], S[:8], b"") for mode in (0, 3, 9, NONE)]
+    asked += [(f, r.choice((0, 1, 2)), 8, 2, None) for f in generate.files(SEED + 4, 0, 60) if len(f) < 2500]
+    for f, k, cap, mode, room in asked:
+        if room is None:
+            all_ = model.read(f, NAMES[k], cap, trusted=True, mode=mode)
+            room = rust.NODE * (len(all_[3]) + all_[2]) + 3, rust.ATTRIBUTE * (len(all_[4]) + 40), 104
+        right, told = look(f, k, cap, room, mode=mode)
+        for x in told:
+            counted[x] = counted.get(x, 0) + 1
+        cases.append(read_case(k, cap, mode, room, f, right))
     write(path, cases)
     wrong = {x: counted.get(x, 0) for x in labels}
     print(f"wrong readings told: {sum(n > 0 for n in wrong.values())} of {len(wrong)}; by one case only: {[x for x, n in wrong.items() if n == 1]}")
@@ -456,17 +483,17 @@ def make_questions(program, path):
             cases.append(first_case(k, f, nodes, attributes, tag, name, len(a.nodes), len(a.attributes), answer))
     # and of tables that no reading made: the model's
     p = whole(pool([utf8("a"), utf8("b"), utf8(""), utf8("invalid-element")]), id_map())
-    node, attribute = [0, 0, NONE, 0, 2, 9, 1, 0, 0, 2, 1, 9, 0, 0, 0, 0, 3, 9], [0, 2, 0, 3, 0, 0, 0, 1, 1, 7, 1, 1, 1, 257, 8]
+    node, attribute = [0, 0, NONE, 0, 2, 9, 1, 0, 0, 2, 1, 9, 0, 0, 0, 0, 3, 9], [0, 2, 0, 3, 0, 0, 0, 0, 1, 1, 7, 9, 1, 1, 1, 257, 8, 0]
     odd = [(node, attribute, n, a) for n in (0, 1, 2, 3, 4, NONE) for a in (0, 1, 2, 3, 4, NONE)]
-    odd += [(node[:k], attribute, 3, 3) for k in (17, 15, 12, 0)] + [(node, attribute[:k], 2, 3) for k in (14, 10, 0)] + [(node + [9], attribute + [9, 9], 3, 3)]
+    odd += [(node[:k], attribute, 3, 3) for k in (17, 15, 12, 0)] + [(node, attribute[:k], 2, 3) for k in (17, 15, 12, 0)] + [(node + [9], attribute + [9, 9], 3, 3)]
 
     def at(t, i, v):
         return t[:i] + [v] + t[i + 1:]
     odd += [(at(node, i, v), attribute, 3, 3) for i, v in ((3, 1), (3, 2), (3, NONE), (4, 3), (4, 4), (4, NONE), (9, 3), (9, 4), (10, 0), (15, 1), (16, 4),
                                                            (0, 9), (0, 2), (1, 1), (1, 2), (1, NONE), (7, 1), (0, 1), (2, 7), (0, 3), (5, 0), (5, NONE))]
     odd += [(at(at(node, 15, 4), 16, 0), attribute, 3, 3), (at(at(node, 3, NONE), 4, NONE), attribute, 3, 3)]
-    odd += [(node, at(attribute, i, v), 3, 3) for i, v in ((6, 2), (6, 3), (7, 9), (8, 7), (8, 2), (8, 0x101), (8, 0x107), (13, 7), (13, 1), (12, 2),
-                                                           (7, 2), (5, 9), (1, 0), (9, NONE))]
+    odd += [(node, at(attribute, i, v), 3, 3) for i, v in ((7, 2), (7, 3), (8, 9), (9, 7), (9, 2), (9, 0x101), (9, 0x107), (15, 7), (15, 1), (14, 2),
+                                                           (8, 2), (6, 9), (1, 0), (10, NONE), (11, 0), (5, 9))]
     for n, a, nc, ac in odd:
         for tag, name in ((b"a", b"b"), (b"b", b"b"), (b"a", b"android"), (b"invalid-element", b"b"), (b"a", b""), (b"", b"b"), (b"z", b"b")):
             answer = model.first_value(p, model.NO_NAMES, n, a, tag, name, nc, ac)
@@ -589,9 +616,9 @@ def replay_cases(reads, questions):
     names, cases = open_cases(reads)
     for c in cases:
         assert c.word() == 2
-        k, *lent = c.words(5)
+        k, cap, mode, *room = c.words(6)
         f, answer = c.text(), c.words(6)
-        yield read_row(names[k], lent, f, answer, [c.words(n * many) for n, many in zip((rust.NODE, 5, 3), answer[3:])])
+        yield read_row(names[k], [cap, *room], mode, f, answer, [c.words(n * many) for n, many in zip((rust.NODE, rust.ATTRIBUTE, 3), answer[3:])])
     names, cases = open_cases(questions)
     tried = {}
     for c in cases:
@@ -611,29 +638,29 @@ def replay_cases(reads, questions):
         else:
             yield names[0], 6, c.words(3), []
     # names that may break their rule, which comes before all rules of the file: the model's answers
-    node, attribute = [0, 0, NONE, 0, 1, 2], [0, 0, 1, 3, 7]
+    node, attribute = [0, 0, NONE, 0, 1, 2], [0, 0, 1, 3, 7, 0]
     broken = next(own for own in tried.values() if own.bad() is not None)
     for (_, _, f), own in tried.items():
-        for cap in (8, 0) if own is broken else (8,):  # a cap of 0 refuses before they do
-            refusal, value, starts, *tables = model.read(f, own, cap, (13, 5, 2))
-            yield read_row(own, [cap, 13, 5, 2], f, [refusal, value, starts, *map(len, tables)], [[x for row in t for x in row] for t in tables])
+        for cap, mode in ((8, 1), (0, 1), (8, 3), (0, 3)) if own is broken else ((8, 1),):  # a cap of 0 refuses before they do, a mode behind them
+            refusal, value, starts, *tables = model.read(f, own, cap, (13, 6, 2), mode=mode)
+            yield read_row(own, [cap, 13, 6, 2], mode, f, [refusal, value, starts, *map(len, tables)], [[x for row in t for x in row] for t in tables])
         asked = [b"name", "é".encode()]
         answer = model.first_value(f, own, node, attribute, *asked, 1, 1)
         yield own, 4, [1, 1, *answer], [f, words(*node), words(*attribute), *asked]
 
 
-def read_row(names, lent, f, answer, tables):
-    """With no names, a cap of 8 and 104 places the answer is the same where no more than 8 notes of a kind were kept, and 10 is not the answer."""
+def read_row(names, lent, mode, f, answer, tables):
+    """With no names, a cap of 8, the first mode and 104 places the answer is the same where no more than 8 notes of a kind were kept, and 10 is not the answer."""
     kinds = tables[2][::3]
-    listed = not names.words and lent[0] >= 8 and answer[0] != 10 and all(kinds.count(x) <= 8 for x in kinds)
-    return names, 2, [*lent, int(listed), *answer], [f, *(words(*t) for t in tables)]
+    listed = not names.words and mode == 1 and lent[0] >= 8 and answer[0] != 10 and all(kinds.count(x) <= 8 for x in kinds)
+    return names, 2, [*lent, int(listed), *answer], [f, *(words(*t) for t in tables)], [mode]
 
 
 def pack_replay(reads, questions, path):
     sets, parts, many = {}, Parts(8), {}
-    for names, kind, w, held in replay_cases(reads, questions):
-        row = words(kind, *w, *(x for b in held for x in parts.place(b)))
-        sets.setdefault((tuple(names.words), names.area), []).append(row + bytes(80 - len(row)))
+    for names, kind, w, held, *behind in replay_cases(reads, questions):
+        row = words(kind, *w, *(x for b in held for x in parts.place(b)), *(x for b in behind for x in b))
+        sets.setdefault((tuple(names.words), names.area), []).append(row + bytes(84 - len(row)))
         many[kind] = many.get(kind, 0) + 1
     rows = b"".join(words(*parts.place(words(*table)), *parts.place(area), *parts.place(b"".join(rows))) for (table, area), rows in sets.items())
     out = words(*parts.place(rows)) + parts.body
@@ -727,11 +754,11 @@ def check(path):
                     assert t == h.text(i)
                     top("text", len(t or b""))
         elif kind == 2:
-            k, cap, *room = c.words(5)
+            k, cap, mode, *room = c.words(6)
             f = c.text()
             refusal, value, starts, a, b_, m = c.words(6)
-            rows = [tuple(c.words(rust.NODE)) for _ in range(a)], [tuple(c.words(5)) for _ in range(b_)], [tuple(c.words(3)) for _ in range(m)]
-            assert (refusal, value, starts, *rows) == model.read(f, sets[k], cap, tuple(room), trusted=True)
+            rows = [tuple(c.words(rust.NODE)) for _ in range(a)], [tuple(c.words(rust.ATTRIBUTE)) for _ in range(b_)], [tuple(c.words(3)) for _ in range(m)]
+            assert (refusal, value, starts, *rows) == model.read(f, sets[k], cap, tuple(room), trusted=True, mode=mode)
             for key, x in zip(("node words", "attribute words", "note places"), room):
                 top(key, x)
         elif kind == 3:

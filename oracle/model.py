@@ -14,7 +14,8 @@ import re
 import struct
 
 LIMIT = 16_777_216
-NODE = 6  # words of a node
+NODE, ATTRIBUTE = 6, 6  # words of a node, of an attribute
+ANDROID = b"http://schemas.android.com/apk/res/android"
 NONE = 0xFFFFFFFF
 XML = (0x100, 0x101, 0x102, 0x103, 0x104, 0x17F)
 START = "A-Z_a-z\u00c0-\u00d6\u00d8-\u00f6\u00f8-\u02ff\u0370-\u037d\u037f-\u1fff\u200c\u200d\u2070-\u218f\u2c00-\u2fef\u3001-\ud7ff" \
@@ -68,7 +69,9 @@ WRONG = {
     "note_12_never": "W27", "note_12_counts_open": "W27", "note_12_only_if_whole": "W27", "no_start_is_empty": "W28",
     "finished_children_kept": "W29", "nothing_dropped": "W29", "starts_are_nodes": "B15", "dropped_notes_too": "W29", "dropped_attributes_counted": "W29",
     "node_before_note_9": "B3", "past_cap_due": "B4", "repeat_due": "B4", "dropped_need_no_room": "B5", "places_rounded_up": "B6",
-    "nodes_of_five_words": "B6", "comment_for_line": "B9", "line_of_end": "B9", "line_only_if_valid": "B9",
+    "nodes_of_five_words": "B6", "attributes_of_five_words": "B6", "ns_0_without_text": "B11", "ns_of_last": "B11", "lead_ns_none": "B11",
+    "own_is_android": "W22", "android_by_front": "W22", "own_0_if_empty": "W22", "own_merged_by_name": "W23", "own_by_index": "W23",
+    "mode_0_is_1": "B16", "mode_over_2_is_2": "B16", "mode_behind_1": "B16", "comment_for_line": "B9", "line_of_end": "B9", "line_only_if_valid": "B9",
     "first_zero_if_none": "B10", "parent_is_one_up": "B9", "cap_over_all_kinds": "B13", "last_kept": "B13", "cap_plus_1": "B13", "cap_0_read": "B2", "cap_0_is_1": "B2",
     "value_10_is_used": "B1", "value_1_is_0": "B1", "value_3_is_0": "B1",
 }
@@ -516,12 +519,13 @@ def valid(t, w, hits):
 class Walk:
     """The walk (W) into tables with room (B)."""
 
-    def __init__(self, file, names, cap, room, hits, w):
-        self.hits, self.w = hits, w
+    def __init__(self, file, names, cap, room, hits, w, mode=1):
+        self.hits, self.w, self.mode = hits, w, mode
         self.cap = cap + 1 if w == "cap_plus_1" or w == "cap_0_is_1" and cap == 0 else cap
         up = w == "places_rounded_up"
         node = 5 if w == "nodes_of_five_words" else NODE
-        self.node_places, self.attribute_places, self.note_places = (room[0] + up * (node - 1)) // node, (room[1] + up * 4) // 5, room[2]
+        attribute = 5 if w == "attributes_of_five_words" else ATTRIBUTE
+        self.node_places, self.attribute_places, self.note_places = (room[0] + up * (node - 1)) // node, (room[1] + up * (attribute - 1)) // attribute, room[2]
         self.counts = [0] * 13
         self.notes, self.nodes, self.attributes = [], [], []
         self.starts, self.depth, self.open = 0, 0, []
@@ -803,13 +807,13 @@ class Walk:
         kept = []
         if lead and w != "lead_last":
             hits.add("W24")
-            self.attribute([me, 2, 0, 3, 0])
+            self.attribute([me, 2, 0, 3, 0, NONE if w == "lead_ns_none" else 0])
             if w == "lead_collides":
-                kept += [(1, b"android", 0), (0, b"android", 0)]
+                kept += [(1, b"android", None, 0), (0, b"android", None, 0)]
         for at in places:
             self.one(f, at, me, kept)
         if lead and w == "lead_last":
-            self.attribute([me, 2, 0, 3, 0])
+            self.attribute([me, 2, 0, 3, 0, NONE if w == "lead_ns_none" else 0])
         many = len(self.attributes) - first
         if not many:
             hits.add("B10")
@@ -843,21 +847,28 @@ class Walk:
                 return
         nt = head.text(ns, "namespace" if w == "namespaces_pool_only" else "")
         prefix = int(nt is not None)
-        hits.add("W22-none" if nt is None else "W22-empty" if not nt else "W22" if nt == b"http://schemas.android.com/apk/res/android" else "W22-other")
+        hits.add("W22-none" if nt is None else "W22-empty" if not nt else "W22" if nt == ANDROID else "W22-other")
         if w == "prefix_by_text":
-            prefix = int(nt == b"http://schemas.android.com/apk/res/android")
+            prefix = int(nt == ANDROID)
         if w == "prefix_0_if_empty":
             prefix = int(bool(nt))
         if w == "prefix_by_index":
             prefix = int(ns != NONE)
         if w == "prefix_0_if_invalid" and nt is not None:
             prefix = int(NCNAME.match(nt.decode()) is not None or b"/" in nt)
-        key = prefix, index if w == "repeats_by_index" else t
+        if self.mode == 2:
+            android = nt is not None and nt.startswith(ANDROID) if w == "android_by_front" else nt == ANDROID
+            prefix = 0 if not nt and (nt is None or w == "own_0_if_empty") else 1 if android or w == "own_is_android" else 3
+            hits.add(f"W22-apart-{prefix}")
+        space = None if prefix != 3 or w == "own_merged_by_name" else ns if w == "own_by_index" else nt
+        key = prefix, index if w == "repeats_by_index" else t, space
         if w == "repeats_without_prefix":
-            key = 0, t
-        at_repeat = next((k for k in kept if k[:2] == key), None)
+            key = 0, t, None
+        at_repeat = next((k for k in kept if k[:3] == key), None)
         if w == "repeats_of_neighbour_only":
-            at_repeat = kept[-1] if kept and kept[-1][:2] == key else None
+            at_repeat = kept[-1] if kept and kept[-1][:3] == key else None
+        if prefix == 3 and any(k[0] == 3 and k[1] == t and k[2] != nt for k in kept):
+            hits.add("W23-other-space")
         if any(k[1] == t and k[0] != prefix for k in kept):
             hits.add("W23-prefix")
         if at_repeat is not None and w != "repeats_kept":
@@ -867,12 +878,14 @@ class Walk:
             if w == "repeat_due" and len(self.attributes) >= self.attribute_places:
                 raise Refused(9, self.attribute_places)
             if w == "last_repeat_wins":
-                self.attributes[at_repeat[2]][2:] = [index, kind, data]
+                self.attributes[at_repeat[3]][2:] = [index, kind, data, ns]
+            if w == "ns_of_last":
+                self.attributes[at_repeat[3]][5] = ns
             return
         if me == 0 and t == b"android":
             hits.add(f"W24-beside-{prefix}")
         kept.append((*key, len(self.attributes)))
-        self.attribute([me, prefix, index, kind, data])
+        self.attribute([me, prefix, index, kind, data, 0 if w == "ns_0_without_text" and nt is None else ns])
 
     def end(self, name=None):
         w, hits = self.w, self.hits
@@ -909,7 +922,7 @@ class Walk:
         del self.nodes[second:]
 
 
-def read(file, names=NO_NAMES, cap=16, room=(1 << 40, 1 << 40, 1 << 40), hits=None, w="", trusted=False):
+def read(file, names=NO_NAMES, cap=16, room=(1 << 40, 1 << 40, 1 << 40), hits=None, w="", trusted=False, mode=1):
     """The reading (B). `trusted` leaves out the check of the names, where it was made once before."""
     hits = set() if hits is None else hits
     bad = None if trusted else names.bad()
@@ -922,13 +935,18 @@ def read(file, names=NO_NAMES, cap=16, room=(1 << 40, 1 << 40, 1 << 40), hits=No
     if bad is not None:
         hits.add("B1-7")
         return 7, bad, 0, [], [], []
+    if w == "mode_0_is_1" and mode == 0 or w == "mode_over_2_is_2" and mode > 2:
+        mode = min(mode + 1, 2)
+    if mode not in (1, 2) and not (w == "mode_behind_1" and len(file) < 8):
+        hits.add("B1-16")
+        return 16, mode, 0, [], [], []
     try:
-        r = Walk(file, names, cap, room, hits, w)
+        r = Walk(file, names, cap, room, hits, w, mode)
         if w == "dropped_need_no_room":
             if len(r.nodes) > room[0] // NODE:
                 raise Refused(8, room[0] // NODE)
-            if 5 * len(r.attributes) > room[1] - room[1] % 5:
-                raise Refused(9, room[1] // 5)
+            if len(r.attributes) > room[1] // ATTRIBUTE:
+                raise Refused(9, room[1] // ATTRIBUTE)
     except Refused as e:
         hits.add(f"B1-{e.number}")
         return e.number, e.value, 0, [], [], []
@@ -970,7 +988,7 @@ def first_value(file, names, nodes, attributes, tag, name, node_count, attribute
     """The first-value question (Q4 to Q8): nodes and attributes are lists of words."""
     try:
         head = opened(file, names, set(), "", trusted)
-        if NODE * node_count > len(nodes) or 5 * attribute_count > len(attributes):
+        if NODE * node_count > len(nodes) or ATTRIBUTE * attribute_count > len(attributes):
             raise Refused(13, node_count)
         for i in range(node_count):
             if nodes[NODE * i + 3] + nodes[NODE * i + 4] > attribute_count:
@@ -980,7 +998,7 @@ def first_value(file, names, nodes, attributes, tag, name, node_count, attribute
             if (b"invalid-element" if fixed == 1 else head.text(index)) != tag:
                 continue
             for k in range(first, first + count):
-                _, prefix, index, kind, data = attributes[5 * k:5 * k + 5]
+                _, prefix, index, kind, data, _ = attributes[ATTRIBUTE * k:ATTRIBUTE * (k + 1)]
                 if (b"android" if prefix == 2 else head.text(index)) == name:
                     return 0, 0, kind, data, int(kind in (1, 7))
             break

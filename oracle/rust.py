@@ -8,7 +8,7 @@ import os
 import struct
 import subprocess
 
-from model import NODE
+from model import ATTRIBUTE, NODE
 
 TEXTS, NAMES, VALUES, DUE = 1, 2, 4, 8
 NONE = 0xFFFFFFFF
@@ -35,11 +35,11 @@ class Answer:
     def __init__(self, b, flags, questions):
         self.refusal, self.value, self.starts, n, a, m = struct.unpack_from("<6I", b)
         at = 24
-        self.tables = b[at:at + 4 * NODE * n + 20 * a + 12 * m]
+        self.tables = b[at:at + 4 * NODE * n + 4 * ATTRIBUTE * a + 12 * m]
         self.nodes = list(struct.iter_unpack(f"<{NODE}I", b[at:at + 4 * NODE * n]))
         at += 4 * NODE * n
-        self.attributes = list(struct.iter_unpack("<5I", b[at:at + 20 * a]))
-        at += 20 * a
+        self.attributes = list(struct.iter_unpack(f"<{ATTRIBUTE}I", b[at:at + 4 * ATTRIBUTE * a]))
+        at += 4 * ATTRIBUTE * a
         self.notes = list(struct.iter_unpack("<3I", b[at:at + 12 * m]))
         at += 12 * m
 

@@ -6,7 +6,7 @@
 The function lends `read` a local array of zero notes, empty slices and fixed numbers, and hands the notes out by value:
 
     let mut notes = [Note { kind: 0, a: 0, b: 0 }; LISTED_NOTES];
-    let answer = read(file, &[], &[], nodes, attributes, &mut notes, LISTED_CAP);
+    let answer = read(file, &[], &[], nodes, attributes, &mut notes, LISTED_CAP, MERGED);
     Listed { answer, notes }
 """
 

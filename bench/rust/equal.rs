@@ -1,6 +1,6 @@
 //! The Rust, built twice: with no system names, and with those of oracle/system-names.txt. What is asked of either is written once.
 
-use crate::ours::{Answer, NODE_WORDS, Tables};
+use crate::ours::{ATTRIBUTE_WORDS, Answer, NODE_WORDS, Tables};
 
 macro_rules! build {
     ($module:ident, $of:ident) => {
@@ -72,7 +72,7 @@ macro_rules! build {
                     same("parent of node", node, parent, row[2])?;
                     same("attributes of node", node, (attribute, element.attributes().count()), (row[3] as usize, row[4] as usize))?;
                     for theirs in element.attributes() {
-                        let row = ours.attributes.get(5 * attribute..5 * attribute + 5).ok_or("too few attributes")?;
+                        let row = ours.attributes.get(ATTRIBUTE_WORDS * attribute..ATTRIBUTE_WORDS * (attribute + 1)).ok_or("too few attributes")?;
                         let own = match row[1] {
                             2 => Attribute::new(Some("xmlns"), "android", $of::axml::ANDROID_NAMESPACE),
                             prefix => {

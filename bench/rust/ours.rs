@@ -15,15 +15,19 @@ pub struct Answer {
 unsafe extern "C" {
     fn axml_read(
         file: *const u8, file_bytes: usize, names: *const u32, name_words: usize, area: *const u8, area_bytes: usize, nodes: *mut u32,
-        node_words: usize, attributes: *mut u32, attribute_words: usize, notes: *mut u32, note_words: usize, cap: u32,
+        node_words: usize, attributes: *mut u32, attribute_words: usize, notes: *mut u32, note_words: usize, cap: u32, mode: u32,
     ) -> Answer;
 }
 
 /// The Rust's cap of notes of a kind.
 const CAP: usize = 16;
 
-/// Words of a node.
+/// Words of a node, and of an attribute.
 pub const NODE_WORDS: usize = 6;
+pub const ATTRIBUTE_WORDS: usize = 6;
+
+/// The first mode, the Rust's.
+const MERGED: u32 = 1;
 
 /// System names, three words for each, or items, six, and the bytes that they lie in.
 pub struct Names {
@@ -82,7 +86,7 @@ pub struct Tables {
 impl Tables {
     /// Room for whatever a file of so many bytes holds: an element is 36 bytes or more, an attribute 20, and the first element has one more.
     pub fn of(bytes: usize) -> Tables {
-        Tables { nodes: vec![0; NODE_WORDS * (bytes / 36 + 1)], attributes: vec![0; 5 * (bytes / 20 + 1)], notes: vec![0; 3 * 13 * CAP] }
+        Tables { nodes: vec![0; NODE_WORDS * (bytes / 36 + 1)], attributes: vec![0; ATTRIBUTE_WORDS * (bytes / 20 + 1)], notes: vec![0; 3 * 13 * CAP] }
     }
 
     pub fn read(&mut self, file: &[u8], names: &Names) -> Answer {
@@ -91,7 +95,7 @@ impl Tables {
         unsafe {
             axml_read(
                 file.as_ptr(), file.len(), names.words.as_ptr(), names.words.len(), names.area.as_ptr(), names.area.len(), nodes.as_mut_ptr(),
-                nodes.len(), attributes.as_mut_ptr(), attributes.len(), notes.as_mut_ptr(), notes.len(), CAP as u32,
+                nodes.len(), attributes.as_mut_ptr(), attributes.len(), notes.as_mut_ptr(), notes.len(), CAP as u32, MERGED,
             )
         }
     }

@@ -1,4 +1,5 @@
-/* Prints the tree of a binary AndroidManifest.xml, each element behind its line, and its package: `example FILE`. What must not be forgotten is on this page: the tables are
+/* Prints the tree of a binary AndroidManifest.xml, each element behind its line and attributes of other
+ * namespaces than Android's with theirs in braces, and its package: `example FILE`. What must not be forgotten is on this page: the tables are
  * sized by the file, a refusal is looked at before the counts, and names are asked for by their index. */
 #include <stdio.h>
 #include <stdlib.h>
@@ -37,7 +38,7 @@ int main(int count, char **words) {
 
   struct axml_answer r = axml_read(file, bytes, no_names, 0, no_area, 0, (uint32_t *)nodes, AXML_NODE_WORDS * node_places,
                                    (uint32_t *)attributes, AXML_ATTRIBUTE_WORDS * attribute_places, (uint32_t *)notes,
-                                   AXML_NOTE_WORDS * note_places, CAP);
+                                   AXML_NOTE_WORDS * note_places, CAP, AXML_MODE_APART);
   if (r.refusal != AXML_DONE) return fprintf(stderr, "refusal %u, value %lu\n", r.refusal, (unsigned long)r.value), 1;
 
   for (uint32_t i = 0; i < r.nodes; i++) {
@@ -49,7 +50,8 @@ int main(int count, char **words) {
       print_text(bytes, nodes[i].name);
     for (uint32_t k = nodes[i].first; k < nodes[i].first + nodes[i].count; k++) {
       const struct axml_attribute *a = &attributes[k];
-      printf(a->prefix == AXML_PREFIX_XMLNS ? " xmlns:android" : a->prefix == AXML_PREFIX_ANDROID ? " android:" : " ");
+      printf(a->prefix == AXML_PREFIX_XMLNS ? " xmlns:android" : a->prefix == AXML_PREFIX_ANDROID ? " android:" : a->prefix == AXML_PREFIX_OWN ? " {" : " ");
+      if (a->prefix == AXML_PREFIX_OWN) print_text(bytes, a->ns), printf("}");
       if (a->prefix != AXML_PREFIX_XMLNS) print_text(bytes, a->name);
       printf("=%u/%u", a->type, a->data);
     }

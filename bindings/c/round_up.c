@@ -32,7 +32,7 @@ static void add(const char *path) {
   } else {
     /* a start takes 36 bytes and an attribute 20, and one attribute leads: no table is too short */
     struct axml_answer r = axml_read(file, bytes, no_names, 0, no_area, 0, nodes, AXML_NODE_WORDS * (bytes / 36 + 1), attributes,
-                                     AXML_ATTRIBUTE_WORDS * (bytes / 20 + 1), notes, sizeof notes / sizeof *notes, CAP);
+                                     AXML_ATTRIBUTE_WORDS * (bytes / 20 + 1), notes, sizeof notes / sizeof *notes, CAP, AXML_MODE_MERGED);
     struct axml_add_answer a = axml_round_up_add(round_up, AXML_ROUND_UP_WORDS, notes, sizeof notes / sizeof *notes, r.refusal, r.notes, bytes);
     if (a.refusal != AXML_DONE) {
       not_added++;

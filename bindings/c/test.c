@@ -6,7 +6,7 @@
 #include "axml.h"
 #include "sample.h"
 
-enum { TABLE = 14, NOTES = 11, FILE_BYTES = 256 }; /* two places and some words over; three places and two words over */
+enum { TABLE = 26, NOTES = 11, FILE_BYTES = 256 }; /* four places and two words over; three places and two words over */
 
 static uint32_t checks, failures;
 
@@ -26,7 +26,7 @@ struct expected {
 };
 
 #define ROOT 0, 0, AXML_NO_PARENT, 0, 1, 1
-#define LEADING 0, AXML_PREFIX_XMLNS, 0, 3, 0
+#define LEADING 0, AXML_PREFIX_XMLNS, 0, 3, 0, 0
 
 static const uint32_t no_words[1];
 static const uint8_t no_bytes[1];
@@ -35,12 +35,12 @@ static uint32_t nodes[TABLE], attributes[TABLE], notes[NOTES];
 
 /* The tables have node_words, attribute_words and note_words; what lies behind them stays garbage. */
 static void reads_in(const uint8_t *file, size_t bytes, const uint32_t *names, size_t name_words, size_t node_words, size_t attribute_words,
-                     size_t note_words, uint32_t cap, const struct expected *e) {
+                     size_t note_words, uint32_t cap, uint32_t mode, const struct expected *e) {
   memset(nodes, 0xa5, sizeof nodes);
   memset(attributes, 0xa5, sizeof attributes);
   memset(notes, 0xa5, sizeof notes);
   struct axml_answer r = axml_read(file, bytes, names, name_words, no_bytes, 0, nodes, node_words, attributes, attribute_words, notes,
-                                   note_words, cap);
+                                   note_words, cap, mode);
   const struct axml_answer *a = &e->answer;
   expect(r.refusal == a->refusal, e->what, "refusal");
   expect(r.value == a->value, e->what, "value");
@@ -57,7 +57,7 @@ static void reads_in(const uint8_t *file, size_t bytes, const uint32_t *names, s
 }
 
 static void reads(const uint8_t *file, size_t bytes, const struct expected *e) {
-  reads_in(file, bytes, no_words, 0, TABLE, TABLE, NOTES, 8, e);
+  reads_in(file, bytes, no_words, 0, TABLE, TABLE, NOTES, 8, AXML_MODE_MERGED, e);
 }
 
 static uint8_t file[FILE_BYTES];
@@ -118,19 +118,93 @@ static void readings(void) {
 
   /* tables without a place, whose words are zeros all the same, and lent names that break their rule */
   const struct expected no_node = {"no place for a node", {AXML_NODES_FULL, 0, 0, 0, 0, 0}, {0}, {0}, {0}};
-  reads_in(S, S_BYTES, no_words, 0, 5, TABLE, NOTES, 8, &no_node);
+  reads_in(S, S_BYTES, no_words, 0, 5, TABLE, NOTES, 8, AXML_MODE_MERGED, &no_node);
   const struct expected no_attribute = {"no place for an attribute", {AXML_ATTRIBUTES_FULL, 0, 0, 0, 0, 0}, {0}, {0}, {0}};
-  reads_in(S, S_BYTES, no_words, 0, TABLE, 4, NOTES, 8, &no_attribute);
+  reads_in(S, S_BYTES, no_words, 0, TABLE, 5, NOTES, 8, AXML_MODE_MERGED, &no_attribute);
   const struct expected no_note = {"one place for two notes", {AXML_NOTES_FULL, 1, 0, 0, 0, 0}, {0}, {0}, {0}};
-  reads_in(S, 103, no_words, 0, TABLE, TABLE, 5, 8, &no_note);
+  reads_in(S, 103, no_words, 0, TABLE, TABLE, 5, 8, AXML_MODE_MERGED, &no_note);
   const uint32_t low[3] = {0x02000000u, 0, 1};
   const struct expected silent = {"cap 0", {AXML_NOTES_OFF, 0, 0, 0, 0, 0}, {0}, {0}, {0}};
-  reads_in(S, S_BYTES, no_words, 0, TABLE, TABLE, NOTES, 0, &silent);
-  reads_in(S, 7, low, 3, 4, 4, 2, 0, &silent);
+  reads_in(S, S_BYTES, no_words, 0, TABLE, TABLE, NOTES, 0, AXML_MODE_MERGED, &silent);
+  reads_in(S, 7, low, 3, 4, 4, 2, 0, 9, &silent);
   const struct expected once = {"cap 1", {0, 0, 1, 1, 1, 0}, {ROOT}, {LEADING}, {0}};
-  reads_in(S, S_BYTES, no_words, 0, TABLE, TABLE, NOTES, 1, &once);
+  reads_in(S, S_BYTES, no_words, 0, TABLE, TABLE, NOTES, 1, AXML_MODE_MERGED, &once);
   const struct expected names = {"names", {AXML_SYSTEM_NAMES, 0, 0, 0, 0, 0}, {0}, {0}, {0}};
-  reads_in(S, S_BYTES, low, 3, TABLE, TABLE, NOTES, 8, &names);
+  reads_in(S, S_BYTES, low, 3, TABLE, TABLE, NOTES, 8, AXML_MODE_MERGED, &names);
+}
+
+/* ---- modes (W22, W23, B16) */
+
+#define ANDROID "http://schemas.android.com/apk/res/android"
+enum { URI_BYTES = sizeof ANDROID - 1, DATA = 52, STARTS_AT = 8 + 28 + 12 + 56 + 8 };
+
+static void put32(size_t at, uint32_t n) {
+  for (int i = 0; i < 4; i++) file[at + i] = (uint8_t)(n >> 8 * i);
+}
+
+/* S with three strings, `a`, the Android namespace and `u`, and on its element attributes called `a` of these namespaces; its length. */
+static size_t with_namespaces(const uint32_t *spaces, uint32_t count) {
+  memset(file, 0, sizeof file);
+  memcpy(file, S, 36);
+  put32(12, 28 + 12 + 56);
+  put32(16, 3);
+  put32(28, 40);
+  put32(36, 0);
+  put32(40, 4);
+  put32(44, 4 + 2 + URI_BYTES + 1);
+  memcpy(file + 48, "\001\001a", 3);
+  file[DATA] = file[DATA + 1] = URI_BYTES;
+  memcpy(file + DATA + 2, ANDROID, URI_BYTES);
+  memcpy(file + DATA + 2 + URI_BYTES + 1, "\001\001u", 3);
+  memcpy(file + STARTS_AT - 8, S + 44, 8);
+  memcpy(file + STARTS_AT, S + S_START, 36);
+  put32(STARTS_AT + 4, 36 + 20 * count);
+  file[STARTS_AT + 28] = (uint8_t)count;
+  size_t at = STARTS_AT + 36;
+  for (uint32_t k = 0; k < count; k++, at += 20) {
+    put32(at, spaces[k]);
+    put32(at + 4, 0);
+    put32(at + 8, 0xffffffffu);
+    file[at + 12] = 8;
+    file[at + 15] = 16;
+    put32(at + 16, 7 + k);
+  }
+  memcpy(file + at, S + S_END, 24);
+  return at + 24;
+}
+
+static void modes(void) {
+  const uint32_t none = 0xffffffffu, three[3] = {1, 2, none};
+  size_t bytes = with_namespaces(three, 3);
+  const struct expected merged = {"mode 1", {0, 0, 1, 1, 3, 0}, {0, 0, AXML_NO_PARENT, 0, 3, 1},
+      {LEADING, 0, AXML_PREFIX_ANDROID, 0, 16, 7, 1, 0, AXML_PREFIX_NONE, 0, 16, 9, none}, {0}};
+  reads_in(file, bytes, no_words, 0, TABLE, TABLE, NOTES, 8, AXML_MODE_MERGED, &merged);
+  const struct expected apart = {"mode 2", {0, 0, 1, 1, 4, 0}, {0, 0, AXML_NO_PARENT, 0, 4, 1},
+      {LEADING, 0, AXML_PREFIX_ANDROID, 0, 16, 7, 1, 0, AXML_PREFIX_OWN, 0, 16, 8, 2, 0, AXML_PREFIX_NONE, 0, 16, 9, none}, {0}};
+  reads_in(file, bytes, no_words, 0, TABLE, TABLE, NOTES, 8, AXML_MODE_APART, &apart);
+  const struct expected full = {"mode 2, three places", {AXML_ATTRIBUTES_FULL, 3, 0, 0, 0, 0}, {0}, {0}, {0}};
+  reads_in(file, bytes, no_words, 0, TABLE, 23, NOTES, 8, AXML_MODE_APART, &full);
+  /* the first of two merged stands, with its own namespace; an index without a text is no namespace, and stays as it is */
+  const uint32_t others[3] = {2, 1, 77};
+  bytes = with_namespaces(others, 3);
+  const struct expected own_first = {"mode 1, own first", {0, 0, 1, 1, 3, 0}, {0, 0, AXML_NO_PARENT, 0, 3, 1},
+      {LEADING, 0, AXML_PREFIX_ANDROID, 0, 16, 7, 2, 0, AXML_PREFIX_NONE, 0, 16, 9, 77}, {0}};
+  reads_in(file, bytes, no_words, 0, TABLE, TABLE, NOTES, 8, AXML_MODE_MERGED, &own_first);
+  /* a text that is not the whole of the Android namespace is another; two indices with one text are one namespace */
+  const uint32_t pair[2] = {1, 2};
+  bytes = with_namespaces(pair, 2);
+  put32(44, 4);
+  file[DATA + 2 + URI_BYTES - 1] = 'D';
+  const struct expected same = {"mode 2, one text", {0, 0, 1, 1, 2, 0}, {0, 0, AXML_NO_PARENT, 0, 2, 1}, {LEADING, 0, AXML_PREFIX_OWN, 0, 16, 7, 1}, {0}};
+  reads_in(file, bytes, no_words, 0, TABLE, TABLE, NOTES, 8, AXML_MODE_APART, &same);
+
+  const struct expected unknown = {"mode 0", {AXML_MODE, 0, 0, 0, 0, 0}, {0}, {0}, {0}};
+  reads_in(S, S_BYTES, no_words, 0, TABLE, TABLE, NOTES, 8, 0, &unknown);
+  const struct expected three_bytes = {"mode 9, three bytes", {AXML_MODE, 9, 0, 0, 0, 0}, {0}, {0}, {0}};
+  reads_in(S, 3, no_words, 0, TABLE, TABLE, NOTES, 8, 9, &three_bytes);
+  const uint32_t low[3] = {0x02000000u, 0, 1};
+  const struct expected names_first = {"mode 9, bad names", {AXML_SYSTEM_NAMES, 0, 0, 0, 0, 0}, {0}, {0}, {0}};
+  reads_in(S, S_BYTES, low, 3, TABLE, TABLE, NOTES, 8, 9, &names_first);
 }
 
 /* ---- questions */
@@ -149,11 +223,11 @@ static void texts(const char *what, size_t bytes, uint32_t index, size_t room, u
 }
 
 static void first(const char *what, const char *tag, const char *name, uint32_t node_count, uint32_t refusal, uint64_t value, uint32_t type) {
-  const uint32_t tree[6] = {ROOT}, owned[5] = {0, AXML_PREFIX_XMLNS, 0, type, 9};
+  const uint32_t tree[6] = {ROOT}, owned[6] = {0, AXML_PREFIX_XMLNS, 0, type, 9, 0};
   size_t tag_bytes = 0, name_bytes = 0;
   while (tag[tag_bytes]) tag_bytes++;
   while (name[name_bytes]) name_bytes++;
-  struct axml_first_answer r = axml_first_value(S, S_BYTES, no_words, 0, no_bytes, 0, tree, 6, owned, 5, (const uint8_t *)tag, tag_bytes,
+  struct axml_first_answer r = axml_first_value(S, S_BYTES, no_words, 0, no_bytes, 0, tree, 6, owned, 6, (const uint8_t *)tag, tag_bytes,
                                                 (const uint8_t *)name, name_bytes, node_count, 1);
   expect(r.refusal == refusal, what, "refusal");
   expect(r.value == value, what, "value");
@@ -302,6 +376,7 @@ static void manies(void) {
 int main(void) {
   expect(axml_abi() == AXML_ABI, "axml_abi", "AXML_ABI of the header");
   readings();
+  modes();
   questions();
   contents();
   values();

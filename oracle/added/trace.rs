@@ -19,6 +19,7 @@ pub struct Value {
     pub name: u32,
     pub kind: u8,
     pub data: u32,
+    pub namespace: u32,
 }
 
 #[derive(Default)]
@@ -94,6 +95,7 @@ pub(crate) fn value(text: &str, attribute: &XmlAttributeElement) -> String {
             name: attribute.name,
             kind: byte_of(&attribute.typed_value.data_type),
             data: attribute.typed_value.data,
+            namespace: attribute.namespace_uri,
         });
         format!("{}|{}", t.values.len() - 1, text)
     })

@@ -75,7 +75,7 @@ impl Words {
 }
 
 struct Attribute<'a> {
-    words: [u32; 5],
+    words: [u32; 6],
     name: &'a str,
     value: &'a str,
 }
@@ -125,7 +125,7 @@ fn reading<'a>(file: &[u8], answer: &'a Result<AXML, AXMLError>, t: &Trace) -> R
         for a in element.attributes() {
             r.attributes.push(if a.prefix() == Some("xmlns") {
                 assert!(me == 0 && r.attributes.is_empty() && a.name() == "android" && a.value() == ANDROID_NAMESPACE);
-                Attribute { words: [0, 2, 0, 3, 0], name: a.name(), value: a.value() }
+                Attribute { words: [0, 2, 0, 3, 0, 0], name: a.name(), value: a.value() }
             } else {
                 let (number, text) = numbered(a.value());
                 let v = &t.values[number];
@@ -135,7 +135,7 @@ fn reading<'a>(file: &[u8], answer: &'a Result<AXML, AXMLError>, t: &Trace) -> R
                     Some("android") => 1,
                     Some(other) => panic!("prefix {other}"),
                 };
-                Attribute { words: [me as u32, prefix, v.name, v.kind as u32, v.data], name: a.name(), value: text }
+                Attribute { words: [me as u32, prefix, v.name, v.kind as u32, v.data, v.namespace], name: a.name(), value: text }
             });
         }
         let start = &t.starts[me];
@@ -274,7 +274,7 @@ fn listing(file: &[u8]) {
     let answer = AXML::new(&mut rest, None);
     let t = trace::take();
     let mut r = reading(file, &answer, &t);
-    if file.len() > 65536 {
+    if file.len() > 54272 {
         r = Reading { refusal: 2, ..Reading::default() };
     }
     let numbers = [r.refusal, r.value, 8, r.starts as u32, r.nodes.len() as u32, r.attributes.len() as u32, r.notes.len() as u32];
@@ -286,8 +286,8 @@ fn listing(file: &[u8]) {
         writeln!(out, "node={i} name={name} fixed={fixed} parent={parent} first={first} count={count} line={line}").unwrap();
     }
     for (i, a) in r.attributes.iter().enumerate() {
-        let [owner, prefix, name, kind, data] = a.words;
-        writeln!(out, "attribute={i} owner={owner} prefix={prefix} name={name} type={kind} data={data}").unwrap();
+        let [owner, prefix, name, kind, data, ns] = a.words;
+        writeln!(out, "attribute={i} owner={owner} prefix={prefix} name={name} type={kind} data={data} ns={ns}").unwrap();
     }
     for (i, [kind, a, b]) in r.notes.iter().enumerate() {
         writeln!(out, "note={i} kind={kind} a={a} b={b}").unwrap();

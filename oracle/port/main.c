@@ -13,7 +13,7 @@
 #include <string.h>
 #include "axml.h"
 
-enum { TEXTS = 1, NAMES = 2, VALUES = 4, ROOMS = 16, NONE = 0xffffffff };
+enum { TEXTS = 1, NAMES = 2, VALUES = 4, ROOMS = 16, APART = 32, NONE = 0xffffffff };
 
 static void fail(const char *why)
 {
@@ -221,14 +221,15 @@ static void answer(uint32_t flags, uint32_t cap, names s, names items, uint32_t 
     bytes file = text();
     if (!(flags & ROOMS)) {
         rooms[0] = AXML_NODE_WORDS * (file.n / 36 + 1);
-        rooms[1] = 5 * (file.n / 20 + 2);
+        rooms[1] = AXML_ATTRIBUTE_WORDS * (file.n / 20 + 2);
         rooms[2] = 13 * (size_t)cap;
         if (rooms[2] > file.n) rooms[2] = file.n; /* a note comes of at least a byte */
     }
     uint32_t *nodes = patterned(rooms[0]), *attributes = patterned(rooms[1]), *notes = patterned(3 * rooms[2]);
-    struct axml_answer a = axml_read(file.at, file.n, s.words, s.n, s.area, s.length, nodes, rooms[0], attributes, rooms[1], notes, 3 * rooms[2], cap);
+    struct axml_answer a = axml_read(file.at, file.n, s.words, s.n, s.area, s.length, nodes, rooms[0], attributes, rooms[1], notes, 3 * rooms[2], cap,
+                                     flags & APART ? AXML_MODE_APART : AXML_MODE_MERGED);
     zeros_behind(nodes, AXML_NODE_WORDS * (size_t)a.nodes, rooms[0]);
-    zeros_behind(attributes, 5 * (size_t)a.attributes, rooms[1]);
+    zeros_behind(attributes, AXML_ATTRIBUTE_WORDS * (size_t)a.attributes, rooms[1]);
     zeros_behind(notes, 3 * (size_t)a.notes, 3 * rooms[2]);
     used = 0;
     /* which part of the head is cut, and where, the Rust does not say: its numbers are the tens of ours */
@@ -240,7 +241,7 @@ static void answer(uint32_t flags, uint32_t cap, names s, names items, uint32_t 
     put_word(a.attributes);
     put_word(a.notes);
     put(nodes, 4 * AXML_NODE_WORDS * (size_t)a.nodes);
-    put(attributes, 20 * (size_t)a.attributes);
+    put(attributes, 4 * AXML_ATTRIBUTE_WORDS * (size_t)a.attributes);
     put(notes, 12 * (size_t)a.notes);
     if (flags & TEXTS) {
         uint32_t count = flags >> 8;
@@ -256,8 +257,8 @@ static void answer(uint32_t flags, uint32_t cap, names s, names items, uint32_t 
             if (nodes[AXML_NODE_WORDS * k + 1] == 1) put_text("invalid-element", 15);
             else put_name(file, s, nodes[AXML_NODE_WORDS * k]);
         for (k = 0; k < a.attributes; k++)
-            if (attributes[5 * k + 1] == 2) put_text("android", 7);
-            else put_name(file, s, attributes[5 * k + 2]);
+            if (attributes[AXML_ATTRIBUTE_WORDS * k + 1] == 2) put_text("android", 7);
+            else put_name(file, s, attributes[AXML_ATTRIBUTE_WORDS * k + 2]);
     }
     if (flags & VALUES) put_values(file, s, items, attributes, rooms[1], a.attributes);
     while (asked--) {

@@ -3,7 +3,7 @@
 import re
 from dataclasses import dataclass
 
-from byhand.table import ANSWER, ANSWERS, CORE, CRATE, LIMITS, LENT, LISTED, NOTE, OUTCOME, READING, ZERO
+from byhand.table import ANSWER, ANSWERS, CORE, CRATE, LIMITS, LENT, LISTED, MODES, NOTE, OUTCOME, READING, ZERO
 
 # a generated file imports those of these names that it uses; x=y is x under the name y
 USES = """
@@ -62,6 +62,7 @@ Rattle.{CRATE}.specs.declared.{LISTED}: {LISTED}=Listed
 {": ".join(ZERO)}
 {": ".join(LENT[:2])}
 {": ".join(LIMITS)}
+{": ".join(MODES)}
 {": ".join(READING)}
 Rattle.{CRATE}.proofs.Fields: gets
 Rattle.{CRATE}.proofs.Lending: slice Opened opens shuts passes-on takes-back holds fails

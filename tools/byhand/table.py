@@ -16,7 +16,7 @@ ANSWERS = ("answer_of", "Answers")  # `read` ends in this call of the core, whic
 SHARED = [("file", "u8"), ("names", "u32"), ("area", "u8")]  # `&[T]`, the first parameters of `read`
 TABLES = [("nodes", "u32"), ("attributes", "u32")]           # `&mut [T]`, the next
 NOTES = "notes"                                              # `&mut [Note]`
-NUMBERS = [("cap", "u32")]                                   # by value, the last
+NUMBERS = [("cap", "u32"), ("mode", "u32")]                  # by value, the last
 LENT = ("Rattle.system_types.specs.Names", "lends", ["names", "area"])  # shared slices that the definitions take as one record, by this function
 
 # the definitions that the proofs name, and their modules; x=y is x under the name y, which the generators use
@@ -26,8 +26,9 @@ ZERO = ("Rattle.walk.specs.Reading", "zeroNote")             # what the array o
 
 LISTED = "Listed"                   # the struct that `read_listed` answers: the answer, and the array of notes
 LIMITS = ("Rattle.records.specs.Limits", "listedCap listedNotes")  # the cap and the notes of a listing
+MODES = ("Rattle.records.specs.Words", "merged")  # the mode of a listing
 COUNT = "listedNotes"               # notes of that array
 EMPTY = ["names", "area"]           # what `read_listed` lends `read` as `&[]`
-FIXED = {"cap": "listedCap"}        # and the numbers that it passes
+FIXED = {"cap": "listedCap", "mode": "merged"}  # and the numbers that it passes
 
 WIDTH = 150                         # columns of a generated line

@@ -1,6 +1,6 @@
 //! The numbers of this crate are those of include/axml.h, and its words those of docs/words.tsv: both files are read here.
 
-use crate::{sys, Note, NoteKind, Refusal};
+use crate::{sys, Mode, Note, NoteKind, Refusal};
 
 fn repository(path: &str) -> String {
     let path = format!("{}/../../{path}", env!("CARGO_MANIFEST_DIR"));
@@ -44,6 +44,9 @@ fn numbers() {
     is("AXML_NO_PARENT", sys::NO_PARENT.into());
     is("AXML_PREFIX_ANDROID", sys::PREFIX_ANDROID.into());
     is("AXML_PREFIX_XMLNS", sys::PREFIX_XMLNS.into());
+    is("AXML_PREFIX_OWN", sys::PREFIX_OWN.into());
+    is("AXML_MODE_MERGED", Mode::Merged.number().into());
+    is("AXML_MODE_APART", Mode::Apart.number().into());
     is("AXML_SLICE_AREA", sys::SLICE_AREA.into());
     is("AXML_SLICE_FILE", sys::SLICE_FILE.into());
     is("AXML_ROUND_UP_WORDS", sys::ROUND_UP_WORDS as u64);
@@ -58,14 +61,14 @@ fn numbers() {
     let refusals = [
         "AXML_TOO_SMALL", "AXML_TOO_LARGE", "AXML_HEADER_SIZE", "AXML_MISSING_ROOT", "AXML_SYSTEM_NAMES",
         "AXML_NODES_FULL", "AXML_ATTRIBUTES_FULL", "AXML_NOTES_FULL", "AXML_TEXT_SHORT", "AXML_NOTHING_FOUND", "AXML_TABLES",
-        "AXML_ITEMS", "AXML_NO_PLAIN_TEXT", "AXML_ANSWERS_FULL",
+        "AXML_ITEMS", "AXML_NO_PLAIN_TEXT", "AXML_MODE", "AXML_ANSWERS_FULL",
         "AXML_NOTES_OFF", "AXML_ROUND_UP_FULL",
         "AXML_POOL_GARBAGE", "AXML_POOL_HEADER", "AXML_POOL_OFFSETS", "AXML_POOL_STYLES", "AXML_POOL_DATA", "AXML_MAP_HEADER", "AXML_MAP_IDS",
     ];
     let cases = [
         Refusal::TooSmall(0), Refusal::TooLarge, Refusal::HeaderSize(0), Refusal::NoElement,
         Refusal::SystemNames(0), Refusal::NodesFull(0), Refusal::AttributesFull(0), Refusal::NotesFull(0), Refusal::TextShort(0),
-        Refusal::NothingFound, Refusal::Tables(0), Refusal::Items(0), Refusal::NoPlainText(0), Refusal::AnswersFull(0), Refusal::NotesOff, Refusal::RoundUpFull, Refusal::PoolGarbage(0), Refusal::PoolHeader(0), Refusal::PoolOffsets(0), Refusal::PoolStyles(0),
+        Refusal::NothingFound, Refusal::Tables(0), Refusal::Items(0), Refusal::NoPlainText(0), Refusal::Mode(0), Refusal::AnswersFull(0), Refusal::NotesOff, Refusal::RoundUpFull, Refusal::PoolGarbage(0), Refusal::PoolHeader(0), Refusal::PoolOffsets(0), Refusal::PoolStyles(0),
         Refusal::PoolData(0), Refusal::MapHeader(0), Refusal::MapIds(0),
     ];
     for (name, refusal) in refusals.iter().zip(cases) {
@@ -104,8 +107,8 @@ fn places() {
     let node = [sys::NODE_NAME, sys::NODE_FIXED, sys::NODE_PARENT, sys::NODE_FIRST, sys::NODE_COUNT, sys::NODE_LINE];
     assert_eq!(node, ["name", "fixed", "parent", "first", "count", "line"].map(|f| at("axml_node", f)));
     assert_eq!(fields(&header, "axml_node").len(), sys::NODE_WORDS);
-    let attribute = [sys::ATTRIBUTE_OWNER, sys::ATTRIBUTE_PREFIX, sys::ATTRIBUTE_NAME, sys::ATTRIBUTE_TYPE, sys::ATTRIBUTE_DATA];
-    assert_eq!(attribute, ["owner", "prefix", "name", "type", "data"].map(|f| at("axml_attribute", f)));
+    let attribute = [sys::ATTRIBUTE_OWNER, sys::ATTRIBUTE_PREFIX, sys::ATTRIBUTE_NAME, sys::ATTRIBUTE_TYPE, sys::ATTRIBUTE_DATA, sys::ATTRIBUTE_NS];
+    assert_eq!(attribute, ["owner", "prefix", "name", "type", "data", "ns"].map(|f| at("axml_attribute", f)));
     assert_eq!(fields(&header, "axml_attribute").len(), sys::ATTRIBUTE_WORDS);
     assert_eq!([sys::NOTE_KIND, sys::NOTE_A, sys::NOTE_B], ["kind", "a", "b"].map(|f| at("axml_note", f)));
     assert_eq!(fields(&header, "axml_note").len(), sys::NOTE_WORDS);
@@ -151,5 +154,5 @@ fn words() {
         };
         assert!(said.starts_with(words), "{said}");
     }
-    assert_eq!((refusals, notes), (22, NoteKind::ALL.len()));
+    assert_eq!((refusals, notes), (23, NoteKind::ALL.len()));
 }

@@ -66,6 +66,26 @@ impl<'a> FromIterator<(u32, &'a str)> for SystemNames {
     }
 }
 
+/// How a reading tells the namespaces of attributes (docs/FORMAT.md, B16).
+#[derive(Clone, Copy, Debug, Default, PartialEq, Eq)]
+pub enum Mode {
+    /// Every namespace with a text is Android's, as in the Rust original; of attributes that differ by it alone the first is kept.
+    #[default]
+    Merged,
+    /// Android's namespace is told from all others, whose attributes have [`Prefix::Own`]. It keeps all that `Merged` keeps.
+    Apart,
+}
+
+impl Mode {
+    /// Its number (docs/FORMAT.md, B16).
+    pub fn number(&self) -> u32 {
+        match self {
+            Mode::Merged => sys::MODE_MERGED,
+            Mode::Apart => sys::MODE_APART,
+        }
+    }
+}
+
 /// A file that was read.
 #[derive(Clone, Debug)]
 pub struct Manifest {
@@ -83,13 +103,19 @@ impl Manifest {
         Manifest::read_with(file, &SystemNames::new(), 16)
     }
 
-    /// Reads a file with these system names, and keeps the first `cap` notes of each kind. A cap of 0 is refused with [`Refusal::NotesOff`].
+    /// Reads a file with these system names, and keeps the first `cap` notes of each kind; every namespace is Android's, as in the Rust original. A cap of 0 is refused with
+    /// [`Refusal::NotesOff`].
     pub fn read_with(file: &[u8], names: &SystemNames, cap: u32) -> Result<Manifest, Refusal> {
+        Manifest::read_in(file, names, cap, Mode::Merged)
+    }
+
+    /// The same, with namespaces told in this mode.
+    pub fn read_in(file: &[u8], names: &SystemNames, cap: u32, mode: Mode) -> Result<Manifest, Refusal> {
         let mut nodes = vec![0; sys::NODE_WORDS * (file.len() / 36 + 1)];
         let mut attributes = vec![0; sys::ATTRIBUTE_WORDS * (file.len() / 20 + 1)];
         // a note is about a byte at least, or about the end
         let mut notes = vec![0; sys::NOTE_WORDS * (sys::KINDS * cap as usize).min(file.len() + 1)];
-        let a = sys::read(file, names, &mut nodes, &mut attributes, &mut notes, cap);
+        let a = sys::read(file, names, &mut nodes, &mut attributes, &mut notes, cap, mode.number());
         if let Some(refusal) = Refusal::from_number(a.refusal, a.value) {
             return Err(refusal);
         }
@@ -211,10 +237,12 @@ impl<'a> Node<'a> {
 pub enum Prefix {
     /// Nothing.
     None,
-    /// `android:`, which every attribute with a namespace gets.
+    /// `android:`, which in [`Mode::Merged`] every attribute with a namespace gets.
     Android,
     /// `xmlns:`, of the leading attribute of the root, `xmlns:android`.
     Xmlns,
+    /// That of another namespace than Android's, in [`Mode::Apart`]: [`Attribute::namespace`] has its text.
+    Own,
 }
 
 /// An attribute of an element.
@@ -248,6 +276,7 @@ impl<'a> Attribute<'a> {
         match self.word(sys::ATTRIBUTE_PREFIX) {
             sys::PREFIX_ANDROID => Prefix::Android,
             sys::PREFIX_XMLNS => Prefix::Xmlns,
+            sys::PREFIX_OWN => Prefix::Own,
             _ => Prefix::None,
         }
     }
@@ -258,6 +287,11 @@ impl<'a> Attribute<'a> {
             return "android".into();
         }
         self.of.text(self.word(sys::ATTRIBUTE_NAME)).unwrap_or_default()
+    }
+
+    /// The text of its namespace, in every mode; none where it has none, and for the leading attribute.
+    pub fn namespace(&self) -> Option<String> {
+        (self.prefix() != Prefix::Xmlns).then(|| self.of.text(self.word(sys::ATTRIBUTE_NS))).flatten()
     }
 
     /// Its value, as the file has it.

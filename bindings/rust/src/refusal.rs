@@ -34,6 +34,8 @@ pub enum Refusal {
     Items(u64),
     /// A value has no plain text, with its type.
     NoPlainText(u64),
+    /// There is no such mode of a reading, with its number.
+    Mode(u64),
     /// An answer has no place, with the places that there are.
     AnswersFull(u64),
     /// A cap of 0, at which a reading would keep no note.
@@ -76,6 +78,7 @@ impl Refusal {
             13 => Refusal::Tables(value),
             14 => Refusal::Items(value),
             15 => Refusal::NoPlainText(value),
+            16 => Refusal::Mode(value),
             21 => Refusal::AnswersFull(value),
             27 => Refusal::NotesOff,
             29 => Refusal::RoundUpFull,
@@ -106,6 +109,7 @@ impl Refusal {
             Refusal::Tables(_) => 13,
             Refusal::Items(_) => 14,
             Refusal::NoPlainText(_) => 15,
+            Refusal::Mode(_) => 16,
             Refusal::AnswersFull(_) => 21,
             Refusal::NotesOff => 27,
             Refusal::RoundUpFull => 29,
@@ -125,7 +129,7 @@ impl Refusal {
         match *self {
             Refusal::TooSmall(v) | Refusal::HeaderSize(v) | Refusal::SystemNames(v) | Refusal::NodesFull(v) => v,
             Refusal::AttributesFull(v) | Refusal::NotesFull(v) | Refusal::TextShort(v) | Refusal::Tables(v) => v,
-            Refusal::Items(v) | Refusal::NoPlainText(v) | Refusal::AnswersFull(v) => v,
+            Refusal::Items(v) | Refusal::NoPlainText(v) | Refusal::Mode(v) | Refusal::AnswersFull(v) => v,
             Refusal::PoolGarbage(v) | Refusal::PoolHeader(v) | Refusal::PoolOffsets(v) | Refusal::PoolStyles(v) | Refusal::PoolData(v) => v,
             Refusal::MapHeader(v) | Refusal::MapIds(v) | Refusal::Other(_, v) => v,
             Refusal::TooLarge | Refusal::NoElement | Refusal::NothingFound | Refusal::NotesOff | Refusal::RoundUpFull => 0,
@@ -148,6 +152,7 @@ impl Refusal {
             Refusal::Tables(_) => "the tables do not fit the question",
             Refusal::Items(_) => "the items break their rule",
             Refusal::NoPlainText(_) => "the value has no plain text",
+            Refusal::Mode(_) => "there is no such mode",
             Refusal::AnswersFull(_) => "the table of answers is full",
             Refusal::NotesOff => "a cap of 0 would keep no notes: ask for 1 or more of each kind",
             Refusal::RoundUpFull => "a count of the round-up is full",
@@ -175,7 +180,7 @@ impl fmt::Display for Refusal {
             Refusal::Items(n) => write!(f, " at item {n} (names are ASCII and not empty, items of one attribute stand together and have one kind)"),
             Refusal::NoPlainText(n) => write!(f, " (type {n})"),
             Refusal::TextShort(n) => write!(f, " ({n} bytes are needed)"),
-            Refusal::Tables(n) => write!(f, " ({n})"),
+            Refusal::Tables(n) | Refusal::Mode(n) => write!(f, " ({n})"),
             Refusal::PoolGarbage(n) | Refusal::PoolHeader(n) | Refusal::PoolData(n) | Refusal::MapHeader(n) => write!(f, ": byte {n} should be the first of it"),
             Refusal::PoolOffsets(n) | Refusal::PoolStyles(n) | Refusal::MapIds(n) => write!(f, ": byte {n} should be the first of them"),
             Refusal::Other(number, value) => write!(f, " (number {number}, value {value})"),

@@ -5,7 +5,7 @@
 use crate::{Items, SystemNames};
 
 /// The form of the C interface that this file declares: the header's AXML_ABI.
-pub const ABI: u32 = 6;
+pub const ABI: u32 = 7;
 
 /// Bytes of the longest file that is read.
 pub const LONGEST_FILE: usize = 16_777_216;
@@ -24,12 +24,13 @@ pub const NODE_LINE: usize = 5;
 pub const NO_PARENT: u32 = 4_294_967_295;
 
 /// Words of an attribute, and the place of each.
-pub const ATTRIBUTE_WORDS: usize = 5;
+pub const ATTRIBUTE_WORDS: usize = 6;
 pub const ATTRIBUTE_OWNER: usize = 0;
 pub const ATTRIBUTE_PREFIX: usize = 1;
 pub const ATTRIBUTE_NAME: usize = 2;
 pub const ATTRIBUTE_TYPE: usize = 3;
 pub const ATTRIBUTE_DATA: usize = 4;
+pub const ATTRIBUTE_NS: usize = 5;
 
 /// Words of a note, and the place of each.
 pub const NOTE_WORDS: usize = 3;
@@ -66,6 +67,10 @@ pub const ROUND_UP_CLASSES: usize = 6;
 
 pub const PREFIX_ANDROID: u32 = 1;
 pub const PREFIX_XMLNS: u32 = 2;
+pub const PREFIX_OWN: u32 = 3;
+
+pub const MODE_MERGED: u32 = 1;
+pub const MODE_APART: u32 = 2;
 
 pub const SLICE_AREA: u32 = 1;
 pub const SLICE_FILE: u32 = 2;
@@ -136,7 +141,7 @@ extern "C" {
     fn axml_abi() -> u32;
     fn axml_read(
         file: Bytes, file_bytes: usize, names: Words, name_words: usize, area: Bytes, area_bytes: usize,
-        nodes: MutWords, node_words: usize, attributes: MutWords, attribute_words: usize, notes: MutWords, note_words: usize, cap: u32,
+        nodes: MutWords, node_words: usize, attributes: MutWords, attribute_words: usize, notes: MutWords, note_words: usize, cap: u32, mode: u32,
     ) -> Answer;
     fn axml_text(
         file: Bytes, file_bytes: usize, names: Words, name_words: usize, area: Bytes, area_bytes: usize, out: *mut u8, out_bytes: usize, index: u32,
@@ -176,13 +181,13 @@ fn same_form() {
     assert!(there == ABI, "libaxml has the form {there} of its interface, and this crate was written for {ABI}: build both from one source");
 }
 
-pub fn read(file: &[u8], names: &SystemNames, nodes: &mut [u32], attributes: &mut [u32], notes: &mut [u32], cap: u32) -> Answer {
+pub fn read(file: &[u8], names: &SystemNames, nodes: &mut [u32], attributes: &mut [u32], notes: &mut [u32], cap: u32, mode: u32) -> Answer {
     same_form();
     let (w, a) = (&names.words, &names.area);
     unsafe {
         axml_read(
             file.as_ptr(), file.len(), w.as_ptr(), w.len(), a.as_ptr(), a.len(),
-            nodes.as_mut_ptr(), nodes.len(), attributes.as_mut_ptr(), attributes.len(), notes.as_mut_ptr(), notes.len(), cap,
+            nodes.as_mut_ptr(), nodes.len(), attributes.as_mut_ptr(), attributes.len(), notes.as_mut_ptr(), notes.len(), cap, mode,
         )
     }
 }

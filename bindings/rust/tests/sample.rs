@@ -1,6 +1,6 @@
 //! The sample of docs/FORMAT.md, L4, and its relatives, L5.
 
-use itelbash::{is_valid_name, Manifest, Note, NoteKind, Prefix, Refusal, SystemNames, Value};
+use itelbash::{is_valid_name, Manifest, Mode, Note, NoteKind, Prefix, Refusal, SystemNames, Value};
 
 const HEAD: &[u8] = &[
     0x03, 0x00, 0x08, 0x00, 0x70, 0x00, 0x00, 0x00, 0x01, 0x00, 0x1c, 0x00, 0x24, 0x00, 0x00, 0x00, 0x01, 0x00, 0x00, 0x00, 0x00, 0x00, 0x00, 0x00, 0x00, 0x01,
@@ -68,6 +68,49 @@ fn the_line_is_the_starts_as_it_stands() {
     s[HEAD.len() + 12] = 5; // its comment
     s[HEAD.len() + START.len() + 8] = 7; // the end's line
     assert_eq!(Manifest::read(&s).unwrap().root().line(), 4_294_967_295);
+}
+
+/// S with three strings, `a`, the Android namespace and `u`, and on its element attributes called `a` of these namespaces.
+fn with_namespaces(spaces: &[u32]) -> Vec<u8> {
+    let word = |n: u32| n.to_le_bytes().to_vec();
+    let strings: Vec<Vec<u8>> = ["a", "http://schemas.android.com/apk/res/android", "u"]
+        .iter()
+        .map(|s| [&[s.len() as u8, s.len() as u8][..], s.as_bytes(), &[0]].concat())
+        .collect();
+    let mut data = strings.concat();
+    data.resize(56, 0);
+    let offsets = [word(0), word(strings[0].len() as u32), word((strings[0].len() + strings[1].len()) as u32)].concat();
+    let mut start = START.to_vec();
+    start[4..8].copy_from_slice(&word(36 + 20 * spaces.len() as u32));
+    start[28] = spaces.len() as u8;
+    for (k, ns) in spaces.iter().enumerate() {
+        start.extend([word(*ns), word(0), word(u32::MAX), vec![8, 0, 0, 16], word(7 + k as u32)].concat());
+    }
+    let pool = [&HEAD[..12], &word(28 + 12 + 56), &word(3), &HEAD[20..28], &word(40), &HEAD[32..36], &offsets, &data].concat();
+    [&pool[..], &HEAD[44..], &start, END].concat()
+}
+
+#[test]
+fn namespaces_are_told_apart_in_the_second_mode() {
+    let all = |mode, spaces: &[u32]| {
+        let m = Manifest::read_in(&with_namespaces(spaces), &SystemNames::new(), 16, mode).unwrap();
+        m.attributes().map(|a| (a.prefix(), a.namespace(), a.value().data)).collect::<Vec<_>>()
+    };
+    let android = Some("http://schemas.android.com/apk/res/android".to_string());
+    let own = Some("u".to_string());
+    let lead = (Prefix::Xmlns, None, 0);
+    assert_eq!(
+        all(Mode::Merged, &[1, 2, u32::MAX]),
+        [lead.clone(), (Prefix::Android, android.clone(), 7), (Prefix::None, None, 9)]
+    );
+    assert_eq!(
+        all(Mode::Apart, &[1, 2, u32::MAX]),
+        [lead.clone(), (Prefix::Android, android, 7), (Prefix::Own, own.clone(), 8), (Prefix::None, None, 9)]
+    );
+    assert_eq!(all(Mode::Merged, &[2, 1]), [lead.clone(), (Prefix::Android, own.clone(), 7)]);
+    assert_eq!(all(Mode::Apart, &[2, 2]), [lead, (Prefix::Own, own, 7)]);
+    assert_eq!(Refusal::from_number(16, 9), Some(Refusal::Mode(9)));
+    assert_eq!(Refusal::Mode(9).to_string(), "there is no such mode (9)");
 }
 
 #[test]

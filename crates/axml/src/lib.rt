@@ -5,6 +5,7 @@
 ghost use mathlib.Core.List.{[]};
 ghost use lib.ListN.{replicate};
 ghost use Rattle.records.specs.Limits.{listedCap, listedNotes};
+ghost use Rattle.records.specs.Words.{merged};
 ghost use Rattle.system_types.specs.Names.{lends};
 ghost use Rattle.walk.specs.Reading.{Reads, zeroNote};
 pub use anomaly::Note;
@@ -35,6 +36,7 @@ pub use many_texts::texts;
 pub use many_texts::value_texts;
 use records::LISTED_CAP;
 use records::LISTED_NOTES;
+use records::MERGED;
 pub use round_up::AddAnswer;
 pub use round_up::AddNumbers;
 pub use round_up::Added;
@@ -51,7 +53,8 @@ pub use value_text::value_text;
 pub use xml::is_valid_name;
 
 // Reads `file` into the three tables, and answers the counts or the refusal. `names` and `area` are the lent system names, `cap` is how many
-// notes of a kind are kept; every length of every table will do, and a record without a place is refused by number.
+// notes of a kind are kept, `mode` how namespaces are told (W22: 1 is the Rust's way, 2 tells them apart); every length of every table will
+// do, and a record without a place is refused by number.
 // Ruled out: a success that leaves a word behind its records as it was, and a refusal that keeps a node.
 pub fn read(
     file: &[u8],
@@ -61,11 +64,12 @@ pub fn read(
     attributes: &mut [u32],
     notes: &mut [Note],
     cap: u32,
+    mode: u32,
 ) -> ReadAnswer
     ensures { λ r. ⌜ Reads (now (file .entry)) (lends (now (names .entry)) (now (area .entry))) (now (nodes .entry)) (now (attributes .entry))
-        (now (notes .entry)) cap r (now (nodes .exit)) (now (attributes .exit)) (now (notes .exit)) ⌝ }
+        (now (notes .entry)) cap mode r (now (nodes .exit)) (now (attributes .exit)) (now (notes .exit)) ⌝ }
 {
-    let mut st = walk::begin(notes.len(), cap);
+    let mut st = walk::begin(notes.len(), cap, mode);
     loop {
         st = walk::advance(file, names, area, nodes, attributes, st);
         if st.done {
@@ -83,10 +87,10 @@ pub struct Listed {
     pub notes: [Note; LISTED_NOTES],
 }
 
-// The same with no system names and the cap of a listing, with places for all notes that it keeps, which come back by value.
+// The same with no system names, the cap of a listing and the first mode, with places for all notes that it keeps, which come back by value.
 // Ruled out: notes of another cap, and a note past the count that is not zero.
 pub fn read_listed(file: &[u8], nodes: &mut [u32], attributes: &mut [u32]) -> Listed
-    ensures { λ r. ⌜ Reads (now (file .entry)) (lends [] []) (now (nodes .entry)) (now (attributes .entry)) (replicate listedNotes zeroNote) listedCap
+    ensures { λ r. ⌜ Reads (now (file .entry)) (lends [] []) (now (nodes .entry)) (now (attributes .entry)) (replicate listedNotes zeroNote) listedCap merged
         (r .answer) (now (nodes .exit)) (now (attributes .exit)) (r .notes) ⌝ }
 {
     let mut notes = [Note {
@@ -94,6 +98,15 @@ pub fn read_listed(file: &[u8], nodes: &mut [u32], attributes: &mut [u32]) -> Li
         a: 0,
         b: 0,
     }; LISTED_NOTES];
-    let answer = read(file, &[], &[], nodes, attributes, &mut notes, LISTED_CAP);
+    let answer = read(
+        file,
+        &[],
+        &[],
+        nodes,
+        attributes,
+        &mut notes,
+        LISTED_CAP,
+        MERGED,
+    );
     Listed { answer, notes }
 }

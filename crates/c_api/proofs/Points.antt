@@ -42,7 +42,7 @@ clearing-of Fresh e = absurd (false-true e)
 clearing-of InBody e = absurd (false-true e)
 clearing-of (Clearing a) e = record { answer = a; stage = refl }
 
-module _ (f : List ℕ) (lent : Lent) (ns₀ ats₀ ws₀ : List ℕ) (cap : ℕ) where
+module _ (f : List ℕ) (lent : Lent) (ns₀ ats₀ ws₀ : List ℕ) (cap mode : ℕ) where
   pub record Point (ns ats ws : List ℕ) (st : State) : Type 0 where
     pub notes : List Note
     pub tail : List ℕ
@@ -53,9 +53,9 @@ module _ (f : List ℕ) (lent : Lent) (ns₀ ats₀ ws₀ : List ℕ) (cap : ℕ
     pub long-attributes : length ats ≡ length ats₀
     pub long-words : length ws ≡ length ws₀
     pub good : Good f lent ns ats st
-    pub same : outcome f lent ns ats notes st (good .stack) ≡ reading (wordRoom ns₀ ats₀ ws₀ cap) f lent
+    pub same : outcome f lent ns ats notes st (good .stack) ≡ reading (wordRoom ns₀ ats₀ ws₀ cap mode) f lent
 
-  pub point-first : (st : State) → st ≡ first (length ws₀ / noteWidth) cap → Point ns₀ ats₀ ws₀ st
+  pub point-first : (st : State) → st ≡ first (length ws₀ / noteWidth) cap mode → Point ns₀ ats₀ ws₀ st
   point-first st e =
       rw e
       (record {
@@ -67,7 +67,7 @@ module _ (f : List ℕ) (lent : Lent) (ns₀ ats₀ ws₀ : List ℕ) (cap : ℕ
         long-nodes = refl;
         long-attributes = refl;
         long-words = refl;
-        good = first-good f lent ns₀ ats₀ (length ws₀ / noteWidth) cap;
+        good = first-good f lent ns₀ ats₀ (length ws₀ / noteWidth) cap mode;
         same = refl;
       })
 
@@ -76,9 +76,9 @@ module _ (f : List ℕ) (lent : Lent) (ns₀ ats₀ ws₀ : List ℕ) (cap : ℕ
   abbrev gives : ReadAnswer → List ℕ → List ℕ → List Note → Reading
   gives a ns ats os = record { answer = a; nodes = ns; attributes = ats; notes = os }
 
-  reads-of : (x : Reading) → x ≡ reading (wordRoom ns₀ ats₀ ws₀ cap) f lent → (ws′ : List ℕ)
+  reads-of : (x : Reading) → x ≡ reading (wordRoom ns₀ ats₀ ws₀ cap mode) f lent → (ws′ : List ℕ)
       → ws′ ≡ wordsOf (x .notes) ++ replicate (length ws₀ % noteWidth) 0
-      → ReadsWords f lent ns₀ ats₀ ws₀ cap (answerOf (numbersOf (x .answer))) (x .nodes) (x .attributes) ws′
+      → ReadsWords f lent ns₀ ats₀ ws₀ cap mode (answerOf (numbersOf (x .answer))) (x .nodes) (x .attributes) ws′
   reads-of x e ws′ w = record {
     answer = ap (λ (y : Reading). answerOf (numbersOf (y .answer))) e;
     nodes = ap (λ (y : Reading). y .nodes) e;
@@ -92,7 +92,7 @@ module _ (f : List ℕ) (lent : Lent) (ns₀ ats₀ ws₀ : List ℕ) (cap : ℕ
   -- the answer is known, the note is written, and zeros are from the next place on
   pub point-cleared : (ns ats ws : List ℕ) (st : State) → Point ns ats ws st → isClearing (st .stage) ≡ true → st .slot < st .room
       → (ws′ : List ℕ) → ws′ ≡ take (noteWidth * st .slot + noteWidth) ws ++ replicate (length ws - (noteWidth * st .slot + noteWidth)) 0
-      → (a : ReadAnswer) → Answers st a → ReadsWords f lent ns₀ ats₀ ws₀ cap (answerOf (numbersOf a)) ns ats ws′
+      → (a : ReadAnswer) → Answers st a → ReadsWords f lent ns₀ ats₀ ws₀ cap mode (answerOf (numbersOf a)) ns ats ws′
   point-cleared ns ats ws st p m h ws′ z a is =
       let known = clearing-of (st .stage) m in
       let all : length (p .notes) ≡ st .room = p .places ∙ sym (p .room) in
@@ -142,7 +142,7 @@ module _ (f : List ℕ) (lent : Lent) (ns₀ ats₀ ws₀ : List ℕ) (cap : ℕ
 
     -- all places are written, and zeros are behind the last
     pub point-last : r .done ≡ true → (ws′ : List ℕ) → ws′ ≡ take (noteWidth * (length ws / noteWidth)) ws ++ replicate (length ws - noteWidth * (length ws / noteWidth)) 0
-        → (a : ReadAnswer) → Answers r a → ReadsWords f lent ns₀ ats₀ ws₀ cap (answerOf (numbersOf a)) ns′ ats′ ws′
+        → (a : ReadAnswer) → Answers r a → ReadsWords f lent ns₀ ats₀ ws₀ cap mode (answerOf (numbersOf a)) ns′ ats′ ws′
     point-last d ws′ z a is =
         let all : noteWidth * (length ws / noteWidth) ≡ noteWidth * length (p .notes) = rw (p .long-words, p .places) in
         let none : length (p .notes) - length (p .notes) ≡ 0 = omega arith in
@@ -155,6 +155,6 @@ module _ (f : List ℕ) (lent : Lent) (ns₀ ats₀ ws₀ : List ℕ) (cap : ℕ
 
   -- ---- the answer in numbers
 
-  pub reads-by : (a : ReadAnswer) (ns ats ws : List ℕ) → ReadsWords f lent ns₀ ats₀ ws₀ cap (answerOf (numbersOf a)) ns ats ws
-      → (m : Numbers) → m ≡ numbersOf a → (r : AxmlAnswer) → r ≡ answerOf m → ReadsWords f lent ns₀ ats₀ ws₀ cap r ns ats ws
+  pub reads-by : (a : ReadAnswer) (ns ats ws : List ℕ) → ReadsWords f lent ns₀ ats₀ ws₀ cap mode (answerOf (numbersOf a)) ns ats ws
+      → (m : Numbers) → m ≡ numbersOf a → (r : AxmlAnswer) → r ≡ answerOf m → ReadsWords f lent ns₀ ats₀ ws₀ cap mode r ns ats ws
   reads-by a ns ats ws h m em r er = record { answer = er ∙ ap answerOf em ∙ h .answer; nodes = h .nodes; attributes = h .attributes; notes = h .notes }

@@ -27,13 +27,13 @@ pub record OneReading (a : ReadAnswer) (ns₁ ats₁ : List ℕ) (os₁ : List N
   pub notes : ws₂ ≡ wordsOf os₁ ++ replicate (length ws % noteWidth) 0
 
 -- with as many places as the words have whole threes
-pub same-reading : (f : List ℕ) (lent : Lent) (ns ats : List ℕ) (os : List Note) (ws : List ℕ) (cap : ℕ) → length os ≡ length ws / noteWidth
-    → (a : ReadAnswer) (ns₁ ats₁ : List ℕ) (os₁ : List Note) → Reads f lent ns ats os cap a ns₁ ats₁ os₁
-    → (r : AxmlAnswer) (ns₂ ats₂ ws₂ : List ℕ) → ReadsWords f lent ns ats ws cap r ns₂ ats₂ ws₂
+pub same-reading : (f : List ℕ) (lent : Lent) (ns ats : List ℕ) (os : List Note) (ws : List ℕ) (cap mode : ℕ) → length os ≡ length ws / noteWidth
+    → (a : ReadAnswer) (ns₁ ats₁ : List ℕ) (os₁ : List Note) → Reads f lent ns ats os cap mode a ns₁ ats₁ os₁
+    → (r : AxmlAnswer) (ns₂ ats₂ ws₂ : List ℕ) → ReadsWords f lent ns ats ws cap mode r ns₂ ats₂ ws₂
     → OneReading a ns₁ ats₁ os₁ ws r ns₂ ats₂ ws₂
-same-reading f lent ns ats os ws cap places a ns₁ ats₁ os₁ h r ns₂ ats₂ ws₂ k =
-    let room : roomIn ns ats os cap ≡ wordRoom ns ats ws cap = rw places in
-    let e : reading (wordRoom ns ats ws cap) f lent ≡ reading (roomIn ns ats os cap) f lent =
+same-reading f lent ns ats os ws cap mode places a ns₁ ats₁ os₁ h r ns₂ ats₂ ws₂ k =
+    let room : roomIn ns ats os cap mode ≡ wordRoom ns ats ws cap mode = rw places in
+    let e : reading (wordRoom ns ats ws cap mode) f lent ≡ reading (roomIn ns ats os cap mode) f lent =
     ap (λ (x : Room). reading x f lent) (sym room) in
     record {
       answer = k .answer ∙ ap (λ (x : Reading). answerOf (numbersOf (x .answer))) e ∙ ap answerOf (sym (h .answer));

@@ -25,8 +25,8 @@ unfoldable pub wordsOf : List Note → List ℕ
 wordsOf [] = []
 wordsOf (n ∷ os) = noteWords (n .kind) (n .a) (n .b) ++ wordsOf os
 
-abbrev pub wordRoom : List ℕ → List ℕ → List ℕ → ℕ → Room
-wordRoom ns ats ws cap = record { nodes = length ns; attributes = length ats; notes = length ws / noteWidth; cap = cap }
+abbrev pub wordRoom : List ℕ → List ℕ → List ℕ → ℕ → ℕ → Room
+wordRoom ns ats ws cap mode = record { nodes = length ns; attributes = length ats; notes = length ws / noteWidth; cap = cap; mode = mode }
 
 abbrev pub answerOf : Numbers → AxmlAnswer
 answerOf n = record {
@@ -38,11 +38,11 @@ answerOf n = record {
   notes = n .notes;
 }
 
-pub record ReadsWords (f : List ℕ) (lent : Lent) (ns ats ws : List ℕ) (cap : ℕ) (r : AxmlAnswer) (ns′ ats′ ws′ : List ℕ) : Type 0 where
-  pub answer : r ≡ answerOf (numbersOf (reading (wordRoom ns ats ws cap) f lent .answer))
-  pub nodes : ns′ ≡ reading (wordRoom ns ats ws cap) f lent .nodes
-  pub attributes : ats′ ≡ reading (wordRoom ns ats ws cap) f lent .attributes
-  pub notes : ws′ ≡ wordsOf (reading (wordRoom ns ats ws cap) f lent .notes) ++ replicate (length ws % noteWidth) 0
+pub record ReadsWords (f : List ℕ) (lent : Lent) (ns ats ws : List ℕ) (cap mode : ℕ) (r : AxmlAnswer) (ns′ ats′ ws′ : List ℕ) : Type 0 where
+  pub answer : r ≡ answerOf (numbersOf (reading (wordRoom ns ats ws cap mode) f lent .answer))
+  pub nodes : ns′ ≡ reading (wordRoom ns ats ws cap mode) f lent .nodes
+  pub attributes : ats′ ≡ reading (wordRoom ns ats ws cap mode) f lent .attributes
+  pub notes : ws′ ≡ wordsOf (reading (wordRoom ns ats ws cap mode) f lent .notes) ++ replicate (length ws % noteWidth) 0
 
 -- ---- on the way
 

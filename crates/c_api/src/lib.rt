@@ -90,11 +90,12 @@ fn read_words(
     attributes: &mut [u32],
     notes: &mut [u32],
     cap: u32,
+    mode: u32,
 ) -> ReadAnswer
     ensures { λ r. ⌜ ReadsWords (now (file .entry)) (lends (now (names .entry)) (now (area .entry))) (now (nodes .entry)) (now (attributes .entry))
-        (now (notes .entry)) cap (answerOf (numbersOf r)) (now (nodes .exit)) (now (attributes .exit)) (now (notes .exit)) ⌝ }
+        (now (notes .entry)) cap mode (answerOf (numbersOf r)) (now (nodes .exit)) (now (attributes .exit)) (now (notes .exit)) ⌝ }
 {
-    let mut st = walk::begin(notes.len() / NOTE_WORDS, cap);
+    let mut st = walk::begin(notes.len() / NOTE_WORDS, cap, mode);
     loop {
         st = walk::advance(file, names, area, nodes, attributes, st);
         if st.done {
@@ -136,11 +137,12 @@ pub extern "C" fn axml_read(
     attributes: &mut [u32],
     notes: &mut [u32],
     cap: u32,
+    mode: u32,
 ) -> AxmlAnswer
     ensures { λ r. ⌜ ReadsWords (now (file .entry)) (lends (now (names .entry)) (now (area .entry))) (now (nodes .entry)) (now (attributes .entry))
-        (now (notes .entry)) cap r (now (nodes .exit)) (now (attributes .exit)) (now (notes .exit)) ⌝ }
+        (now (notes .entry)) cap mode r (now (nodes .exit)) (now (attributes .exit)) (now (notes .exit)) ⌝ }
 {
-    let answer = read_words(file, names, area, nodes, attributes, notes, cap);
+    let answer = read_words(file, names, area, nodes, attributes, notes, cap, mode);
     answer_of(read_numbers(answer))
 }
 

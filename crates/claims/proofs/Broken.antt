@@ -26,7 +26,7 @@ use Rattle.errors.specs.declared.Refusal.the-variants.{TooLargeError, NotesOff}
 use Rattle.errors.specs.declared.ReadAnswer.{ReadAnswer}
 use Rattle.errors.specs.declared.ReadAnswer.the-variants.{Done, Refused}
 use Rattle.errors.specs.declared.ReadCounts.{ReadCounts}
-use Rattle.records.specs.Words.{nodeParent, attributePrefix}
+use Rattle.records.specs.Words.{nodeParent, attributePrefix, merged}
 use Rattle.records.specs.Limits.{fileLimit}
 use Rattle.system_types.specs.Names.{Lent, lends, namesOf}
 use Rattle.system_types.specs.declared.NamesRead.{NamesRead}
@@ -47,8 +47,8 @@ use Rattle.claims.proofs.Structure.{starts-right, notes-many, notes-kep
 use Rattle.claims.proofs.BrokenSample.{call-S, call-88, call-with-end, call-without}
 use Rattle.claims.proofs.BrokenSample.{read-S, read-88, ends-S, read-with-end, read-without}
 
-pub meets-some : Meets (λ f lent ns ats os cap. reading (roomIn ns ats os cap) f lent)
-meets-some f lent ns ats os cap call = record { answer = refl; nodes = refl; attributes = refl; notes = refl }
+pub meets-some : Meets (λ f lent ns ats os cap mode. reading (roomIn ns ats os cap mode) f lent)
+meets-some f lent ns ats os cap mode call = record { answer = refl; nodes = refl; attributes = refl; notes = refl }
 
 -- ---- the witnesses
 
@@ -76,68 +76,68 @@ empty-number r lent = go (keepsNone (Asking (r .cap))) (namesOf lent)
 
 -- ---- what the promise says of starts and notes
 
-module _ (f : List ℕ) (lent : Lent) (ns ats : List ℕ) (os : List Note) (cap : ℕ) where
-  starts-le : (a : ReadAnswer) (ns′ ats′ : List ℕ) (os′ : List Note) → Reads f lent ns ats os cap a ns′ ats′ os′
-      → numbersOf a .starts ≤ opensIn (eventsOf f lent)
+module _ (f : List ℕ) (lent : Lent) (ns ats : List ℕ) (os : List Note) (cap mode : ℕ) where
+  starts-le : (a : ReadAnswer) (ns′ ats′ : List ℕ) (os′ : List Note) → Reads f lent ns ats os cap mode a ns′ ats′ os′
+      → numbersOf a .starts ≤ opensIn (eventsOf mode f lent)
   unfolding numbersOf
   starts-le (Refused x) ns′ ats′ os′ m = omega arith
-  starts-le (Done c) ns′ ats′ os′ m = omega (arith, starts-right f lent ns ats os cap c ns′ ats′ os′ m)
+  starts-le (Done c) ns′ ats′ os′ m = omega (arith, starts-right f lent ns ats os cap mode c ns′ ats′ os′ m)
 
-  notes-le : (a : ReadAnswer) (ns′ ats′ : List ℕ) (os′ : List Note) → Reads f lent ns ats os cap a ns′ ats′ os′
-      → numbersOf a .notes ≤ length (keptNotes cap (notesIn (eventsOf f lent)))
+  notes-le : (a : ReadAnswer) (ns′ ats′ : List ℕ) (os′ : List Note) → Reads f lent ns ats os cap mode a ns′ ats′ os′
+      → numbersOf a .notes ≤ length (keptNotes cap (notesIn (eventsOf mode f lent)))
   unfolding numbersOf
   notes-le (Refused x) ns′ ats′ os′ m = omega arith
-  notes-le (Done c) ns′ ats′ os′ m = omega (arith, notes-many f lent ns ats os cap c ns′ ats′ os′ m)
+  notes-le (Done c) ns′ ats′ os′ m = omega (arith, notes-many f lent ns ats os cap mode c ns′ ats′ os′ m)
 
 -- ---- the readers
 
 module _ (R : Reader) (meets : Meets R) where
   -- of S, and of S without its end
-  of-S : R fileS (lends [] []) (noNodes 3) (noAttributes 3) none 8 ≡ oneNode 1 0 none
-  of-S = left-reading fileS (lends [] []) (noNodes 3) (noAttributes 3) none 8 _ _ _ _ (meets fileS (lends [] []) (noNodes 3) (noAttributes 3) none 8 call-S) ∙ read-S
+  of-S : R fileS (lends [] []) (noNodes 3) (noAttributes 3) none 8 merged ≡ oneNode 1 0 none
+  of-S = left-reading fileS (lends [] []) (noNodes 3) (noAttributes 3) none 8 merged _ _ _ _ (meets fileS (lends [] []) (noNodes 3) (noAttributes 3) none 8 merged call-S) ∙ read-S
 
-  of-88 : R (take 88 fileS) (lends [] []) (noNodes 3) (noAttributes 3) none 8 ≡ oneNode 1 1 (note 12 1 ∷ zeroNote ∷ zeroNote ∷ zeroNote ∷ [])
-  of-88 = left-reading (take 88 fileS) (lends [] []) (noNodes 3) (noAttributes 3) none 8 _ _ _ _ (meets (take 88 fileS) (lends [] []) (noNodes 3) (noAttributes 3) none 8 call-88) ∙ read-88
+  of-88 : R (take 88 fileS) (lends [] []) (noNodes 3) (noAttributes 3) none 8 merged ≡ oneNode 1 1 (note 12 1 ∷ zeroNote ∷ zeroNote ∷ zeroNote ∷ [])
+  of-88 = left-reading (take 88 fileS) (lends [] []) (noNodes 3) (noAttributes 3) none 8 merged _ _ _ _ (meets (take 88 fileS) (lends [] []) (noNodes 3) (noAttributes 3) none 8 merged call-88) ∙ read-88
 
   pub refuses-all-broken : RefusesAll R → ⊥
   unfolding numbersOf
-  refuses-all-broken h = h fileS (lends [] []) (noNodes 3) (noAttributes 3) none 8 call-S (ap (λ (x : Reading). numbersOf (x .answer) .refusal) of-S)
+  refuses-all-broken h = h fileS (lends [] []) (noNodes 3) (noAttributes 3) none 8 merged call-S (ap (λ (x : Reading). numbersOf (x .answer) .refusal) of-S)
 
   -- none of the witnesses' tables holds zeros alone afterwards, as it did before
-  nodes-stored : R fileS (lends [] []) (noNodes 3) (noAttributes 3) none 8 .nodes ≡ noNodes 3 → ⊥
+  nodes-stored : R fileS (lends [] []) (noNodes 3) (noAttributes 3) none 8 merged .nodes ≡ noNodes 3 → ⊥
   nodes-stored h = let z = ap (λ (l : List ℕ). getD l nodeParent 0) (sym h ∙ ap (λ (x : Reading). x .nodes) of-S) in omega arith
 
-  attributes-stored : R fileS (lends [] []) (noNodes 3) (noAttributes 3) none 8 .attributes ≡ noAttributes 3 → ⊥
+  attributes-stored : R fileS (lends [] []) (noNodes 3) (noAttributes 3) none 8 merged .attributes ≡ noAttributes 3 → ⊥
   attributes-stored h = let z = ap (λ (l : List ℕ). getD l attributePrefix 0) (sym h ∙ ap (λ (x : Reading). x .attributes) of-S) in omega arith
 
-  notes-stored : R (take 88 fileS) (lends [] []) (noNodes 3) (noAttributes 3) none 8 .notes ≡ none → ⊥
+  notes-stored : R (take 88 fileS) (lends [] []) (noNodes 3) (noAttributes 3) none 8 merged .notes ≡ none → ⊥
   notes-stored h = let z = ap (λ (l : List Note). getD l 0 zeroNote .kind) (sym h ∙ ap (λ (x : Reading). x .notes) of-88) in omega arith
 
   pub leaves-nodes-broken : LeavesNodes R → ⊥
-  leaves-nodes-broken h = nodes-stored (h fileS (lends [] []) (noNodes 3) (noAttributes 3) none 8 call-S)
+  leaves-nodes-broken h = nodes-stored (h fileS (lends [] []) (noNodes 3) (noAttributes 3) none 8 merged call-S)
 
   pub leaves-attributes-broken : LeavesAttributes R → ⊥
-  leaves-attributes-broken h = attributes-stored (h fileS (lends [] []) (noNodes 3) (noAttributes 3) none 8 call-S)
+  leaves-attributes-broken h = attributes-stored (h fileS (lends [] []) (noNodes 3) (noAttributes 3) none 8 merged call-S)
 
   pub leaves-notes-broken : LeavesNotes R → ⊥
-  leaves-notes-broken h = notes-stored (h (take 88 fileS) (lends [] []) (noNodes 3) (noAttributes 3) none 8 call-88)
+  leaves-notes-broken h = notes-stored (h (take 88 fileS) (lends [] []) (noNodes 3) (noAttributes 3) none 8 merged call-88)
 
   pub clears-nodes-broken : ClearsNodes R → ⊥
-  clears-nodes-broken h = nodes-stored (h fileS (lends [] []) (noNodes 3) (noAttributes 3) none 8 call-S)
+  clears-nodes-broken h = nodes-stored (h fileS (lends [] []) (noNodes 3) (noAttributes 3) none 8 merged call-S)
 
   pub clears-attributes-broken : ClearsAttributes R → ⊥
-  clears-attributes-broken h = attributes-stored (h fileS (lends [] []) (noNodes 3) (noAttributes 3) none 8 call-S)
+  clears-attributes-broken h = attributes-stored (h fileS (lends [] []) (noNodes 3) (noAttributes 3) none 8 merged call-S)
 
   pub clears-notes-broken : ClearsNotes R → ⊥
-  clears-notes-broken h = notes-stored (h (take 88 fileS) (lends [] []) (noNodes 3) (noAttributes 3) none 8 call-88)
+  clears-notes-broken h = notes-stored (h (take 88 fileS) (lends [] []) (noNodes 3) (noAttributes 3) none 8 merged call-88)
 
-  pub constant-broken : (lent : Lent) (ns ats : List ℕ) (os : List Note) (cap : ℕ) → Call [] lent ns ats os cap → Constant R lent ns ats os cap → ⊥
-  constant-broken lent ns ats os cap call h = go (fileLimit + 1) refl
+  pub constant-broken : (lent : Lent) (ns ats : List ℕ) (os : List Note) (cap mode : ℕ) → Call [] lent ns ats os cap mode → Constant R lent ns ats os cap mode → ⊥
+  constant-broken lent ns ats os cap mode call h = go (fileLimit + 1) refl
     where
       go : (n : ℕ) → n ≡ fileLimit + 1 → ⊥
       go n e =
           let many : length {A = ℕ} (replicate n 0) ≡ n = length-replicate {A = ℕ} n 0 in
-          let long : Call (replicate n 0) lent ns ats os cap = record {
+          let long : Call (replicate n 0) lent ns ats os cap mode = record {
             file = record { below = zeros-below n; short = omega (arith, many) };
             nameWords = call .nameWords;
             areaBytes = call .areaBytes;
@@ -147,86 +147,87 @@ module _ (R : Reader) (meets : Meets R) where
             firsts = call .firsts;
             seconds = call .seconds;
             capWord = call .capWord;
+            modeWord = call .modeWord;
           } in
-          let r = roomIn ns ats os cap in
+          let r = roomIn ns ats os cap mode in
           let same = ap (λ (x : Reading). numbersOf (x .answer) .refusal) (h [] (replicate n 0) call long) in
-          let a = ap (λ (x : Numbers). x .refusal) (meets [] lent ns ats os cap call .answer) in
-          let b = ap (λ (x : Numbers). x .refusal) (meets (replicate n 0) lent ns ats os cap long .answer) in
+          let a = ap (λ (x : Numbers). x .refusal) (meets [] lent ns ats os cap mode call .answer) in
+          let b = ap (λ (x : Numbers). x .refusal) (meets (replicate n 0) lent ns ats os cap mode long .answer) in
           empty-number r lent (sym a ∙ same ∙ b ∙ long-number r (replicate n 0) lent (omega (arith, many)))
 
   pub constant-on-read-broken : ConstantOnRead R → ⊥
   unfolding numbersOf
   constant-on-read-broken h =
       let read : Reading → ℕ = λ x. numbersOf (x .answer) .refusal in
-      let same = h fileS (take 88 fileS) (lends [] []) (noNodes 3) (noAttributes 3) none 8 call-S call-88 (ap read read-S) (ap read read-88) in
+      let same = h fileS (take 88 fileS) (lends [] []) (noNodes 3) (noAttributes 3) none 8 merged call-S call-88 (ap read read-S) (ap read read-88) in
       let e = ap (λ (x : Reading). numbersOf (x .answer) .notes) (sym of-S ∙ same ∙ of-88) in
       omega arith
 
   pub first-start-broken : StopsAtStart R → ⊥
   unfolding numbersOf
   first-start-broken h =
-      let same = h (headS ++ startS) endS [] (lends [] []) (noNodes 3) (noAttributes 3) none 8 call-with-end call-without ends-S in
-      let a = meets ((headS ++ startS) ++ endS) (lends [] []) (noNodes 3) (noAttributes 3) none 8 call-with-end .answer ∙ ap (λ (x : Reading). numbersOf (x .answer)) read-with-end in
-      let b = meets ((headS ++ startS) ++ []) (lends [] []) (noNodes 3) (noAttributes 3) none 8 call-without .answer ∙ ap (λ (x : Reading). numbersOf (x .answer)) read-without in
+      let same = h (headS ++ startS) endS [] (lends [] []) (noNodes 3) (noAttributes 3) none 8 merged call-with-end call-without ends-S in
+      let a = meets ((headS ++ startS) ++ endS) (lends [] []) (noNodes 3) (noAttributes 3) none 8 merged call-with-end .answer ∙ ap (λ (x : Reading). numbersOf (x .answer)) read-with-end in
+      let b = meets ((headS ++ startS) ++ []) (lends [] []) (noNodes 3) (noAttributes 3) none 8 merged call-without .answer ∙ ap (λ (x : Reading). numbersOf (x .answer)) read-without in
       let e = ap (λ (x : Numbers). x .notes) (sym a ∙ ap (λ (x : Reading). numbersOf (x .answer)) same ∙ b) in
       omega arith
 
   -- some file: one that has fewer than it is given, or notes of other kinds
-  module _ (f : List ℕ) (lent : Lent) (ns ats : List ℕ) (os : List Note) (cap : ℕ) (call : Call f lent ns ats os cap) where
-    pub invents-starts-broken : opensIn (eventsOf f lent) < numbersOf (R f lent ns ats os cap .answer) .starts → ⊥
-    invents-starts-broken h = omega (arith, starts-le f lent ns ats os cap _ _ _ _ (meets f lent ns ats os cap call))
+  module _ (f : List ℕ) (lent : Lent) (ns ats : List ℕ) (os : List Note) (cap mode : ℕ) (call : Call f lent ns ats os cap mode) where
+    pub invents-starts-broken : opensIn (eventsOf mode f lent) < numbersOf (R f lent ns ats os cap mode .answer) .starts → ⊥
+    invents-starts-broken h = omega (arith, starts-le f lent ns ats os cap mode _ _ _ _ (meets f lent ns ats os cap mode call))
 
-    pub invents-notes-broken : length (keptNotes cap (notesIn (eventsOf f lent))) < numbersOf (R f lent ns ats os cap .answer) .notes → ⊥
-    invents-notes-broken h = omega (arith, notes-le f lent ns ats os cap _ _ _ _ (meets f lent ns ats os cap call))
+    pub invents-notes-broken : length (keptNotes cap (notesIn (eventsOf mode f lent))) < numbersOf (R f lent ns ats os cap mode .answer) .notes → ⊥
+    invents-notes-broken h = omega (arith, notes-le f lent ns ats os cap mode _ _ _ _ (meets f lent ns ats os cap mode call))
 
-    pub wrong-kinds-broken : (c : ReadCounts) → R f lent ns ats os cap .answer ≡ Done c
-        → (kindsOf (take (c .notes) (R f lent ns ats os cap .notes)) ≡ kindsOf (map noteOf (keptNotes cap (notesIn (eventsOf f lent)))) → ⊥) → ⊥
+    pub wrong-kinds-broken : (c : ReadCounts) → R f lent ns ats os cap mode .answer ≡ Done c
+        → (kindsOf (take (c .notes) (R f lent ns ats os cap mode .notes)) ≡ kindsOf (map noteOf (keptNotes cap (notesIn (eventsOf mode f lent)))) → ⊥) → ⊥
     wrong-kinds-broken c e h =
-        h (ap kindsOf (notes-kept f lent ns ats os cap c _ _ _ (rw e at (meets f lent ns ats os cap call))))
+        h (ap kindsOf (notes-kept f lent ns ats os cap mode c _ _ _ (rw e at (meets f lent ns ats os cap mode call))))
 
 -- ---- there are readers of each sort
 
 -- refuses all
 abbrev refuser : Reader
-refuser f lent ns ats os cap = refuses (roomIn ns ats os cap) TooLargeError
+refuser f lent ns ats os cap mode = refuses (roomIn ns ats os cap mode) TooLargeError
 
-pub refuser-sorts : RefusesAll refuser × Constant refuser (lends [] []) [] [] [] 0 × ConstantOnRead refuser × StopsAtStart refuser
+pub refuser-sorts : RefusesAll refuser × Constant refuser (lends [] []) [] [] [] 0 0 × ConstantOnRead refuser × StopsAtStart refuser
     × ClearsNodes refuser × ClearsAttributes refuser × ClearsNotes refuser
 unfolding numbersOf numberOf
 refuser-sorts = (
-  λ f lent ns ats os cap call e. (let z : _≡_ {A = ℕ} 2 0 = e in omega arith),
+  λ f lent ns ats os cap mode call e. (let z : _≡_ {A = ℕ} 2 0 = e in omega arith),
   λ f f′ call call′. refl,
-  λ f f′ lent ns ats os cap call call′ r r′. refl,
-  λ p x y lent ns ats os cap call call′ first. refl,
-  λ f lent ns ats os cap call. refl,
-  λ f lent ns ats os cap call. refl,
-  λ f lent ns ats os cap call. refl,
+  λ f f′ lent ns ats os cap mode call call′ r r′. refl,
+  λ p x y lent ns ats os cap mode call call′ first. refl,
+  λ f lent ns ats os cap mode call. refl,
+  λ f lent ns ats os cap mode call. refl,
+  λ f lent ns ats os cap mode call. refl,
 )
 
 -- leaves all as it was, and counts more than there is
 abbrev inventor : Reader
-inventor f lent ns ats os cap =
-    let es = eventsOf f lent in
+inventor f lent ns ats os cap mode =
+    let es = eventsOf mode f lent in
     left (Done (record { starts = suc (opensIn es); nodes = 0; attributes = 0; notes = suc (length (keptNotes cap (notesIn es))) })) ns ats os
 
-module _ (f : List ℕ) (lent : Lent) (ns ats : List ℕ) (os : List Note) (cap : ℕ) where
+module _ (f : List ℕ) (lent : Lent) (ns ats : List ℕ) (os : List Note) (cap mode : ℕ) where
   pub inventor-sorts : LeavesNodes inventor × LeavesAttributes inventor × LeavesNotes inventor
-      × (opensIn (eventsOf f lent) < numbersOf (inventor f lent ns ats os cap .answer) .starts)
-      × (length (keptNotes cap (notesIn (eventsOf f lent))) < numbersOf (inventor f lent ns ats os cap .answer) .notes)
+      × (opensIn (eventsOf mode f lent) < numbersOf (inventor f lent ns ats os cap mode .answer) .starts)
+      × (length (keptNotes cap (notesIn (eventsOf mode f lent))) < numbersOf (inventor f lent ns ats os cap mode .answer) .notes)
   unfolding numbersOf
   inventor-sorts = (
-    λ f lent ns ats os cap call. refl,
-    λ f lent ns ats os cap call. refl,
-    λ f lent ns ats os cap call. refl,
+    λ f lent ns ats os cap mode call. refl,
+    λ f lent ns ats os cap mode call. refl,
+    λ f lent ns ats os cap mode call. refl,
     omega arith,
     omega arith,
   )
 
 -- the right numbers, and 0 for the kind of each note
 abbrev blurred : Reader
-blurred f lent ns ats os cap =
-    let r = reading (roomIn ns ats os cap) f lent in
+blurred f lent ns ats os cap mode =
+    let r = reading (roomIn ns ats os cap mode) f lent in
     left (r .answer) (r .nodes) (r .attributes) (map (λ (x : Note). record { kind = 0; a = x .a; b = x .b }) (r .notes))
 
-pub blurred-kinds : kindsOf (take 1 (blurred (take 88 fileS) (lends [] []) (noNodes 3) (noAttributes 3) none 8 .notes)) ≡ 0 ∷ []
+pub blurred-kinds : kindsOf (take 1 (blurred (take 88 fileS) (lends [] []) (noNodes 3) (noAttributes 3) none 8 merged .notes)) ≡ 0 ∷ []
 blurred-kinds = ap (λ (x : Reading). kindsOf (take 1 (map (λ (x : Note). record { kind = 0; a = x .a; b = x .b }) (x .notes)))) read-88

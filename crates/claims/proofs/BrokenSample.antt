@@ -25,6 +25,7 @@ use Rattle.system_types.specs.Names.{lends, isGood, namesFrom, nameOf}
 use Rattle.text.specs.Content.{systemOf, stringAt, stringOf, contentOf}
 use Rattle.head.specs.Head.{tablesOf, openedOf, outsideIn}
 use Rattle.head.specs.Entry.{lengthCheck}
+use Rattle.records.specs.Words.{merged}
 use Rattle.xml_elements.specs.Chunk.{startOf, attributeAt, startTurn, xmlTurn, numberOf, turnOf}
 use Rattle.events.specs.Events.{attributeEvent, attributesOf, fromLead, fromOpen, fromName, fromTrailing, fromSize, fromGap, eventsOn, bodyEvents, fileEvents}
 use Rattle.records.specs.Repeats.{repeatsOne}
@@ -42,7 +43,7 @@ pub read-88 : reading room (take 88 fileS) (lends [] []) ≡ oneNode 1 1 (note 1
 unfolding cases
 read-88 = ap (λ (l : List Reading). getD l 4 (oneNode 1 0 none)) cases-right
 
-no-start : _≡_ {A = ℕ} (opensIn (eventsOf headS (lends [] []))) 0
+no-start : _≡_ {A = ℕ} (opensIn (eventsOf merged headS (lends [] []))) 0
 unfolding fileS headS startS endS settle u16le u32le headerOf isXml sortOf contentLen foreignLen walk walkFrom trace traceFrom
     countOf numbered endOf poolFrom behindGarbage poolOf offsetOf outsideOf split8 split16 idsIn idsBy mapOf idOf isAscii isGood namesFrom
     nameOf systemOf stringAt stringOf contentOf tablesOf openedOf outsideIn lengthCheck startOf attributeAt startTurn xmlTurn numberOf
@@ -51,7 +52,7 @@ unfolding fileS headS startS endS settle u16le u32le headerOf isXml sortOf conte
     nameSort allChar isNameOf validName
 no-start = refl
 
-one-start : _≡_ {A = ℕ} (opensIn (eventsOf (headS ++ startS) (lends [] []))) 1
+one-start : _≡_ {A = ℕ} (opensIn (eventsOf merged (headS ++ startS) (lends [] []))) 1
 unfolding fileS headS startS endS settle u16le u32le headerOf isXml sortOf contentLen foreignLen walk walkFrom trace traceFrom
     countOf numbered endOf poolFrom behindGarbage poolOf offsetOf outsideOf split8 split16 idsIn idsBy mapOf idOf isAscii isGood namesFrom
     nameOf systemOf stringAt stringOf contentOf tablesOf openedOf outsideIn lengthCheck startOf attributeAt startTurn xmlTurn numberOf
@@ -86,7 +87,7 @@ read-without = ap (λ (f : List ℕ). reading room f (lends [] [])) (sym without
 -- ---- calls
 
 -- tables of zeros, with the room of the cases
-call : (f : List ℕ) → Bytes f → Call f (lends [] []) (noNodes 3) (noAttributes 3) none 8
+call : (f : List ℕ) → Bytes f → Call f (lends [] []) (noNodes 3) (noAttributes 3) none 8 merged
 call f b = record {
   file = b;
   nameWords = record { below = refl; short = omega arith };
@@ -97,20 +98,21 @@ call f b = record {
   firsts = record { below = refl; short = omega arith };
   seconds = record { below = refl; short = omega arith };
   capWord = omega arith;
+  modeWord = omega arith;
 }
 
-pub call-S : Call fileS (lends [] []) (noNodes 3) (noAttributes 3) none 8
+pub call-S : Call fileS (lends [] []) (noNodes 3) (noAttributes 3) none 8 merged
 unfolding fileS headS startS endS
 call-S = call fileS (record { below = refl; short = omega arith })
 
-pub call-88 : Call (take 88 fileS) (lends [] []) (noNodes 3) (noAttributes 3) none 8
+pub call-88 : Call (take 88 fileS) (lends [] []) (noNodes 3) (noAttributes 3) none 8 merged
 unfolding fileS headS startS endS
 call-88 = call (take 88 fileS) (record { below = refl; short = omega arith })
 
-pub call-with-end : Call ((headS ++ startS) ++ endS) (lends [] []) (noNodes 3) (noAttributes 3) none 8
+pub call-with-end : Call ((headS ++ startS) ++ endS) (lends [] []) (noNodes 3) (noAttributes 3) none 8 merged
 unfolding fileS headS startS endS
 call-with-end = call ((headS ++ startS) ++ endS) (record { below = refl; short = omega arith })
 
-pub call-without : Call ((headS ++ startS) ++ []) (lends [] []) (noNodes 3) (noAttributes 3) none 8
+pub call-without : Call ((headS ++ startS) ++ []) (lends [] []) (noNodes 3) (noAttributes 3) none 8 merged
 unfolding fileS headS startS endS
 call-without = call ((headS ++ startS) ++ []) (record { below = refl; short = omega arith })

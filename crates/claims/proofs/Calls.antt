@@ -22,17 +22,17 @@ use Rattle.claims.specs.Room.{HasRoom}
 use Rattle.claims.proofs.Foreign.{placeNotes-room}
 use Rattle.claims.proofs.Insertion.{insertion, insertion-room, insertion-same}
 
-module _ (f : List ℕ) (lent : Lent) (ns ats : List ℕ) (os : List NoteOf) (cap : ℕ) (a : ReadAnswer) (ns′ ats′ : List ℕ) (os′ : List NoteOf) where
-  pub left-reading : Reads f lent ns ats os cap a ns′ ats′ os′ → left a ns′ ats′ os′ ≡ reading (roomIn ns ats os cap) f lent
+module _ (f : List ℕ) (lent : Lent) (ns ats : List ℕ) (os : List NoteOf) (cap mode : ℕ) (a : ReadAnswer) (ns′ ats′ : List ℕ) (os′ : List NoteOf) where
+  pub left-reading : Reads f lent ns ats os cap mode a ns′ ats′ os′ → left a ns′ ats′ os′ ≡ reading (roomIn ns ats os cap mode) f lent
   left-reading p = rw (numbersOf-unique a _ (p .answer), p .nodes, p .attributes, p .notes)
 
 -- with k places for notes
-pub reading-left : (f : List ℕ) (lent : Lent) (ns ats : List ℕ) (k cap : ℕ) (R : Reading)
-    → R ≡ reading (record { nodes = length ns; attributes = length ats; notes = k; cap = cap }) f lent → (a : ReadAnswer) → R .answer ≡ a
-    → Reads f lent ns ats (replicate k zeroNote) cap a (R .nodes) (R .attributes) (R .notes)
-reading-left f lent ns ats k cap R is a e =
-    let same : R ≡ reading (roomIn ns ats (replicate k zeroNote) cap) f lent =
-    is ∙ ap (λ (n : ℕ). reading (record { nodes = length ns; attributes = length ats; notes = n; cap = cap }) f lent) (sym (length-replicate k zeroNote)) in
+pub reading-left : (f : List ℕ) (lent : Lent) (ns ats : List ℕ) (k cap mode : ℕ) (R : Reading)
+    → R ≡ reading (record { nodes = length ns; attributes = length ats; notes = k; cap = cap; mode = mode }) f lent → (a : ReadAnswer) → R .answer ≡ a
+    → Reads f lent ns ats (replicate k zeroNote) cap mode a (R .nodes) (R .attributes) (R .notes)
+reading-left f lent ns ats k cap mode R is a e =
+    let same : R ≡ reading (roomIn ns ats (replicate k zeroNote) cap mode) f lent =
+    is ∙ ap (λ (n : ℕ). reading (record { nodes = length ns; attributes = length ats; notes = n; cap = cap; mode = mode }) f lent) (sym (length-replicate k zeroNote)) in
     record {
       answer = ap numbersOf (sym e) ∙ ap (λ (x : Reading). numbersOf (x .answer)) same;
       nodes = ap (λ (x : Reading). x .nodes) same;
@@ -40,43 +40,43 @@ reading-left f lent ns ats k cap R is a e =
       notes = ap (λ (x : Reading). x .notes) same;
     }
 
-module _ (f : List ℕ) (lent : Lent) (ns ats : List ℕ) (os : List NoteOf) (cap : ℕ) (c : ReadCounts) (ns₁ ats₁ : List ℕ) (os₁ : List NoteOf)
-    (first : Reads f lent ns ats os cap (Done c) ns₁ ats₁ os₁) (none : c .notes ≡ 0) where
+module _ (f : List ℕ) (lent : Lent) (ns ats : List ℕ) (os : List NoteOf) (cap mode : ℕ) (c : ReadCounts) (ns₁ ats₁ : List ℕ) (os₁ : List NoteOf)
+    (first : Reads f lent ns ats os cap mode (Done c) ns₁ ats₁ os₁) (none : c .notes ≡ 0) where
   abbrev shorter : Reading
-  shorter = reading (roomIn ns ats os cap) f lent
+  shorter = reading (roomIn ns ats os cap mode) f lent
 
   was : left (Done c) ns₁ ats₁ os₁ ≡ shorter
-  was = left-reading f lent ns ats os cap (Done c) ns₁ ats₁ os₁ first
+  was = left-reading f lent ns ats os cap mode (Done c) ns₁ ats₁ os₁ first
 
   done₁ : shorter .answer ≡ Done c
   done₁ = sym (ap (λ (x : Reading). x .answer) was)
 
   module _ (places : List (List ForeignChunk)) (few : length places ≤ placesIn f) (limit : length (insertedFile places f) ≤ fileLimit) (ns′ ats′ : List ℕ)
       (os′ : List NoteOf) (cap′ : ℕ) (one : 1 ≤ cap′) (a : ReadAnswer) (ns₂ ats₂ : List ℕ) (os₂ : List NoteOf)
-      (second : Reads (insertedFile places f) lent ns′ ats′ os′ cap′ a ns₂ ats₂ os₂) where
-    r₂ : left a ns₂ ats₂ os₂ ≡ reading (roomIn ns′ ats′ os′ cap′) (insertedFile places f) lent
-    r₂ = left-reading (insertedFile places f) lent ns′ ats′ os′ cap′ a ns₂ ats₂ os₂ second
+      (second : Reads (insertedFile places f) lent ns′ ats′ os′ cap′ mode a ns₂ ats₂ os₂) where
+    r₂ : left a ns₂ ats₂ os₂ ≡ reading (roomIn ns′ ats′ os′ cap′ mode) (insertedFile places f) lent
+    r₂ = left-reading (insertedFile places f) lent ns′ ats′ os′ cap′ mode a ns₂ ats₂ os₂ second
 
     -- THE THEOREM, of two calls
     pub insertion-read : HasRoom a
-        → left a ns₂ ats₂ os₂ ≡ withNotes (roomIn ns′ ats′ os′ cap′) (left (Done c) ns₁ ats₁ os₁) c (keptNotes cap′ (placeNotes places))
+        → left a ns₂ ats₂ os₂ ≡ withNotes (roomIn ns′ ats′ os′ cap′ mode) (left (Done c) ns₁ ats₁ os₁) c (keptNotes cap′ (placeNotes places))
     insertion-read room =
-        let room′ : HasRoom (reading (roomIn ns′ ats′ os′ cap′) (insertedFile places f) lent .answer) =
+        let room′ : HasRoom (reading (roomIn ns′ ats′ os′ cap′ mode) (insertedFile places f) lent .answer) =
         subst (λ (x : Reading). HasRoom (x .answer)) r₂ room in
-        r₂ ∙ insertion (roomIn ns ats os cap) f lent c done₁ none places few limit (roomIn ns′ ats′ os′ cap′) one room′
-        ∙ ap (λ (x : Reading). withNotes (roomIn ns′ ats′ os′ cap′) x c (keptNotes cap′ (placeNotes places))) (sym was)
+        r₂ ∙ insertion (roomIn ns ats os cap mode) f lent c done₁ none places few limit (roomIn ns′ ats′ os′ cap′ mode) one refl room′
+        ∙ ap (λ (x : Reading). withNotes (roomIn ns′ ats′ os′ cap′ mode) x c (keptNotes cap′ (placeNotes places))) (sym was)
 
     -- in tables of the same lengths, the tables are the same, whole
     pub insertion-read-same : length ns′ ≡ length ns → length ats′ ≡ length ats → HasRoom a → (ns₂ ≡ ns₁) × (ats₂ ≡ ats₁)
     insertion-read-same n m room =
-        let room′ : HasRoom (reading (roomIn ns′ ats′ os′ cap′) (insertedFile places f) lent .answer) =
+        let room′ : HasRoom (reading (roomIn ns′ ats′ os′ cap′ mode) (insertedFile places f) lent .answer) =
         subst (λ (x : Reading). HasRoom (x .answer)) r₂ room in
-        let e = insertion-same (roomIn ns ats os cap) f lent c done₁ none places few limit (roomIn ns′ ats′ os′ cap′) one n m room′ in
+        let e = insertion-same (roomIn ns ats os cap mode) f lent c done₁ none places few limit (roomIn ns′ ats′ os′ cap′ mode) one refl n m room′ in
         (second .nodes ∙ e .0 ∙ sym (first .nodes), second .attributes ∙ e .1 ∙ sym (first .attributes))
 
     -- places for the records that the first call kept, and for twice the cap of notes, are room
     pub insertion-read-room : nodeWidth * c .nodes ≤ length ns′ → attributeWidth * c .attributes ≤ length ats′ → 2 * cap′ ≤ length os′ → HasRoom a
     insertion-read-room n m k =
         subst (λ (x : Reading). HasRoom (x .answer)) (sym r₂)
-        (insertion-room (roomIn ns ats os cap) f lent c done₁ none places few limit (roomIn ns′ ats′ os′ cap′) one n m
+        (insertion-room (roomIn ns ats os cap mode) f lent c done₁ none places few limit (roomIn ns′ ats′ os′ cap′ mode) one refl n m
         (le-trans (placeNotes-room cap′ places) k))

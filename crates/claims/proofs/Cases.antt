@@ -30,7 +30,7 @@ use Rattle.head.specs.Head.{tablesOf, openedOf, outsideIn}
 use Rattle.head.specs.Entry.{lengthCheck}
 use Rattle.xml_elements.specs.Chunk.{startOf, attributeAt, startTurn, xmlTurn, numberOf, turnOf}
 use Rattle.events.specs.Events.{attributeEvent, attributesOf, fromLead, fromOpen, fromName, fromTrailing, fromSize, fromGap, eventsOn, bodyEvents, fileEvents}
-use Rattle.records.specs.Words.{nodeWidth, nodeWords, noParent, attributeWidth, attributeWords}
+use Rattle.records.specs.Words.{nodeWidth, nodeWords, noParent, attributeWidth, attributeWords, merged}
 use Rattle.records.specs.Repeats.{repeatsOne}
 use Rattle.walk.specs.Settle.{Room, settle}
 use Rattle.walk.specs.Reading.{Reading, reading, zeroNote}
@@ -74,7 +74,7 @@ endL = take 8 endS ++ (0x07 ∷ drop 9 endS)
 -- ---- the readings
 
 abbrev pub room : Room
-room = record { nodes = 3 * nodeWidth; attributes = 3 * attributeWidth; notes = 4; cap = 8 }
+room = record { nodes = 3 * nodeWidth; attributes = 3 * attributeWidth; notes = 4; cap = 8; mode = merged }
 
 -- n records of zeros
 abbrev pub noNodes : ℕ → List ℕ
@@ -101,7 +101,7 @@ abbrev pub firstNode : List ℕ
 firstNode = firstAt 1
 
 abbrev pub lead : List ℕ
-lead = attributeWords 0 2 0 3 0
+lead = attributeWords 0 2 0 3 0 0
 
 -- one node of this line, with so many starts, and these notes of which the first n count
 abbrev pub oneAt : ℕ → ℕ → ℕ → List Note → Reading

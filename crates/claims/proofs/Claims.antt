@@ -14,6 +14,7 @@
 -- A part of the head that is short (P6): part-offset, part-cut of a reading, text-part-cut of the text question.
 -- Zeros (P1, B7, B8): refused-zeros, done-zeros, text-refused-zeros, text-done-zeros. Every success: structured, notes-kept.
 -- Nothing lost without a note (P7): nothing-lost; unnoted-kept: without note 12 no start is dropped. Computed: proofs/LostCases.antt.
+-- The two modes (W22, W23, B16): mode-merged, the attributes of the first are those of the second without what it merges.
 -- Readers that break the promise (P5): refuses-all-broken to wrong-kinds-broken, each of every reader of its sort (specs/Readers.antt); meets-some.
 -- The C interface: c-read-unique to c-first-refused-zeros, the same of its words: one answer, insertion, zeros.
 -- The listing's function: list-unique to list-suffices: one answer, zeros, room.
@@ -56,7 +57,7 @@ use Rattle.xml.specs.NCName.{validName}
 use Rattle.head.specs.Ask.{textAnswer, TextReads, contentAnswer}
 use Rattle.head.specs.Head.{openedOf, headLen}
 use Rattle.first_value.specs.Question.{firstAnswer, FirstReads}
-use Rattle.records.specs.Words.{nodeWidth, attributeWidth, noteWidth}
+use Rattle.records.specs.Words.{nodeWidth, attributeWidth, noteWidth, merged, apart}
 use Rattle.system_types.specs.Names.{Lent, lends}
 use Rattle.walk.specs.Settle.{Room}
 use Rattle.walk.specs.Reading.{reading, roomIn, zeroNote, Reads}
@@ -73,6 +74,7 @@ use Rattle.claims.specs.Parts.{isPart}
 use Rattle.claims.specs.Cleared.{ZeroBehind, RefusedZero, DoneZero, TextRefusedZero, TextDoneZero}
 use Rattle.claims.specs.Shape.{Structured, ofKind as ofNumber}
 use Rattle.claims.specs.Lost.{marksIn, startNames, NothingLost}
+use Rattle.claims.specs.Modes.{Merges}
 use Rattle.claims.specs.Readers.{Call, Reader, Meets, eventsOf, kindsOf, RefusesAll, Constant, ConstantOnRead, StopsAtStart}
 use Rattle.claims.specs.Readers.{LeavesNodes, LeavesAttributes, LeavesNotes, ClearsNodes, ClearsAttributes, ClearsNotes}
 use Rattle.claims.proofs.Longer.{insertedFile-none}
@@ -86,6 +88,7 @@ use Rattle.claims.proofs.Zeros as zeros
 use Rattle.claims.proofs.Structure as tree
 use Rattle.claims.proofs.Lost as lost
 use Rattle.claims.proofs.Broken as broken
+use Rattle.claims.proofs.Modes as modes
 use Rattle.claims.proofs.InC as inC
 use Rattle.claims.proofs.Lists as lists
 use mathlib.Core.List.{List·Permᴰ}
@@ -137,9 +140,9 @@ use Rattle.many_texts.proofs.Claimed as manies
 use Rattle.claims.specs.Month as month
 use Rattle.claims.proofs.Month as months
 
-module _ (f : List ℕ) (lent : Lent) (ns ats : List ℕ) (os : List Note) (cap : ℕ) where
-  pub read-unique : (r r′ : ReadAnswer) (ns₁ ns₂ ats₁ ats₂ : List ℕ) (os₁ os₂ : List Note) → Reads f lent ns ats os cap r ns₁ ats₁ os₁
-      → Reads f lent ns ats os cap r′ ns₂ ats₂ os₂ → (r ≡ r′) × (ns₁ ≡ ns₂) × (ats₁ ≡ ats₂) × (os₁ ≡ os₂)
+module _ (f : List ℕ) (lent : Lent) (ns ats : List ℕ) (os : List Note) (cap mode : ℕ) where
+  pub read-unique : (r r′ : ReadAnswer) (ns₁ ns₂ ats₁ ats₂ : List ℕ) (os₁ os₂ : List Note) → Reads f lent ns ats os cap mode r ns₁ ats₁ os₁
+      → Reads f lent ns ats os cap mode r′ ns₂ ats₂ os₂ → (r ≡ r′) × (ns₁ ≡ ns₂) × (ats₁ ≡ ats₂) × (os₁ ≡ os₂)
   read-unique r r′ ns₁ ns₂ ats₁ ats₂ os₁ os₂ p q =
       (numbersOf-unique r r′ (p .answer ∙ sym (q .answer)), p .nodes ∙ sym (q .nodes), p .attributes ∙ sym (q .attributes), p .notes ∙ sym (q .notes))
 
@@ -182,22 +185,22 @@ first-numbers-unique a b e = firstNumbersOf-unique a b e
 -- last chunk is whole and nothing follows it.
 module _ (r : Room) (f : List ℕ) (lent : Lent) (c : ReadCounts) (done : reading r f lent .answer ≡ Done c) (none : c .notes ≡ 0)
     (places : List (List ForeignChunk)) (few : length places ≤ placesIn f) (limit : length (insertedFile places f) ≤ fileLimit) (r′ : Room)
-    (one : 1 ≤ r′ .cap) where
-  -- Every table has room: starts, kept nodes and attributes are the same, word for word, and the notes are one for each stretch, up to the cap of each kind.
+    (one : 1 ≤ r′ .cap) (alike : r′ .mode ≡ r .mode) where
+  -- In the same mode, where every table has room: starts, kept nodes and attributes are the same, word for word, and the notes are one for each stretch, up to the cap of each kind.
   pub insertion : HasRoom (reading r′ (insertedFile places f) lent .answer)
       → reading r′ (insertedFile places f) lent ≡ withNotes r′ (reading r f lent) c (keptNotes (r′ .cap) (placeNotes places))
-  insertion room = proved.insertion r f lent c done none places few limit r′ one room
+  insertion room = proved.insertion r f lent c done none places few limit r′ one alike room
 
   -- in tables of the same lengths, the tables are the same, whole
   pub insertion-same : r′ .nodes ≡ r .nodes → r′ .attributes ≡ r .attributes → HasRoom (reading r′ (insertedFile places f) lent .answer)
       → (reading r′ (insertedFile places f) lent .nodes ≡ reading r f lent .nodes)
       × (reading r′ (insertedFile places f) lent .attributes ≡ reading r f lent .attributes)
-  insertion-same n a room = proved.insertion-same r f lent c done none places few limit r′ one n a room
+  insertion-same n a room = proved.insertion-same r f lent c done none places few limit r′ one alike n a room
 
   -- places for the kept records and for the notes are room
   pub insertion-room : nodeWidth * c .nodes ≤ r′ .nodes → attributeWidth * c .attributes ≤ r′ .attributes
       → length (keptNotes (r′ .cap) (placeNotes places)) ≤ r′ .notes → HasRoom (reading r′ (insertedFile places f) lent .answer)
-  insertion-room n a m = proved.insertion-room r f lent c done none places few limit r′ one n a m
+  insertion-room n a m = proved.insertion-room r f lent c done none places few limit r′ one alike n a m
 
   -- the head is untouched
   pub insertion-head : (openedOf (insertedFile places f) ≡ openedOf f)
@@ -209,23 +212,23 @@ module _ (r : Room) (f : List ℕ) (lent : Lent) (c : ReadCounts) (done : readin
   insertion-kept = proved.nothing-dropped r f lent c done none
 
 -- The same of two calls, whatever results the promise allows: `left` is an answer and what stands in the three tables.
-module _ (f : List ℕ) (lent : Lent) (ns ats : List ℕ) (os : List Note) (cap : ℕ) (c : ReadCounts) (ns₁ ats₁ : List ℕ) (os₁ : List Note)
-    (first : Reads f lent ns ats os cap (Done c) ns₁ ats₁ os₁) (none : c .notes ≡ 0) (places : List (List ForeignChunk))
+module _ (f : List ℕ) (lent : Lent) (ns ats : List ℕ) (os : List Note) (cap mode : ℕ) (c : ReadCounts) (ns₁ ats₁ : List ℕ) (os₁ : List Note)
+    (first : Reads f lent ns ats os cap mode (Done c) ns₁ ats₁ os₁) (none : c .notes ≡ 0) (places : List (List ForeignChunk))
     (few : length places ≤ placesIn f) (limit : length (insertedFile places f) ≤ fileLimit) (ns′ ats′ : List ℕ) (os′ : List Note) (cap′ : ℕ)
     (one : 1 ≤ cap′) (a : ReadAnswer) (ns₂ ats₂ : List ℕ) (os₂ : List Note)
-    (second : Reads (insertedFile places f) lent ns′ ats′ os′ cap′ a ns₂ ats₂ os₂) where
+    (second : Reads (insertedFile places f) lent ns′ ats′ os′ cap′ mode a ns₂ ats₂ os₂) where
   pub insertion-read : HasRoom a
-      → left a ns₂ ats₂ os₂ ≡ withNotes (roomIn ns′ ats′ os′ cap′) (left (Done c) ns₁ ats₁ os₁) c (keptNotes cap′ (placeNotes places))
+      → left a ns₂ ats₂ os₂ ≡ withNotes (roomIn ns′ ats′ os′ cap′ mode) (left (Done c) ns₁ ats₁ os₁) c (keptNotes cap′ (placeNotes places))
   insertion-read room =
-      calls.insertion-read f lent ns ats os cap c ns₁ ats₁ os₁ first none places few limit ns′ ats′ os′ cap′ one a ns₂ ats₂ os₂ second room
+      calls.insertion-read f lent ns ats os cap mode c ns₁ ats₁ os₁ first none places few limit ns′ ats′ os′ cap′ mode one a ns₂ ats₂ os₂ second room
 
   pub insertion-read-same : length ns′ ≡ length ns → length ats′ ≡ length ats → HasRoom a → (ns₂ ≡ ns₁) × (ats₂ ≡ ats₁)
   insertion-read-same n m room =
-      calls.insertion-read-same f lent ns ats os cap c ns₁ ats₁ os₁ first none places few limit ns′ ats′ os′ cap′ one a ns₂ ats₂ os₂ second n m room
+      calls.insertion-read-same f lent ns ats os cap mode c ns₁ ats₁ os₁ first none places few limit ns′ ats′ os′ cap′ mode one a ns₂ ats₂ os₂ second n m room
 
   pub insertion-read-room : nodeWidth * c .nodes ≤ length ns′ → attributeWidth * c .attributes ≤ length ats′ → 2 * cap′ ≤ length os′ → HasRoom a
   insertion-read-room n m k =
-      calls.insertion-read-room f lent ns ats os cap c ns₁ ats₁ os₁ first none places few limit ns′ ats′ os′ cap′ one a ns₂ ats₂ os₂ second n m k
+      calls.insertion-read-room f lent ns ats os cap mode c ns₁ ats₁ os₁ first none places few limit ns′ ats′ os′ cap′ mode one a ns₂ ats₂ os₂ second n m k
 
 -- Text, content and first value, asked of the longer file, are those of the file: of any two results that the promises allow.
 module _ (r : Room) (f : List ℕ) (lent : Lent) (c : ReadCounts) (done : reading r f lent .answer ≡ Done c) (none : c .notes ≡ 0)
@@ -269,9 +272,9 @@ pub suffices : (r : Room) (f : List ℕ) (lent : Lent) → nodesFor (length f) �
 suffices = room.suffices
 
 -- the same of a call
-pub read-suffices : (f : List ℕ) (lent : Lent) (ns ats : List ℕ) (os : List Note) (cap : ℕ) (a : ReadAnswer) (ns′ ats′ : List ℕ) (os′ : List Note)
+pub read-suffices : (f : List ℕ) (lent : Lent) (ns ats : List ℕ) (os : List Note) (cap mode : ℕ) (a : ReadAnswer) (ns′ ats′ : List ℕ) (os′ : List Note)
     → nodesFor (length f) ≤ length ns → attributesFor (length f) ≤ length ats → placesFor cap ≤ length os
-    → Reads f lent ns ats os cap a ns′ ats′ os′ → HasRoom a
+    → Reads f lent ns ats os cap mode a ns′ ats′ os′ → HasRoom a
 read-suffices = room.read-suffices
 
 -- the room of a listing is such for all the lengths that it reads
@@ -281,7 +284,7 @@ listing-suffices = room.listing-suffices
 
 pub read-listed-suffices : (f ns ats : List ℕ) (a : ReadAnswer) (ns′ ats′ : List ℕ) (os′ : List Note) → length f ≤ listedFile
     → length ns ≡ listingRoom .nodes → length ats ≡ listingRoom .attributes
-    → Reads f (lends [] []) ns ats (replicate (listingRoom .notes) zeroNote) (listingRoom .cap) a ns′ ats′ os′ → HasRoom a
+    → Reads f (lends [] []) ns ats (replicate (listingRoom .notes) zeroNote) (listingRoom .cap) (listingRoom .mode) a ns′ ats′ os′ → HasRoom a
 read-listed-suffices = room.read-listed-suffices
 
 -- ---- a part of pool or map that is short (H15): the value of the refusal is where it should begin
@@ -305,20 +308,20 @@ module _ (f : List ℕ) (lent : Lent) (n i : ℕ) (x : Refusal) (part : isPart x
 
 -- ---- zeros (B7, B8), and the structure of a success (W25 to W29, B9 to B15)
 
-module _ (f : List ℕ) (lent : Lent) (ns ats : List ℕ) (os : List Note) (cap : ℕ) (ns′ ats′ : List ℕ) (os′ : List Note) where
-  pub refused-zeros : (x : Refusal) → Reads f lent ns ats os cap (Refused x) ns′ ats′ os′ → RefusedZero (numbersOf (Refused x)) ns ats os ns′ ats′ os′
-  refused-zeros x h = zeros.refused-zeros f lent ns ats os cap x ns′ ats′ os′ h
+module _ (f : List ℕ) (lent : Lent) (ns ats : List ℕ) (os : List Note) (cap mode : ℕ) (ns′ ats′ : List ℕ) (os′ : List Note) where
+  pub refused-zeros : (x : Refusal) → Reads f lent ns ats os cap mode (Refused x) ns′ ats′ os′ → RefusedZero (numbersOf (Refused x)) ns ats os ns′ ats′ os′
+  refused-zeros x h = zeros.refused-zeros f lent ns ats os cap mode x ns′ ats′ os′ h
 
-  pub done-zeros : (c : ReadCounts) → Reads f lent ns ats os cap (Done c) ns′ ats′ os′ → DoneZero (numbersOf (Done c)) ns ats os ns′ ats′ os′
-  done-zeros c h = zeros.done-zeros f lent ns ats os cap c ns′ ats′ os′ h
+  pub done-zeros : (c : ReadCounts) → Reads f lent ns ats os cap mode (Done c) ns′ ats′ os′ → DoneZero (numbersOf (Done c)) ns ats os ns′ ats′ os′
+  done-zeros c h = zeros.done-zeros f lent ns ats os cap mode c ns′ ats′ os′ h
 
-  pub structured : (c : ReadCounts) → Reads f lent ns ats os cap (Done c) ns′ ats′ os′ → Structured (eventsOf f lent) cap c ns′ ats′ os′
-  structured c h = tree.structured f lent ns ats os cap c ns′ ats′ os′ h
+  pub structured : (c : ReadCounts) → Reads f lent ns ats os cap mode (Done c) ns′ ats′ os′ → Structured (eventsOf mode f lent) cap c ns′ ats′ os′
+  structured c h = tree.structured f lent ns ats os cap mode c ns′ ats′ os′ h
 
   -- its notes are exactly the file's, of each kind the first `cap` (B13, B14)
-  pub notes-kept : (c : ReadCounts) → Reads f lent ns ats os cap (Done c) ns′ ats′ os′
-      → take (c .notes) os′ ≡ map noteOf (keptNotes cap (notesIn (eventsOf f lent)))
-  notes-kept c h = tree.notes-kept f lent ns ats os cap c ns′ ats′ os′ h
+  pub notes-kept : (c : ReadCounts) → Reads f lent ns ats os cap mode (Done c) ns′ ats′ os′
+      → take (c .notes) os′ ≡ map noteOf (keptNotes cap (notesIn (eventsOf mode f lent)))
+  notes-kept c h = tree.notes-kept f lent ns ats os cap mode c ns′ ats′ os′ h
 
   -- Nothing is lost without a note (P7). The kept nodes are exactly the starts before the first, other than the very first, that never gets its end; and
   -- where a start is dropped, the last note is 12, with the number of starts that never get their end.
@@ -338,11 +341,19 @@ module _ (f : List ℕ) (lent : Lent) (before : List ℕ) (i : ℕ) (after : Lis
   pub text-done-zeros : (k : ℕ) → TextReads f lent before i (textIs.Text k) after → TextDoneZero (textNumbersOf (textIs.Text k)) before after
   text-done-zeros k h = zeros.text-done-zeros f lent before i k after h
 
+-- ---- the two modes (W22, W23, B16), whatever the room and the cap of each
+
+module _ (f : List ℕ) (lent : Lent) (ns ats : List ℕ) (os : List Note) (cap : ℕ) (c : ReadCounts) (ns₁ ats₁ : List ℕ) (os₁ : List Note)
+    (first : Reads f lent ns ats os cap merged (Done c) ns₁ ats₁ os₁) (ns′ ats′ : List ℕ) (os′ : List Note) (cap′ : ℕ) (c′ : ReadCounts)
+    (ns₂ ats₂ : List ℕ) (os₂ : List Note) (second : Reads f lent ns′ ats′ os′ cap′ apart (Done c′) ns₂ ats₂ os₂) where
+  pub mode-merged : Merges (take (attributeWidth * c .attributes) ats₁) (take (attributeWidth * c′ .attributes) ats₂)
+  mode-merged = modes.mode-merged f lent ns ats os cap c ns₁ ats₁ os₁ first ns′ ats′ os′ cap′ c′ ns₂ ats₂ os₂ second
+
 -- ---- the C interface: the same of its words and of its structs of numbers
 
 -- one answer
-module _ (f : List ℕ) (lent : Lent) (ns ats ws : List ℕ) (cap : ℕ) (a a′ : AxmlAnswer) (ns₁ ns₂ ats₁ ats₂ ws₁ ws₂ : List ℕ) where
-  pub c-read-unique : ReadsWords f lent ns ats ws cap a ns₁ ats₁ ws₁ → ReadsWords f lent ns ats ws cap a′ ns₂ ats₂ ws₂
+module _ (f : List ℕ) (lent : Lent) (ns ats ws : List ℕ) (cap mode : ℕ) (a a′ : AxmlAnswer) (ns₁ ns₂ ats₁ ats₂ ws₁ ws₂ : List ℕ) where
+  pub c-read-unique : ReadsWords f lent ns ats ws cap mode a ns₁ ats₁ ws₁ → ReadsWords f lent ns ats ws cap mode a′ ns₂ ats₂ ws₂
       → (a ≡ a′) × (ns₁ ≡ ns₂) × (ats₁ ≡ ats₂) × (ws₁ ≡ ws₂)
   c-read-unique p q =
       (p .answer ∙ sym (q .answer), p .nodes ∙ sym (q .nodes), p .attributes ∙ sym (q .attributes), p .notes ∙ sym (q .notes))
@@ -357,31 +368,31 @@ module _ (f : List ℕ) (lent : Lent) (ns ats tag name : List ℕ) (nodes attrib
   c-first-unique p q = p ∙ sym q
 
 -- insertion, of two calls of `axml_read`
-module _ (f : List ℕ) (lent : Lent) (ns ats ws : List ℕ) (cap : ℕ) (a : AxmlAnswer) (ns₁ ats₁ ws₁ : List ℕ)
-    (first : ReadsWords f lent ns ats ws cap a ns₁ ats₁ ws₁) (done : a .refusal ≡ 0) (none : a .notes ≡ 0) (places : List (List ForeignChunk))
+module _ (f : List ℕ) (lent : Lent) (ns ats ws : List ℕ) (cap mode : ℕ) (a : AxmlAnswer) (ns₁ ats₁ ws₁ : List ℕ)
+    (first : ReadsWords f lent ns ats ws cap mode a ns₁ ats₁ ws₁) (done : a .refusal ≡ 0) (none : a .notes ≡ 0) (places : List (List ForeignChunk))
     (few : length places ≤ placesIn f) (limit : length (insertedFile places f) ≤ fileLimit) (ns′ ats′ ws′ : List ℕ) (cap′ : ℕ)
-    (one : 1 ≤ cap′) (a′ : AxmlAnswer) (ns₂ ats₂ ws₂ : List ℕ) (second : ReadsWords (insertedFile places f) lent ns′ ats′ ws′ cap′ a′ ns₂ ats₂ ws₂) where
+    (one : 1 ≤ cap′) (a′ : AxmlAnswer) (ns₂ ats₂ ws₂ : List ℕ) (second : ReadsWords (insertedFile places f) lent ns′ ats′ ws′ cap′ mode a′ ns₂ ats₂ ws₂) where
   pub c-insertion : isFullNumber (a′ .refusal) ≡ false
       → leftInC a′ ns₂ ats₂ ws₂ ≡ withNotesInC (length ns′) (length ats′) (length ws′) (leftInC a ns₁ ats₁ ws₁) (keptNotes cap′ (placeNotes places))
   c-insertion =
-      inC.insertion f lent ns ats ws cap a ns₁ ats₁ ws₁ first done none places few limit ns′ ats′ ws′ cap′ one a′ ns₂ ats₂ ws₂ second
+      inC.insertion f lent ns ats ws cap mode a ns₁ ats₁ ws₁ first done none places few limit ns′ ats′ ws′ cap′ mode one a′ ns₂ ats₂ ws₂ second
 
   pub c-insertion-same : length ns′ ≡ length ns → length ats′ ≡ length ats → isFullNumber (a′ .refusal) ≡ false → (ns₂ ≡ ns₁) × (ats₂ ≡ ats₁)
   c-insertion-same =
-      inC.insertion-same f lent ns ats ws cap a ns₁ ats₁ ws₁ first done none places few limit ns′ ats′ ws′ cap′ one a′ ns₂ ats₂ ws₂ second
+      inC.insertion-same f lent ns ats ws cap mode a ns₁ ats₁ ws₁ first done none places few limit ns′ ats′ ws′ cap′ mode one a′ ns₂ ats₂ ws₂ second
 
   pub c-insertion-room : nodeWidth * a .nodes ≤ length ns′ → attributeWidth * a .attributes ≤ length ats′ → noteWidth * (2 * cap′) ≤ length ws′
       → isFullNumber (a′ .refusal) ≡ false
   c-insertion-room =
-      inC.insertion-room f lent ns ats ws cap a ns₁ ats₁ ws₁ first done none places few limit ns′ ats′ ws′ cap′ one a′ ns₂ ats₂ ws₂ second
+      inC.insertion-room f lent ns ats ws cap mode a ns₁ ats₁ ws₁ first done none places few limit ns′ ats′ ws′ cap′ mode one a′ ns₂ ats₂ ws₂ second
 
 -- zeros
-module _ (f : List ℕ) (lent : Lent) (ns ats ws : List ℕ) (cap : ℕ) (a : AxmlAnswer) (ns′ ats′ ws′ : List ℕ) where
-  pub c-refused-zeros : ReadsWords f lent ns ats ws cap a ns′ ats′ ws′ → (a .refusal ≡ 0 → ⊥) → RefusedInC a ns ats ws ns′ ats′ ws′
-  c-refused-zeros = inC.refused-zeros f lent ns ats ws cap a ns′ ats′ ws′
+module _ (f : List ℕ) (lent : Lent) (ns ats ws : List ℕ) (cap mode : ℕ) (a : AxmlAnswer) (ns′ ats′ ws′ : List ℕ) where
+  pub c-refused-zeros : ReadsWords f lent ns ats ws cap mode a ns′ ats′ ws′ → (a .refusal ≡ 0 → ⊥) → RefusedInC a ns ats ws ns′ ats′ ws′
+  c-refused-zeros = inC.refused-zeros f lent ns ats ws cap mode a ns′ ats′ ws′
 
-  pub c-done-zeros : ReadsWords f lent ns ats ws cap a ns′ ats′ ws′ → a .refusal ≡ 0 → DoneInC a ns ats ws ns′ ats′ ws′
-  c-done-zeros = inC.done-zeros f lent ns ats ws cap a ns′ ats′ ws′
+  pub c-done-zeros : ReadsWords f lent ns ats ws cap mode a ns′ ats′ ws′ → a .refusal ≡ 0 → DoneInC a ns ats ws ns′ ats′ ws′
+  c-done-zeros = inC.done-zeros f lent ns ats ws cap mode a ns′ ats′ ws′
 
 module _ (f : List ℕ) (lent : Lent) (before : List ℕ) (i : ℕ) (a : AxmlTextAnswer) (after : List ℕ) where
   pub c-text-refused-zeros : AsksText f lent before i a after → (a .refusal ≡ 0 → ⊥) → TextRefusedInC a before after
@@ -430,7 +441,7 @@ module _ (R : Reader) (meets : Meets R) where
   pub refuses-all-broken : RefusesAll R → ⊥
   refuses-all-broken = broken.refuses-all-broken R meets
 
-  pub constant-broken : (lent : Lent) (ns ats : List ℕ) (os : List Note) (cap : ℕ) → Call [] lent ns ats os cap → Constant R lent ns ats os cap → ⊥
+  pub constant-broken : (lent : Lent) (ns ats : List ℕ) (os : List Note) (cap mode : ℕ) → Call [] lent ns ats os cap mode → Constant R lent ns ats os cap mode → ⊥
   constant-broken = broken.constant-broken R meets
 
   pub constant-on-read-broken : ConstantOnRead R → ⊥
@@ -459,19 +470,19 @@ module _ (R : Reader) (meets : Meets R) where
   first-start-broken = broken.first-start-broken R meets
 
   -- one that gives a file, be it one alone, more starts than open in it, more notes than its cap keeps, or notes of other kinds
-  module _ (f : List ℕ) (lent : Lent) (ns ats : List ℕ) (os : List Note) (cap : ℕ) (call : Call f lent ns ats os cap) where
-    pub invents-starts-broken : opensIn (eventsOf f lent) < numbersOf (R f lent ns ats os cap .answer) .starts → ⊥
-    invents-starts-broken = broken.invents-starts-broken R meets f lent ns ats os cap call
+  module _ (f : List ℕ) (lent : Lent) (ns ats : List ℕ) (os : List Note) (cap mode : ℕ) (call : Call f lent ns ats os cap mode) where
+    pub invents-starts-broken : opensIn (eventsOf mode f lent) < numbersOf (R f lent ns ats os cap mode .answer) .starts → ⊥
+    invents-starts-broken = broken.invents-starts-broken R meets f lent ns ats os cap mode call
 
-    pub invents-notes-broken : length (keptNotes cap (notesIn (eventsOf f lent))) < numbersOf (R f lent ns ats os cap .answer) .notes → ⊥
-    invents-notes-broken = broken.invents-notes-broken R meets f lent ns ats os cap call
+    pub invents-notes-broken : length (keptNotes cap (notesIn (eventsOf mode f lent))) < numbersOf (R f lent ns ats os cap mode .answer) .notes → ⊥
+    invents-notes-broken = broken.invents-notes-broken R meets f lent ns ats os cap mode call
 
-    pub wrong-kinds-broken : (c : ReadCounts) → R f lent ns ats os cap .answer ≡ Done c
-        → (kindsOf (take (c .notes) (R f lent ns ats os cap .notes)) ≡ kindsOf (map noteOf (keptNotes cap (notesIn (eventsOf f lent)))) → ⊥) → ⊥
-    wrong-kinds-broken = broken.wrong-kinds-broken R meets f lent ns ats os cap call
+    pub wrong-kinds-broken : (c : ReadCounts) → R f lent ns ats os cap mode .answer ≡ Done c
+        → (kindsOf (take (c .notes) (R f lent ns ats os cap mode .notes)) ≡ kindsOf (map noteOf (keptNotes cap (notesIn (eventsOf mode f lent)))) → ⊥) → ⊥
+    wrong-kinds-broken = broken.wrong-kinds-broken R meets f lent ns ats os cap mode call
 
 -- and the promise can be met: by the definition itself
-pub meets-some : Meets (λ f lent ns ats os cap. reading (roomIn ns ats os cap) f lent)
+pub meets-some : Meets (λ f lent ns ats os cap mode. reading (roomIn ns ats os cap mode) f lent)
 meets-some = broken.meets-some
 
 -- ---- a month of files (R4 to R8)
@@ -510,9 +521,9 @@ pub month-added : (r : RoundUp) (share : List ℕ) → length (r .counts) ≡ le
 month-added r share even fits = let a = told.added-fits r share even fits in (a, λ i. told.added-at r share i even a)
 
 -- for every reading that succeeds, the kinds that are counted in its note table are those of the kept notes
-pub month-kinds : (f : List ℕ) (lent : Lent) (ns ats ws : List ℕ) (cap : ℕ) (a : AxmlAnswer) (ns′ ats′ ws′ : List ℕ)
-    → ReadsWords f lent ns ats ws cap a ns′ ats′ ws′ → a .refusal ≡ 0
-    → kindsIn ws′ (a .notes) ≡ tally sums.kinds 0 (map kindNumber (keptNotes cap (notesIn (eventsOf f lent))))
+pub month-kinds : (f : List ℕ) (lent : Lent) (ns ats ws : List ℕ) (cap mode : ℕ) (a : AxmlAnswer) (ns′ ats′ ws′ : List ℕ)
+    → ReadsWords f lent ns ats ws cap mode a ns′ ats′ ws′ → a .refusal ≡ 0
+    → kindsIn ws′ (a .notes) ≡ tally sums.kinds 0 (map kindNumber (keptNotes cap (notesIn (eventsOf mode f lent))))
 month-kinds = months.month-kinds
 
 -- so that over any month of readings the grid's sum is the kept notes of kinds 0 to 12

@@ -18,7 +18,7 @@ use Rattle.claims.proofs.Cases.{Case, room, cases, readings, results, c
 
 abbrev pub Gives : Case → Type 0
 Gives c = (ns ats : List ℕ) (os : List Note) (a : ReadAnswer) (ns′ ats′ : List ℕ) (os′ : List Note) → length ns ≡ room .nodes → length ats ≡ room .attributes
-    → length os ≡ room .notes → Reads (c .file) (lends [] []) ns ats os (room .cap) a ns′ ats′ os′ → left a ns′ ats′ os′ ≡ c .result
+    → length os ≡ room .notes → Reads (c .file) (lends [] []) ns ats os (room .cap) (room .mode) a ns′ ats′ os′ → left a ns′ ats′ os′ ≡ c .result
 
 abbrev pub AllGive : List Case → Type 0
 AllGive [] = Unit {0}
@@ -33,14 +33,14 @@ restOf [] = []
 restOf (y ∷ ys) = ys
 
 abbrev of-lengths : ℕ → ℕ → ℕ → Room
-of-lengths n a m = record { nodes = n; attributes = a; notes = m; cap = room .cap }
+of-lengths n a m = record { nodes = n; attributes = a; notes = m; cap = room .cap; mode = room .mode }
 
 -- a table whose readings are right gives them to every call
 gives : (cs : List Case) → readings cs ≡ results cs → AllGive cs
 gives [] e = tt
 gives (c ∷ cs) e = (
   λ ns ats os a ns′ ats′ os′ n m k p.
-      left-reading (c .file) (lends [] []) ns ats os (room .cap) a ns′ ats′ os′ p
+      left-reading (c .file) (lends [] []) ns ats os (room .cap) (room .mode) a ns′ ats′ os′ p
       ∙ ap (λ (x : ℕ). reading (of-lengths x (length ats) (length os)) (c .file) (lends [] [])) n
       ∙ ap (λ (x : ℕ). reading (of-lengths (room .nodes) x (length os)) (c .file) (lends [] [])) m
       ∙ ap (λ (x : ℕ). reading (of-lengths (room .nodes) (room .attributes) x) (c .file) (lends [] [])) k

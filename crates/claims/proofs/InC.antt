@@ -79,21 +79,21 @@ room-in (Refused x) h = h
 
 -- ---- a call of `axml_read` as one of `read`
 
-module _ (f : List ℕ) (lent : Lent) (ns ats ws : List ℕ) (cap : ℕ) where
+module _ (f : List ℕ) (lent : Lent) (ns ats ws : List ℕ) (cap mode : ℕ) where
   abbrev pub room : Room
-  room = wordRoom ns ats ws cap
+  room = wordRoom ns ats ws cap mode
 
   abbrev pub places : List Note
   places = replicate (length ws / noteWidth) zeroNote
 
   pub as-reads : (a : ReadAnswer) → reading room f lent .answer ≡ a
-      → Reads f lent ns ats places cap a (reading room f lent .nodes) (reading room f lent .attributes) (reading room f lent .notes)
-  as-reads a e = reading-left f lent ns ats (length ws / noteWidth) cap (reading room f lent) refl a e
+      → Reads f lent ns ats places cap mode a (reading room f lent .nodes) (reading room f lent .attributes) (reading room f lent .notes)
+  as-reads a e = reading-left f lent ns ats (length ws / noteWidth) cap mode (reading room f lent) refl a e
 
   pub many : length places ≡ length ws / noteWidth
   many = length-replicate (length ws / noteWidth) zeroNote
 
-  module _ (a : AxmlAnswer) (ns′ ats′ ws′ : List ℕ) (h : ReadsWords f lent ns ats ws cap a ns′ ats′ ws′) where
+  module _ (a : AxmlAnswer) (ns′ ats′ ws′ : List ℕ) (h : ReadsWords f lent ns ats ws cap mode a ns′ ats′ ws′) where
     pub refused-zeros : (a .refusal ≡ 0 → ⊥) → RefusedInC a ns ats ws ns′ ats′ ws′
     unfolding numbersOf wordsOf
     refused-zeros some = go (reading room f lent .answer) refl
@@ -101,7 +101,7 @@ module _ (f : List ℕ) (lent : Lent) (ns ats ws : List ℕ) (cap : ℕ) where
         go : (b : ReadAnswer) → reading room f lent .answer ≡ b → RefusedInC a ns ats ws ns′ ats′ ws′
         go (Done c) e = absurd (some (ap (λ (x : AxmlAnswer). x .refusal) (h .answer ∙ ap (λ (b : ReadAnswer). answerOf (numbersOf b)) e)))
         go (Refused x) e =
-            let z = zeros.refused-zeros f lent ns ats places cap x _ _ _ (as-reads (Refused x) e) in
+            let z = zeros.refused-zeros f lent ns ats places cap mode x _ _ _ (as-reads (Refused x) e) in
             let q = h .answer ∙ ap (λ (b : ReadAnswer). answerOf (numbersOf b)) e in
             record {
               starts = ap (λ (x : AxmlAnswer). x .starts) q;
@@ -120,7 +120,7 @@ module _ (f : List ℕ) (lent : Lent) (ns ats ws : List ℕ) (cap : ℕ) where
         let d = done-of (reading room f lent .answer) (sym (ap (λ (x : AxmlAnswer). x .refusal) (h .answer)) ∙ none) in
         let c = d .0 in
         let q = h .answer ∙ ap (λ (b : ReadAnswer). answerOf (numbersOf b)) (d .1) in
-        let z = zeros.done-zeros f lent ns ats places cap c _ _ _ (as-reads (Done c) (d .1)) in
+        let z = zeros.done-zeros f lent ns ats places cap mode c _ _ _ (as-reads (Done c) (d .1)) in
         let os = reading room f lent .notes in
         let k : a .notes ≡ c .notes = ap (λ (x : AxmlAnswer). x .notes) q in
         let t : List ℕ = replicate (length ws % noteWidth) 0 in
@@ -142,10 +142,10 @@ module _ (f : List ℕ) (lent : Lent) (ns ats ws : List ℕ) (cap : ℕ) where
 
 -- ---- insertion
 
-module _ (f : List ℕ) (lent : Lent) (ns ats ws : List ℕ) (cap : ℕ) (a : AxmlAnswer) (ns₁ ats₁ ws₁ : List ℕ)
-    (first : ReadsWords f lent ns ats ws cap a ns₁ ats₁ ws₁) (done : a .refusal ≡ 0) (none : a .notes ≡ 0) where
+module _ (f : List ℕ) (lent : Lent) (ns ats ws : List ℕ) (cap mode : ℕ) (a : AxmlAnswer) (ns₁ ats₁ ws₁ : List ℕ)
+    (first : ReadsWords f lent ns ats ws cap mode a ns₁ ats₁ ws₁) (done : a .refusal ≡ 0) (none : a .notes ≡ 0) where
   abbrev shorter : Reading
-  shorter = reading (wordRoom ns ats ws cap) f lent
+  shorter = reading (wordRoom ns ats ws cap mode) f lent
 
   counted : (c : ReadCounts) × (shorter .answer ≡ Done c)
   counted = done-of (shorter .answer) (sym (ap (λ (x : AxmlAnswer). x .refusal) (first .answer)) ∙ done)
@@ -162,9 +162,9 @@ module _ (f : List ℕ) (lent : Lent) (ns ats ws : List ℕ) (cap : ℕ) (a : Ax
 
   module _ (places : List (List ForeignChunk)) (few : length places ≤ placesIn f) (limit : length (insertedFile places f) ≤ fileLimit)
       (ns′ ats′ ws′ : List ℕ) (cap′ : ℕ) (one : 1 ≤ cap′) (a′ : AxmlAnswer) (ns₂ ats₂ ws₂ : List ℕ)
-      (second : ReadsWords (insertedFile places f) lent ns′ ats′ ws′ cap′ a′ ns₂ ats₂ ws₂) where
+      (second : ReadsWords (insertedFile places f) lent ns′ ats′ ws′ cap′ mode a′ ns₂ ats₂ ws₂) where
     abbrev longer : Reading
-    longer = reading (wordRoom ns′ ats′ ws′ cap′) (insertedFile places f) lent
+    longer = reading (wordRoom ns′ ats′ ws′ cap′ mode) (insertedFile places f) lent
 
     abbrev ks : List ResAnomaly
     ks = keptNotes cap′ (placeNotes places)
@@ -172,8 +172,8 @@ module _ (f : List ℕ) (lent : Lent) (ns ats ws : List ℕ) (cap : ℕ) (a : Ax
     has : isFullNumber (a′ .refusal) ≡ false → HasRoom (longer .answer)
     has h = room-of (longer .answer) (sym (ap (λ (x : AxmlAnswer). isFullNumber (x .refusal)) (second .answer)) ∙ h)
 
-    is : isFullNumber (a′ .refusal) ≡ false → longer ≡ withNotes (wordRoom ns′ ats′ ws′ cap′) shorter c ks
-    is h = proved.insertion (wordRoom ns ats ws cap) f lent c (counted .1) no-notes places few limit (wordRoom ns′ ats′ ws′ cap′) one (has h)
+    is : isFullNumber (a′ .refusal) ≡ false → longer ≡ withNotes (wordRoom ns′ ats′ ws′ cap′ mode) shorter c ks
+    is h = proved.insertion (wordRoom ns ats ws cap mode) f lent c (counted .1) no-notes places few limit (wordRoom ns′ ats′ ws′ cap′ mode) one refl (has h)
 
     pub insertion : isFullNumber (a′ .refusal) ≡ false
         → leftInC a′ ns₂ ats₂ ws₂ ≡ withNotesInC (length ns′) (length ats′) (length ws′) (leftInC a ns₁ ats₁ ws₁) ks
@@ -181,9 +181,9 @@ module _ (f : List ℕ) (lent : Lent) (ns ats ws : List ℕ) (cap : ℕ) (a : Ax
     insertion h =
         let e = is h in
         let done′ = ap (λ (x : Reading). x .answer) e in
-        let z = zeros.done-zeros (insertedFile places f) lent ns′ ats′ _ cap′ _ _ _ _ (as-reads (insertedFile places f) lent ns′ ats′ ws′ cap′ _ done′) in
+        let z = zeros.done-zeros (insertedFile places f) lent ns′ ats′ _ cap′ mode _ _ _ _ (as-reads (insertedFile places f) lent ns′ ats′ ws′ cap′ mode _ done′) in
         let fits : length ks ≤ length ws′ / noteWidth =
-        omega (arith, z .noteRecords .there, many (insertedFile places f) lent ns′ ats′ ws′ cap′) in
+        omega (arith, z .noteRecords .there, many (insertedFile places f) lent ns′ ats′ ws′ cap′ mode) in
         let q : a′ ≡ _ = second .answer ∙ ap (λ (b : ReadAnswer). answerOf (numbersOf b)) done′ in
         let n : ns₂ ≡ _ = second .nodes ∙ ap (λ (x : Reading). x .nodes) e in
         let m : ats₂ ≡ _ = second .attributes ∙ ap (λ (x : Reading). x .attributes) e in
@@ -199,7 +199,7 @@ module _ (f : List ℕ) (lent : Lent) (ns ats ws : List ℕ) (cap : ℕ) (a : Ax
 
     pub insertion-same : length ns′ ≡ length ns → length ats′ ≡ length ats → isFullNumber (a′ .refusal) ≡ false → (ns₂ ≡ ns₁) × (ats₂ ≡ ats₁)
     insertion-same n m h =
-        let e = proved.insertion-same (wordRoom ns ats ws cap) f lent c (counted .1) no-notes places few limit (wordRoom ns′ ats′ ws′ cap′) one n m
+        let e = proved.insertion-same (wordRoom ns ats ws cap mode) f lent c (counted .1) no-notes places few limit (wordRoom ns′ ats′ ws′ cap′ mode) one refl n m
         (has h) in
         (second .nodes ∙ e .0 ∙ sym (first .nodes), second .attributes ∙ e .1 ∙ sym (first .attributes))
 
@@ -209,7 +209,7 @@ module _ (f : List ℕ) (lent : Lent) (ns ats ws : List ℕ) (cap : ℕ) (a : Ax
     insertion-room n m k =
         let rn : nodeWidth * c .nodes ≤ length ns′ = rw (ap (λ (x : AxmlAnswer). x .nodes) told) at n in
         let rm : attributeWidth * c .attributes ≤ length ats′ = rw (ap (λ (x : AxmlAnswer). x .attributes) told) at m in
-        let h = proved.insertion-room (wordRoom ns ats ws cap) f lent c (counted .1) no-notes places few limit (wordRoom ns′ ats′ ws′ cap′) one rn rm
+        let h = proved.insertion-room (wordRoom ns ats ws cap mode) f lent c (counted .1) no-notes places few limit (wordRoom ns′ ats′ ws′ cap′ mode) one refl rn rm
         (omega (arith, placeNotes-room cap′ places, k)) in
         ap (λ (x : AxmlAnswer). isFullNumber (x .refusal)) (second .answer) ∙ room-in (longer .answer) h
 

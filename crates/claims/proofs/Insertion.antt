@@ -25,6 +25,7 @@ use Rattle.system_types.specs.Names.{Lent}
 use Rattle.walk.specs.Reading.{Reading, secondOf, nodesKept, attributesKept, succeeds, finalOf, settledIn, reading}
 use Rattle.claims.specs.Insertion.{ForeignChunk, placesIn, inserted, insertedFile, placeNotes, withNotes}
 use Rattle.claims.specs.Room.{HasRoom}
+use Rattle.head.specs.Entry.{isMode}
 use Rattle.claims.specs.Counts.{notesIn}
 use Rattle.claims.proofs.Erased.{othersIn}
 use Rattle.claims.proofs.Grown.{bare, grown}
@@ -50,7 +51,7 @@ module _ (r : Room) (f : List ℕ) (lent : Lent) (c : ReadCounts) (done : readin
   t = tablesIn f (o .head)
 
   abbrev N : Names
-  N = namesIn (o .head) t lent
+  N = namesIn (r .mode) (o .head) t lent
 
   abbrev l : List ℕ
   l = bodyIn f (o .head)
@@ -105,7 +106,7 @@ module _ (r : Room) (f : List ℕ) (lent : Lent) (c : ReadCounts) (done : readin
       e ∙ ap (λ (d : ReadCounts). attributeWidth * d .attributes) (s .counts)
 
   module _ (places : List (List ForeignChunk)) (few : length places ≤ placesIn f) (limit : length (insertedFile places f) ≤ fileLimit) (r′ : Room)
-      (one : 1 ≤ r′ .cap) where
+      (one : 1 ≤ r′ .cap) (alike : r′ .mode ≡ r .mode) where
     abbrev es′ : List Event
     es′ = fileEvents N o t (inserted places l)
 
@@ -113,11 +114,12 @@ module _ (r : Room) (f : List ℕ) (lent : Lent) (c : ReadCounts) (done : readin
     ns = keptNotes (r′ .cap) (placeNotes places)
 
     longer : reading r′ (insertedFile places f) lent ≡ finalOf r′ (settle (N .repeats) r′ nothingYet es′)
-    longer = reading-of r′ (insertedFile places f) lent limit one (s .good) ∙ ap (finalOf r′) same
+    longer = reading-of r′ (insertedFile places f) lent limit one (s .good) (ap isMode alike ∙ s .mode) ∙ ap (finalOf r′) same
       where
         same : settledIn r′ (insertedFile places f) lent (openedOf (insertedFile places f)) ≡ settle (N .repeats) r′ nothingYet es′
         same =
             rw (
+              alike,
               longer-opened f (s .short) head-whole places,
               longer-tables f (s .short) head-whole places,
               longer-body f (s .short) head-whole places,

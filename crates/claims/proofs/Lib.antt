@@ -45,5 +45,7 @@ pub mod BrokenSample
 pub mod Broken
 pub mod InC
 pub mod Lists
+pub mod Merging
+pub mod Modes
 pub mod Claims
 pub mod Month

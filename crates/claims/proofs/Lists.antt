@@ -17,7 +17,7 @@ use Rattle.errors.specs.declared.ReadAnswer.the-variants.{Done, Refused}
 use Rattle.errors.specs.declared.ReadCounts.{ReadCounts}
 use Rattle.errors.specs.declared.TextAnswer.the-variants as textIs
 use Rattle.errors.proofs.Laws.{textNumbersOf-unique}
-use Rattle.records.specs.Words.{nodeWidth, attributeWidth}
+use Rattle.records.specs.Words.{nodeWidth, attributeWidth, merged}
 use Rattle.records.specs.Limits.{listedFile, listedNotes, listedCap}
 use Rattle.system_types.specs.Names.{lends}
 use Rattle.walk.specs.Reading.{Reading, zeroNote, refuses, reading}
@@ -78,8 +78,8 @@ module _ (f ns ats : List ℕ) where
           let l = listed-long f (length ns) (length ats) q in
           (ap (λ (y : Reading). y .nodes) l, ap (λ (y : Reading). y .attributes) l)
       go false q =
-          let z = refused-zeros f (lends [] []) ns ats (replicate listedNotes zeroNote) listedCap x _ _ _
-          (reading-left f (lends [] []) ns ats listedNotes listedCap all (listed-short f (length ns) (length ats) q) (Refused x) e) in
+          let z = refused-zeros f (lends [] []) ns ats (replicate listedNotes zeroNote) listedCap merged x _ _ _
+          (reading-left f (lends [] []) ns ats listedNotes listedCap merged all (listed-short f (length ns) (length ats) q) (Refused x) e) in
           (z .nodeWords, z .attributeWords)
 
   pub read-zeros : (c : ReadCounts) → all .answer ≡ Done c
@@ -93,8 +93,8 @@ module _ (f ns ats : List ℕ) where
           let l : Done c ≡ Refused TooLargeError = sym e ∙ ap (λ (y : Reading). y .answer) (listed-long f (length ns) (length ats) q) in
           let z : _≡_ {A = ℕ} 0 1 = cc in absurd (let y : ⊥ = omega arith in y)
       go false q =
-          let z = done-zeros f (lends [] []) ns ats (replicate listedNotes zeroNote) listedCap c _ _ _
-          (reading-left f (lends [] []) ns ats listedNotes listedCap all (listed-short f (length ns) (length ats) q) (Done c) e) in
+          let z = done-zeros f (lends [] []) ns ats (replicate listedNotes zeroNote) listedCap merged c _ _ _
+          (reading-left f (lends [] []) ns ats listedNotes listedCap merged all (listed-short f (length ns) (length ats) q) (Done c) e) in
           (z .nodeWords, z .attributeWords)
 
 -- ---- its room suffices

@@ -47,36 +47,36 @@ map-noteOf : (xs : List ResAnomaly) → map (λ (o : Note). o .kind) (map noteOf
 map-noteOf [] = refl
 map-noteOf (x ∷ xs) = ap (λ (l : List ℕ). kindNumber x ∷ l) (map-noteOf xs)
 
-module _ (f : List ℕ) (lent : Lent) (ns ats ws : List ℕ) (cap : ℕ) (a : AxmlAnswer) (ns′ ats′ ws′ : List ℕ) (h : ReadsWords f lent ns ats ws cap a ns′ ats′ ws′) where
+module _ (f : List ℕ) (lent : Lent) (ns ats ws : List ℕ) (cap mode : ℕ) (a : AxmlAnswer) (ns′ ats′ ws′ : List ℕ) (h : ReadsWords f lent ns ats ws cap mode a ns′ ats′ ws′) where
   abbrev pub ks : List ResAnomaly
-  ks = keptNotes cap (notesIn (eventsOf f lent))
+  ks = keptNotes cap (notesIn (eventsOf mode f lent))
 
   module _ (none : a .refusal ≡ 0) where
-    counted : (c : ReadCounts) × (reading (room f lent ns ats ws cap) f lent .answer ≡ Done c)
+    counted : (c : ReadCounts) × (reading (room f lent ns ats ws cap mode) f lent .answer ≡ Done c)
     counted = done-of _ (sym (ap (λ (x : AxmlAnswer). x .refusal) (h .answer)) ∙ none)
 
     abbrev c : ReadCounts
     c = counted .0
 
     abbrev os : List Note
-    os = reading (room f lent ns ats ws cap) f lent .notes
+    os = reading (room f lent ns ats ws cap mode) f lent .notes
 
     many-notes : a .notes ≡ c .notes
     unfolding numbersOf
     many-notes = ap (λ (x : AxmlAnswer). x .notes) (h .answer ∙ ap (λ (b : ReadAnswer). answerOf (numbersOf b)) (counted .1))
 
-    reads : Reads f lent ns ats (places f lent ns ats ws cap) cap (Done c)
-        (reading (room f lent ns ats ws cap) f lent .nodes) (reading (room f lent ns ats ws cap) f lent .attributes) os
-    reads = as-reads f lent ns ats ws cap (Done c) (counted .1)
+    reads : Reads f lent ns ats (places f lent ns ats ws cap mode) cap mode (Done c)
+        (reading (room f lent ns ats ws cap mode) f lent .nodes) (reading (room f lent ns ats ws cap mode) f lent .attributes) os
+    reads = as-reads f lent ns ats ws cap mode (Done c) (counted .1)
 
     all-there : min (a .notes) (length ws′ / noteWidth) ≡ a .notes
     all-there =
-        let z = done-zeros f lent ns ats ws cap a ns′ ats′ ws′ h none .noteWords in
+        let z = done-zeros f lent ns ats ws cap mode a ns′ ats′ ws′ h none .noteWords in
         min-eq-left (omega (arith, z .long, z .there))
 
     within : c .notes ≤ length os
     unfolding numbersOf
-    within = let z = zeros.done-zeros f lent ns ats (places f lent ns ats ws cap) cap c _ _ _ reads .noteRecords in omega (arith, z .long, z .there)
+    within = let z = zeros.done-zeros f lent ns ats (places f lent ns ats ws cap mode) cap mode c _ _ _ reads .noteRecords in omega (arith, z .long, z .there)
 
     pub month-kinds : kindsIn ws′ (a .notes) ≡ tally kinds 0 (map kindNumber ks)
     month-kinds =
@@ -84,27 +84,27 @@ module _ (f : List ℕ) (lent : Lent) (ns ats ws : List ℕ) (cap : ℕ) (a : Ax
         ∙ ap (λ (l : List ℕ). tally kinds 0 (kindsFrom (c .notes) l)) (h .notes)
         ∙ ap (tally kinds 0)
         (words-kinds (c .notes) os _ within
-        ∙ ap (map (λ (o : Note). o .kind)) (tree.notes-kept f lent ns ats (places f lent ns ats ws cap) cap c _ _ os reads) ∙ map-noteOf ks)
+        ∙ ap (map (λ (o : Note). o .kind)) (tree.notes-kept f lent ns ats (places f lent ns ats ws cap mode) cap mode c _ _ os reads) ∙ map-noteOf ks)
 
     pub month-kept : total (kindsIn ws′ (a .notes)) ≡ inGrid (map kindNumber ks)
     month-kept = ap total month-kinds ∙ total-tally (map kindNumber ks)
 
 -- ---- a month of readings
 
-done-kept : (x : Called) (c : ReadCounts) → ReadsWords (x .file) (x .lent) (x .nodes) (x .attributes) (x .notes) (x .cap) (answerOf (numbersOf (Done c)))
+done-kept : (x : Called) (c : ReadCounts) → ReadsWords (x .file) (x .lent) (x .nodes) (x .attributes) (x .notes) (x .cap) (x .mode) (answerOf (numbersOf (Done c)))
     (x .nodes′) (x .attributes′) (x .notes′)
-    → total (kindsIn (x .notes′) (numbersOf (Done c) .notes)) ≡ inGrid (map kindNumber (keptNotes (x .cap) (notesIn (eventsOf (x .file) (x .lent)))))
+    → total (kindsIn (x .notes′) (numbersOf (Done c) .notes)) ≡ inGrid (map kindNumber (keptNotes (x .cap) (notesIn (eventsOf (x .mode) (x .file) (x .lent)))))
 unfolding numbersOf
 done-kept x c h =
-    month-kept (x .file) (x .lent) (x .nodes) (x .attributes) (x .notes) (x .cap) (answerOf (numbersOf (Done c))) (x .nodes′) (x .attributes′)
+    month-kept (x .file) (x .lent) (x .nodes) (x .attributes) (x .notes) (x .cap) (x .mode) (answerOf (numbersOf (Done c))) (x .nodes′) (x .attributes′)
     (x .notes′) h refl
 
 told-kept : (x : Called) (f : File) → Told x f → history.keptOf f ≡ keptOf x
 told-kept x f t = rw (t .answer, t .kinds) (go (x .answer) (x .reads))
   where
-    go : (b : ReadAnswer) → ReadsWords (x .file) (x .lent) (x .nodes) (x .attributes) (x .notes) (x .cap) (answerOf (numbersOf b)) (x .nodes′)
+    go : (b : ReadAnswer) → ReadsWords (x .file) (x .lent) (x .nodes) (x .attributes) (x .notes) (x .cap) (x .mode) (answerOf (numbersOf b)) (x .nodes′)
         (x .attributes′) (x .notes′)
-        → history.keptBy b (kindsIn (x .notes′) (numbersOf b .notes)) ≡ keptBy b (keptNotes (x .cap) (notesIn (eventsOf (x .file) (x .lent))))
+        → history.keptBy b (kindsIn (x .notes′) (numbersOf b .notes)) ≡ keptBy b (keptNotes (x .cap) (notesIn (eventsOf (x .mode) (x .file) (x .lent))))
     go (Done c) h = done-kept x c h
     go (Refused e) h = refl
 

@@ -31,7 +31,7 @@ use Rattle.head.specs.Head.{openedOf, tablesIn, bodyIn, headLen, isWhole, refus
 use Rattle.head.specs.declared.Asker.{Asker}
 use Rattle.head.specs.declared.Asker.the-variants as askers
 use Rattle.head.specs.Inner.Entered.{askedBy}
-use Rattle.head.specs.Entry.{Check, passes, fails, firstOf, lengthCheck, keepsNone, capCheck, namesCheckBy, entryChecks}
+use Rattle.head.specs.Entry.{Check, passes, fails, firstOf, lengthCheck, keepsNone, capCheck, namesCheckBy, modeOf, isMode, modeCheck, entryChecks}
 use Rattle.head.specs.Ask.{openBy, openOf, fitted, textBy, contentAsked, textAnswerBy, textAnswer}
 use Rattle.head.proofs.Entering.{Passed, passed, passes-all}
 use Rattle.head.proofs.Laws.{tablesIn-append}
@@ -119,6 +119,10 @@ cap-not : (a : Asker) → NotPart (capCheck a)
 unfolding numberOf
 cap-not a = cond-by NotPart (keepsNone a) (λ e. refl) (λ e. tt)
 
+mode-not : (a : Asker) → NotPart (modeCheck a)
+unfolding numberOf
+mode-not a = cond-by NotPart (isMode (modeOf a)) (λ e. tt) (λ e. refl)
+
 names-not : (n : NamesRead) → NotPart (namesCheckBy n)
 unfolding numberOf
 names-not Good = tt
@@ -134,8 +138,11 @@ entry-not f lent a =
         (
           names-not (namesOf lent),
           (
-            tt,
-            tt,
+            mode-not a,
+            (
+              tt,
+              tt,
+            ),
           ),
         ),
       ),
@@ -154,9 +161,9 @@ module _ (f : List ℕ) (lent : Lent) (x : Refusal) (part : isPart x ≡ true) w
   no-check : (a : Asker) {y : Refusal} → firstOf (entryChecks f lent (askedBy a)) ≡ fails y → y ≡ x → ⊥
   no-check a {y} p e = no-part (rw e part) (rw p at (entry-not f lent a))
 
-  pub reading-part : (r : Room) → reading r f lent .answer ≡ Refused x → PartOf f lent (askers.Reading (r .cap)) x
+  pub reading-part : (r : Room) → reading r f lent .answer ≡ Refused x → PartOf f lent (askers.Reading (r .cap) (r .mode)) x
   unfolding reading
-  reading-part r h = go (firstOf (entryChecks f lent (askedBy (askers.Reading (r .cap))))) refl (subst (IsRefused x) (sym h) refl)
+  reading-part r h = go (firstOf (entryChecks f lent (askedBy (askers.Reading (r .cap) (r .mode))))) refl (subst (IsRefused x) (sym h) refl)
     where
       o : Opened
       o = openedOf f
@@ -165,7 +172,7 @@ module _ (f : List ℕ) (lent : Lent) (x : Refusal) (part : isPart x ≡ true) w
       t = tablesIn f (o .head)
 
       N : Names
-      N = namesIn (o .head) t lent
+      N = namesIn (r .mode) (o .head) t lent
 
       said : InOut (λ u. Unit {0}) (OfHead o) (settledIn r f lent o)
       said = settled-says o r (N .repeats) N t (bodyIn f (o .head))
@@ -174,9 +181,9 @@ module _ (f : List ℕ) (lent : Lent) (x : Refusal) (part : isPart x ≡ true) w
       settled (going u) s q = absurd q
       settled (refused y) s q = rw q at s part
 
-      go : (c : Check) → firstOf (entryChecks f lent (askedBy (askers.Reading (r .cap)))) ≡ c
-          → IsRefused x (readingBy r (settledIn r f lent o) c .answer) → PartOf f lent (askers.Reading (r .cap)) x
-      go (fails y) p q = absurd (no-check (askers.Reading (r .cap)) p q)
+      go : (c : Check) → firstOf (entryChecks f lent (askedBy (askers.Reading (r .cap) (r .mode)))) ≡ c
+          → IsRefused x (readingBy r (settledIn r f lent o) c .answer) → PartOf f lent (askers.Reading (r .cap) (r .mode)) x
+      go (fails y) p q = absurd (no-check (askers.Reading (r .cap) (r .mode)) p q)
       go passes p q = record { passes = p; short = settled (settledIn r f lent o) said q }
 
   pub open-part : openOf f lent ≡ Closed x → PartOf f lent askers.Question x
@@ -247,21 +254,21 @@ module _ (f : List ℕ) (lent : Lent) (a : Asker) (x : Refusal) (p : PartOf f le
 
   still : firstOf (entryChecks c lent (askedBy a)) ≡ passes
   still =
-      passes-all c lent (askedBy a) (omega (arith, length-take-le (valueOf x) f (here .high), here .high, told .short)) (told .cap) (told .good) refl
+      passes-all c lent (askedBy a) (omega (arith, length-take-le (valueOf x) f (here .high), here .high, told .short)) (told .cap) (told .good) (told .mode) refl
 
   tables-same : tablesIn c (openedOf f .head) ≡ tablesIn f (openedOf f .head)
   tables-same =
       let long : 8 + headLen (openedOf f .head) ≤ length c = omega (arith, length-take-le (valueOf x) f (here .high), here .low) in
       sym (tablesIn-append c (drop (valueOf x) f) (openedOf f .head) long) ∙ ap (λ (l : List ℕ). tablesIn l (openedOf f .head)) (take-append-drop (valueOf x) f)
 
-pub part-cut : (f : List ℕ) (lent : Lent) (x : Refusal) (r : Room) → PartOf f lent (askers.Reading (r .cap)) x
+pub part-cut : (f : List ℕ) (lent : Lent) (x : Refusal) (r : Room) → PartOf f lent (askers.Reading (r .cap) (r .mode)) x
     → reading r (take (valueOf x) f) lent ≡ reading r f lent
 unfolding reading
 part-cut f lent x r p =
-    let a = askers.Reading (r .cap) in
+    let a = askers.Reading (r .cap) (r .mode) in
     let o = openedOf f in
     let t = tablesIn f (o .head) in
-    let N = namesIn (o .head) t lent in
+    let N = namesIn (r .mode) (o .head) t lent in
     let events = short-body N o t (bodyIn (take (valueOf x) f) (o .head)) (bodyIn f (o .head)) x (p .short) in
     rw (still f lent a x p, p .passes, here f lent a x p .same, tables-same f lent a x p, events)
 

@@ -38,7 +38,7 @@ use Rattle.head.specs.Ask.{openOf, textAnswer, textBuffer, contentAnswer}
 use Rattle.first_value.specs.Question.{androidName, runsFrom, fitOf, findNode, findValue, firstAnswer}
 use Rattle.xml_elements.specs.Chunk.{startOf, attributeAt, startTurn, xmlTurn, numberOf, turnOf}
 use Rattle.events.specs.Events.{attributeEvent, attributesOf, fromLead, fromOpen, fromName, fromTrailing, fromSize, fromGap, eventsOn, bodyEvents, fileEvents}
-use Rattle.records.specs.Words.{nodeWidth, attributeWidth}
+use Rattle.records.specs.Words.{nodeWidth, attributeWidth, merged}
 use Rattle.records.specs.Repeats.{repeatsOne}
 use Rattle.walk.specs.Settle.{Room, settle}
 use Rattle.walk.specs.Reading.{Reading, reading}
@@ -50,7 +50,7 @@ use Rattle.claims.proofs.Insertion.{insertion, insertion-room}
 -- ---- the theorem, and the promise
 
 abbrev room : Room
-room = record { nodes = 3 * nodeWidth; attributes = 3 * attributeWidth; notes = 4; cap = 2 }
+room = record { nodes = 3 * nodeWidth; attributes = 3 * attributeWidth; notes = 4; cap = 2; mode = merged }
 
 abbrev counts : ReadCounts
 counts = record { starts = 1; nodes = 1; attributes = 1; notes = 0 }
@@ -100,7 +100,7 @@ s-asked = (refl, refl, refl, refl)
 
 -- ---- room
 
-pub s-full : reading (record { nodes = nodeWidth - 1; attributes = attributeWidth; notes = 4; cap = 2 }) fileS (lends [] []) .answer ≡ Refused (NodesFull 0)
+pub s-full : reading (record { nodes = nodeWidth - 1; attributes = attributeWidth; notes = 4; cap = 2; mode = merged }) fileS (lends [] []) .answer ≡ Refused (NodesFull 0)
 unfolding fileS headS startS endS reading settle u16le u32le headerOf isXml sortOf contentLen foreignLen walk walkFrom trace traceFrom
     countOf numbered endOf poolFrom behindGarbage poolOf offsetOf outsideOf split8 split16 idsIn idsBy mapOf idOf isAscii isGood namesFrom
     nameOf systemOf stringAt stringOf contentOf tablesOf openedOf outsideIn lengthCheck startOf attributeAt startTurn xmlTurn numberOf

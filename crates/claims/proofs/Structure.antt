@@ -107,19 +107,19 @@ module _ (r : Room) (t : Tables) (h : Shaped r t) where
 
 -- ---- a reading
 
-module _ (f : List ℕ) (lent : Lent) (ns ats : List ℕ) (os : List Note) (cap : ℕ) (c : ReadCounts) (ns′ ats′ : List ℕ) (os′ : List Note)
-    (reads : Reads f lent ns ats os cap (Done c) ns′ ats′ os′) where
+module _ (f : List ℕ) (lent : Lent) (ns ats : List ℕ) (os : List Note) (cap mode : ℕ) (c : ReadCounts) (ns′ ats′ : List ℕ) (os′ : List Note)
+    (reads : Reads f lent ns ats os cap mode (Done c) ns′ ats′ os′) where
   abbrev es : List Event
-  es = eventsOf f lent
+  es = eventsOf mode f lent
 
   abbrev rule : Rule
-  rule = namesFor f lent .repeats
+  rule = namesFor mode f lent .repeats
 
   abbrev r : Room
-  r = roomIn ns ats os cap
+  r = roomIn ns ats os cap mode
 
   d : DoneBy r (settle rule r nothingYet es) c (reading r f lent)
-  d = done-by f lent ns ats os cap c ns′ ats′ os′ reads
+  d = done-by f lent ns ats os cap mode c ns′ ats′ os′ reads
 
   abbrev t : Tables
   t = d .tables
@@ -145,14 +145,14 @@ module _ (f : List ℕ) (lent : Lent) (ns ats : List ℕ) (os : List Note) (cap 
   stays = settled rule r es t (d .out) .stay
 
   pub walk : WalkedFile es
-  walk = settled-walked rule r es t (file-ends (namesFor f lent) (openedOf f) (tablesIn f (openedOf f .head)) (bodyIn f (openedOf f .head))) (d .out)
+  walk = settled-walked rule r es t (file-ends (namesFor mode f lent) (openedOf f) (tablesIn f (openedOf f .head)) (bodyIn f (openedOf f .head))) (d .out)
 
   some-start : 0 < opensIn es
   some-start = walked-some es walk
 
   pub structured : Structured es cap c ns′ ats′ os′
   structured =
-      let h = done-shaped f lent ns ats os cap t (d .out) in
+      let h = done-shaped f lent ns ats os cap mode t (d .out) in
       let k = kept-in r t h in
       let near = settled-near rule r es t (d .out) in
       let n = settled-starts rule r es t (d .out) in

@@ -47,17 +47,17 @@ final-by r (going t) passes c e =
 final-by r (refused y) passes c e = let z : _≡_ {A = ℕ} 0 1 = cc in absurd (let y : ⊥ = omega arith in y)
 final-by r o (fails y) c e = let z : _≡_ {A = ℕ} 0 1 = cc in absurd (let y : ⊥ = omega arith in y)
 
-module _ (f : List ℕ) (lent : Lent) (ns ats : List ℕ) (os : List Note) (cap : ℕ) where
+module _ (f : List ℕ) (lent : Lent) (ns ats : List ℕ) (os : List Note) (cap mode : ℕ) where
   abbrev pub room : Room
-  room = roomIn ns ats os cap
+  room = roomIn ns ats os cap mode
 
   abbrev pub outOf : Out
-  outOf = settle (namesFor f lent .repeats) room nothingYet (eventsOf f lent)
+  outOf = settle (namesFor mode f lent .repeats) room nothingYet (eventsOf mode f lent)
 
-  pub done-by : (c : ReadCounts) (ns′ ats′ : List ℕ) (os′ : List Note) → Reads f lent ns ats os cap (Done c) ns′ ats′ os′
+  pub done-by : (c : ReadCounts) (ns′ ats′ : List ℕ) (os′ : List Note) → Reads f lent ns ats os cap mode (Done c) ns′ ats′ os′
       → DoneBy room outOf c (reading room f lent)
   unfolding reading
-  done-by c ns′ ats′ os′ h = final-by room outOf (firstOf (entryChecks f lent (readingAt cap))) c (numbersOf-unique _ _ (h .answer))
+  done-by c ns′ ats′ os′ h = final-by room outOf (firstOf (entryChecks f lent (readingAt cap mode))) c (numbersOf-unique _ _ (h .answer))
 
   pub done-shaped : (t : Tables) → outOf ≡ going t → Shaped room t
-  done-shaped t e = rw e at (settled-shaped room (namesFor f lent .repeats) (eventsOf f lent))
+  done-shaped t e = rw e at (settled-shaped room (namesFor mode f lent .repeats) (eventsOf mode f lent))

@@ -154,12 +154,12 @@ module _ (w v : List ℕ) (n m name fixed parent line : ℕ) (len : length w ≡
 
 -- ---- an attribute is kept: the last node counts one more
 
-module _ (w v : List ℕ) (k m p name type «data» : ℕ) (lw : length w ≡ nodeWidth * (k + 1)) (lv : length v ≡ attributeWidth * m) (h : Runs w (k + 1) m) where
+module _ (w v : List ℕ) (k m p name type «data» ns : ℕ) (lw : length w ≡ nodeWidth * (k + 1)) (lv : length v ≡ attributeWidth * m) (h : Runs w (k + 1) m) where
   abbrev more : List ℕ
   more = counting w k (m + 1 - begin w k)
 
   abbrev attribute : List ℕ
-  attribute = attributeWords k p name type «data»
+  attribute = attributeWords k p name type «data» ns
 
   pub kept-parents : Descends w (k + 1) → Descends more (k + 1)
   kept-parents d i l =

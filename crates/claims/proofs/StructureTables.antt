@@ -104,12 +104,12 @@ module _ (r : Room) where
         attributesFit = omega (arith, h .attributes);
         notesFit = h .notesFit;
         stack = rw (← e) (h .stack);
-        parents = kept-parents (t .nodes) (t .attributes) k (h .m) p (a .name .0) (a .«data_type») (a .«data») lw (h .attributes) runs parents;
-        runs = kept-runs (t .nodes) (t .attributes) k (h .m) p (a .name .0) (a .«data_type») (a .«data») lw (h .attributes) runs;
-        owns = kept-owns (t .nodes) (t .attributes) k (h .m) p (a .name .0) (a .«data_type») (a .«data») lw (h .attributes) runs owns;
+        parents = kept-parents (t .nodes) (t .attributes) k (h .m) p (a .name .0) (a .«data_type») (a .«data») (a .«namespace_uri» .0) lw (h .attributes) runs parents;
+        runs = kept-runs (t .nodes) (t .attributes) k (h .m) p (a .name .0) (a .«data_type») (a .«data») (a .«namespace_uri» .0) lw (h .attributes) runs;
+        owns = kept-owns (t .nodes) (t .attributes) k (h .m) p (a .name .0) (a .«data_type») (a .«data») (a .«namespace_uri» .0) lw (h .attributes) runs owns;
         first = λ i q.
             let z : i ≡ k = omega arith in
-            rw z (f ∙ ap (λ (x : ℕ). attributeWidth * x) (sym (kept-begin (t .nodes) (t .attributes) k (h .m) p (a .name .0) (a .«data_type») (a .«data») lw
+            rw z (f ∙ ap (λ (x : ℕ). attributeWidth * x) (sym (kept-begin (t .nodes) (t .attributes) k (h .m) p (a .name .0) (a .«data_type») (a .«data») (a .«namespace_uri» .0) lw
             (h .attributes) runs k (omega arith))));
       })
 

@@ -20,8 +20,8 @@ use Rattle.errors.specs.declared.ReadCounts.{ReadCounts}
 use Rattle.system_types.specs.Names.{Lent, namesOf}
 use Rattle.system_types.specs.declared.NamesRead.the-variants.{Good}
 use Rattle.head.specs.Head.{openedOf}
-use Rattle.head.specs.Entry.{readingAt, Check, passes, fails, firstOf, entryChecks}
-use Rattle.head.proofs.Entering.{Passed, passed, passes-all, cap-passes, cap-some}
+use Rattle.head.specs.Entry.{readingAt, isMode, Check, passes, fails, firstOf, entryChecks}
+use Rattle.head.proofs.Entering.{Passed, passed, passes-all, cap-passes, cap-some, mode-passes, mode-known}
 use Rattle.records.specs.Limits.{fileLimit}
 use Rattle.records.specs.Words.{nodeWidth, attributeWidth}
 use Rattle.walk.specs.Settle.{Room, Tables, Out, going, refused}
@@ -46,21 +46,23 @@ pub record Success (r : Room) (f : List ℕ) (lent : Lent) (c : ReadCounts) : Ty
   pub short : length f ≤ fileLimit
   pub cap : 1 ≤ r .cap
   pub good : namesOf lent ≡ Good
+  pub mode : isMode (r .mode) ≡ true
   pub tables : Tables
   pub settles : settledIn r f lent (openedOf f) ≡ going tables
   pub whole : reading r f lent ≡ succeeds r tables
   pub counts : countsOf tables ≡ c
 
 module _ (r : Room) (f : List ℕ) (lent : Lent) where
-  reading-by : (k : Check) → firstOf (entryChecks f lent (readingAt (r .cap))) ≡ k → reading r f lent ≡ readingBy r (settledIn r f lent (openedOf f)) k
+  reading-by : (k : Check) → firstOf (entryChecks f lent (readingAt (r .cap) (r .mode))) ≡ k → reading r f lent ≡ readingBy r (settledIn r f lent (openedOf f)) k
   unfolding reading
   reading-by k q = ap (readingBy r (settledIn r f lent (openedOf f))) q
 
-  pub reading-of : length f ≤ fileLimit → 1 ≤ r .cap → namesOf lent ≡ Good → reading r f lent ≡ finalOf r (settledIn r f lent (openedOf f))
-  reading-of short cap good = reading-by passes (passes-all f lent (readingAt (r .cap)) short (cap-passes (r .cap) cap) good refl)
+  pub reading-of : length f ≤ fileLimit → 1 ≤ r .cap → namesOf lent ≡ Good → isMode (r .mode) ≡ true → reading r f lent ≡ finalOf r (settledIn r f lent (openedOf f))
+  reading-of short cap good mode =
+      reading-by passes (passes-all f lent (readingAt (r .cap) (r .mode)) short (cap-passes (r .cap) (r .mode) cap) good (mode-passes (r .cap) (r .mode) mode) refl)
 
   pub success : (c : ReadCounts) → reading r f lent .answer ≡ Done c → Success r f lent c
-  success c e = checked (firstOf (entryChecks f lent (readingAt (r .cap)))) refl
+  success c e = checked (firstOf (entryChecks f lent (readingAt (r .cap) (r .mode)))) refl
     where
       answer : Reading → ReadAnswer
       answer x = x .answer
@@ -68,17 +70,17 @@ module _ (r : Room) (f : List ℕ) (lent : Lent) where
       no-done : {A : Type 0} (x : Refusal) → reading r f lent ≡ refuses r x → A
       no-done x z = absurd (subst IsDone (sym (sym (ap answer z) ∙ e)) tt)
 
-      whole : Passed f lent (readingAt (r .cap)) → reading r f lent ≡ finalOf r (settledIn r f lent (openedOf f))
-      whole p = reading-of (p .short) (cap-some (r .cap) (p .cap)) (p .good)
+      whole : Passed f lent (readingAt (r .cap) (r .mode)) → reading r f lent ≡ finalOf r (settledIn r f lent (openedOf f))
+      whole p = reading-of (p .short) (cap-some (r .cap) (r .mode) (p .cap)) (p .good) (mode-known (r .cap) (r .mode) (p .mode))
 
-      out : Passed f lent (readingAt (r .cap)) → (o : Out) → settledIn r f lent (openedOf f) ≡ o → Success r f lent c
+      out : Passed f lent (readingAt (r .cap) (r .mode)) → (o : Out) → settledIn r f lent (openedOf f) ≡ o → Success r f lent c
       out p (refused x) q = no-done x (whole p ∙ ap (finalOf r) q)
       out p (going t) q =
           let w : reading r f lent ≡ succeeds r t = whole p ∙ ap (finalOf r) q in
-          record { short = p .short; cap = cap-some (r .cap) (p .cap); good = p .good; tables = t; settles = q; whole = w; counts = ap (countsIn c) (sym (ap answer w) ∙ e) }
+          record { short = p .short; cap = cap-some (r .cap) (r .mode) (p .cap); good = p .good; mode = mode-known (r .cap) (r .mode) (p .mode); tables = t; settles = q; whole = w; counts = ap (countsIn c) (sym (ap answer w) ∙ e) }
 
-      checked : (k : Check) → firstOf (entryChecks f lent (readingAt (r .cap))) ≡ k → Success r f lent c
-      checked passes q = out (passed f lent (readingAt (r .cap)) q) (settledIn r f lent (openedOf f)) refl
+      checked : (k : Check) → firstOf (entryChecks f lent (readingAt (r .cap) (r .mode))) ≡ k → Success r f lent c
+      checked passes q = out (passed f lent (readingAt (r .cap) (r .mode)) q) (settledIn r f lent (openedOf f)) refl
       checked (fails x) q = no-done x (reading-by (fails x) q)
 
 -- ---- two successes

@@ -31,7 +31,7 @@ use Rattle.head.specs.declared.Opened.{Opened}
 use Rattle.head.specs.Head.{openedOf, tablesIn, bodyIn, headLen}
 use Rattle.head.specs.declared.Asker.{Asker}
 use Rattle.head.specs.declared.Asker.the-variants as askers
-use Rattle.head.specs.Entry.{readingAt, Check, passes, fails, firstOf, lengthCheck, keepsNone, capCheck, namesCheckBy, entryChecks}
+use Rattle.head.specs.Entry.{readingAt, Check, passes, fails, firstOf, lengthCheck, keepsNone, capCheck, namesCheckBy, modeOf, isMode, modeCheck, entryChecks}
 use Rattle.xml_elements.proofs.Laws.{cond-by}
 use Rattle.events.specs.declared.Event.{Event}
 use Rattle.events.specs.Events.{namesIn, fileEvents}
@@ -119,6 +119,10 @@ cap-under : (a : Asker) → Under (capCheck a)
 unfolding numberOf
 cap-under a = cond-by Under (keepsNone a) (λ e. refl) (λ e. tt)
 
+mode-under : (a : Asker) → Under (modeCheck a)
+unfolding numberOf
+mode-under a = cond-by Under (isMode (modeOf a)) (λ e. tt) (λ e. refl)
+
 names-under : (n : NamesRead) → Under (namesCheckBy n)
 unfolding numberOf
 names-under Good = tt
@@ -134,17 +138,20 @@ first-under (passes ∷ cs) p = first-under cs (p .1)
 first-under (fails x ∷ cs) p = p .0
 
 -- a line for each check
-entry-under : (f : List ℕ) (lent : Lent) (cap : ℕ) → Under (firstOf (entryChecks f lent (readingAt cap)))
-entry-under f lent cap =
-    first-under (entryChecks f lent (readingAt cap)) (
+entry-under : (f : List ℕ) (lent : Lent) (cap mode : ℕ) → Under (firstOf (entryChecks f lent (readingAt cap mode)))
+entry-under f lent cap mode =
+    first-under (entryChecks f lent (readingAt cap mode)) (
       length-under f,
       (
-        cap-under (askers.Reading cap),
+        cap-under (askers.Reading cap mode),
         (
           names-under (namesOf lent),
           (
-            tt,
-            tt,
+            mode-under (askers.Reading cap mode),
+            (
+              tt,
+              tt,
+            ),
           ),
         ),
       ),
@@ -160,7 +167,7 @@ module _ (r : Room) (f : List ℕ) (lent : Lent) (nodes : nodesFor (length f) �
   settled : (o : Opened) → InOut (Enough r []) Other (settledIn r f lent o)
   settled o =
       let t = tablesIn f (o .head) in
-      let N = namesIn (o .head) t lent in
+      let N = namesIn (r .mode) (o .head) t lent in
       let b = bodyIn f (o .head) in
       let few = file-few N o t b in
       let l : length b ≡ length f - (8 + headLen (o .head)) = length-drop (8 + headLen (o .head)) f in
@@ -174,15 +181,15 @@ module _ (r : Room) (f : List ℕ) (lent : Lent) (nodes : nodesFor (length f) �
   pub suffices : HasRoom (reading r f lent .answer)
   unfolding reading
   suffices =
-      final-under r (settledIn r f lent (openedOf f)) (firstOf (entryChecks f lent (readingAt (r .cap)))) (settled (openedOf f)) (entry-under f lent (r .cap))
+      final-under r (settledIn r f lent (openedOf f)) (firstOf (entryChecks f lent (readingAt (r .cap) (r .mode)))) (settled (openedOf f)) (entry-under f lent (r .cap) (r .mode))
 
 -- ---- a call
 
-pub read-suffices : (f : List ℕ) (lent : Lent) (ns ats : List ℕ) (os : List NoteOf) (cap : ℕ) (a : ReadAnswer) (ns′ ats′ : List ℕ) (os′ : List NoteOf)
+pub read-suffices : (f : List ℕ) (lent : Lent) (ns ats : List ℕ) (os : List NoteOf) (cap mode : ℕ) (a : ReadAnswer) (ns′ ats′ : List ℕ) (os′ : List NoteOf)
     → nodesFor (length f) ≤ length ns → attributesFor (length f) ≤ length ats → placesFor cap ≤ length os
-    → Reads f lent ns ats os cap a ns′ ats′ os′ → HasRoom a
-read-suffices f lent ns ats os cap a ns′ ats′ os′ n m o h =
-    subst HasRoom (sym (numbersOf-unique _ _ (h .answer))) (suffices (roomIn ns ats os cap) f lent n m o)
+    → Reads f lent ns ats os cap mode a ns′ ats′ os′ → HasRoom a
+read-suffices f lent ns ats os cap mode a ns′ ats′ os′ n m o h =
+    subst HasRoom (sym (numbersOf-unique _ _ (h .answer))) (suffices (roomIn ns ats os cap mode) f lent n m o)
 
 -- ---- a listing
 
@@ -192,8 +199,8 @@ listing-suffices n short = (omega arith, omega arith, omega arith)
 
 pub read-listed-suffices : (f ns ats : List ℕ) (a : ReadAnswer) (ns′ ats′ : List ℕ) (os′ : List NoteOf)
     → length f ≤ listedFile → length ns ≡ listingRoom .nodes → length ats ≡ listingRoom .attributes
-    → Reads f (lends [] []) ns ats (replicate (listingRoom .notes) zeroNote) (listingRoom .cap) a ns′ ats′ os′ → HasRoom a
+    → Reads f (lends [] []) ns ats (replicate (listingRoom .notes) zeroNote) (listingRoom .cap) (listingRoom .mode) a ns′ ats′ os′ → HasRoom a
 read-listed-suffices f ns ats a ns′ ats′ os′ short n m h =
     let s = listing-suffices (length f) short in
-    read-suffices f (lends [] []) ns ats _ (listingRoom .cap) a ns′ ats′ os′ (omega (arith, s .0)) (omega (arith, s .1))
+    read-suffices f (lends [] []) ns ats _ (listingRoom .cap) (listingRoom .mode) a ns′ ats′ os′ (omega (arith, s .0)) (omega (arith, s .1))
     (omega (arith, s .2, length-replicate (listingRoom .notes) zeroNote)) h

@@ -57,13 +57,13 @@ final-zeros r (going t) passes x e = let z : _≡_ {A = ℕ} 0 1 = cc in absurd 
 final-zeros r (refused y) passes x e = (refl, refl, refl)
 final-zeros r o (fails y) x e = (refl, refl, refl)
 
-module _ (f : List ℕ) (lent : Lent) (ns ats : List ℕ) (os : List Note) (cap : ℕ) where
-  pub refused-zeros : (x : Refusal) (ns′ ats′ : List ℕ) (os′ : List Note) → Reads f lent ns ats os cap (Refused x) ns′ ats′ os′
+module _ (f : List ℕ) (lent : Lent) (ns ats : List ℕ) (os : List Note) (cap mode : ℕ) where
+  pub refused-zeros : (x : Refusal) (ns′ ats′ : List ℕ) (os′ : List Note) → Reads f lent ns ats os cap mode (Refused x) ns′ ats′ os′
       → RefusedZero (numbersOf (Refused x)) ns ats os ns′ ats′ os′
   unfolding reading numbersOf
   refused-zeros x ns′ ats′ os′ h =
-      let r = roomIn ns ats os cap in
-      let c = firstOf (entryChecks f lent (readingAt cap)) in
+      let r = roomIn ns ats os cap mode in
+      let c = firstOf (entryChecks f lent (readingAt cap mode)) in
       let o = settledIn r f lent (openedOf f) in
       let z = final-zeros r o c x (numbersOf-unique _ _ (h .answer)) in
       record {
@@ -76,14 +76,14 @@ module _ (f : List ℕ) (lent : Lent) (ns ats : List ℕ) (os : List Note) (cap 
         noteRecords = h .notes ∙ z .2;
       }
 
-  pub done-zeros : (c : ReadCounts) (ns′ ats′ : List ℕ) (os′ : List Note) → Reads f lent ns ats os cap (Done c) ns′ ats′ os′
+  pub done-zeros : (c : ReadCounts) (ns′ ats′ : List ℕ) (os′ : List Note) → Reads f lent ns ats os cap mode (Done c) ns′ ats′ os′
       → DoneZero (numbersOf (Done c)) ns ats os ns′ ats′ os′
   unfolding numbersOf
   done-zeros c ns′ ats′ os′ h =
-      let d = done-by f lent ns ats os cap c ns′ ats′ os′ h in
+      let d = done-by f lent ns ats os cap mode c ns′ ats′ os′ h in
       let t = d .tables in
-      let s = done-shaped f lent ns ats os cap t (d .out) in
-      let k = kept-in (roomIn ns ats os cap) t s in
+      let s = done-shaped f lent ns ats os cap mode t (d .out) in
+      let k = kept-in (roomIn ns ats os cap mode) t s in
       let wn : nodesKept t ≤ s .n = k .nodes in
       let wm : attributesKept t ≤ s .m = k .attributes in
       record {

@@ -28,11 +28,12 @@ pub record Called : Type 0 where
   pub attributes : List ℕ
   pub notes : List ℕ
   pub cap : ℕ
+  pub mode : ℕ
   pub answer : ReadAnswer
   pub nodes′ : List ℕ
   pub attributes′ : List ℕ
   pub notes′ : List ℕ
-  pub reads : ReadsWords file lent nodes attributes notes cap (answerOf (numbersOf answer)) nodes′ attributes′ notes′
+  pub reads : ReadsWords file lent nodes attributes notes cap mode (answerOf (numbersOf answer)) nodes′ attributes′ notes′
 
 pub record Told (x : Called) (f : File) : Type 0 where
   pub kinds : f .kept ≡ kindsIn (x .notes′) (numbersOf (x .answer) .notes)
@@ -50,7 +51,7 @@ keptBy (Done c) xs = inGrid (map kindNumber xs)
 keptBy (Refused e) xs = 0
 
 abbrev pub keptOf : Called → ℕ
-keptOf x = keptBy (x .answer) (keptNotes (x .cap) (notesIn (eventsOf (x .file) (x .lent))))
+keptOf x = keptBy (x .answer) (keptNotes (x .cap) (notesIn (eventsOf (x .mode) (x .file) (x .lent))))
 
 abbrev pub keptIn : List Called → ℕ
 keptIn [] = 0

@@ -1,6 +1,6 @@
 -- Readers in general, and sorts of readers that the promise must rule out: docs/FORMAT.md, P5.
 --
---   namesFor, eventsOf   the names of a file's head, and what the file makes with them
+--   namesFor, eventsOf   the names of a file's head in a mode, and what the file makes with them
 --   Slice         a list that can be lent: every entry below a limit, and fewer than 2^32 of them
 --   Call          what a program can be called with: bytes and words
 --   Reader        takes what a call of `read` is lent, and gives an answer and the three tables afterwards
@@ -16,6 +16,7 @@ use lib.ListN.{length, replicate}
 use lib.Dec.{ltb}
 use Rattle.anomaly.specs.declared.Note.{Note}
 use Rattle.errors.specs.Refusal.{numbersOf}
+use Rattle.records.specs.Words.{merged}
 use Rattle.system_types.specs.Names.{Lent}
 use Rattle.xml_elements.specs.declared.XmlStartElement.{XmlStartElement}
 use Rattle.xml_elements.specs.declared.Chunk.the-variants.{Start}
@@ -29,11 +30,11 @@ use Rattle.claims.specs.Counts.{opensIn}
 
 -- ---- what a file makes
 
-abbrev pub namesFor : List ℕ → Lent → Names
-namesFor f lent = namesIn (openedOf f .head) (tablesIn f (openedOf f .head)) lent
+abbrev pub namesFor : ℕ → List ℕ → Lent → Names
+namesFor mode f lent = namesIn mode (openedOf f .head) (tablesIn f (openedOf f .head)) lent
 
-abbrev pub eventsOf : List ℕ → Lent → List Event
-eventsOf f lent = fileEvents (namesFor f lent) (openedOf f) (tablesIn f (openedOf f .head)) (bodyIn f (openedOf f .head))
+abbrev pub eventsOf : ℕ → List ℕ → Lent → List Event
+eventsOf mode f lent = fileEvents (namesFor mode f lent) (openedOf f) (tablesIn f (openedOf f .head)) (bodyIn f (openedOf f .head))
 
 -- ---- what can be lent
 
@@ -55,7 +56,7 @@ Words l = Slice 4294967296 l
 abbrev pub kindsOf : List Note → List ℕ
 kindsOf os = map (λ (x : Note). x .kind) os
 
-pub record Call (f : List ℕ) (lent : Lent) (ns ats : List ℕ) (os : List Note) (cap : ℕ) : Type 0 where
+pub record Call (f : List ℕ) (lent : Lent) (ns ats : List ℕ) (os : List Note) (cap mode : ℕ) : Type 0 where
   pub file : Bytes f
   pub nameWords : Words (lent .names)
   pub areaBytes : Bytes (lent .area)
@@ -65,79 +66,80 @@ pub record Call (f : List ℕ) (lent : Lent) (ns ats : List ℕ) (os : List Note
   pub firsts : Words (map (λ (x : Note). x .a) os)
   pub seconds : Words (map (λ (x : Note). x .b) os)
   pub capWord : cap < 4294967296
+  pub modeWord : mode < 4294967296
 
 -- ---- readers
 
--- from file, names and their area, the tables of nodes, attributes and notes, and the cap
+-- from file, names and their area, the tables of nodes, attributes and notes, the cap and the mode
 abbrev pub Reader : Type 0
-Reader = List ℕ → Lent → List ℕ → List ℕ → List Note → ℕ → Reading
+Reader = List ℕ → Lent → List ℕ → List ℕ → List Note → ℕ → ℕ → Reading
 
 abbrev pub Meets : Reader → Type 0
 Meets R =
-    (f : List ℕ) (lent : Lent) (ns ats : List ℕ) (os : List Note) (cap : ℕ) → Call f lent ns ats os cap
-    → Reads f lent ns ats os cap (R f lent ns ats os cap .answer) (R f lent ns ats os cap .nodes) (R f lent ns ats os cap .attributes)
-    (R f lent ns ats os cap .notes)
+    (f : List ℕ) (lent : Lent) (ns ats : List ℕ) (os : List Note) (cap mode : ℕ) → Call f lent ns ats os cap mode
+    → Reads f lent ns ats os cap mode (R f lent ns ats os cap mode .answer) (R f lent ns ats os cap mode .nodes) (R f lent ns ats os cap mode .attributes)
+    (R f lent ns ats os cap mode .notes)
 
 -- ---- sorts of readers
 
 abbrev pub RefusesAll : Reader → Type 0
 RefusesAll R =
-    (f : List ℕ) (lent : Lent) (ns ats : List ℕ) (os : List Note) (cap : ℕ) → Call f lent ns ats os cap
-    → _≡_ {A = ℕ} (numbersOf (R f lent ns ats os cap .answer) .refusal) 0 → ⊥
+    (f : List ℕ) (lent : Lent) (ns ats : List ℕ) (os : List Note) (cap mode : ℕ) → Call f lent ns ats os cap mode
+    → _≡_ {A = ℕ} (numbersOf (R f lent ns ats os cap mode .answer) .refusal) 0 → ⊥
 
 -- the same result for every file
-abbrev pub Constant : Reader → Lent → List ℕ → List ℕ → List Note → ℕ → Type 0
-Constant R lent ns ats os cap =
-    (f f′ : List ℕ) → Call f lent ns ats os cap → Call f′ lent ns ats os cap → R f lent ns ats os cap ≡ R f′ lent ns ats os cap
+abbrev pub Constant : Reader → Lent → List ℕ → List ℕ → List Note → ℕ → ℕ → Type 0
+Constant R lent ns ats os cap mode =
+    (f f′ : List ℕ) → Call f lent ns ats os cap mode → Call f′ lent ns ats os cap mode → R f lent ns ats os cap mode ≡ R f′ lent ns ats os cap mode
 
-abbrev pub IsRead : List ℕ → Lent → List ℕ → List ℕ → List Note → ℕ → Type 0
-IsRead f lent ns ats os cap = _≡_ {A = ℕ} (numbersOf (reading (roomIn ns ats os cap) f lent .answer) .refusal) 0
+abbrev pub IsRead : List ℕ → Lent → List ℕ → List ℕ → List Note → ℕ → ℕ → Type 0
+IsRead f lent ns ats os cap mode = _≡_ {A = ℕ} (numbersOf (reading (roomIn ns ats os cap mode) f lent .answer) .refusal) 0
 
 -- the same result for every file that can be read
 abbrev pub ConstantOnRead : Reader → Type 0
 ConstantOnRead R =
-    (f f′ : List ℕ) (lent : Lent) (ns ats : List ℕ) (os : List Note) (cap : ℕ) → Call f lent ns ats os cap → Call f′ lent ns ats os cap
-    → IsRead f lent ns ats os cap → IsRead f′ lent ns ats os cap → R f lent ns ats os cap ≡ R f′ lent ns ats os cap
+    (f f′ : List ℕ) (lent : Lent) (ns ats : List ℕ) (os : List Note) (cap mode : ℕ) → Call f lent ns ats os cap mode → Call f′ lent ns ats os cap mode
+    → IsRead f lent ns ats os cap mode → IsRead f′ lent ns ats os cap mode → R f lent ns ats os cap mode ≡ R f′ lent ns ats os cap mode
 
 -- a table as it was
 abbrev pub LeavesNodes : Reader → Type 0
-LeavesNodes R = (f : List ℕ) (lent : Lent) (ns ats : List ℕ) (os : List Note) (cap : ℕ) → Call f lent ns ats os cap → R f lent ns ats os cap .nodes ≡ ns
+LeavesNodes R = (f : List ℕ) (lent : Lent) (ns ats : List ℕ) (os : List Note) (cap mode : ℕ) → Call f lent ns ats os cap mode → R f lent ns ats os cap mode .nodes ≡ ns
 
 abbrev pub LeavesAttributes : Reader → Type 0
 LeavesAttributes R =
-    (f : List ℕ) (lent : Lent) (ns ats : List ℕ) (os : List Note) (cap : ℕ) → Call f lent ns ats os cap → R f lent ns ats os cap .attributes ≡ ats
+    (f : List ℕ) (lent : Lent) (ns ats : List ℕ) (os : List Note) (cap mode : ℕ) → Call f lent ns ats os cap mode → R f lent ns ats os cap mode .attributes ≡ ats
 
 abbrev pub LeavesNotes : Reader → Type 0
-LeavesNotes R = (f : List ℕ) (lent : Lent) (ns ats : List ℕ) (os : List Note) (cap : ℕ) → Call f lent ns ats os cap → R f lent ns ats os cap .notes ≡ os
+LeavesNotes R = (f : List ℕ) (lent : Lent) (ns ats : List ℕ) (os : List Note) (cap mode : ℕ) → Call f lent ns ats os cap mode → R f lent ns ats os cap mode .notes ≡ os
 
 -- or zeros in it
 abbrev pub ClearsNodes : Reader → Type 0
 ClearsNodes R =
-    (f : List ℕ) (lent : Lent) (ns ats : List ℕ) (os : List Note) (cap : ℕ) → Call f lent ns ats os cap
-    → R f lent ns ats os cap .nodes ≡ replicate (length ns) 0
+    (f : List ℕ) (lent : Lent) (ns ats : List ℕ) (os : List Note) (cap mode : ℕ) → Call f lent ns ats os cap mode
+    → R f lent ns ats os cap mode .nodes ≡ replicate (length ns) 0
 
 abbrev pub ClearsAttributes : Reader → Type 0
 ClearsAttributes R =
-    (f : List ℕ) (lent : Lent) (ns ats : List ℕ) (os : List Note) (cap : ℕ) → Call f lent ns ats os cap
-    → R f lent ns ats os cap .attributes ≡ replicate (length ats) 0
+    (f : List ℕ) (lent : Lent) (ns ats : List ℕ) (os : List Note) (cap mode : ℕ) → Call f lent ns ats os cap mode
+    → R f lent ns ats os cap mode .attributes ≡ replicate (length ats) 0
 
 abbrev pub ClearsNotes : Reader → Type 0
 ClearsNotes R =
-    (f : List ℕ) (lent : Lent) (ns ats : List ℕ) (os : List Note) (cap : ℕ) → Call f lent ns ats os cap
-    → R f lent ns ats os cap .notes ≡ replicate (length os) zeroNote
+    (f : List ℕ) (lent : Lent) (ns ats : List ℕ) (os : List Note) (cap mode : ℕ) → Call f lent ns ats os cap mode
+    → R f lent ns ats os cap mode .notes ≡ replicate (length os) zeroNote
 
 pub record FirstStart (lent : Lent) (p : List ℕ) : Type 0 where
   pub before : List ℕ
   pub chunk : List ℕ
   pub start : XmlStartElement
   pub split : p ≡ before ++ chunk
-  pub none : _≡_ {A = ℕ} (opensIn (eventsOf before lent)) 0
-  pub one : _≡_ {A = ℕ} (opensIn (eventsOf p lent)) 1
+  pub none : _≡_ {A = ℕ} (opensIn (eventsOf merged before lent)) 0
+  pub one : _≡_ {A = ℕ} (opensIn (eventsOf merged p lent)) 1
   pub reads : turnOf chunk ≡ Met (Start start)
   pub long : startLen start ≡ length chunk
 
 -- the same result for two files that agree up to the end of the first start
 abbrev pub StopsAtStart : Reader → Type 0
 StopsAtStart R =
-    (p x y : List ℕ) (lent : Lent) (ns ats : List ℕ) (os : List Note) (cap : ℕ) → Call (p ++ x) lent ns ats os cap → Call (p ++ y) lent ns ats os cap
-    → FirstStart lent p → R (p ++ x) lent ns ats os cap ≡ R (p ++ y) lent ns ats os cap
+    (p x y : List ℕ) (lent : Lent) (ns ats : List ℕ) (os : List Note) (cap mode : ℕ) → Call (p ++ x) lent ns ats os cap mode → Call (p ++ y) lent ns ats os cap mode
+    → FirstStart lent p → R (p ++ x) lent ns ats os cap mode ≡ R (p ++ y) lent ns ats os cap mode

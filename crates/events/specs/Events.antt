@@ -1,5 +1,6 @@
 -- What a file makes, in its order: docs/FORMAT.md, H16, W4, W11 to W28, B3. No position, no room, no cap, no table.
 --
+--   prefixIn        the prefix that the text of a namespace gives, by the mode of the reading
 --   attributeEvent  what an attribute makes: its record, note 10, or that it is left out for want of a text
 --   startEvents     what a start makes, as far as it is there: notes 6, 7, 8, then note 9, the element, the leading attribute, its attributes; or note 11
 --   yieldOf         what a turn makes; nextOf with what state the walk goes on: the sort of the chunk before, depth, starts
@@ -20,9 +21,10 @@ use Rattle.anomaly.specs.declared.ResAnomaly.{ResAnomaly}
 use Rattle.anomaly.specs.declared.ResAnomaly.the-variants.{NonXmlChunk, XmlNodeHeaderSize, UnknownChunk, TruncatedXml, UnclosedElements}
 use Rattle.anomaly.specs.declared.ResAnomaly.the-variants.{AttributeStartShifted, AttributeSizeMismatch, ElementTrailingBytes}
 use Rattle.anomaly.specs.declared.ResAnomaly.the-variants.{InvalidElementName, InvalidAttributeName}
+use Rattle.records.specs.Words.{apart, ownPrefix}
 use Rattle.records.specs.Repeats.{Rule, byPrefix}
 use Rattle.system_types.specs.Names.{Lent}
-use Rattle.text.specs.Content.{contentOf, hasText, stateIn, sameName}
+use Rattle.text.specs.Content.{Content, contentOf, hasText, stateIn, sameName, isAndroid}
 use Rattle.text.specs.declared.Head.{Head}
 use Rattle.text.specs.declared.NameState.{NameState}
 use Rattle.text.specs.declared.NameState.the-variants.{NoText, Invalid, Valid}
@@ -51,11 +53,15 @@ pub record Names : Type 0 where
   pub prefixOf : ℕ → ℕ
   pub repeats : Rule
 
--- the names of a head: prefix 1 (android) for a namespace index with any text; a repeat has the same prefix and a name of the same text
-abbrev pub namesIn : Head → List ℕ → Lent → Names
-namesIn h t lent = record {
+-- 0 for a namespace index without a text; else 1 (android), but where namespaces are told apart 3 for any text that is not Android's
+abbrev pub prefixIn : ℕ → Content → ℕ
+prefixIn mode c = cond (hasText c) (cond (eqb mode apart) (cond (isAndroid c) 1 ownPrefix) 1) 0
+
+-- the names of a head, in the mode of a reading
+abbrev pub namesIn : ℕ → Head → List ℕ → Lent → Names
+namesIn mode h t lent = record {
   state = λ i. stateIn (contentOf h t lent i);
-  prefixOf = λ i. cond (hasText (contentOf h t lent i)) 1 0;
+  prefixOf = λ i. prefixIn mode (contentOf h t lent i);
   repeats = byPrefix (sameName h t lent);
 }
 

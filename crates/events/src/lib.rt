@@ -122,11 +122,20 @@ pub fn first_cursor() -> Cursor
     }
 }
 
-// One step of a file whose head is o: t is the bytes behind its header, b its body, names and area the lent system names.
+// One step of a file whose head is o: t is the bytes behind its header, b its body, names and area the lent system names, `mode` the
+// reading's.
 // Ruled out: a second note for a stretch of foreign chunks of one sort, and an end whose 8 bytes are cut that closes nothing.
-pub fn step_at(t: &[u8], names: &[u32], area: &[u8], o: Opened, b: &[u8], c: Cursor) -> Step
+pub fn step_at(
+    t: &[u8],
+    names: &[u32],
+    area: &[u8],
+    mode: u32,
+    o: Opened,
+    b: &[u8],
+    c: Cursor,
+) -> Step
     requires { ⌜ Ready (now t) (lends (now names) (now area)) o × Within o (now b) c ⌝ }
-    ensures { λ r. ⌜ r ≡ stepOf (namesIn (o .head) (now (t .entry)) (lends (now (names .entry)) (now (area .entry)))) o (now (t .entry)) (now (b .entry)) c ⌝ }
+    ensures { λ r. ⌜ r ≡ stepOf (namesIn mode (o .head) (now (t .entry)) (lends (now (names .entry)) (now (area .entry)))) o (now (t .entry)) (now (b .entry)) c ⌝ }
 {
     let h = o.head;
     let phase = c.phase;
@@ -143,7 +152,7 @@ pub fn step_at(t: &[u8], names: &[u32], area: &[u8], o: Opened, b: &[u8], c: Cur
         Phase::AtName => name_step(t, names, area, h, c),
         Phase::AtOpen => open_step(c, 1),
         Phase::AtLead => lead_step(c),
-        Phase::AtAttribute => attribute_step(t, names, area, h, b, c),
+        Phase::AtAttribute => attribute_step(t, names, area, h, mode, b, c),
         Phase::AtLast => last_step(c),
         Phase::AtRoot => root_step(c),
         Phase::Over => over_step(c),

@@ -1,9 +1,12 @@
 // Steps that ask for names: an element that opens, and its attributes one by one.
 // Each function follows the definition of its name in specs/Inner/Steps.antt; t, names and area are what texts are read from.
 ghost use mathlib.Core.Path.{_≡_};
+ghost use mathlib.Core.Bool.{cond};
 ghost use Prim.Native.Nat.{_+_, _≤_, _<_};
 ghost use lib.ListN.{length, drop};
 ghost use Rattle.records.specs.Limits.{fileLimit};
+ghost use Rattle.records.specs.Words.{ownPrefix};
+ghost use Rattle.text.specs.Content.{contentOf, stateIn, isAndroid};
 ghost use Rattle.text.specs.Inner.Found.{Asks};
 ghost use Rattle.events.specs.Events.{namesIn, leading, attributeBy, attributeEvent};
 ghost use Rattle.events.specs.Inner.Steps.{openedBy, movedBy, openStep, nameStep, toStep};
@@ -21,9 +24,12 @@ use crate::moves::opened_by;
 use crate::moves::to_step;
 use anomaly::ResAnomaly;
 use common::StringIndex;
+use records::APART;
+use records::OWN_PREFIX;
 use text::Head;
 use text::NameState;
 use text::has_text;
+use text::is_android;
 use text::name_state;
 use xml_elements::XmlAttributeElement;
 use xml_elements::attribute_at;
@@ -59,7 +65,7 @@ fn invalid_step(c: Cursor, text: u32) -> Step
 
 pub fn name_step(t: &[u8], names: &[u32], area: &[u8], h: Head, c: Cursor) -> Step
     requires { ⌜ Asks (now t) (lends (now names) (now area)) h × (c .at ≤ fileLimit) × (c .depth ≤ fileLimit) × (c .starts ≤ fileLimit) ⌝ }
-    ensures { λ r. ⌜ r ≡ nameStep c (namesIn h (now (t .entry)) (lends (now (names .entry)) (now (area .entry))) .state (c .start .name .0)) ⌝ }
+    ensures { λ r. ⌜ r ≡ nameStep c (stateIn (contentOf h (now (t .entry)) (lends (now (names .entry)) (now (area .entry))) (c .start .name .0))) ⌝ }
 {
     let s = c.start;
     let name = s.name;
@@ -93,23 +99,44 @@ pub fn lead_step(c: Cursor) -> Step
     }
 }
 
-// 1 (android) for a namespace index with any text.
-fn prefix_of(t: &[u8], names: &[u32], area: &[u8], h: Head, index: StringIndex) -> u32
+// 1 (android) for the Android namespace, 3 for any other text.
+fn apart_prefix(t: &[u8], names: &[u32], area: &[u8], h: Head, index: StringIndex) -> u32
     requires { ⌜ Asks (now t) (lends (now names) (now area)) h ⌝ }
-    ensures { λ r. ⌜ r ≡ namesIn h (now (t .entry)) (lends (now (names .entry)) (now (area .entry))) .prefixOf (index .0) ⌝ }
+    ensures { λ r. ⌜ r ≡ cond (isAndroid (contentOf h (now (t .entry)) (lends (now (names .entry)) (now (area .entry))) (index .0))) 1 ownPrefix ⌝ }
 {
-    if has_text(t, names, area, h, index) {
+    if is_android(t, names, area, h, index) {
         return 1;
     }
-    0
+    OWN_PREFIX
 }
 
-fn valid_attribute(t: &[u8], names: &[u32], area: &[u8], h: Head, a: XmlAttributeElement) -> Event
+// The prefix of a namespace index, by the mode of the reading.
+fn prefix_of(t: &[u8], names: &[u32], area: &[u8], h: Head, mode: u32, index: StringIndex) -> u32
     requires { ⌜ Asks (now t) (lends (now names) (now area)) h ⌝ }
-    ensures { λ r. ⌜ r ≡ Attribute (namesIn h (now (t .entry)) (lends (now (names .entry)) (now (area .entry))) .prefixOf (a .«namespace_uri» .0)) a ⌝ }
+    ensures { λ r. ⌜ r ≡ namesIn mode h (now (t .entry)) (lends (now (names .entry)) (now (area .entry))) .prefixOf (index .0) ⌝ }
+{
+    if !has_text(t, names, area, h, index) {
+        return 0;
+    }
+    if mode == APART {
+        return apart_prefix(t, names, area, h, index);
+    }
+    1
+}
+
+fn valid_attribute(
+    t: &[u8],
+    names: &[u32],
+    area: &[u8],
+    h: Head,
+    mode: u32,
+    a: XmlAttributeElement,
+) -> Event
+    requires { ⌜ Asks (now t) (lends (now names) (now area)) h ⌝ }
+    ensures { λ r. ⌜ r ≡ Attribute (namesIn mode h (now (t .entry)) (lends (now (names .entry)) (now (area .entry))) .prefixOf (a .«namespace_uri» .0)) a ⌝ }
 {
     let index = a.namespace_uri;
-    let prefix = prefix_of(t, names, area, h, index);
+    let prefix = prefix_of(t, names, area, h, mode, index);
     Event::Attribute(prefix, a)
 }
 
@@ -120,24 +147,39 @@ fn invalid_attribute(name: StringIndex) -> Event
 }
 
 // What an attribute makes: its name is looked up once.
-fn attribute_event(t: &[u8], names: &[u32], area: &[u8], h: Head, a: XmlAttributeElement) -> Event
+fn attribute_event(
+    t: &[u8],
+    names: &[u32],
+    area: &[u8],
+    h: Head,
+    mode: u32,
+    a: XmlAttributeElement,
+) -> Event
     requires { ⌜ Asks (now t) (lends (now names) (now area)) h ⌝ }
-    ensures { λ r. ⌜ r ≡ attributeBy (namesIn h (now (t .entry)) (lends (now (names .entry)) (now (area .entry)))) a
-        (namesIn h (now (t .entry)) (lends (now (names .entry)) (now (area .entry))) .state (a .name .0)) ⌝ }
+    ensures { λ r. ⌜ r ≡ attributeBy (namesIn mode h (now (t .entry)) (lends (now (names .entry)) (now (area .entry)))) a
+        (namesIn mode h (now (t .entry)) (lends (now (names .entry)) (now (area .entry))) .state (a .name .0)) ⌝ }
 {
     let name = a.name;
     let state = name_state(t, names, area, h, name);
     match state {
         NameState::NoText => Event::LeftOut(name),
         NameState::Invalid => invalid_attribute(name),
-        NameState::Valid => valid_attribute(t, names, area, h, a),
+        NameState::Valid => valid_attribute(t, names, area, h, mode, a),
     }
 }
 
-pub fn attribute_step(t: &[u8], names: &[u32], area: &[u8], h: Head, b: &[u8], c: Cursor) -> Step
+pub fn attribute_step(
+    t: &[u8],
+    names: &[u32],
+    area: &[u8],
+    h: Head,
+    mode: u32,
+    b: &[u8],
+    c: Cursor,
+) -> Step
     requires { ⌜ Asks (now t) (lends (now names) (now area)) h × (c .at + 20 ≤ length (now b)) × (length (now b) ≤ fileLimit) × (0 < c .left) ⌝ }
     ensures { λ r. ⌜ r ≡ record {
-      event = attributeEvent (namesIn h (now (t .entry)) (lends (now (names .entry)) (now (area .entry)))) (drop (c .at) (now (b .entry)));
+      event = attributeEvent (namesIn mode h (now (t .entry)) (lends (now (names .entry)) (now (area .entry)))) (drop (c .at) (now (b .entry)));
       cur = movedBy c;
     } ⌝ }
 {
@@ -145,7 +187,7 @@ pub fn attribute_step(t: &[u8], names: &[u32], area: &[u8], h: Head, b: &[u8], c
     let l = &b[at..];
     let a = attribute_at(l);
     Step {
-        event: attribute_event(t, names, area, h, a),
+        event: attribute_event(t, names, area, h, mode, a),
         cur: moved_by(c),
     }
 }

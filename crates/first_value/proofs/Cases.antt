@@ -36,7 +36,7 @@ unfoldable pub two : List ℕ
 two = nodeWords 0 0 noParent 0 1 3 ++ nodeWords 0 1 0 1 2 4
 
 unfoldable pub three : List ℕ
-three = attributeWords 0 2 0 3 9 ++ attributeWords 1 0 0 7 77 ++ attributeWords 1 1 5 2 8
+three = attributeWords 0 2 0 3 9 0 ++ attributeWords 1 0 0 7 77 5 ++ attributeWords 1 3 5 2 8 0
 
 -- nodes, attributes, tag, name, the two counts, and the answer
 pub data Case : Type 0 where

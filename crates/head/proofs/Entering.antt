@@ -1,5 +1,5 @@
 -- Laws of specs/Entry.antt, for every entry point. No contract cites this file.
--- In order: one check (`lengthCheck-..`, `cap-..`), what all of them say (`passed`, `passes-all`), and what `enter` gives (`entered-..`).
+-- In order: one check (`lengthCheck-..`, `cap-..`, `mode-..`), what all of them say (`passed`, `passes-all`), and what `enter` gives (`entered-..`).
 use Prim.Native.Nat.{ℕ, zero, suc, _≤_, _<_}
 use native.Mathlib.Omega.{arith}
 use mathlib.Core.Path.{_≡_, refl, sym, ap, _∙_}
@@ -10,13 +10,13 @@ use lib.ListN.{length}
 use lib.Dec.{ltb}
 use Rattle.records.specs.Limits.{fileLimit}
 use Rattle.errors.specs.declared.Refusal.{Refusal}
-use Rattle.errors.specs.declared.Refusal.the-variants.{TooLargeError, SystemNamesError, NotesOff}
+use Rattle.errors.specs.declared.Refusal.the-variants.{TooLargeError, SystemNamesError, NotesOff, ModeError}
 use Rattle.system_types.specs.Names.{Lent, namesOf}
 use Rattle.system_types.specs.declared.NamesRead.{NamesRead}
 use Rattle.system_types.specs.declared.NamesRead.the-variants.{Good, Bad}
 use Rattle.head.specs.Head.{openedOf}
 use Rattle.head.specs.Entry.{Terms, Check, passes, fails, firstOf, entryChecks}
-use Rattle.head.specs.Entry.{lengthCheck, keepsNone, capCheck, namesCheckBy, namesCheck, itemsCheck}
+use Rattle.head.specs.Entry.{lengthCheck, keepsNone, capCheck, namesCheckBy, namesCheck, modeOf, isMode, modeCheck, itemsCheck}
 use Rattle.head.specs.Inner.Entered.{enteredBy, enteredOf}
 use Rattle.head.specs.declared.Asker.{Asker}
 use Rattle.head.specs.declared.Asker.the-variants.{Reading}
@@ -46,12 +46,23 @@ short f e = go (ltb fileLimit (length f)) refl e
     go false p q = ltb-false fileLimit (length f) p
 
 -- a cap of at least 1 passes, and no other
-pub cap-passes : (cap : ℕ) → 1 ≤ cap → capCheck (Reading cap) ≡ passes
-cap-passes cap h = rw (ne-eqb cap 0 (λ e. omega (arith, h)))
+pub cap-passes : (cap mode : ℕ) → 1 ≤ cap → capCheck (Reading cap mode) ≡ passes
+cap-passes cap mode h = rw (ne-eqb cap 0 (λ e. omega (arith, h)))
 
-pub cap-some : (cap : ℕ) → capCheck (Reading cap) ≡ passes → 1 ≤ cap
-cap-some zero e = absurd (passes-not e)
-cap-some (suc n) e = omega arith
+pub cap-some : (cap mode : ℕ) → capCheck (Reading cap mode) ≡ passes → 1 ≤ cap
+cap-some zero mode e = absurd (passes-not e)
+cap-some (suc n) mode e = omega arith
+
+-- a mode that is one passes, and no other
+pub mode-passes : (cap mode : ℕ) → isMode mode ≡ true → modeCheck (Reading cap mode) ≡ passes
+mode-passes cap mode e = rw e
+
+pub mode-known : (cap mode : ℕ) → modeCheck (Reading cap mode) ≡ passes → isMode mode ≡ true
+mode-known cap mode e = go (isMode mode) refl e
+  where
+    go : (b : Bool) → isMode mode ≡ b → cond b passes (fails (ModeError mode)) ≡ passes → isMode mode ≡ true
+    go true p q = p
+    go false p q = absurd (passes-not q)
 
 good : (n : NamesRead) → namesCheckBy n ≡ passes → n ≡ Good
 good Good e = refl
@@ -68,20 +79,22 @@ pub record Passed (f : List ℕ) (lent : Lent) (t : Terms) : Type 0 where
   pub short : length f ≤ fileLimit
   pub cap : capCheck (t .asker) ≡ passes
   pub good : namesOf lent ≡ Good
+  pub mode : modeCheck (t .asker) ≡ passes
   pub items : itemsCheck (t .items) ≡ passes
 
 module _ (f : List ℕ) (lent : Lent) (t : Terms) where
   pub passed : firstOf (entryChecks f lent t) ≡ passes → Passed f lent t
   passed e =
-      let a = both (lengthCheck f) (capCheck (t .asker) ∷ namesCheck lent ∷ itemsCheck (t .items) ∷ []) e in
-      let b = both (capCheck (t .asker)) (namesCheck lent ∷ itemsCheck (t .items) ∷ []) (a .1) in
-      let c = both (namesCheck lent) (itemsCheck (t .items) ∷ []) (b .1) in
-      let d = both (itemsCheck (t .items)) [] (c .1) in
-      record { short = short f (a .0); cap = b .0; good = good (namesOf lent) (c .0); items = d .0 }
+      let a = both (lengthCheck f) (capCheck (t .asker) ∷ namesCheck lent ∷ modeCheck (t .asker) ∷ itemsCheck (t .items) ∷ []) e in
+      let b = both (capCheck (t .asker)) (namesCheck lent ∷ modeCheck (t .asker) ∷ itemsCheck (t .items) ∷ []) (a .1) in
+      let c = both (namesCheck lent) (modeCheck (t .asker) ∷ itemsCheck (t .items) ∷ []) (b .1) in
+      let m = both (modeCheck (t .asker)) (itemsCheck (t .items) ∷ []) (c .1) in
+      let d = both (itemsCheck (t .items)) [] (m .1) in
+      record { short = short f (a .0); cap = b .0; good = good (namesOf lent) (c .0); mode = m .0; items = d .0 }
 
-  pub passes-all : length f ≤ fileLimit → capCheck (t .asker) ≡ passes → namesOf lent ≡ Good → itemsCheck (t .items) ≡ passes
-      → firstOf (entryChecks f lent t) ≡ passes
-  passes-all p c e i = rw (lengthCheck-short f p, c, e, i)
+  pub passes-all : length f ≤ fileLimit → capCheck (t .asker) ≡ passes → namesOf lent ≡ Good → modeCheck (t .asker) ≡ passes
+      → itemsCheck (t .items) ≡ passes → firstOf (entryChecks f lent t) ≡ passes
+  passes-all p c e m i = rw (lengthCheck-short f p, c, e, m, i)
 
   -- ---- what `enter` gives
 
@@ -100,8 +113,12 @@ module _ (f : List ℕ) (lent : Lent) (t : Terms) where
   entered-names h z {k} e = entered-by (fails (SystemNamesError k)) (rw (lengthCheck-short f h, z, e))
 
   pub entered-good : length f ≤ fileLimit → keepsNone (t .asker) ≡ false → namesOf lent ≡ Good → itemsCheck (t .items) ≡ passes
-      → In (openedOf f) ≡ enteredOf f lent t
-  entered-good h z e i = entered-by passes (passes-all h (rw z) e i)
+      → cond (isMode (modeOf (t .asker))) (In (openedOf f)) (Out (ModeError (modeOf (t .asker)))) ≡ enteredOf f lent t
+  entered-good h z e i = go (isMode (modeOf (t .asker))) refl
+    where
+      go : (b : Bool) → isMode (modeOf (t .asker)) ≡ b → cond b (In (openedOf f)) (Out (ModeError (modeOf (t .asker)))) ≡ enteredOf f lent t
+      go true m = entered-by passes (passes-all h (rw z) e (rw m) i)
+      go false m = entered-by (fails (ModeError (modeOf (t .asker)))) (rw (lengthCheck-short f h, z, e, m))
 
   pub entered-in : {o : Opened} → enteredOf f lent t ≡ In o → (firstOf (entryChecks f lent t) ≡ passes) × (o ≡ openedOf f)
   unfolding enteredOf

@@ -2,18 +2,19 @@
 --
 --   Terms        what an entry point is asked with beside the file and the names: question, readingAt, valueWith
 --   Check        a check passes, or fails with its refusal; firstOf the first that fails
---   entryChecks  THE LIST of the checks, in order: 2 the file's length, 27 the cap, 7 the lent names, 14 the items
+--   entryChecks  THE LIST of the checks, in order: 2 the file's length, 27 the cap, 7 the lent names, 16 the mode, 14 the items
 --
 -- What the file's own bytes refuse comes behind them: for `read` in file order among the notes (events/specs/Events.antt), for the
 -- questions at once (specs/Ask.antt). Laws: proofs/Entering.antt.
 use Prim.Native.Nat.{ℕ}
 use mathlib.Core.List.{List, [], _∷_}
-use mathlib.Core.Bool.{Bool, false, cond}
+use mathlib.Core.Bool.{Bool, false, cond, _||_}
 use lib.ListN.{length}
 use lib.Dec.{ltb, eqb}
 use Rattle.records.specs.Limits.{fileLimit}
+use Rattle.records.specs.Words.{merged, apart}
 use Rattle.errors.specs.declared.Refusal.{Refusal}
-use Rattle.errors.specs.declared.Refusal.the-variants.{TooLargeError, SystemNamesError, ItemsError, NotesOff}
+use Rattle.errors.specs.declared.Refusal.the-variants.{TooLargeError, SystemNamesError, ItemsError, NotesOff, ModeError}
 use Rattle.system_types.specs.Names.{Lent, namesOf}
 use Rattle.system_types.specs.declared.NamesRead.{NamesRead}
 use Rattle.system_types.specs.declared.NamesRead.the-variants.{Good, Bad}
@@ -30,7 +31,7 @@ pub data Items : Type 0 where
   noItems : Items
   lentItems : List ℕ → List ℕ → Items
 
--- a reading has its cap, and a question none
+-- a reading has its cap and its mode, and a question none
 pub record Terms : Type 0 where
   pub asker : Asker
   pub items : Items
@@ -39,8 +40,8 @@ pub record Terms : Type 0 where
 abbrev pub question : Terms
 question = record { asker = Question; items = noItems }
 
-abbrev pub readingAt : ℕ → Terms
-readingAt cap = record { asker = Reading cap; items = noItems }
+abbrev pub readingAt : ℕ → ℕ → Terms
+readingAt cap mode = record { asker = Reading cap mode; items = noItems }
 
 -- the text of a value
 abbrev pub valueWith : List ℕ → List ℕ → Terms
@@ -66,7 +67,7 @@ lengthCheck f = cond (ltb fileLimit (length f)) (fails TooLargeError) passes
 -- a reading with a cap of 0
 abbrev pub keepsNone : Asker → Bool
 keepsNone Question = false
-keepsNone (Reading cap) = eqb cap 0
+keepsNone (Reading cap mode) = eqb cap 0
 
 abbrev pub capCheck : Asker → Check
 capCheck a = cond (keepsNone a) (fails NotesOff) passes
@@ -77,6 +78,17 @@ namesCheckBy (Bad k) = fails (SystemNamesError k)
 
 abbrev pub namesCheck : Lent → Check
 namesCheck lent = namesCheckBy (namesOf lent)
+
+-- a question reads in the first mode
+abbrev pub modeOf : Asker → ℕ
+modeOf Question = merged
+modeOf (Reading cap mode) = mode
+
+abbrev pub isMode : ℕ → Bool
+isMode m = eqb m merged || eqb m apart
+
+abbrev pub modeCheck : Asker → Check
+modeCheck a = cond (isMode (modeOf a)) passes (fails (ModeError (modeOf a)))
 
 abbrev pub itemsCheckBy : ItemsRead → Check
 itemsCheckBy ItemsGood = passes
@@ -93,5 +105,6 @@ entryChecks f lent t =
     lengthCheck f
     ∷ capCheck (t .asker)
     ∷ namesCheck lent
+    ∷ modeCheck (t .asker)
     ∷ itemsCheck (t .items)
     ∷ []

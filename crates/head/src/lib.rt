@@ -9,6 +9,7 @@ pub use ask::content;
 pub use ask::open_file;
 pub use ask::text;
 ghost use mathlib.Core.Path.{_≡_};
+ghost use mathlib.Core.Bool.{cond};
 ghost use Prim.Native.Nat.{_+_, _-_, _*_, _≤_, min};
 ghost use lib.ListN.{length, drop};
 ghost use Rattle.records.specs.Limits.{fileLimit};
@@ -17,11 +18,15 @@ ghost use Rattle.resource_map.specs.Map.{mapOf};
 ghost use Rattle.text.specs.Inner.Found.{Fits};
 ghost use Rattle.head.specs.Head.{headBy, unopened, wholeHead, cutPool, cutMap, mappedBy, tablesOf, openedOf};
 ghost use Rattle.head.specs.Head.{headLen, tablesIn, bodyIn, isWhole, poolRefusal, mapRefusal, refusalOf, outsideIn};
-ghost use Rattle.head.specs.Entry.{keepsNone};
+ghost use Rattle.head.specs.Entry.{keepsNone, modeOf, isMode};
 ghost use Rattle.head.specs.Inner.Entered.{askedBy, enteredOf};
+ghost use Rattle.head.specs.declared.Entered.the-variants.{In, Out};
+ghost use Rattle.errors.specs.declared.Refusal.the-variants.{ModeError};
 use errors::Refusal;
 use field::u16_at;
+use records::APART;
 use records::FILE_LIMIT;
+use records::MERGED;
 use res_string_pool::Garbage;
 use res_string_pool::Pool;
 use res_string_pool::PoolEnd;
@@ -69,10 +74,10 @@ pub struct Opened {
     pub head: Head,
 }
 
-// Who asks for a file: a question, or a reading, with how many notes of a kind it keeps.
+// Who asks for a file: a question, or a reading, with how many notes of a kind it keeps, and its mode.
 pub enum Asker {
     Question,
-    Reading(u32),
+    Reading(u32, u32),
 }
 
 // A file behind what every entry point checks: its head, opened, which may still be amiss.
@@ -260,11 +265,42 @@ fn keeps_none(asker: Asker) -> bool
 {
     match asker {
         Asker::Question => false,
-        Asker::Reading(cap) => cap == 0,
+        Asker::Reading(cap, _) => cap == 0,
     }
 }
 
-// The way into a file, for every entry point: its length, the cap, the lent names, then the head opened. What is amiss with the head is
+// A question reads in the first mode. Ruled out: the cap taken for the mode.
+fn mode_of(asker: Asker) -> u32
+    ensures { λ r. ⌜ r ≡ modeOf asker ⌝ }
+{
+    match asker {
+        Asker::Question => MERGED,
+        Asker::Reading(_, mode) => mode,
+    }
+}
+
+// Whether there is such a mode. Ruled out: 0, and 3.
+fn is_mode(mode: u32) -> bool
+    ensures { λ r. ⌜ r ≡ isMode mode ⌝ }
+{
+    if mode == MERGED {
+        return true;
+    }
+    mode == APART
+}
+
+// The file behind its length, the cap and the names: the mode, and then the head opened.
+fn enter_in(file: &[u8], mode: u32) -> Entered
+    requires { ⌜ length (now file) ≤ fileLimit ⌝ }
+    ensures { λ r. ⌜ r ≡ cond (isMode mode) (In (openedOf (now (file .entry)))) (Out (ModeError mode)) ⌝ }
+{
+    if is_mode(mode) {
+        return Entered::In(open_head(file));
+    }
+    Entered::Out(Refusal::ModeError(mode))
+}
+
+// The way into a file, for every entry point: its length, the cap, the lent names, the mode, then the head opened. What is amiss with the head is
 // the caller's to say, since notes can come before it; a caller that is lent items checks them behind this.
 // Ruled out: 1 for a file of 7 bytes with names that break their rule, a head for a file past the limit, and 7 for a cap of 0.
 pub fn enter(file: &[u8], names: &[u32], area: &[u8], asker: Asker) -> Entered
@@ -278,7 +314,7 @@ pub fn enter(file: &[u8], names: &[u32], area: &[u8], asker: Asker) -> Entered
     }
     let read = check_names(names, area);
     match read {
-        NamesRead::Good => Entered::In(open_head(file)),
+        NamesRead::Good => enter_in(file, mode_of(asker)),
         NamesRead::Bad(k) => Entered::Out(Refusal::SystemNamesError(k)),
     }
 }

@@ -121,7 +121,7 @@ readingBy-le r o (fails x) h = refuses-le r x
 pub reading-le : (r : Room) (f : List ℕ) (lent : Lent) → Left r (reading r f lent)
 unfolding reading
 reading-le r f lent =
-    readingBy-le r (settledIn r f lent (openedOf f)) (firstOf (entryChecks f lent (readingAt (r .cap))))
+    readingBy-le r (settledIn r f lent (openedOf f)) (firstOf (entryChecks f lent (readingAt (r .cap) (r .mode))))
     (settle-held _ r nothingYet _ (record { nodes = omega arith; attributes = omega arith; notes = omega arith }))
 
 -- ---- the text of a listing

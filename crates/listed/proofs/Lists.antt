@@ -13,6 +13,7 @@ use Rattle.errors.specs.declared.ReadAnswer.the-variants.{Refused}
 use Rattle.errors.specs.declared.Refusal.the-variants.{TooLargeError}
 use Rattle.errors.specs.declared.TextAnswer.{TextAnswer}
 use Rattle.records.specs.Limits.{listedFile, listedNotes, listedCap}
+use Rattle.records.specs.Words.{merged}
 use Rattle.system_types.specs.Names.{lends}
 use Rattle.walk.specs.Reading.{Reads, zeroNote, refuses}
 use Rattle.listing_text.specs.Listing.{recordLines, noteLines, listing, listingText}
@@ -38,7 +39,7 @@ module _ (f ns ats before after ns′ ats′ : List ℕ) (n : Numbers) (r : Text
       record { printed = rw q p; nodes = rw (lt-ltb listedFile (length f) h) e; attributes = rw (lt-ltb listedFile (length f) h) g }
 
   pub lists-read :
-      (x : ReadAnswer) (os′ : List Note) → length f ≤ listedFile → Reads f (lends [] []) ns ats (replicate listedNotes zeroNote) listedCap x ns′ ats′ os′ →
+      (x : ReadAnswer) (os′ : List Note) → length f ≤ listedFile → Reads f (lends [] []) ns ats (replicate listedNotes zeroNote) listedCap merged x ns′ ats′ os′ →
       n ≡ numbersOf x → Printed (listingText listedCap n ns′ ats′ os′) before r after → Lists f ns ats before r ns′ ats′ after
   unfolding listed
   lists-read x os′ h g e p =

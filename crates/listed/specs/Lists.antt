@@ -1,6 +1,6 @@
 -- What the listing program lists: docs/FORMAT.md, L1 to L4.
 --
---   listedRoom   the room of a listing whose tables have so many words; its places for notes and its cap are always the same
+--   listedRoom   the room of a listing whose tables have so many words; its places for notes, its cap and its mode are always the same
 --   listed       the reading of what came in; more bytes than the limit are refused with 2, and leave zeros as every refusal does
 --   listedText   its listing
 --   Lists        what `list_into` promises: the answer and the buffer (listing_text, `Printed`), and every word of both tables
@@ -16,6 +16,7 @@ use Rattle.errors.specs.Refusal.{numbersOf}
 use Rattle.errors.specs.declared.Refusal.the-variants.{TooLargeError}
 use Rattle.errors.specs.declared.TextAnswer.{TextAnswer}
 use Rattle.records.specs.Limits.{listedFile, listedNotes, listedCap}
+use Rattle.records.specs.Words.{merged}
 use Rattle.system_types.specs.Names.{lends}
 use Rattle.walk.specs.Settle.{Room}
 use Rattle.walk.specs.Reading.{Reading, refuses, reading}
@@ -23,7 +24,7 @@ use Rattle.listing_text.specs.Listing.{listingText}
 use Rattle.listing_text.specs.Printed.{Printed}
 
 abbrev pub listedRoom : ℕ → ℕ → Room
-listedRoom ns ats = record { nodes = ns; attributes = ats; notes = listedNotes; cap = listedCap }
+listedRoom ns ats = record { nodes = ns; attributes = ats; notes = listedNotes; cap = listedCap; mode = merged }
 
 unfoldable pub listed : List ℕ → ℕ → ℕ → Reading
 listed f ns ats = cond (ltb listedFile (length f)) (refuses (listedRoom ns ats) TooLargeError) (reading (listedRoom ns ats) f (lends [] []))

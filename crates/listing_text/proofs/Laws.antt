@@ -10,8 +10,8 @@ use Rattle.errors.specs.declared.Refusal.{Refusal}
 use Rattle.errors.specs.declared.ReadAnswer.the-variants.{Refused}
 use Rattle.errors.specs.Refusal.{numbersOf}
 use Rattle.records.specs.Words.{nodeName, nodeFixed, nodeParent, nodeFirst, nodeCount, nodeLine as lineWord}
-use Rattle.records.specs.Words.{attributeOwner, attributePrefix, attributeName, attributeType, attributeData}
-use Rattle.listing_text.specs.Keys.{nodeKey, nameKey, fixedKey, parentKey, firstKey, countKey, lineKey, attributeKey, ownerKey, prefixKey, typeKey, dataKey}
+use Rattle.records.specs.Words.{attributeOwner, attributePrefix, attributeName, attributeType, attributeData, attributeNamespace}
+use Rattle.listing_text.specs.Keys.{nodeKey, nameKey, fixedKey, parentKey, firstKey, countKey, lineKey, attributeKey, ownerKey, prefixKey, typeKey, dataKey, nsKey}
 use Rattle.listing_text.specs.Listing.{Field, Line, fieldText, lineText, linesText, field, nodeLine, attributeLine}
 use Rattle.listing_text.specs.Listing.{headLines, recordLines, noteLines, listing}
 use Rattle.listing_text.specs.Inner.Three.{threeText}
@@ -30,10 +30,6 @@ unfolding listing recordLines noteLines numbersOf
 listing-refused most r ns ats os = refl
 
 -- a line in halves, as it is written
-pub lineText-six : (f g h i j k : Field) → threeText 32 32 f g h ++ threeText 32 10 i j k ≡ lineText (f ∷ g ∷ h ∷ i ∷ j ∷ k ∷ [])
-unfolding lineText
-lineText-six f g h i j k = simp append-assoc
-
 pub lineText-seven :
     (f g h i j k l : Field) → threeText 32 32 f g h ++ (threeText 32 32 i j k ++ (fieldText l ++ (10 ∷ []))) ≡ lineText (f ∷ g ∷ h ∷ i ∷ j ∷ k ∷ l ∷ [])
 unfolding lineText
@@ -61,10 +57,11 @@ nodeLine-drop k i w {a} {b} {c} {d} {e} {f} pa pb pc pd pe pf =
     (lineText-seven (field nodeKey k) (field nameKey a) (field fixedKey b) (field parentKey c) (field firstKey d) (field countKey e) (field lineKey f))
 
 pub attributeLine-drop :
-    (k i : ℕ) (w : List ℕ) {a b c d e : ℕ} → a ≡ getD w (i + attributeOwner) 0 → b ≡ getD w (i + attributePrefix) 0 → c ≡ getD w (i + attributeName) 0 → d ≡ getD w (i + attributeType) 0 →
-    e ≡ getD w (i + attributeData) 0 →
-    threeText 32 32 (field attributeKey k) (field ownerKey a) (field prefixKey b) ++ threeText 32 10 (field nameKey c) (field typeKey d) (field dataKey e) ≡
+    (k i : ℕ) (w : List ℕ) {a b c d e f : ℕ} → a ≡ getD w (i + attributeOwner) 0 → b ≡ getD w (i + attributePrefix) 0 → c ≡ getD w (i + attributeName) 0 → d ≡ getD w (i + attributeType) 0 →
+    e ≡ getD w (i + attributeData) 0 → f ≡ getD w (i + attributeNamespace) 0 →
+    threeText 32 32 (field attributeKey k) (field ownerKey a) (field prefixKey b) ++
+    (threeText 32 32 (field nameKey c) (field typeKey d) (field dataKey e) ++ (fieldText (field nsKey f) ++ (10 ∷ []))) ≡
     lineText (attributeLine k (drop i w))
-attributeLine-drop k i w {a} {b} {c} {d} {e} pa pb pc pd pe =
-    rw (getD-drop i w attributeOwner 0, getD-drop i w attributePrefix 0, getD-drop i w attributeName 0, getD-drop i w attributeType 0, getD-drop i w attributeData 0, ← pa, ← pb, ← pc, ← pd, ← pe)
-    (lineText-six (field attributeKey k) (field ownerKey a) (field prefixKey b) (field nameKey c) (field typeKey d) (field dataKey e))
+attributeLine-drop k i w {a} {b} {c} {d} {e} {f} pa pb pc pd pe pf =
+    rw (getD-drop i w attributeOwner 0, getD-drop i w attributePrefix 0, getD-drop i w attributeName 0, getD-drop i w attributeType 0, getD-drop i w attributeData 0, getD-drop i w attributeNamespace 0, ← pa, ← pb, ← pc, ← pd, ← pe, ← pf)
+    (lineText-seven (field attributeKey k) (field ownerKey a) (field prefixKey b) (field nameKey c) (field typeKey d) (field dataKey e) (field nsKey f))

@@ -12,11 +12,11 @@ use lib.ListN.{length, drop, getD, length-append, length-drop}
 use Rattle.anomaly.specs.declared.Note.{Note}
 use Rattle.errors.specs.declared.Numbers.{Numbers}
 use Rattle.records.specs.Words.{nodeWidth, nodeName, nodeFixed, nodeParent, nodeFirst, nodeCount, nodeLine as lineWord}
-use Rattle.records.specs.Words.{attributeWidth, attributeOwner, attributePrefix, attributeName, attributeType, attributeData}
+use Rattle.records.specs.Words.{attributeWidth, attributeOwner, attributePrefix, attributeName, attributeType, attributeData, attributeNamespace}
 use Rattle.records.specs.Limits.{listedNodes, listedAttributes, listedNotes}
 use Rattle.listing_text.specs.Size.{headBytes, lineBytes, listedBytes}
 use Rattle.listing_text.specs.Keys.{nodeKey, nameKey, fixedKey, parentKey, firstKey, countKey, lineKey, attributeKey, ownerKey}
-use Rattle.listing_text.specs.Keys.{prefixKey, typeKey, dataKey, noteKey, kindKey, aKey, bKey}
+use Rattle.listing_text.specs.Keys.{prefixKey, typeKey, dataKey, nsKey, noteKey, kindKey, aKey, bKey}
 use Rattle.listing_text.specs.Listing.{Field, Line, field, lineText, linesText, headLines, nodeLine, recordLines}
 use Rattle.listing_text.specs.Listing.{attributeLine, noteLine, noteLines, listingText}
 use Rattle.digits.proofs.Laws.{decimal-le}
@@ -27,22 +27,6 @@ module _ (f g h i : Field) where
   unfolding lineText
   four-le =
       simp length-append (omega (arith, decimal-le (f .number), decimal-le (g .number), decimal-le (h .number), decimal-le (i .number)))
-
-  six-le :
-      (j k : Field) → length (lineText (f ∷ g ∷ h ∷ i ∷ j ∷ k ∷ [])) ≤
-      length (f .key) + length (g .key) + length (h .key) + length (i .key) + length (j .key) + length (k .key) + 132
-  unfolding lineText
-  six-le j k =
-      simp length-append
-      (omega (
-        arith,
-        decimal-le (f .number),
-        decimal-le (g .number),
-        decimal-le (h .number),
-        decimal-le (i .number),
-        decimal-le (j .number),
-        decimal-le (k .number),
-      ))
 
   seven-le :
       (j k l : Field) → length (lineText (f ∷ g ∷ h ∷ i ∷ j ∷ k ∷ l ∷ [])) ≤
@@ -72,8 +56,8 @@ nodeLine-le k w =
 pub attributeLine-le : (k : ℕ) (w : List ℕ) → length (lineText (attributeLine k w)) ≤ lineBytes
 attributeLine-le k w =
     let h =
-    six-le (field attributeKey k) (field ownerKey (getD w attributeOwner 0)) (field prefixKey (getD w attributePrefix 0)) (field nameKey (getD w attributeName 0)) (field typeKey (getD w attributeType 0))
-    (field dataKey (getD w attributeData 0))
+    seven-le (field attributeKey k) (field ownerKey (getD w attributeOwner 0)) (field prefixKey (getD w attributePrefix 0)) (field nameKey (getD w attributeName 0)) (field typeKey (getD w attributeType 0))
+    (field dataKey (getD w attributeData 0)) (field nsKey (getD w attributeNamespace 0))
     in
     omega arith
 

@@ -15,7 +15,7 @@ abbrev pub sampleNodes : List ℕ
 sampleNodes = 0 ∷ 0 ∷ 4294967295 ∷ 0 ∷ 1 ∷ 1 ∷ []
 
 abbrev pub sampleAttributes : List ℕ
-sampleAttributes = 0 ∷ 2 ∷ 0 ∷ 3 ∷ 0 ∷ []
+sampleAttributes = 0 ∷ 2 ∷ 0 ∷ 3 ∷ 0 ∷ 0 ∷ []
 
 -- refusal=0
 abbrev pub refusalLine : List ℕ
@@ -52,12 +52,12 @@ nodeText =
     114 ∷ 101 ∷ 110 ∷ 116 ∷ 61 ∷ 52 ∷ 50 ∷ 57 ∷ 52 ∷ 57 ∷ 54 ∷ 55 ∷ 50 ∷ 57 ∷ 53 ∷ 32 ∷ 102 ∷ 105 ∷ 114 ∷ 115 ∷ 116 ∷ 61 ∷ 48 ∷ 32 ∷ 99 ∷
     111 ∷ 117 ∷ 110 ∷ 116 ∷ 61 ∷ 49 ∷ 32 ∷ 108 ∷ 105 ∷ 110 ∷ 101 ∷ 61 ∷ 49 ∷ 10 ∷ []
 
--- attribute=0 owner=0 prefix=2 name=0 type=3 data=0
+-- attribute=0 owner=0 prefix=2 name=0 type=3 data=0 ns=0
 abbrev pub attributeText : List ℕ
 attributeText =
     97 ∷ 116 ∷ 116 ∷ 114 ∷ 105 ∷ 98 ∷ 117 ∷ 116 ∷ 101 ∷ 61 ∷ 48 ∷ 32 ∷ 111 ∷ 119 ∷ 110 ∷ 101 ∷ 114 ∷ 61 ∷ 48 ∷ 32 ∷ 112 ∷ 114 ∷ 101 ∷ 102 ∷
     105 ∷ 120 ∷ 61 ∷ 50 ∷ 32 ∷ 110 ∷ 97 ∷ 109 ∷ 101 ∷ 61 ∷ 48 ∷ 32 ∷ 116 ∷ 121 ∷ 112 ∷ 101 ∷ 61 ∷ 51 ∷ 32 ∷ 100 ∷ 97 ∷ 116 ∷ 97 ∷ 61 ∷ 48 ∷
-    10 ∷ []
+    32 ∷ 110 ∷ 115 ∷ 61 ∷ 48 ∷ 10 ∷ []
 
 abbrev pub sampleText : List ℕ
 sampleText = refusalLine ++ valueLine ++ capLine ++ startsLine ++ nodesLine ++ attributesLine ++ notesLine ++ nodeText ++ attributeText

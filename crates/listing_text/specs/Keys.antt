@@ -78,6 +78,10 @@ typeKey = 116 ∷ 121 ∷ 112 ∷ 101 ∷ []
 abbrev pub dataKey : List ℕ
 dataKey = 100 ∷ 97 ∷ 116 ∷ 97 ∷ []
 
+-- ns
+abbrev pub nsKey : List ℕ
+nsKey = 110 ∷ 115 ∷ []
+
 -- note
 abbrev pub noteKey : List ℕ
 noteKey = 110 ∷ 111 ∷ 116 ∷ 101 ∷ []

@@ -16,10 +16,10 @@ use Rattle.anomaly.specs.declared.Note.{Note}
 use Rattle.digits.specs.Digits.{decimal}
 use Rattle.errors.specs.declared.Numbers.{Numbers}
 use Rattle.records.specs.Words.{nodeWidth, nodeName, nodeFixed, nodeParent, nodeFirst, nodeCount, nodeLine as lineWord}
-use Rattle.records.specs.Words.{attributeWidth, attributeOwner, attributePrefix, attributeName, attributeType, attributeData}
+use Rattle.records.specs.Words.{attributeWidth, attributeOwner, attributePrefix, attributeName, attributeType, attributeData, attributeNamespace}
 use Rattle.listing_text.specs.Keys.{refusalKey, valueKey, capKey, startsKey, nodesKey, attributesKey, notesKey}
 use Rattle.listing_text.specs.Keys.{nodeKey, nameKey, fixedKey, parentKey, firstKey, countKey, lineKey}
-use Rattle.listing_text.specs.Keys.{attributeKey, ownerKey, prefixKey, typeKey, dataKey, noteKey, kindKey, aKey, bKey}
+use Rattle.listing_text.specs.Keys.{attributeKey, ownerKey, prefixKey, typeKey, dataKey, nsKey, noteKey, kindKey, aKey, bKey}
 
 pub record Field : Type 0 where
   pub key : List ℕ
@@ -63,7 +63,7 @@ nodeLine k w =
 abbrev pub attributeLine : ℕ → List ℕ → Line
 attributeLine k w =
     field attributeKey k ∷ field ownerKey (getD w attributeOwner 0) ∷ field prefixKey (getD w attributePrefix 0) ∷ field nameKey (getD w attributeName 0) ∷
-    field typeKey (getD w attributeType 0) ∷ field dataKey (getD w attributeData 0) ∷ []
+    field typeKey (getD w attributeType 0) ∷ field dataKey (getD w attributeData 0) ∷ field nsKey (getD w attributeNamespace 0) ∷ []
 
 -- the n records whose words follow, so many words each, numbered from k; a record that is not there whole makes no line
 unfoldable pub recordLines : ℕ → (ℕ → List ℕ → Line) → ℕ → ℕ → List ℕ → List Line

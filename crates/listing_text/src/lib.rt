@@ -15,6 +15,7 @@ use fields::put_field;
 use fields::put_three;
 use records::ATTRIBUTE_DATA;
 use records::ATTRIBUTE_NAME;
+use records::ATTRIBUTE_NAMESPACE;
 use records::ATTRIBUTE_OWNER;
 use records::ATTRIBUTE_PREFIX;
 use records::ATTRIBUTE_TYPE;
@@ -43,7 +44,7 @@ ghost use Rattle.listing_text.specs.Printed.{Printed};
 // specs/Size.antt.
 const HEAD_BYTES: usize = 195;
 
-const LINE_BYTES: usize = 187;
+const LINE_BYTES: usize = 188;
 
 pub const LISTED_BYTES: usize = HEAD_BYTES
     + LINE_BYTES * (LISTED_NODES + LISTED_ATTRIBUTES + LISTED_NOTES);
@@ -128,13 +129,14 @@ fn put_node(out: &mut [u8], p: usize, k: u32, nodes: &[u32], i: usize) -> usize
 // The line of the attribute with the number k, whose words begin at i.
 fn put_attribute(out: &mut [u8], p: usize, k: u32, attributes: &[u32], i: usize) -> usize
     requires { ⌜ (p < 1152921504606846976) × (i + attributeWidth ≤ length (now attributes)) ⌝ }
-    ensures { λ r. ⌜ Wrote 192 p (lineText (attributeLine k (drop i (now (attributes .entry))))) (now (out .entry)) r (now (out .exit)) ⌝ }
+    ensures { λ r. ⌜ Wrote 224 p (lineText (attributeLine k (drop i (now (attributes .entry))))) (now (out .entry)) r (now (out .exit)) ⌝ }
 {
     let owner = word(attributes, i, ATTRIBUTE_OWNER);
     let prefix = word(attributes, i, ATTRIBUTE_PREFIX);
     let name = word(attributes, i, ATTRIBUTE_NAME);
     let kind = word(attributes, i, ATTRIBUTE_TYPE);
     let data = word(attributes, i, ATTRIBUTE_DATA);
+    let ns = word(attributes, i, ATTRIBUTE_NAMESPACE);
     let a = put_three(
         out,
         p,
@@ -147,7 +149,8 @@ fn put_attribute(out: &mut [u8], p: usize, k: u32, attributes: &[u32], i: usize)
         32,
         32,
     );
-    put_three(out, a, b"name", name, b"type", kind, b"data", data, 32, 10)
+    let b = put_three(out, a, b"name", name, b"type", kind, b"data", data, 32, 32);
+    put_field(out, b, b"ns", ns, 10)
 }
 
 // The line of the note with the number k.
@@ -192,7 +195,7 @@ fn put_nodes(out: &mut [u8], p: usize, count: u32, nodes: &[u32]) -> usize
 // The lines of the first `count` attributes; an attribute that the table does not hold whole has none.
 fn put_attributes(out: &mut [u8], p: usize, count: u32, attributes: &[u32]) -> usize
     requires { ⌜ p < 100000000000000 ⌝ }
-    ensures { λ r. ⌜ Wrote (192 * count) p (linesText (attributeLines 0 count (now (attributes .entry)))) (now (out .entry)) r (now (out .exit)) ⌝ }
+    ensures { λ r. ⌜ Wrote (224 * count) p (linesText (attributeLines 0 count (now (attributes .entry)))) (now (out .entry)) r (now (out .exit)) ⌝ }
 {
     let mut at = p;
     let mut k: u32 = 0;
@@ -238,7 +241,7 @@ fn put_listing(
     notes: [Note; LISTED_NOTES],
 ) -> usize
     ensures { λ r.
-        ⌜ Wrote (224 + (224 * (n .nodes) + (192 * (n .attributes) + 128 * listedNotes))) 0
+        ⌜ Wrote (224 + (224 * (n .nodes) + (224 * (n .attributes) + 128 * listedNotes))) 0
         (listingText cap n (now (nodes .entry)) (now (attributes .entry)) notes)
         (now (out .entry)) r (now (out .exit)) ⌝ }
 {

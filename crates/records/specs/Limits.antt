@@ -10,13 +10,13 @@ abbrev pub fileLimit : ℕ
 fileLimit = 16777216
 
 abbrev pub listedFile : ℕ
-listedFile = 65536
+listedFile = 54272
 
 abbrev pub listedNodes : ℕ
 listedNodes = 2048
 
 abbrev pub listedAttributes : ℕ
-listedAttributes = 3276
+listedAttributes = 2730
 
 abbrev pub listedCap : ℕ
 listedCap = 8

@@ -3,6 +3,8 @@
 --   nodeWidth, nodeName ..            how many words a node has, and the place of each; attributeWidth .., noteWidth .., nameWidth .. likewise
 --   nodeWords, attributeWords, noteWords, nameWords   the words of a record in their order
 --   noParent                          the parent word of the first node
+--   ownPrefix                         the prefix word of an attribute of a namespace that is not Android's, in the mode that tells it
+--   merged, apart                     the modes of a reading
 use Prim.Native.Nat.{ℕ}
 use mathlib.Core.List.{List, [], _∷_}
 
@@ -44,13 +46,13 @@ nodeWords name fixed parent first count line = name ∷ fixed ∷ parent ∷ fir
 -- ---- an attribute
 
 abbrev pub attributeWidth : ℕ
-attributeWidth = 5
+attributeWidth = 6
 
 -- the number of its node
 abbrev pub attributeOwner : ℕ
 attributeOwner = 0
 
--- 0 none, 1 `android`, 2 that of the leading attribute
+-- 0 none, 1 `android`, 2 that of the leading attribute, 3 a namespace of its own
 abbrev pub attributePrefix : ℕ
 attributePrefix = 1
 
@@ -64,8 +66,16 @@ attributeType = 3
 abbrev pub attributeData : ℕ
 attributeData = 4
 
-abbrev pub attributeWords : ℕ → ℕ → ℕ → ℕ → ℕ → List ℕ
-attributeWords owner prefix name kind «data» = owner ∷ prefix ∷ name ∷ kind ∷ «data» ∷ []
+-- the index of its namespace, as it was read; 0 for the leading attribute, whose 0 is no index
+abbrev pub attributeNamespace : ℕ
+attributeNamespace = 5
+
+-- the prefix of a namespace that has a text and is not Android's, where these are told apart
+abbrev pub ownPrefix : ℕ
+ownPrefix = 3
+
+abbrev pub attributeWords : ℕ → ℕ → ℕ → ℕ → ℕ → ℕ → List ℕ
+attributeWords owner prefix name kind «data» ns = owner ∷ prefix ∷ name ∷ kind ∷ «data» ∷ ns ∷ []
 
 -- ---- a note lent as words
 
@@ -102,3 +112,13 @@ nameLength = 2
 
 abbrev pub nameWords : ℕ → ℕ → ℕ → List ℕ
 nameWords id start length = id ∷ start ∷ length ∷ []
+
+-- ---- the mode of a reading
+
+-- every namespace with a text is `android`, as in the Rust
+abbrev pub merged : ℕ
+merged = 1
+
+-- Android's namespace and others are told apart
+abbrev pub apart : ℕ
+apart = 2

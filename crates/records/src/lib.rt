@@ -30,10 +30,10 @@ pub const NO_PARENT: u32 = 4294967295;
 
 // ---- an attribute
 
-pub const ATTRIBUTE_WORDS: usize = 5;
+pub const ATTRIBUTE_WORDS: usize = 6;
 // the number of its node
 pub const ATTRIBUTE_OWNER: usize = 0;
-// 0 none, 1 `android`, 2 that of the leading attribute
+// 0 none, 1 `android`, 2 that of the leading attribute, 3 a namespace of its own
 pub const ATTRIBUTE_PREFIX: usize = 1;
 // the index of its name
 pub const ATTRIBUTE_NAME: usize = 2;
@@ -41,6 +41,11 @@ pub const ATTRIBUTE_NAME: usize = 2;
 pub const ATTRIBUTE_TYPE: usize = 3;
 
 pub const ATTRIBUTE_DATA: usize = 4;
+// the index of its namespace, as it was read; 0 for the leading attribute, whose 0 is no index
+pub const ATTRIBUTE_NAMESPACE: usize = 5;
+
+// The prefix of a namespace that has a text and is not Android's, where these are told apart.
+pub const OWN_PREFIX: u32 = 3;
 
 // ---- a note lent as words
 
@@ -62,6 +67,14 @@ pub const NAME_START: usize = 1;
 // the bytes of its text
 pub const NAME_LENGTH: usize = 2;
 
+// ---- the mode of a reading
+
+// Every namespace with a text is `android`, as in the Rust.
+pub const MERGED: u32 = 1;
+
+// Android's namespace and others are told apart.
+pub const APART: u32 = 2;
+
 // ---- limits
 
 // A file of more bytes is refused.
@@ -70,11 +83,11 @@ pub const FILE_LIMIT: usize = 16777216;
 // ---- a listing
 
 // The longest file that is listed, and the room that suffices for each of these.
-pub const LISTED_FILE: usize = 65536;
+pub const LISTED_FILE: usize = 54272;
 
 pub const LISTED_NODES: usize = 2048;
 
-pub const LISTED_ATTRIBUTES: usize = 3276;
+pub const LISTED_ATTRIBUTES: usize = 2730;
 // How many notes of a kind are listed, and of all kinds.
 pub const LISTED_CAP: u32 = 8;
 
@@ -126,14 +139,16 @@ pub fn put_attribute(
     name: u32,
     kind: u32,
     data: u32,
+    ns: u32,
 )
     requires { ⌜ i + attributeWidth ≤ length (now words) ⌝ }
     ensures { λ _. ⌜ now (words .exit)
-        ≡ take i (now (words .entry)) ++ attributeWords owner prefix name kind «data» ++ drop (i + attributeWidth) (now (words .entry)) ⌝ }
+        ≡ take i (now (words .entry)) ++ attributeWords owner prefix name kind «data» ns ++ drop (i + attributeWidth) (now (words .entry)) ⌝ }
 {
     words[i + ATTRIBUTE_OWNER] = owner;
     words[i + ATTRIBUTE_PREFIX] = prefix;
     words[i + ATTRIBUTE_NAME] = name;
     words[i + ATTRIBUTE_TYPE] = kind;
     words[i + ATTRIBUTE_DATA] = data;
+    words[i + ATTRIBUTE_NAMESPACE] = ns;
 }

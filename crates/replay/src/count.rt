@@ -84,6 +84,7 @@ fn print_readings(counts: &[u32]) {
     print_group(b"  refusal 8, nodes full: ", counts, 8);
     print_group(b"  refusal 9, attributes full: ", counts, 9);
     print_group(b"  refusal 10, notes full: ", counts, 10);
+    print_group(b"  refusal 16, mode: ", counts, 16);
     print_group(b"  refusal 27, a cap of 0: ", counts, 27);
     print_group(b"  refusal 41, skipped garbage: ", counts, 41);
     print_group(

@@ -21,7 +21,7 @@ ghost use lib.ListN.{length};
 
 // ---- the walk through the data
 
-// One case: 80 bytes, of which the first word is its kind. A kind that is none of the four counts nowhere.
+// One case: 84 bytes, of which the first word is its kind. A kind that is none of the four counts nowhere.
 fn judge(
     data: &[u8],
     row: &[u8],
@@ -62,10 +62,10 @@ fn replay_rows(
     counts: &mut [u32],
 ) {
     let mut at = 0;
-    while rows.len() - at >= 80 {
+    while rows.len() - at >= 84 {
         judge(
             data,
-            &rows[at..at + 80],
+            &rows[at..at + 84],
             names,
             area,
             nodes,
@@ -73,7 +73,7 @@ fn replay_rows(
             notes,
             counts,
         );
-        at += 80;
+        at += 84;
     }
 }
 

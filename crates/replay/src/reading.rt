@@ -103,8 +103,9 @@ fn read_by_words(
     attributes: &mut [u32],
     notes: &mut [u32],
     cap: u32,
+    mode: u32,
 ) -> Numbers {
-    numbers_of(axml_read(file, names, area, nodes, attributes, notes, cap))
+    numbers_of(axml_read(file, names, area, nodes, attributes, notes, cap, mode))
 }
 
 // What the tables hold before a reading.
@@ -126,7 +127,16 @@ fn is_read(
 ) -> bool {
     soil_all(nodes, attributes, notes);
     let file = part(data, row, 12);
-    let n = read_by_words(file, names, area, nodes, attributes, notes, word(row, 1));
+    let n = read_by_words(
+        file,
+        names,
+        area,
+        nodes,
+        attributes,
+        notes,
+        word(row, 1),
+        word(row, 20),
+    );
     is_right_whole(data, row, n, nodes, attributes, notes)
 }
 
@@ -188,7 +198,7 @@ fn is_listed_in(data: &[u8], row: &[u8], nodes: &mut [u32], attributes: &mut [u3
 }
 
 // Its row: cap, node words, attribute words, note places, whether `read_listed` answers the same; refusal, value, starts, nodes, attributes,
-// notes; the places of the file and of the records of nodes, attributes and notes.
+// notes; the places of the file and of the records of nodes, attributes and notes; the mode.
 pub(crate) fn judge_reading(
     data: &[u8],
     row: &[u8],

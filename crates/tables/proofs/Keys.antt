@@ -1,6 +1,6 @@
 -- Laws of `isRepeat` by the rule `byPrefix`, for `has`: what a list of records says from a place on. No contract cites this file.
--- In order: the end (`repeat-end`), one record on (`repeat-step`), what the rule asks of a record at a place (`byPrefix-at`), then the three
--- ways of the loop: found, another prefix, another name; and what the code compares (`same-found`).
+-- In order: the end (`repeat-end`), one record on (`repeat-step`), what the rule asks of a record at a place (`byPrefix-at`), then the four
+-- ways of the loop: found, another prefix, another name, another namespace; and what the code compares (`same-found`).
 use Prim.Native.Nat.{ℕ, suc, _+_, _-_, _/_, _≤_, _<_}
 use native.Mathlib.Omega.{arith}
 use mathlib.Core.Path.{_≡_, refl, sym, _∙_}
@@ -10,8 +10,8 @@ use borrow.Author.Tests.{eq-eqb, ne-eqb}
 use lib.ListN.{length, take, getD, drop, length-drop}
 use lib.Seq.{getD-drop, getD-take, drop-drop}
 use lib.Dec.{eqb}
-use Rattle.records.specs.Words.{attributeWidth, attributePrefix, attributeName, attributeWords}
-use Rattle.records.specs.Repeats.{Rule, byPrefix, repeatsOne, isRepeat}
+use Rattle.records.specs.Words.{attributeWidth, attributePrefix, attributeName, attributeNamespace, attributeWords}
+use Rattle.records.specs.Repeats.{Rule, byPrefix, sameSpace, repeatsOne, isRepeat}
 use Rattle.system_types.specs.Names.{Lent}
 use Rattle.text.specs.Content.{contentOf, sameText, sameName}
 use Rattle.text.specs.Inner.Found.{partOf, Finds}
@@ -36,22 +36,26 @@ module _ (rule : Rule) (new l : List ℕ) (i : ℕ) where
 
 -- ---- the rule by prefix
 
-module _ (same : ℕ → ℕ → Bool) (owner p n kind value : ℕ) (l : List ℕ) (i : ℕ) where
+module _ (same : ℕ → ℕ → Bool) (owner p n kind value ns : ℕ) (l : List ℕ) (i : ℕ) where
   abbrev new : List ℕ
-  new = attributeWords owner p n kind value
+  new = attributeWords owner p n kind value ns
 
-  byPrefix-at : byPrefix same new (take attributeWidth (drop i l)) ≡ (eqb (getD l (i + attributePrefix) 0) p && same (getD l (i + attributeName) 0) n)
+  byPrefix-at : byPrefix same new (take attributeWidth (drop i l))
+      ≡ (eqb (getD l (i + attributePrefix) 0) p
+      && (same (getD l (i + attributeName) 0) n && sameSpace same p (getD l (i + attributeNamespace) 0) ns))
   byPrefix-at =
       rw (
         getD-take attributeWidth (drop i l) attributePrefix 0 (omega arith),
         getD-take attributeWidth (drop i l) attributeName 0 (omega arith),
+        getD-take attributeWidth (drop i l) attributeNamespace 0 (omega arith),
         getD-drop i l attributePrefix 0,
         getD-drop i l attributeName 0,
+        getD-drop i l attributeNamespace 0,
       )
 
   pub repeat-found : attributeWidth ≤ length l - i → getD l (i + attributePrefix) 0 ≡ p → same (getD l (i + attributeName) 0) n ≡ true
-      → isRepeat (byPrefix same) new (drop i l) ≡ true
-  repeat-found h e f = repeat-step (byPrefix same) new l i h ∙ rw (byPrefix-at, eq-eqb _ _ e, f)
+      → sameSpace same p (getD l (i + attributeNamespace) 0) ns ≡ true → isRepeat (byPrefix same) new (drop i l) ≡ true
+  repeat-found h e f g = repeat-step (byPrefix same) new l i h ∙ rw (byPrefix-at, eq-eqb _ _ e, f, g)
 
   pub repeat-prefix : attributeWidth ≤ length l - i → (getD l (i + attributePrefix) 0 ≡ p → ⊥)
       → isRepeat (byPrefix same) new (drop i l) ≡ isRepeat (byPrefix same) new (drop (i + attributeWidth) l)
@@ -60,6 +64,11 @@ module _ (same : ℕ → ℕ → Bool) (owner p n kind value : ℕ) (l : List �
   pub repeat-name : attributeWidth ≤ length l - i → getD l (i + attributePrefix) 0 ≡ p → same (getD l (i + attributeName) 0) n ≡ false
       → isRepeat (byPrefix same) new (drop i l) ≡ isRepeat (byPrefix same) new (drop (i + attributeWidth) l)
   repeat-name h e f = repeat-step (byPrefix same) new l i h ∙ rw (byPrefix-at, eq-eqb _ _ e, f)
+
+  pub repeat-space : attributeWidth ≤ length l - i → getD l (i + attributePrefix) 0 ≡ p → same (getD l (i + attributeName) 0) n ≡ true
+      → sameSpace same p (getD l (i + attributeNamespace) 0) ns ≡ false
+      → isRepeat (byPrefix same) new (drop i l) ≡ isRepeat (byPrefix same) new (drop (i + attributeWidth) l)
+  repeat-space h e f g = repeat-step (byPrefix same) new l i h ∙ rw (byPrefix-at, eq-eqb _ _ e, f, g)
 
 -- what the code compares is what the indices stand for
 pub same-found : (h : Head) (t : List ℕ) (lent : Lent) (i n : ℕ) (wanted : Found) → Finds t lent h n wanted

@@ -7,19 +7,22 @@ ghost use mathlib.Core.List.{_++_};
 ghost use Prim.Native.Nat.{ℕ, _-_, _≤_, _<_};
 ghost use lib.ListN.{length, take, replicate, set};
 ghost use Rattle.records.specs.Words.{attributeWords};
-ghost use Rattle.records.specs.Repeats.{byPrefix, isRepeat};
+ghost use Rattle.records.specs.Repeats.{byPrefix, sameSpace, isRepeat};
 ghost use Rattle.system_types.specs.Names.{lends};
 ghost use Rattle.text.specs.Content.{sameName};
 ghost use Rattle.text.specs.Inner.Found.{Asks};
 use common::StringIndex;
 use records::ATTRIBUTE_NAME;
+use records::ATTRIBUTE_NAMESPACE;
 use records::ATTRIBUTE_PREFIX;
 use records::ATTRIBUTE_WORDS;
+use records::OWN_PREFIX;
 use text::Head;
 use text::find;
 use text::is_plain_found;
 use text::marks_of;
 use text::same_as_known;
+use text::same_index;
 
 // One word. Ruled out: another word changed, and the word left as it was.
 pub fn put_one(words: &mut [u32], i: usize, a: u32)
@@ -48,8 +51,28 @@ pub fn zero_from(words: &mut [u32], from: usize)
     zero_all(&mut words[from..]);
 }
 
-// Whether an attribute of this prefix and name, whatever its other words, repeats one of these (W23). The name's own text is found once,
-// and looked at once: where it is plain, bytes are compared, and its marks tell most names apart before they are looked up.
+// Whether the namespaces of two attributes of one prefix agree, as far as it asks: 3 asks for one text, and the others say all.
+// Ruled out: yes under the prefix 3 for two texts, and no for two indices of one text.
+fn same_space(
+    t: &[u8],
+    names: &[u32],
+    area: &[u8],
+    h: Head,
+    prefix: u32,
+    old: StringIndex,
+    new: StringIndex,
+) -> bool
+    requires { ⌜ Asks (now t) (lends (now names) (now area)) h ⌝ }
+    ensures { λ r. ⌜ r ≡ sameSpace (sameName h (now (t .entry)) (lends (now (names .entry)) (now (area .entry)))) prefix (old .0) (new .0) ⌝ }
+{
+    if prefix != OWN_PREFIX {
+        return true;
+    }
+    same_index(t, names, area, h, old, new)
+}
+
+// Whether an attribute of this prefix, name and namespace, whatever its other words, repeats one of these (W23). The name's own text is
+// found once, and looked at once: where it is plain, bytes are compared, and its marks tell most names apart before they are looked up.
 // Ruled out: yes for the same index under another prefix, and no for another index whose text is the same.
 pub fn has(
     t: &[u8],
@@ -59,10 +82,11 @@ pub fn has(
     words: &[u32],
     prefix: u32,
     name: StringIndex,
+    ns: StringIndex,
 ) -> bool
     requires { ⌜ Asks (now t) (lends (now names) (now area)) h ⌝ }
     ensures { λ r. ⌜ ((owner kind «data» : ℕ) → r ≡ isRepeat (byPrefix (sameName h (now (t .entry)) (lends (now (names .entry)) (now (area .entry)))))
-        (attributeWords owner prefix (name .0) kind «data») (now (words .entry))) ⌝ }
+        (attributeWords owner prefix (name .0) kind «data» (ns .0)) (now (words .entry))) ⌝ }
 {
     if words.len() < ATTRIBUTE_WORDS {
         return false;
@@ -75,7 +99,10 @@ pub fn has(
         if words[i + ATTRIBUTE_PREFIX] == prefix {
             let other = StringIndex(words[i + ATTRIBUTE_NAME]);
             if same_as_known(t, names, area, h, plain, marks, other, name, wanted) {
-                return true;
+                let old = StringIndex(words[i + ATTRIBUTE_NAMESPACE]);
+                if same_space(t, names, area, h, prefix, old, ns) {
+                    return true;
+                }
             }
         }
         i += ATTRIBUTE_WORDS;

@@ -1,16 +1,17 @@
--- What is known to be plain, by where it was found.
+-- What is known to be plain, by where it was found; the Android namespace is (`known-android`), and its own text (`isText-android`).
 use Prim.Native.Nat.{ℕ, _+_, _-_}
-use mathlib.Core.Path.{_≡_, sym, _∙_}
+use mathlib.Core.Path.{_≡_, refl, sym, ap, _∙_}
 use mathlib.Core.List.{List}
 use mathlib.Core.Bool.{Bool, true, false, true≢false}
 use lib.ListN.{take, drop}
+use Rattle.utf.specs.Text.{textOf}
 use Rattle.utf.specs.Plain.{isAscii, isPlain, Known}
 use Rattle.text.specs.declared.Found.{Found}
 use Rattle.text.specs.declared.Found.the-variants.{System, Pool}
-use Rattle.text.specs.Content.{plainIn}
+use Rattle.text.specs.Content.{Content, plainIn, isText, androidUri, isAndroid}
 use Rattle.text.specs.Inner.Found.{partOf, Inside}
 use Rattle.text.proofs.Parts.{slice-of}
-use Rattle.text.proofs.Read.{inside-plain, partOf-pool}
+use Rattle.text.proofs.Read.{inside-plain, partOf-pool, textOf-system}
 
 -- nothing is said
 pub known-none : (b : Bool) → Known false b
@@ -18,6 +19,16 @@ known-none b = record { holds = λ e. absurd (true≢false (sym e)) }
 
 pub known-of : {p b : Bool} → p ≡ b → Known p b
 known-of e = record { holds = λ h. sym e ∙ h }
+
+android-ascii : isAscii androidUri ≡ true
+unfolding isAscii
+android-ascii = refl
+
+pub known-android : Known true (isPlain false androidUri)
+known-android = record { holds = λ _. android-ascii }
+
+pub isText-android : {a b : Content} {r : Bool} → r ≡ isText a (textOf false androidUri) → a ≡ b → r ≡ isAndroid b
+isText-android {a} e f = e ∙ ap (isText a) (textOf-system androidUri android-ascii) ∙ ap isAndroid f
 
 -- a system name is plain
 pub plain-system : (w : Bool) (t area : List ℕ) {f : Found} {at n : ℕ} → Inside t area f → f ≡ System at n → true ≡ plainIn (partOf w t area f)

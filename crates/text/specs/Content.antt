@@ -8,10 +8,11 @@
 --   stateIn     no text, a text that is no valid name (the empty one too), a valid name
 --   plainIn     whether no other bytes in the same encoding have its text
 --   sameText    whether two have texts and these are equal; isText the same against lent bytes
+--   androidUri  the Android namespace; isAndroid whether a text is this
 --
 -- t is the bytes behind the file's header; places in it are those of `Head`. Laws: proofs/Laws.antt.
 use Prim.Native.Nat.{ℕ, _+_}
-use mathlib.Core.List.{List, []}
+use mathlib.Core.List.{List, [], _∷_}
 use mathlib.Core.Bool.{Bool, true, false, cond, _&&_}
 use lib.ListN.{length, take, drop}
 use lib.Dec.{ltb}
@@ -121,3 +122,12 @@ sameName h t lent i j = sameText (contentOf h t lent i) (contentOf h t lent j)
 
 abbrev pub isText : Content → List ℕ → Bool
 isText a s = hasText a && eqBytes (textIn a) s
+
+-- http://schemas.android.com/apk/res/android
+abbrev pub androidUri : List ℕ
+androidUri =
+    104 ∷ 116 ∷ 116 ∷ 112 ∷ 58 ∷ 47 ∷ 47 ∷ 115 ∷ 99 ∷ 104 ∷ 101 ∷ 109 ∷ 97 ∷ 115 ∷ 46 ∷ 97 ∷ 110 ∷ 100 ∷ 114 ∷ 111 ∷ 105 ∷ 100 ∷ 46 ∷ 99 ∷ 111 ∷
+    109 ∷ 47 ∷ 97 ∷ 112 ∷ 107 ∷ 47 ∷ 114 ∷ 101 ∷ 115 ∷ 47 ∷ 97 ∷ 110 ∷ 100 ∷ 114 ∷ 111 ∷ 105 ∷ 100 ∷ []
+
+abbrev pub isAndroid : Content → Bool
+isAndroid a = isText a androidUri

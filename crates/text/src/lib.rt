@@ -23,7 +23,7 @@ ghost use lib.ListN.{length, take, drop};
 ghost use Rattle.utf.specs.Plain.{isAscii, Known};
 ghost use Rattle.system_types.specs.Names.{lends};
 ghost use Rattle.system_types.specs.declared.Lookup.the-variants.{Name};
-ghost use Rattle.text.specs.Content.{namedBy, systemOf, stringAt, stringOf, contentOf, hasText, stateIn, plainIn, sameText, isText};
+ghost use Rattle.text.specs.Content.{namedBy, systemOf, stringAt, stringOf, contentOf, hasText, stateIn, plainIn, sameText, isText, isAndroid};
 ghost use Rattle.text.specs.Inner.Found.{Fits, Asks, Inside, Stands, Finds, partOf, isFound};
 ghost use Rattle.text.specs.Inner.Told.{Marked};
 use common::StringIndex;
@@ -46,6 +46,9 @@ pub struct Head {
     pub map: usize,
     pub ids: u32,
 }
+
+// The Android namespace.
+pub const ANDROID_URI: [u8; 42] = *b"http://schemas.android.com/apk/res/android";
 
 // Where the text of an index lies.
 pub enum Found {
@@ -266,4 +269,14 @@ pub fn is_index_text(
         return false;
     }
     same_part(t, area, h.wide, false, false, bytes, f)
+}
+
+// Whether an index has a text and it is the Android namespace, which is plain, so that bytes of its encoding decide.
+// Ruled out: yes for a text that begins with it, and no for its UTF-16 or for a system name.
+pub fn is_android(t: &[u8], names: &[u32], area: &[u8], h: Head, index: StringIndex) -> bool
+    requires { ⌜ Asks (now t) (lends (now names) (now area)) h ⌝ }
+    ensures { λ r. ⌜ r ≡ isAndroid (contentOf h (now (t .entry)) (lends (now (names .entry)) (now (area .entry))) (index .0)) ⌝ }
+{
+    let f = find(t, names, area, h, index);
+    same_part(t, area, h.wide, true, false, &ANDROID_URI, f)
 }

@@ -46,7 +46,7 @@ unfoldable pub flags : List ℕ
 flags = 0 ∷ 1 ∷ 1 ∷ 1 ∷ 1 ∷ 1 ∷ 0 ∷ 1 ∷ 1 ∷ 2 ∷ 1 ∷ 3 ∷ []
 
 abbrev pub asking : ℕ → ℕ → ℕ → ℕ → Attribute
-asking prefix name kind v = record { owner = 9; prefix = prefix; name = record { 0 = name }; kind = kind; «data» = v }
+asking prefix name kind v = record { owner = 9; prefix = prefix; name = record { 0 = name }; kind = kind; «data» = v; ns = record { 0 = 7 } }
 
 -- file, items, prefix, name index, type, data, room, and the answer and the buffer
 pub data Case : Type 0 where

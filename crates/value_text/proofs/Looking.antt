@@ -20,7 +20,7 @@ use Rattle.resource_map.specs.Map.{idOf}
 use Rattle.text.specs.declared.Head.{Head}
 use Rattle.text.specs.declared.Found.{Found}
 use Rattle.text.specs.declared.Found.the-variants.{Nothing, Cut, System, Pool}
-use Rattle.text.specs.Content.{Content, none, cut, some, namedBy, systemOf, stringOf, contentOf, orElse, textIn, hasText, isText}
+use Rattle.text.specs.Content.{Content, none, cut, some, namedBy, systemOf, stringOf, contentOf, orElse, textIn, hasText, isText, androidUri}
 use Rattle.text.specs.Inner.Found.{Asks, partOf, isFound}
 use Rattle.items.specs.Items.{itemAt, itemsOf, attributeOf, namedIn, tableOf}
 use Rattle.items.specs.declared.Item.{Item}
@@ -31,7 +31,7 @@ use Rattle.items.proofs.TurnLaws.{rest-all, rest-skip}
 use Rattle.value_text.specs.declared.Attribute.{Attribute}
 use Rattle.value_text.specs.declared.Told.{Told}
 use Rattle.value_text.specs.declared.Told.the-variants.{NoName}
-use Rattle.value_text.specs.Value.{androidUri, shows, noName, namedValue, valueBy, valueOf}
+use Rattle.value_text.specs.Value.{shows, noName, namedValue, valueBy, valueOf}
 use Rattle.value_text.specs.Inner.Leads.{Tells}
 
 -- ---- an item against a text

@@ -16,7 +16,7 @@ use Rattle.text.specs.declared.Head.{Head}
 use Rattle.text.specs.Inner.Found.{Asks}
 use Rattle.head.specs.Head.{openedOf, tablesIn}
 use Rattle.head.specs.declared.Asker.the-variants.{Question}
-use Rattle.head.specs.Entry.{question, valueWith, Check, passes, fails, firstOf, lengthCheck, capCheck, namesCheck, itemsCheckBy, entryChecks}
+use Rattle.head.specs.Entry.{question, valueWith, Check, passes, fails, firstOf, lengthCheck, capCheck, namesCheck, modeCheck, itemsCheckBy, entryChecks}
 use Rattle.head.specs.Ask.{headRead, openBy, openOf}
 use Rattle.head.specs.Inner.Entered.{enteredOf}
 use Rattle.head.specs.declared.Opened.{Opened}
@@ -53,7 +53,7 @@ firstOf-behind (fails r ∷ cs) d = refl
 items-last : (f : List ℕ) (lent : Lent) (items area : List ℕ)
     → firstOf (entryChecks f lent (valueWith items area)) ≡ orCheck (firstOf (entryChecks f lent question)) (itemsCheckBy (tableOf area items))
 items-last f lent items area =
-    firstOf-behind (lengthCheck f ∷ capCheck Question ∷ namesCheck lent ∷ []) (itemsCheckBy (tableOf area items))
+    firstOf-behind (lengthCheck f ∷ capCheck Question ∷ namesCheck lent ∷ modeCheck Question ∷ []) (itemsCheckBy (tableOf area items))
 
 module _ (f : List ℕ) (lent : Lent) (items area : List ℕ) where
   pub open-out : {why : Refusal} → enteredOf f lent question ≡ Out why → Closed why ≡ valueOpen f lent items area

@@ -7,7 +7,7 @@
 --   valueAnswer   the answer of the question; valueBuffer what then stands in the lent buffer, whole
 --   ValueReads    THE PROMISE: the numbers of the answer and every byte of the buffer
 --
--- Of an attribute only prefix, name, type and data are looked at. A prefix of 2 is that of the leading attribute, whose value is the
+-- Of an attribute only prefix, name, type and data are looked at, not its namespace. A prefix of 2 is that of the leading attribute, whose value is the
 -- Android namespace. t is the bytes behind the file's header. Laws: proofs/Opening.antt, proofs/Claimed.antt.
 use Prim.Native.Nat.{ℕ, _+_}
 use mathlib.Core.Path.{_≡_}
@@ -31,7 +31,7 @@ use Rattle.system_types.specs.Names.{Lent, topByte, systemName}
 use Rattle.system_types.specs.declared.Lookup.{Lookup}
 use Rattle.system_types.specs.declared.Lookup.the-variants.{Name, Missing}
 use Rattle.text.specs.declared.Head.{Head}
-use Rattle.text.specs.Content.{Content, none, cut, some, contentOf, stringOf, textIn}
+use Rattle.text.specs.Content.{Content, none, cut, some, contentOf, stringOf, textIn, androidUri}
 use Rattle.head.specs.Head.{openedOf, tablesIn}
 use Rattle.head.specs.Entry.{valueWith, firstOf, entryChecks}
 use Rattle.head.specs.Ask.{openBy}
@@ -42,12 +42,6 @@ use Rattle.items.specs.Values.{Text, nothing, says, attrText, uncoveredOf}
 use Rattle.value_text.specs.declared.Attribute.{Attribute}
 
 -- ---- fixed texts
-
--- http://schemas.android.com/apk/res/android
-abbrev pub androidUri : List ℕ
-androidUri =
-    104 ∷ 116 ∷ 116 ∷ 112 ∷ 58 ∷ 47 ∷ 47 ∷ 115 ∷ 99 ∷ 104 ∷ 101 ∷ 109 ∷ 97 ∷ 115 ∷ 46 ∷ 97 ∷ 110 ∷ 100 ∷ 114 ∷ 111 ∷ 105 ∷ 100 ∷ 46 ∷ 99 ∷ 111 ∷
-    109 ∷ 47 ∷ 97 ∷ 112 ∷ 107 ∷ 47 ∷ 114 ∷ 101 ∷ 115 ∷ 47 ∷ 97 ∷ 110 ∷ 100 ∷ 114 ∷ 111 ∷ 105 ∷ 100 ∷ []
 
 -- true, false
 abbrev pub trueText : List ℕ

@@ -14,7 +14,7 @@ ghost use mathlib.Core.List.{List};
 ghost use Prim.Native.Nat.{_+_, _*_, _/_, _-_, _≤_, _<_};
 ghost use lib.ListN.{length, replicate};
 ghost use Rattle.system_types.specs.Names.{lends};
-ghost use Rattle.text.specs.Content.{isText, textIn};
+ghost use Rattle.text.specs.Content.{isText, textIn, androidUri};
 ghost use Rattle.text.specs.Inner.Found.{Asks, Inside, partOf, isFound};
 ghost use Rattle.items.specs.Items.{itemAt, attributeOf, tableOf};
 ghost use Rattle.items.specs.declared.ItemsRead.the-variants.{Good};
@@ -24,7 +24,7 @@ ghost use Rattle.common.specs.ValueType.{valueTypeOf};
 ghost use Rattle.errors.specs.declared.ValueAnswer.the-variants.{Refused};
 ghost use Rattle.head.specs.Ask.{headRead};
 ghost use Rattle.items.specs.Values.{nothing};
-ghost use Rattle.value_text.specs.Value.{androidUri, shows, orPlain, plainBy, namedValue, valueOf, valueOpen, ValueReads};
+ghost use Rattle.value_text.specs.Value.{shows, orPlain, plainBy, namedValue, valueOf, valueOpen, ValueReads};
 ghost use Rattle.value_text.specs.Inner.Leads.{Leads, Tells, Gives, behindItems};
 use common::StringIndex;
 use digits::put_bytes;
@@ -44,6 +44,7 @@ use items::attr_value;
 use items::check_items;
 use items::item_at;
 use items::part_of;
+use text::ANDROID_URI;
 use text::Found;
 use text::Head;
 use text::equal::same_part;
@@ -57,6 +58,7 @@ pub struct Attribute {
     pub name: StringIndex,
     pub kind: u32,
     pub data: u32,
+    pub ns: StringIndex,
 }
 
 // What is told of a value: the length of its text and the bits that no name covers; that its name has no text; that it has none.
@@ -167,7 +169,7 @@ fn named_into(
 fn uri_into(out: &mut [u8]) -> Told
     ensures { λ r. ⌜ Tells (shows androidUri 0) (now (out .entry)) r (now (out .exit)) ⌝ }
 {
-    let n = put_bytes(out, 0, b"http://schemas.android.com/apk/res/android");
+    let n = put_bytes(out, 0, &ANDROID_URI);
     Told::Shown(n, 0)
 }
 

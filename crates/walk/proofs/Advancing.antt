@@ -46,7 +46,7 @@ module _ (f : List ℕ) (lent : Lent) (st : State) where
   body = bodyIn f (st .opened .head)
 
   abbrev pub N : Names
-  N = namesIn (st .opened .head) tables lent
+  N = namesIn (st .mode) (st .opened .head) tables lent
 
 pub record ReadHead (f : List ℕ) (lent : Lent) (ns₀ ats₀ : List ℕ) (st : State) (g : Good f lent ns₀ ats₀ st) (ns ats : List ℕ) (c : Cursor) (tree : Tree)
     : Type 0 where
@@ -82,7 +82,7 @@ read-first f lent ns ats st g e =
 
 module _ (f : List ℕ) (lent : Lent) (ns₀ ats₀ : List ℕ) (st : State) (g : Good f lent ns₀ ats₀ st) (ns ats : List ℕ) (c : Cursor) (tree : Tree)
     (hd : ReadHead f lent ns₀ ats₀ st g ns ats c tree) (h : Halt) (ns′ ats′ : List ℕ) (ln : length ns′ ≡ length ns) (la : length ats′ ≡ length ats)
-    (ran : RanIn f lent (st .opened) ns ats c tree h ns′ ats′) where
+    (ran : RanIn (st .mode) f lent (st .opened) ns ats c tree h ns′ ats′) where
   abbrev R : Room
   R = roomOf ns₀ ats₀ st
 
@@ -101,7 +101,7 @@ module _ (f : List ℕ) (lent : Lent) (ns₀ ats₀ : List ℕ) (st : State) (g 
   abbrev here : List NoteOf → Out
   here os = onFrom R M (st .opened) T B ns ats c tree (hd .now .stack) (os-of os) (st .notes .counts)
 
-  ran-here : Ran T lent B (st .opened) ns ats c tree (hd .now) h ns′ ats′
+  ran-here : Ran (st .mode) T lent B (st .opened) ns ats c tree (hd .now) h ns′ ats′
   ran-here = ran (hd .now)
 
   stored-len : (os : List NoteOf) → length os ≡ st .room → length (os-of os) ≡ st .notes .used
@@ -123,7 +123,7 @@ module _ (f : List ℕ) (lent : Lent) (ns₀ ats₀ : List ℕ) (st : State) (g 
   -- ---- a note
 
   module _ (x : ResAnomaly) (e : h .stop ≡ Due x) where
-    due : RanBy T lent B (st .opened) (Due x) ns ats c tree (hd .now .stack) (h .cur) (h .tree) ns′ ats′
+    due : RanBy (st .mode) T lent B (st .opened) (Due x) ns ats c tree (hd .now .stack) (h .cur) (h .tree) ns′ ats′
     due = rw e at ran-here
 
     pub due-less : steps B (h .cur) < steps B c

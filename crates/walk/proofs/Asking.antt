@@ -74,14 +74,14 @@ attribute-pool N o t b c p a AtRoot h e = absurd (refuseIf-not (eqb (c .starts) 
 attribute-pool N o t b c p a Over h e = absurd (finish-not p a e)
 
 -- what `place` asks of the event of a step
-pub asks-for : (t : List ℕ) (lent : Lent) (b : List ℕ) (o : Opened) (c : Cursor) (s : Step) → Ready t lent o → Within o b c
-    → s ≡ stepOf (namesIn (o .head) t lent) o t b c → AsksFor (s .event) t lent (o .head)
+pub asks-for : (mode : ℕ) (t : List ℕ) (lent : Lent) (b : List ℕ) (o : Opened) (c : Cursor) (s : Step) → Ready t lent o → Within o b c
+    → s ≡ stepOf (namesIn mode (o .head) t lent) o t b c → AsksFor (s .event) t lent (o .head)
 unfolding stepOf
-asks-for t lent b o c s ready w q = go (s .event) refl
+asks-for mode t lent b o c s ready w q = go (s .event) refl
   where
     asked : (p : ℕ) (a : XmlAttributeElement) → s .event ≡ Attribute p a → Asks t lent (o .head)
     asked p a e =
-        let there = attribute-pool (namesIn (o .head) t lent) o t b c p a (c .phase) (w .held) (sym (ap (λ (x : Step). x .event) q) ∙ e) in
+        let there = attribute-pool (namesIn mode (o .head) t lent) o t b c p a (c .phase) (w .held) (sym (ap (λ (x : Step). x .event) q) ∙ e) in
         record { fits = ready .fits there; good = ready .good }
 
     go : (e : Event) → s .event ≡ e → AsksFor e t lent (o .head)

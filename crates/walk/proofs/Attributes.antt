@@ -104,7 +104,7 @@ module _ (rule : Rule) (ns ats : List ℕ) (t : Tree) (o : List ℕ) (h : Tied n
 -- what `has` answers for the words between the code's places f and u, whatever the other words of the new record are
 pub own-repeat : (same : ℕ → ℕ → Bool) (p : ℕ) (a : XmlAttributeElement) (ats : List ℕ) (t : Tree) (f u : ℕ) (r b : Bool) → f ≡ attributeWidth * t .first
     → u ≡ attributeWidth * t .attributes
-    → ((owner kind value : ℕ) → r ≡ isRepeat (byPrefix same) (attributeWords owner p (a .name .0) kind value) (take (u - f) (drop f ats)))
+    → ((owner kind value : ℕ) → r ≡ isRepeat (byPrefix same) (attributeWords owner p (a .name .0) kind value (a .«namespace_uri» .0)) (take (u - f) (drop f ats)))
     → r ≡ b → isRepeat (byPrefix same) (newWords t p a) (ownWords t ats) ≡ b
 own-repeat same p a ats t f u r b ef eu e q = sym (rw (ef, eu) at (e (t .nodes - 1) (a .«data_type») (a .«data»))) ∙ q
 

@@ -75,6 +75,7 @@ module _ (f : List ℕ) (lent : Lent) (ns ats : List ℕ) (st : State) (g : Good
         note = zeroNote;
         room = st .room;
         cap = st .cap;
+        mode = st .mode;
         stage = Clearing a;
         opened = st .opened;
         cur = st .cur;
@@ -89,6 +90,7 @@ module _ (f : List ℕ) (lent : Lent) (ns ats : List ℕ) (st : State) (g : Good
         note = zeroNote;
         room = st .room;
         cap = st .cap;
+        mode = st .mode;
         stage = Clearing a;
         opened = st .opened;
         cur = st .cur;

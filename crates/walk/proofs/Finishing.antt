@@ -50,7 +50,7 @@ kept-attributes-le ns ats t o h = go (eqb (t .second) 0)
 
 module _ (f : List ℕ) (lent : Lent) (ns₀ ats₀ : List ℕ) (st : State) (g : Good f lent ns₀ ats₀ st) (ns ats : List ℕ) (c : Cursor) (tree : Tree)
     (hd : ReadHead f lent ns₀ ats₀ st g ns ats c tree) (h : Halt) (ns′ ats′ : List ℕ) (ln : length ns′ ≡ length ns) (la : length ats′ ≡ length ats)
-    (ran : RanIn f lent (st .opened) ns ats c tree h ns′ ats′) (e : h .stop ≡ Finished) where
+    (ran : RanIn (st .mode) f lent (st .opened) ns ats c tree h ns′ ats′) (e : h .stop ≡ Finished) where
   abbrev R : Room
   R = roomOf ns₀ ats₀ st
 
@@ -60,7 +60,7 @@ module _ (f : List ℕ) (lent : Lent) (ns₀ ats₀ : List ℕ) (st : State) (g 
   stored-len : (os : List NoteOf) → length os ≡ st .room → length (os-of os) ≡ st .notes .used
   stored-len os l = length-take-le (st .notes .used) os (omega (arith, hd .stored))
 
-  fin : RanBy (tables f lent st) lent (body f lent st) (st .opened) Finished ns ats c tree (hd .now .stack) (h .cur) (h .tree) ns′ ats′
+  fin : RanBy (st .mode) (tables f lent st) lent (body f lent st) (st .opened) Finished ns ats c tree (hd .now .stack) (h .cur) (h .tree) ns′ ats′
   fin = rw e at (ran (hd .now))
 
   kn : keptNodes (h .tree) ≤ h .tree .nodes

@@ -29,17 +29,17 @@ use Rattle.walk.proofs.Clearing.{fresh-not, clears}
 
 -- ---- the first state
 
-abbrev pub first-good : (f : List ℕ) (lent : Lent) (ns ats : List ℕ) (room cap : ℕ) → Good f lent ns ats (first room cap)
-first-good f lent ns ats room cap = record { stack = []; onWay = λ e. absurd (fresh-not e) }
+abbrev pub first-good : (f : List ℕ) (lent : Lent) (ns ats : List ℕ) (room cap mode : ℕ) → Good f lent ns ats (first room cap mode)
+first-good f lent ns ats room cap mode = record { stack = []; onWay = λ e. absurd (fresh-not e) }
 
-pub first-same : (f : List ℕ) (lent : Lent) (ns ats : List ℕ) (os : List NoteOf) (cap : ℕ)
-    → outcome f lent ns ats os (first (length os) cap) [] ≡ reading (roomIn ns ats os cap) f lent
-first-same f lent ns ats os cap = refl
+pub first-same : (f : List ℕ) (lent : Lent) (ns ats : List ℕ) (os : List NoteOf) (cap mode : ℕ)
+    → outcome f lent ns ats os (first (length os) cap mode) [] ≡ reading (roomIn ns ats os cap mode) f lent
+first-same f lent ns ats os cap mode = refl
 
 -- the one equation says the numbers and the tables
-pub reads-of-whole : (f : List ℕ) (lent : Lent) (ns ats : List ℕ) (os : List NoteOf) (cap : ℕ) (r : ReadAnswer) (ns′ ats′ : List ℕ) (os′ : List NoteOf)
-    → Leaves f lent ns ats os cap r ns′ ats′ os′ → Reads f lent ns ats os cap r ns′ ats′ os′
-reads-of-whole f lent ns ats os cap r ns′ ats′ os′ h = record {
+pub reads-of-whole : (f : List ℕ) (lent : Lent) (ns ats : List ℕ) (os : List NoteOf) (cap mode : ℕ) (r : ReadAnswer) (ns′ ats′ : List ℕ) (os′ : List NoteOf)
+    → Leaves f lent ns ats os cap mode r ns′ ats′ os′ → Reads f lent ns ats os cap mode r ns′ ats′ os′
+reads-of-whole f lent ns ats os cap mode r ns′ ats′ os′ h = record {
   answer = ap (λ (x : Reading). numbersOf (x .answer)) (h .whole);
   nodes = ap (λ (x : Reading). x .nodes) (h .whole);
   attributes = ap (λ (x : Reading). x .attributes) (h .whole);
@@ -48,7 +48,7 @@ reads-of-whole f lent ns ats os cap r ns′ ats′ os′ h = record {
 
 -- ---- what refuses before the file is read
 
-reading-by : (r : Room) (f : List ℕ) (lent : Lent) (c : Check) → firstOf (entryChecks f lent (readingAt (r .cap))) ≡ c
+reading-by : (r : Room) (f : List ℕ) (lent : Lent) (c : Check) → firstOf (entryChecks f lent (readingAt (r .cap) (r .mode))) ≡ c
     → reading r f lent ≡ readingBy r (settledIn r f lent (openedOf f)) c
 unfolding reading
 reading-by r f lent c e = ap (readingBy r (settledIn r f lent (openedOf f))) e
@@ -60,7 +60,7 @@ module _ (f : List ℕ) (lent : Lent) (ns ats : List ℕ) (st : State) (g : Good
   much : left f lent st ≡ 20 * length f + 15 + st .room + 1
   much = rw fresh
 
-  refuses-first : (x : Refusal) → firstOf (entryChecks f lent (readingAt (st .cap))) ≡ fails x → (r : State) (ns′ ats′ : List ℕ)
+  refuses-first : (x : Refusal) → firstOf (entryChecks f lent (readingAt (st .cap) (st .mode))) ≡ fails x → (r : State) (ns′ ats′ : List ℕ)
       → Refuses ns ats st x r ns′ ats′ → Advanced f lent ns ats st g r ns′ ats′
   refuses-first x e r ns′ ats′ w =
       let z : st .room - 0 ≡ st .room = omega arith in
@@ -68,18 +68,18 @@ module _ (f : List ℕ) (lent : Lent) (ns ats : List ℕ) (st : State) (g : Good
       (clears f lent ns ats st g (replicate (length ns) 0) (replicate (length ats) 0) 0 (Refused x) (λ lt. omega (arith, much))
       (λ os l. rw (fresh, reading-by R f lent (fails x) e, z)))
 
-  pub fresh-out : {x : Refusal} → enteredOf f lent (readingAt (st .cap)) ≡ Out x → (r : State) (ns′ ats′ : List ℕ) → Refuses ns ats st x r ns′ ats′
+  pub fresh-out : {x : Refusal} → enteredOf f lent (readingAt (st .cap) (st .mode)) ≡ Out x → (r : State) (ns′ ats′ : List ℕ) → Refuses ns ats st x r ns′ ats′
       → Advanced f lent ns ats st g r ns′ ats′
-  fresh-out {x} e = refuses-first x (entered-out f lent (readingAt (st .cap)) e)
+  fresh-out {x} e = refuses-first x (entered-out f lent (readingAt (st .cap) (st .mode)) e)
 
   -- ---- the head is opened
 
-  module _ {o : Opened} (entered : enteredOf f lent (readingAt (st .cap)) ≡ In o) where
-    passes-in : firstOf (entryChecks f lent (readingAt (st .cap))) ≡ passes
-    passes-in = entered-in f lent (readingAt (st .cap)) entered .0
+  module _ {o : Opened} (entered : enteredOf f lent (readingAt (st .cap) (st .mode)) ≡ In o) where
+    passes-in : firstOf (entryChecks f lent (readingAt (st .cap) (st .mode))) ≡ passes
+    passes-in = entered-in f lent (readingAt (st .cap) (st .mode)) entered .0
 
-    told : Passed f lent (readingAt (st .cap))
-    told = passed f lent (readingAt (st .cap)) passes-in
+    told : Passed f lent (readingAt (st .cap) (st .mode))
+    told = passed f lent (readingAt (st .cap) (st .mode)) passes-in
 
     abbrev started : State
     started = startedBy st (openedOf f)
@@ -111,7 +111,7 @@ module _ (f : List ℕ) (lent : Lent) (ns ats : List ℕ) (st : State) (g : Good
     }
 
     as-started : (s : State) → s ≡ startedBy st o → s ≡ started
-    as-started s e = e ∙ ap (startedBy st) (entered-in f lent (readingAt (st .cap)) entered .1)
+    as-started s e = e ∙ ap (startedBy st) (entered-in f lent (readingAt (st .cap) (st .mode)) entered .1)
 
     -- what `read_on` asks
     pub started-asks : (s : State) → s ≡ startedBy st o → Good f lent ns ats s × (s .stage ≡ InBody)

@@ -30,19 +30,19 @@ use Rattle.walk.proofs.Asking.{not-other}
 
 -- ---- the loop's head
 
-pub record RunHead (t : List ℕ) (lent : Lent) (b : List ℕ) (o : Opened) (ns₀ ats₀ : List ℕ) (c₀ : Cursor) (tree₀ : Tree)
+pub record RunHead (mode : ℕ) (t : List ℕ) (lent : Lent) (b : List ℕ) (o : Opened) (ns₀ ats₀ : List ℕ) (c₀ : Cursor) (tree₀ : Tree)
     (g : Running t lent b o ns₀ ats₀ c₀ tree₀) (ns ats : List ℕ) (c : Cursor) (tree : Tree) : Type 0 where
   pub now : Running t lent b o ns ats c tree
   pub ln : length ns ≡ length ns₀
   pub la : length ats ≡ length ats₀
   pub low : steps b c ≤ steps b c₀
   pub same : (r : Room) (os : List NoteOf) (cs : List ℕ) → r .nodes ≡ length ns₀ → r .attributes ≡ length ats₀
-      → onFrom r (namesIn (o .head) t lent) o t b ns₀ ats₀ c₀ tree₀ (g .stack) os cs
-      ≡ onFrom r (namesIn (o .head) t lent) o t b ns ats c tree (now .stack) os cs
+      → onFrom r (namesIn mode (o .head) t lent) o t b ns₀ ats₀ c₀ tree₀ (g .stack) os cs
+      ≡ onFrom r (namesIn mode (o .head) t lent) o t b ns ats c tree (now .stack) os cs
 
-module _ (t : List ℕ) (lent : Lent) (b : List ℕ) (o : Opened) where
+module _ (mode : ℕ) (t : List ℕ) (lent : Lent) (b : List ℕ) (o : Opened) where
   pub run-first : (ns ats : List ℕ) (c : Cursor) (tree : Tree) (g : Running t lent b o ns ats c tree)
-      → RunHead t lent b o ns ats c tree g ns ats c tree
+      → RunHead mode t lent b o ns ats c tree g ns ats c tree
   run-first ns ats c tree g = record { now = g; ln = refl; la = refl; low = omega arith; same = λ r os cs rn ra. refl }
 
   -- what `place` asks of the tables
@@ -50,12 +50,12 @@ module _ (t : List ℕ) (lent : Lent) (b : List ℕ) (o : Opened) where
   fit-of ns ats c tree g = record { sized = g .tied .sized; many = omega (arith, g .budget) }
 
   abbrev N : Names
-  N = namesIn (o .head) t lent
+  N = namesIn mode (o .head) t lent
 
   -- ---- a turn: the step s, and what became of its event
 
   module _ (ns₀ ats₀ : List ℕ) (c₀ : Cursor) (tree₀ : Tree) (g : Running t lent b o ns₀ ats₀ c₀ tree₀) (ns ats : List ℕ) (c : Cursor) (tree : Tree)
-      (h : RunHead t lent b o ns₀ ats₀ c₀ tree₀ g ns ats c tree) (s : Step) (es : s ≡ stepOf N o t b c) (ns′ ats′ : List ℕ)
+      (h : RunHead mode t lent b o ns₀ ats₀ c₀ tree₀ g ns ats c tree) (s : Step) (es : s ≡ stepOf N o t b c) (ns′ ats′ : List ℕ)
       (ln : length ns′ ≡ length ns) (la : length ats′ ≡ length ats) (p : Placed) (places : Places (N .repeats) p ns ats tree (s .event) ns′ ats′)
       (notEnd : NotEnd p (s .event)) where
     st : Stepped N o t b c s
@@ -78,7 +78,7 @@ module _ (t : List ℕ) (lent : Lent) (b : List ℕ) (o : Opened) where
     pub run-less : (u : Tree) → p ≡ Done u → steps b (s .cur) < steps b c
     run-less u e = st .less (rw e at notEnd)
 
-    pub run-goes : (u : Tree) → p ≡ Done u → RunHead t lent b o ns₀ ats₀ c₀ tree₀ g ns′ ats′ (s .cur) u
+    pub run-goes : (u : Tree) → p ≡ Done u → RunHead mode t lent b o ns₀ ats₀ c₀ tree₀ g ns′ ats′ (s .cur) u
     run-goes u e =
         let q = rw e at put in
         let less : steps b (s .cur) < steps b c = run-less u e in
@@ -90,13 +90,13 @@ module _ (t : List ℕ) (lent : Lent) (b : List ℕ) (o : Opened) where
           same = λ r os cs rn ra. pushed r os cs _ rn ra (q .pushed r os cs (rn ∙ sym (h .ln)) (ra ∙ sym (h .la)));
         }
 
-    pub run-full : (x : Refusal) (tree′ : Tree) → p ≡ Full x → RanBy t lent b o (StopFull x) ns₀ ats₀ c₀ tree₀ (g .stack) (s .cur) tree′ ns′ ats′
+    pub run-full : (x : Refusal) (tree′ : Tree) → p ≡ Full x → RanBy mode t lent b o (StopFull x) ns₀ ats₀ c₀ tree₀ (g .stack) (s .cur) tree′ ns′ ats′
     run-full x tree′ e =
         let q = rw e at put in
         λ r os cs rn ra.
         (pushed r os cs _ rn ra (q r os cs (rn ∙ sym (h .ln)) (ra ∙ sym (h .la))) ∙ settle-refused (N .repeats) r x (pending N o t b (s .cur)))
 
-    pub run-due : (x : ResAnomaly) → p ≡ Due x → RanBy t lent b o (StopDue x) ns₀ ats₀ c₀ tree₀ (g .stack) (s .cur) tree ns′ ats′
+    pub run-due : (x : ResAnomaly) → p ≡ Due x → RanBy mode t lent b o (StopDue x) ns₀ ats₀ c₀ tree₀ (g .stack) (s .cur) tree ns′ ats′
     run-due x e =
         let q = rw e at put in
         let less : steps b (s .cur) < steps b c = st .less (not-other (s .event) (Note x) (q .event) tt) in
@@ -109,7 +109,7 @@ module _ (t : List ℕ) (lent : Lent) (b : List ℕ) (o : Opened) where
               (h .same r os cs rn ra ∙ ap (λ (y : List Event). settle (N .repeats) r (going (tablesOf ns ats tree (h .now .stack) os cs)) y) first-is);
         })
 
-    pub run-finished : p ≡ Finished → RanBy t lent b o StopFinished ns₀ ats₀ c₀ tree₀ (g .stack) (s .cur) tree ns′ ats′
+    pub run-finished : p ≡ Finished → RanBy mode t lent b o StopFinished ns₀ ats₀ c₀ tree₀ (g .stack) (s .cur) tree ns′ ats′
     run-finished e =
         let q = rw e at put in
         rw (q .nodes, q .attributes)

@@ -72,7 +72,7 @@ finalOf r (going t) = succeeds r t
 abbrev pub settledIn : Room → List ℕ → Lent → Opened → Out
 settledIn r f lent o =
     let t = tablesIn f (o .head) in
-    let N = namesIn (o .head) t lent in
+    let N = namesIn (r .mode) (o .head) t lent in
     settle (N .repeats) r nothingYet (fileEvents N o t (bodyIn f (o .head)))
 
 -- the entry checks come before the file is read
@@ -81,15 +81,15 @@ readingBy r o passes = finalOf r o
 readingBy r o (fails x) = refuses r x
 
 unfoldable pub reading : Room → List ℕ → Lent → Reading
-reading r f lent = readingBy r (settledIn r f lent (openedOf f)) (firstOf (entryChecks f lent (readingAt (r .cap))))
+reading r f lent = readingBy r (settledIn r f lent (openedOf f)) (firstOf (entryChecks f lent (readingAt (r .cap) (r .mode))))
 
 -- the room of tables with these contents before the call
-abbrev pub roomIn : List ℕ → List ℕ → List NoteOf → ℕ → Room
-roomIn nodes attributes notes cap = record { nodes = length nodes; attributes = length attributes; notes = length notes; cap = cap }
+abbrev pub roomIn : List ℕ → List ℕ → List NoteOf → ℕ → ℕ → Room
+roomIn nodes attributes notes cap mode = record { nodes = length nodes; attributes = length attributes; notes = length notes; cap = cap; mode = mode }
 
 -- what a call of `read` leaves: the paper's numbers, and each lent table whole
-pub record Reads (f : List ℕ) (lent : Lent) (ns ats : List ℕ) (os : List NoteOf) (cap : ℕ) (r : ReadAnswer) (ns′ ats′ : List ℕ) (os′ : List NoteOf) : Type 0 where
-  pub answer : numbersOf r ≡ numbersOf (reading (roomIn ns ats os cap) f lent .answer)
-  pub nodes : ns′ ≡ reading (roomIn ns ats os cap) f lent .nodes
-  pub attributes : ats′ ≡ reading (roomIn ns ats os cap) f lent .attributes
-  pub notes : os′ ≡ reading (roomIn ns ats os cap) f lent .notes
+pub record Reads (f : List ℕ) (lent : Lent) (ns ats : List ℕ) (os : List NoteOf) (cap mode : ℕ) (r : ReadAnswer) (ns′ ats′ : List ℕ) (os′ : List NoteOf) : Type 0 where
+  pub answer : numbersOf r ≡ numbersOf (reading (roomIn ns ats os cap mode) f lent .answer)
+  pub nodes : ns′ ≡ reading (roomIn ns ats os cap mode) f lent .nodes
+  pub attributes : ats′ ≡ reading (roomIn ns ats os cap mode) f lent .attributes
+  pub notes : os′ ≡ reading (roomIn ns ats os cap mode) f lent .notes

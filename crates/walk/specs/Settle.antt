@@ -25,12 +25,13 @@ use Rattle.records.specs.Repeats.{Rule, isRepeat}
 use Rattle.events.specs.declared.Event.{Event}
 use Rattle.events.specs.declared.Event.the-variants.{Nothing, Open, Attribute, LeftOut, Close, Note, Refuse, Finish}
 
--- words for nodes, words for attributes, places for notes, and how many notes of a kind are kept
+-- words for nodes, words for attributes, places for notes, how many notes of a kind are kept, and the mode of the reading
 pub record Room : Type 0 where
   pub nodes : ℕ
   pub attributes : ℕ
   pub notes : ℕ
   pub cap : ℕ
+  pub mode : ℕ
 
 -- The words of nodes and attributes so far, how many words of attributes stood there before those of the last node, the numbers of
 -- the open elements, the innermost first, the notes, and how many there are of each kind.
@@ -80,7 +81,7 @@ lastNode t = length (t .nodes) / nodeWidth - 1
 
 -- the words of an attribute of that node
 abbrev pub recordOf : Tables → ℕ → XmlAttributeElement → List ℕ
-recordOf t p a = attributeWords (lastNode t) p (a .name .0) (a .«data_type») (a .«data»)
+recordOf t p a = attributeWords (lastNode t) p (a .name .0) (a .«data_type») (a .«data») (a .«namespace_uri» .0)
 
 -- whether it repeats one of that node's
 abbrev pub repeated : Rule → Tables → ℕ → XmlAttributeElement → Bool

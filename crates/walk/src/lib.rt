@@ -47,13 +47,14 @@ pub enum Stage {
 }
 
 // The reader between two notes: whether all is done, the place and the note that the caller is to write, how many places the note table has
-// and how many notes of a kind are kept, the stage, the head, where the reading stands, the tree and the note state.
+// and how many notes of a kind are kept, the mode, the stage, the head, where the reading stands, the tree and the note state.
 pub struct State {
     pub done: bool,
     pub slot: usize,
     pub note: Note,
     pub room: usize,
     pub cap: u32,
+    pub mode: u32,
     pub stage: Stage,
     pub opened: Opened,
     pub cur: Cursor,
@@ -74,10 +75,10 @@ fn no_tree() -> Tree
     }
 }
 
-// The state before the first call, for a note table of `room` places and `cap` notes of each kind.
+// The state before the first call, for a note table of `room` places, `cap` notes of each kind, and the mode of the reading.
 // Ruled out: a state that has counted notes, and one that takes the head for opened.
-pub fn begin(room: usize, cap: u32) -> State
-    ensures { λ r. ⌜ r ≡ first room cap ⌝ }
+pub fn begin(room: usize, cap: u32, mode: u32) -> State
+    ensures { λ r. ⌜ r ≡ first room cap mode ⌝ }
 {
     let cur = first_cursor();
     let tree = no_tree();
@@ -110,6 +111,7 @@ pub fn begin(room: usize, cap: u32) -> State
         },
         room,
         cap,
+        mode,
         stage: Stage::Fresh,
         opened,
         cur,
@@ -135,6 +137,7 @@ fn started(st: State, opened: Opened) -> State
         },
         room: st.room,
         cap: st.cap,
+        mode: st.mode,
         stage: Stage::Reading,
         opened,
         cur,
@@ -161,7 +164,17 @@ fn read_on(
     let mut cur = st.cur;
     let mut tree = st.tree;
     loop {
-        let h = run_in(file, names, area, opened, nodes, attributes, cur, tree);
+        let h = run_in(
+            file,
+            names,
+            area,
+            st.mode,
+            opened,
+            nodes,
+            attributes,
+            cur,
+            tree,
+        );
         cur = h.cur;
         tree = h.tree;
         let stop = h.stop;
@@ -182,7 +195,7 @@ fn read_on(
     }
 }
 
-// The first call: the way in (B2), with the cap, and then the file.
+// The first call: the way in (B2), with the cap and the mode, and then the file.
 fn start(
     file: &[u8],
     names: &[u32],
@@ -195,7 +208,7 @@ fn start(
     ensures { λ r. ⌜ Adv (now (file .entry)) (lends (now (names .entry)) (now (area .entry))) (now (nodes .entry)) (now (attributes .entry)) st r
         (now (nodes .exit)) (now (attributes .exit)) ⌝ }
 {
-    let entered = enter(file, names, area, Asker::Reading(st.cap));
+    let entered = enter(file, names, area, Asker::Reading(st.cap, st.mode));
     match entered {
         Entered::Out(x) => refuse(nodes, attributes, st, x),
         Entered::In(opened) => read_on(file, names, area, nodes, attributes, started(st, opened)),

@@ -139,12 +139,14 @@ pub fn place(
     }
 }
 
-// Puts events away until a note falls due, something is refused, or nothing is left. t is the bytes that texts are read from, b the body.
+// Puts events away until a note falls due, something is refused, or nothing is left. t is the bytes that texts are read from, b the
+// body, `mode` that of the reading.
 // Ruled out: a note passed over, and a stop before the end with none due.
 pub fn run(
     t: &[u8],
     names: &[u32],
     area: &[u8],
+    mode: u32,
     o: Opened,
     b: &[u8],
     nodes: &mut [u32],
@@ -153,13 +155,13 @@ pub fn run(
     tree: Tree,
 ) -> Halt
     requires { ⌜ Running (now t) (lends (now names) (now area)) (now b) o (now nodes) (now attributes) c tree ⌝ }
-    ensures { λ r. ⌜ RanOn (now (t .entry)) (lends (now (names .entry)) (now (area .entry))) (now (b .entry)) o (now (nodes .entry)) (now (attributes .entry)) c tree r
+    ensures { λ r. ⌜ RanOn mode (now (t .entry)) (lends (now (names .entry)) (now (area .entry))) (now (b .entry)) o (now (nodes .entry)) (now (attributes .entry)) c tree r
         (now (nodes .exit)) (now (attributes .exit)) ⌝ }
 {
     let mut cur = c;
     let mut grown = tree;
     loop {
-        let s = step_at(t, names, area, o, b, cur);
+        let s = step_at(t, names, area, mode, o, b, cur);
         let e = s.event;
         let next = s.cur;
         let p = place(t, names, area, o.head, nodes, attributes, grown, e);
@@ -199,6 +201,7 @@ pub fn run_in(
     file: &[u8],
     names: &[u32],
     area: &[u8],
+    mode: u32,
     o: Opened,
     nodes: &mut [u32],
     attributes: &mut [u32],
@@ -206,10 +209,10 @@ pub fn run_in(
     tree: Tree,
 ) -> Halt
     requires { ⌜ RunningIn (now file) (lends (now names) (now area)) o (now nodes) (now attributes) c tree ⌝ }
-    ensures { λ r. ⌜ RanIn (now (file .entry)) (lends (now (names .entry)) (now (area .entry))) o (now (nodes .entry)) (now (attributes .entry)) c tree r
+    ensures { λ r. ⌜ RanIn mode (now (file .entry)) (lends (now (names .entry)) (now (area .entry))) o (now (nodes .entry)) (now (attributes .entry)) c tree r
         (now (nodes .exit)) (now (attributes .exit)) ⌝ }
 {
     let t = tables_of(file, o.head);
     let b = body_of(file, o.head);
-    run(t, names, area, o, b, nodes, attributes, c, tree)
+    run(t, names, area, mode, o, b, nodes, attributes, c, tree)
 }

@@ -192,14 +192,24 @@ pub fn keep(
     let from = attribute_place(tree.first);
     let used = attribute_place(tree.attributes);
     let name = a.name;
-    if has(t, names, area, h, &attributes[from..used], prefix, name) {
+    let ns = a.namespace_uri;
+    if has(t, names, area, h, &attributes[from..used], prefix, name, ns) {
         return Put::Same;
     }
     if attributes.len() - used < ATTRIBUTE_WORDS {
         return Put::Full;
     }
     let last = n - 1;
-    put_attribute(attributes, used, last, prefix, name.0, a.data_type, a.data);
+    put_attribute(
+        attributes,
+        used,
+        last,
+        prefix,
+        name.0,
+        a.data_type,
+        a.data,
+        ns.0,
+    );
     put_one(
         nodes,
         node_place(last) + NODE_COUNT,

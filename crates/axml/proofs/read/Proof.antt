@@ -94,7 +94,10 @@ stayed = (
       stay-none-slice (2 ∷ []) tt (plain (λ _. u8)) yes,
       (
         stay-slice (3 ∷ []) tt (plain (λ _. u32)),
-        (stay-slice (4 ∷ []) tt (plain (λ _. u32)), (stay-slice (5 ∷ []) tt (plain (λ _. N.the-row)), (stay-none (λ _. u32) yes, tt))),
+        (
+          stay-slice (4 ∷ []) tt (plain (λ _. u32)),
+          (stay-slice (5 ∷ []) tt (plain (λ _. N.the-row)), (stay-none (λ _. u32) yes, (stay-none (λ _. u32) yes, tt))),
+        ),
       ),
     ),
   ),
@@ -140,13 +143,13 @@ ty-notes = sliceTy (tyRef (named 5) mut (pointee (N.the-row .written)))
 
 -- a turn after its call, which the generated MIR has under no name: the test, and the store
 abbrev stores : Body
-stores = seq (assign (place 9 []) (rvOpd (copy (place 8 (field 1 ∷ [])))))
-    (seq (assign (place 16 []) (op2 (mul unsigned) (copy (place 9 [])) (int w64 12)))
-    (seq (assign (place 17 []) (op2 offset (copy (place 6 (field 0 ∷ []))) (copy (place 16 []))))
-    (assign (place 17 (deref N′.mir ∷ [])) (rvOpd (copy (place 8 (field 2 ∷ [])))))))
+stores = seq (assign (place 10 []) (rvOpd (copy (place 9 (field 1 ∷ [])))))
+    (seq (assign (place 17 []) (op2 (mul unsigned) (copy (place 10 [])) (int w64 12)))
+    (seq (assign (place 18 []) (op2 offset (copy (place 6 (field 0 ∷ []))) (copy (place 17 []))))
+    (assign (place 18 (deref N′.mir ∷ [])) (rvOpd (copy (place 9 (field 2 ∷ [])))))))
 
 abbrev tests : Body
-tests = seq (assign (place 15 []) (rvOpd (copy (place 8 (field 0 ∷ []))))) (seq (cond (copy (place 15 [])) (exit 1) skip) stores)
+tests = seq (assign (place 16 []) (rvOpd (copy (place 9 (field 0 ∷ []))))) (seq (cond (copy (place 16 [])) (exit 1) skip) stores)
 
 -- what is known of a value at some machine value is known of it at its own
 state-is : (r : State) (vs : List Val) → Is S.the-row r vs → Is S.the-row r (S′.lowered r ∷ [])
@@ -163,7 +166,8 @@ module _ {M : Type 1} (𝓤 : URA M) (H : Heap 𝓤) (A : Atoms 𝓤) (W : Given
     (b-nodes o-nodes : ℕ) (γ-nodes : GName) (xs-nodes : List ℕ)
     (b-attributes o-attributes : ℕ) (γ-attributes : GName) (xs-attributes : List ℕ)
     (b-notes o-notes : ℕ) (γ-notes : GName) (xs-notes : List Note)
-    (cap : ℕ) (cap-fits : cap < 2 ^ 32) where
+    (cap : ℕ) (cap-fits : cap < 2 ^ 32)
+    (mode : ℕ) (mode-fits : mode < 2 ^ 32) where
   -- the references, a lent one under a name and at elements that may differ from the first; their machine values; what is owned
   abbrev v-file : Val
   v-file = sliceVal (b-file, o-file) (length xs-file)
@@ -220,11 +224,15 @@ module _ {M : Type 1} (𝓤 : URA M) (H : Heap 𝓤) (A : Atoms 𝓤) (W : Given
   own-notes ys = ‵ (MutSlice (named 5) κ-notes N.the-row .own (x-notes γ-notes ys) (v-notes ∷ []))
 
   -- the arguments, their machine values, what the function's triple binds, and its exit
-  abbrev a : RefT (List ℕ) × (RefT (List ℕ) × (RefT (List ℕ) × (RefT (List ℕ) × (RefT (List ℕ) × (RefT (List Note) × (ℕ × Unit {0}))))))
-  a = (x-file, (x-names, (x-area, (x-nodes γ-nodes xs-nodes, (x-attributes γ-attributes xs-attributes, (x-notes γ-notes xs-notes, (cap, tt)))))))
+  abbrev a : RefT (List ℕ) × (RefT (List ℕ) × (RefT (List ℕ) × (RefT (List ℕ) × (RefT (List ℕ) × (RefT (List Note) × (ℕ × (ℕ × Unit {0})))))))
+  a = (
+    x-file,
+    (x-names, (x-area, (x-nodes γ-nodes xs-nodes, (x-attributes γ-attributes xs-attributes, (x-notes γ-notes xs-notes, (cap, (mode, tt))))))),
+  )
 
-  abbrev vals : List Val × (List Val × (List Val × (List Val × (List Val × (List Val × (List Val × Unit {0}))))))
-  vals = (v-file ∷ [], (v-names ∷ [], (v-area ∷ [], (v-nodes ∷ [], (v-attributes ∷ [], (v-notes ∷ [], (vint w32 cap ∷ [], tt)))))))
+  abbrev vals : List Val × (List Val × (List Val × (List Val × (List Val × (List Val × (List Val × (List Val × Unit {0})))))))
+  vals =
+      (v-file ∷ [], (v-names ∷ [], (v-area ∷ [], (v-nodes ∷ [], (v-attributes ∷ [], (v-notes ∷ [], (vint w32 cap ∷ [], (vint w32 mode ∷ [], tt))))))))
 
   abbrev bound : walkOf 𝓤 H A read.ended stayed (read.clauses 𝓤 H A at-mem run) .Ghost
   bound = (
@@ -248,27 +256,31 @@ module _ {M : Type 1} (𝓤 : URA M) (H : Heap 𝓤) (A : Atoms 𝓤) (W : Given
       own-area ∷ ‵ (flft κ-area q-area) ∷ []
 
   exits : (r : Answer) (ws-nodes ws-attributes : List ℕ) (ws-notes : List Note) → Is B.the-row r (B′.lowered r ∷ [])
-      → Reads xs-file (lends xs-names xs-area) xs-nodes xs-attributes xs-notes cap r ws-nodes ws-attributes ws-notes
+      → Reads xs-file (lends xs-names xs-area) xs-nodes xs-attributes xs-notes cap mode r ws-nodes ws-attributes ws-notes
       → length ws-nodes ≡ length xs-nodes → length ws-attributes ≡ length xs-attributes → length ws-notes ≡ length xs-notes
       → ent 𝓤 (⋆ 𝓤 H A (Kept ws-nodes ws-attributes ws-notes)) (Post (B′.lowered r))
   exits r ws-nodes ws-attributes ws-notes is e lw-nodes lw-attributes lw-notes =
       qed W (Kept ws-nodes ws-attributes ws-notes) ∵
       suffices ! _ (ends-at 𝓤 H A read.ended stayed (read.clauses 𝓤 H A at-mem run) W bound (B′.lowered r) r
-      (tt, (tt, (tt, (ws-nodes, (ws-attributes, (ws-notes, (tt, tt))))))) (tt, (tt, (tt, (lw-nodes, (lw-attributes, (lw-notes, (tt, tt)))))))) $
+      (tt, (tt, (tt, (ws-nodes, (ws-attributes, (ws-notes, (tt, (tt, tt))))))))
+      (tt, (tt, (tt, (lw-nodes, (lw-attributes, (lw-notes, (tt, (tt, tt))))))))) $
       says ! e $ nothing ! $ move ! (2 ∷ 0 ∷ []) $ join ! $ move ! (5 ∷ 0 ∷ []) $ join ! $ move ! (3 ∷ 0 ∷ []) $ join ! $ move ! (9 ∷ 0 ∷ []) $
       join ! $ move ! (7 ∷ 0 ∷ []) $ join ! $ move ! (5 ∷ 0 ∷ []) $ join ! $ frame ! $ nothing ! $
+      owned ! u32 (Is u32) (uint-makes 𝓤 H A W w32) mode _ (refl, mode-fits) $ fjoin ! $
       owned ! u32 (Is u32) (uint-makes 𝓤 H A W w32) cap _ (refl, cap-fits) $ fjoin ! $ move ! (1 ∷ 0 ∷ []) $ fjoin ! $ move ! (2 ∷ 0 ∷ []) $ fjoin ! $
       move ! (1 ∷ 0 ∷ []) $ fjoin ! $ move ! (3 ∷ 0 ∷ []) $ fjoin ! $ move ! (2 ∷ 0 ∷ []) $ fjoin ! $ move ! (1 ∷ 0 ∷ []) $ fjoin ! $ frame ! $
       owned ! B.the-row (Is B.the-row) (EL.makes B.the-type B′.the-plain 𝓤 H A) r _ is $ done !
 
   -- what `begin`'s triple binds, and that it asks nothing but numbers
   abbrev to-begin : Begin 𝓤 H A at-mem run .Ghost
-  to-begin = ((tt, tt, tt, (length xs-notes, (cap, tt)), (vint w64 (length xs-notes) ∷ [], (vint w32 cap ∷ [], tt))), tt)
+  to-begin =
+      ((tt, tt, tt, (length xs-notes, (cap, (mode, tt))), (vint w64 (length xs-notes) ∷ [], (vint w32 cap ∷ [], (vint w32 mode ∷ [], tt)))), tt)
 
   goes-begin : length xs-notes < 2 ^ 64 → ent 𝓤 (emp 𝓤) (Begin 𝓤 H A at-mem run .pre to-begin)
   goes-begin fits =
       qed W [] ∵
-      nothing ! $ owned ! u32 (Is u32) (uint-makes 𝓤 H A W w32) cap _ (refl, cap-fits) $ fjoin ! $
+      nothing ! $ owned ! u32 (Is u32) (uint-makes 𝓤 H A W w32) mode _ (refl, mode-fits) $ fjoin ! $
+      owned ! u32 (Is u32) (uint-makes 𝓤 H A W w32) cap _ (refl, cap-fits) $ fjoin ! $
       owned ! usize (Is usize) (uint-makes 𝓤 H A W w64) (length xs-notes) _ (refl, fits) $ fjoin ! $ nothing ! $ join ! $ frame ! $ done !
 
   -- what `answer_of`'s triple binds, and that it asks nothing but the state
@@ -318,36 +330,37 @@ module _ {M : Type 1} (𝓤 : URA M) (H : Heap 𝓤) (A : Atoms 𝓤) (W : Given
       (room-file : Room u8 (length xs-file)) (room-names : Room u32 (length xs-names)) (room-area : Room u8 (length xs-area))
       (room-nodes : Room u32 (length xs-nodes)) (room-attributes : Room u32 (length xs-attributes))
       (room-notes : Room N.the-row (length xs-notes)) where
-    module _ (l₀ l₁ l₂ l₃ l₄ l₅ l₆ l₇ l₈ l₉ l₁₀ l₁₁ l₁₂ l₁₃ l₁₄ l₁₅ l₁₆ l₁₇ : ℕ) where
+    module _ (l₀ l₁ l₂ l₃ l₄ l₅ l₆ l₇ l₈ l₉ l₁₀ l₁₁ l₁₂ l₁₃ l₁₄ l₁₅ l₁₆ l₁₇ l₁₈ : ℕ) where
       abbrev En : Env 𝓤 H
       En = (B′.mir, l₀) ∷ (ty-file, l₁) ∷ (ty-names, l₂) ∷ (ty-area, l₃) ∷ (ty-nodes, l₄) ∷ (ty-attributes, l₅) ∷ (ty-notes, l₆) ∷ ((tyInt w32), l₇) ∷
-          (S′.mir, l₈) ∷ (word, l₉) ∷ (word, l₁₀) ∷ (ty-pointer-nodes, l₁₁) ∷ ((sliceTy ty-pointer-nodes), l₁₂) ∷ (ty-pointer-attributes, l₁₃) ∷
-          ((sliceTy ty-pointer-attributes), l₁₄) ∷ (tyBool, l₁₅) ∷ (word, l₁₆) ∷ (tyPtr, l₁₇) ∷ []
+          ((tyInt w32), l₈) ∷ (S′.mir, l₉) ∷ (word, l₁₀) ∷ (word, l₁₁) ∷ (ty-pointer-nodes, l₁₂) ∷ ((sliceTy ty-pointer-nodes), l₁₃) ∷
+          (ty-pointer-attributes, l₁₄) ∷ ((sliceTy ty-pointer-attributes), l₁₅) ∷ (tyBool, l₁₆) ∷ (word, l₁₇) ∷ (tyPtr, l₁₈) ∷ []
 
       -- between the statements of a turn: the notes, the tables and the slices, and the locals, the last first, each with its death
       abbrev At : (st : State) (ws-nodes ws-attributes : List ℕ) (ws-notes : List Note) → List (Item 𝓤)
       At st ws-nodes ws-attributes ws-notes = ‵ (row N.the-row fullShare ws-notes b-notes o-notes) ∷
           ‵ (Opened N.the-row κ-notes q-notes γ-notes b-notes o-notes xs-notes (v-notes ∷ [])) ∷ own-nodes ws-nodes ∷ ‵ (flft κ-nodes q-nodes) ∷
           own-attributes ws-attributes ∷ ‵ (flft κ-attributes q-attributes) ∷ own-file ∷ ‵ (flft κ-file q-file) ∷ own-names ∷
-          ‵ (flft κ-names q-names) ∷ own-area ∷ ‵ (flft κ-area q-area) ∷ ‵ (froom tyPtr l₁₇ 0) ∷ ‵ (fdies tyPtr l₁₇) ∷ ‵ (froom word l₁₆ 0) ∷
-          ‵ (fdies word l₁₆) ∷ ‵ (froom tyBool l₁₅ 0) ∷ ‵ (fdies tyBool l₁₅) ∷ ‵ (froom (sliceTy ty-pointer-attributes) l₁₄ 0) ∷
-          ‵ (fdies (sliceTy ty-pointer-attributes) l₁₄) ∷ ‵ (froom ty-pointer-attributes l₁₃ 0) ∷ ‵ (fdies ty-pointer-attributes l₁₃) ∷
-          ‵ (froom (sliceTy ty-pointer-nodes) l₁₂ 0) ∷ ‵ (fdies (sliceTy ty-pointer-nodes) l₁₂) ∷ ‵ (froom ty-pointer-nodes l₁₁ 0) ∷
-          ‵ (fdies ty-pointer-nodes l₁₁) ∷ ‵ (froom word l₁₀ 0) ∷ ‵ (fdies word l₁₀) ∷ ‵ (froom word l₉ 0) ∷ ‵ (fdies word l₉) ∷
-          ‵ (fat fullShare S′.mir l₈ 0 (S′.lowered st)) ∷ ‵ (fdies S′.mir l₈) ∷ ‵ (fat fullShare (tyInt w32) l₇ 0 (vint w32 cap)) ∷
-          ‵ (fdies (tyInt w32) l₇) ∷ ‵ (fat fullShare ty-notes l₆ 0 (v-notes)) ∷ ‵ (fdies ty-notes l₆) ∷
-          ‵ (fat fullShare ty-attributes l₅ 0 (v-attributes)) ∷ ‵ (fdies ty-attributes l₅) ∷ ‵ (fat fullShare ty-nodes l₄ 0 (v-nodes)) ∷
-          ‵ (fdies ty-nodes l₄) ∷ ‵ (fat fullShare ty-area l₃ 0 (v-area)) ∷ ‵ (fdies ty-area l₃) ∷ ‵ (fat fullShare ty-names l₂ 0 (v-names)) ∷
-          ‵ (fdies ty-names l₂) ∷ ‵ (fat fullShare ty-file l₁ 0 (v-file)) ∷ ‵ (fdies ty-file l₁) ∷ ‵ (froom B′.mir l₀ 0) ∷ ‵ (fdies B′.mir l₀) ∷ []
+          ‵ (flft κ-names q-names) ∷ own-area ∷ ‵ (flft κ-area q-area) ∷ ‵ (froom tyPtr l₁₈ 0) ∷ ‵ (fdies tyPtr l₁₈) ∷ ‵ (froom word l₁₇ 0) ∷
+          ‵ (fdies word l₁₇) ∷ ‵ (froom tyBool l₁₆ 0) ∷ ‵ (fdies tyBool l₁₆) ∷ ‵ (froom (sliceTy ty-pointer-attributes) l₁₅ 0) ∷
+          ‵ (fdies (sliceTy ty-pointer-attributes) l₁₅) ∷ ‵ (froom ty-pointer-attributes l₁₄ 0) ∷ ‵ (fdies ty-pointer-attributes l₁₄) ∷
+          ‵ (froom (sliceTy ty-pointer-nodes) l₁₃ 0) ∷ ‵ (fdies (sliceTy ty-pointer-nodes) l₁₃) ∷ ‵ (froom ty-pointer-nodes l₁₂ 0) ∷
+          ‵ (fdies ty-pointer-nodes l₁₂) ∷ ‵ (froom word l₁₁ 0) ∷ ‵ (fdies word l₁₁) ∷ ‵ (froom word l₁₀ 0) ∷ ‵ (fdies word l₁₀) ∷
+          ‵ (fat fullShare S′.mir l₉ 0 (S′.lowered st)) ∷ ‵ (fdies S′.mir l₉) ∷ ‵ (fat fullShare (tyInt w32) l₈ 0 (vint w32 mode)) ∷
+          ‵ (fdies (tyInt w32) l₈) ∷ ‵ (fat fullShare (tyInt w32) l₇ 0 (vint w32 cap)) ∷ ‵ (fdies (tyInt w32) l₇) ∷
+          ‵ (fat fullShare ty-notes l₆ 0 (v-notes)) ∷ ‵ (fdies ty-notes l₆) ∷ ‵ (fat fullShare ty-attributes l₅ 0 (v-attributes)) ∷
+          ‵ (fdies ty-attributes l₅) ∷ ‵ (fat fullShare ty-nodes l₄ 0 (v-nodes)) ∷ ‵ (fdies ty-nodes l₄) ∷ ‵ (fat fullShare ty-area l₃ 0 (v-area)) ∷
+          ‵ (fdies ty-area l₃) ∷ ‵ (fat fullShare ty-names l₂ 0 (v-names)) ∷ ‵ (fdies ty-names l₂) ∷ ‵ (fat fullShare ty-file l₁ 0 (v-file)) ∷
+          ‵ (fdies ty-file l₁) ∷ ‵ (froom B′.mir l₀ 0) ∷ ‵ (fdies B′.mir l₀) ∷ []
 
-      abbrev I : Point xs-file (lends xs-names xs-area) xs-nodes xs-attributes xs-notes cap → List (Item 𝓤)
+      abbrev I : Point xs-file (lends xs-names xs-area) xs-nodes xs-attributes xs-notes cap mode → List (Item 𝓤)
       I p = At (p .st) (p .now-nodes) (p .now-attributes) (p .now-notes)
 
       -- when the loop is left, the rest of the body runs
       abbrev Left : Out → SProp 𝓤
       Left = afterBlock 𝓤 H (afterSeq 𝓤 H (Wp 𝓤 H (𝓣 .C) (𝓣 .Λ) En mir.t-4 (atReturn 𝓤 H En Post)) (atReturn 𝓤 H En Post))
 
-      module _ (p : Point xs-file (lends xs-names xs-area) xs-nodes xs-attributes xs-notes cap) (r : State) (zs-nodes zs-attributes : List ℕ)
+      module _ (p : Point xs-file (lends xs-names xs-area) xs-nodes xs-attributes xs-notes cap mode) (r : State) (zs-nodes zs-attributes : List ℕ)
           (e : Adv xs-file (lends xs-names xs-area) (p .now-nodes) (p .now-attributes) (p .st) r zs-nodes zs-attributes)
           (is : Is S.the-row r (S′.lowered r ∷ []))
           (lz-nodes : length zs-nodes ≡ length (p .now-nodes)) (lz-attributes : length zs-attributes ≡ length (p .now-attributes)) where
@@ -356,23 +369,23 @@ module _ {M : Type 1} (𝓤 : URA M) (H : Heap 𝓤) (A : Atoms 𝓤) (W : Given
         note-holds = LL.owed S.the-type S′.the-laws r _ is .1 .1 .0
 
         -- a field of the state is read
-        done-in : (Γ : List (Item 𝓤)) (n : ℕ) → nth 𝓤 H A n Γ ≡ ‵ (fat fullShare S′.mir l₈ 0 (S′.lowered r))
-            → Opd (Go {0}) W Γ En (copy (place 8 (field 0 ∷ []))) (vbool (r .done))
-        done-in Γ n h = gets Γ En ! 8 n 0 S′.mir l₈ (S′.lowered r) tyBool 0 (vbool (r .done)) tt tt refl h refl refl
+        done-in : (Γ : List (Item 𝓤)) (n : ℕ) → nth 𝓤 H A n Γ ≡ ‵ (fat fullShare S′.mir l₉ 0 (S′.lowered r))
+            → Opd (Go {0}) W Γ En (copy (place 9 (field 0 ∷ []))) (vbool (r .done))
+        done-in Γ n h = gets Γ En ! 9 n 0 S′.mir l₉ (S′.lowered r) tyBool 0 (vbool (r .done)) tt tt refl h refl refl
 
-        slot-in : (Γ : List (Item 𝓤)) (n : ℕ) → nth 𝓤 H A n Γ ≡ ‵ (fat fullShare S′.mir l₈ 0 (S′.lowered r))
-            → Opd (Go {0}) W Γ En (copy (place 8 (field 1 ∷ []))) (vint w64 (r .slot))
-        slot-in Γ n h = gets Γ En ! 8 n 1 S′.mir l₈ (S′.lowered r) word 8 (vint w64 (r .slot)) tt tt refl h refl refl
+        slot-in : (Γ : List (Item 𝓤)) (n : ℕ) → nth 𝓤 H A n Γ ≡ ‵ (fat fullShare S′.mir l₉ 0 (S′.lowered r))
+            → Opd (Go {0}) W Γ En (copy (place 9 (field 1 ∷ []))) (vint w64 (r .slot))
+        slot-in Γ n h = gets Γ En ! 9 n 1 S′.mir l₉ (S′.lowered r) word 8 (vint w64 (r .slot)) tt tt refl h refl refl
 
-        note-in : (Γ : List (Item 𝓤)) (n : ℕ) → nth 𝓤 H A n Γ ≡ ‵ (fat fullShare S′.mir l₈ 0 (S′.lowered r))
-            → Opd (Go {0}) W Γ En (copy (place 8 (field 2 ∷ []))) (N′.lowered (r .note))
-        note-in Γ n h = gets Γ En ! 8 n 2 S′.mir l₈ (S′.lowered r) N′.mir 16 (N′.lowered (r .note)) tt tt refl h refl refl
+        note-in : (Γ : List (Item 𝓤)) (n : ℕ) → nth 𝓤 H A n Γ ≡ ‵ (fat fullShare S′.mir l₉ 0 (S′.lowered r))
+            → Opd (Go {0}) W Γ En (copy (place 9 (field 2 ∷ []))) (N′.lowered (r .note))
+        note-in Γ n h = gets Γ En ! 9 n 2 S′.mir l₉ (S′.lowered r) N′.mir 16 (N′.lowered (r .note)) tt tt refl h refl refl
 
         abbrev Next : SProp 𝓤
-        Next = Below 𝓤 H A (Less xs-file (lends xs-names xs-area) xs-nodes xs-attributes xs-notes cap) I p
+        Next = Below 𝓤 H A (Less xs-file (lends xs-names xs-area) xs-nodes xs-attributes xs-notes cap mode) I p
 
         abbrev Tested : List (Item 𝓤)
-        Tested = put 𝓤 H A 16 (‵ (fat fullShare tyBool l₁₅ 0 (vbool (r .done)))) (At r zs-nodes zs-attributes (p .now-notes))
+        Tested = put 𝓤 H A 16 (‵ (fat fullShare tyBool l₁₆ 0 (vbool (r .done)))) (At r zs-nodes zs-attributes (p .now-notes))
 
         -- the turn that leaves the loop, and the rest of the body: the notes' borrow is shut
         out : r .done ≡ true → Sq W Tested (runs (𝓣 .C) (𝓣 .Λ) En mir.t-4 (atRet En Post))
@@ -386,21 +399,21 @@ module _ {M : Type 1} (𝓤 : URA M) (H : Heap 𝓤) (A : Atoms 𝓤) (W : Given
             use1 W (some (λ (us : Unit {0} × Unit {0}). ‵ (lasts answer-of.ended tt (r, tt) us) ⊛ raw (fact 𝓤 (Answers r a)))) (id⊢ 𝓤 _) $
             pick ! (λ us. split ! $ move ! (1 ∷ []) $ heard ! (Answers r a) (λ q. move ! (1 ∷ []) $ split ! $ move ! (1 ∷ []) $
             facts ! B.the-row (Is B.the-row) (shows 𝓤 H A B.the-row) a (v ∷ []) (λ holds.
-            land ! (from ! (stop !)) (init ! 48 refl (EL.lawful B.the-type B′.the-laws 𝓤 H A W tt .typed a _ holds .0)) $
-            rewrite ! 48 (λ (u : Val). ‵ (fat fullShare B′.mir l₀ 0 u)) (ap only (B′.lowers .val-is a (v ∷ []) holds)) refl $
+            land ! (from ! (stop !)) (init ! 50 refl (EL.lawful B.the-type B′.the-laws 𝓤 H A W tt .typed a _ holds .0)) $
+            rewrite ! 50 (λ (u : Val). ‵ (fat fullShare B′.mir l₀ 0 u)) (ap only (B′.lowers .val-is a (v ∷ []) holds)) refl $
             -- [tokens back; lasts; row; opened; nodes; token nodes; attributes; token attributes; file; token file; …]
             drop ! $ drop ! $
             shuts ! tt N.the-row (named 5) κ-notes q-notes γ-notes b-notes o-notes xs-notes (v-notes ∷ []) (p .now-notes) (p .long-notes) $
             -- [notes; token notes; nodes; token nodes; attributes; token attributes; file; token file; names; token names; …]
-            returns ! (look ! 46 refl) $ forget ! 46 refl $ forget ! 44 refl $ forget ! 42 refl $ forget ! 40 refl $ forget ! 38 refl $
-            forget ! 36 refl $ forget ! 34 refl $ forget ! 32 refl $ forget ! 30 refl $ forget ! 16 refl $ move ! (46 ∷ 47 ∷ []) $ free1 ! $
-            move ! (44 ∷ 45 ∷ []) $ free1 ! $ move ! (42 ∷ 43 ∷ []) $ free1 ! $ move ! (40 ∷ 41 ∷ []) $ free1 ! $ move ! (38 ∷ 39 ∷ []) $ free1 ! $
-            move ! (36 ∷ 37 ∷ []) $ free1 ! $ move ! (34 ∷ 35 ∷ []) $ free1 ! $ move ! (32 ∷ 33 ∷ []) $ free1 ! $ move ! (30 ∷ 31 ∷ []) $ free1 ! $
-            move ! (28 ∷ 29 ∷ []) $ free1 ! $ move ! (26 ∷ 27 ∷ []) $ free1 ! $ move ! (24 ∷ 25 ∷ []) $ free1 ! $ move ! (22 ∷ 23 ∷ []) $ free1 ! $
-            move ! (20 ∷ 21 ∷ []) $ free1 ! $ move ! (18 ∷ 19 ∷ []) $ free1 ! $ move ! (16 ∷ 17 ∷ []) $ free1 ! $ move ! (14 ∷ 15 ∷ []) $ free1 ! $
-            move ! (12 ∷ 13 ∷ []) $ free1 ! $ free0 ! $
+            returns ! (look ! 48 refl) $ forget ! 48 refl $ forget ! 46 refl $ forget ! 44 refl $ forget ! 42 refl $ forget ! 40 refl $
+            forget ! 38 refl $ forget ! 36 refl $ forget ! 34 refl $ forget ! 32 refl $ forget ! 30 refl $ forget ! 16 refl $ move ! (48 ∷ 49 ∷ []) $
+            free1 ! $ move ! (46 ∷ 47 ∷ []) $ free1 ! $ move ! (44 ∷ 45 ∷ []) $ free1 ! $ move ! (42 ∷ 43 ∷ []) $ free1 ! $ move ! (40 ∷ 41 ∷ []) $
+            free1 ! $ move ! (38 ∷ 39 ∷ []) $ free1 ! $ move ! (36 ∷ 37 ∷ []) $ free1 ! $ move ! (34 ∷ 35 ∷ []) $ free1 ! $ move ! (32 ∷ 33 ∷ []) $
+            free1 ! $ move ! (30 ∷ 31 ∷ []) $ free1 ! $ move ! (28 ∷ 29 ∷ []) $ free1 ! $ move ! (26 ∷ 27 ∷ []) $ free1 ! $ move ! (24 ∷ 25 ∷ []) $
+            free1 ! $ move ! (22 ∷ 23 ∷ []) $ free1 ! $ move ! (20 ∷ 21 ∷ []) $ free1 ! $ move ! (18 ∷ 19 ∷ []) $ free1 ! $ move ! (16 ∷ 17 ∷ []) $
+            free1 ! $ move ! (14 ∷ 15 ∷ []) $ free1 ! $ move ! (12 ∷ 13 ∷ []) $ free1 ! $ free0 ! $
             by ! (exits a zs-nodes zs-attributes (p .now-notes) (answer-is a (v ∷ []) holds)
-            (leaves xs-file (lends xs-names xs-area) xs-nodes xs-attributes xs-notes cap p r zs-nodes zs-attributes e d a q)
+            (leaves xs-file (lends xs-names xs-area) xs-nodes xs-attributes xs-notes cap mode p r zs-nodes zs-attributes e d a q)
             (lz-nodes ∙ p .long-nodes) (lz-attributes ∙ p .long-attributes) (p .long-notes)))))))
 
         -- the turn that stores a note
@@ -410,9 +423,9 @@ module _ {M : Type 1} (𝓤 : URA M) (H : Heap 𝓤) (A : Atoms 𝓤) (W : Given
             assigns ! (of-opd ! (slot-in _ 30 refl)) (from ! (stop !)) (init ! 28 refl (tt, record { fits = small })) $
             assigns ! (bin ! (load ! (from ! (stop !)) (look ! 28 refl)) (lit ! tt) (record { fits = bytes })) (from ! (stop !))
             (init ! 14 refl (tt, record { fits = bytes })) $
-            assigns ! (bin ! (load ! (from ! (fld ! refl (stop !))) (look-in ! 34 (sub ! 0 refl (all !)))) (load ! (from ! (stop !)) (look ! 14 refl))
+            assigns ! (bin ! (load ! (from ! (fld ! refl (stop !))) (look-in ! 36 (sub ! 0 refl (all !)))) (load ! (from ! (stop !)) (look ! 14 refl))
             tt) (from ! (stop !)) (init ! 12 refl (tt, tt)) $
-            rewrite ! 12 (λ (m : ℕ). ‵ (fat fullShare tyPtr l₁₇ 0 (vptr b-notes m))) (sym (place-is 12 o-notes (r .slot))) refl $
+            rewrite ! 12 (λ (m : ℕ). ‵ (fat fullShare tyPtr l₁₈ 0 (vptr b-notes m))) (sym (place-is 12 o-notes (r .slot))) refl $
             elem-out ! N.the-row (Is N.the-row) (shows 𝓤 H A N.the-row) (LL.vals N.the-type N′.the-laws) (LL.tells N.the-type N′.the-laws) fullShare
             (p .now-notes) (r .slot) (r .note) b-notes o-notes within (λ _.
             -- [cell; old; others; opened; nodes; token nodes; attributes; token attributes; file; token file; …]
@@ -422,12 +435,13 @@ module _ {M : Type 1} (𝓤 : URA M) (H : Heap 𝓤) (A : Atoms 𝓤) (W : Given
             move ! (1 ∷ 0 ∷ 2 ∷ []) $
             elem-put ! N.the-row fullShare (p .now-notes) (r .slot) (r .note) (N′.lowered (r .note) ∷ []) b-notes o-notes within $ forget ! 12 refl $
             forget ! 14 refl $ forget ! 16 refl $ forget ! 28 refl $
-            again ! (Less xs-file (lends xs-names xs-area) xs-nodes xs-attributes xs-notes cap) I p
-            (onward xs-file (lends xs-names xs-area) xs-nodes xs-attributes xs-notes cap p r zs-nodes zs-attributes e d is lz-nodes lz-attributes)
-            (fewer xs-file (lends xs-names xs-area) xs-nodes xs-attributes xs-notes cap p r zs-nodes zs-attributes e d is lz-nodes lz-attributes))
+            again ! (Less xs-file (lends xs-names xs-area) xs-nodes xs-attributes xs-notes cap mode) I p
+            (onward xs-file (lends xs-names xs-area) xs-nodes xs-attributes xs-notes cap mode p r zs-nodes zs-attributes e d is lz-nodes
+            lz-attributes) (fewer xs-file (lends xs-names xs-area) xs-nodes xs-attributes xs-notes cap mode p r zs-nodes zs-attributes e d is lz-nodes
+            lz-attributes))
           where
             within : r .slot < length (p .now-notes)
-            within = in-table xs-file (lends xs-names xs-area) xs-nodes xs-attributes xs-notes cap p r zs-nodes zs-attributes e d
+            within = in-table xs-file (lends xs-names xs-area) xs-nodes xs-attributes xs-notes cap mode p r zs-nodes zs-attributes e d
 
             bytes : r .slot * 12 < 2 ^ 64
             bytes = let b : length xs-notes * 12 < 2 ^ 63 = room-notes .1 in omega (arith, within, p .long-notes)
@@ -445,20 +459,20 @@ module _ {M : Type 1} (𝓤 : URA M) (H : Heap 𝓤) (A : Atoms 𝓤) (W : Given
             (λ h. skips ! $ exec ! (𝓣 .C) (𝓣 .Λ) En stores (anyQ (afterTurn 𝓤 H Next Left)) $ stored (fails (r .done) h))
 
       -- a turn: the tables are passed on to `advance`, and taken back
-      turn : (p : Point xs-file (lends xs-names xs-area) xs-nodes xs-attributes xs-notes cap)
+      turn : (p : Point xs-file (lends xs-names xs-area) xs-nodes xs-attributes xs-notes cap mode)
           → Sq W (I p) (runs (𝓣 .C) (𝓣 .Λ) En mir.turn-1 (anyQ (afterTurn 𝓤 H (Below 𝓤 H A
-          (Less xs-file (lends xs-names xs-area) xs-nodes xs-attributes xs-notes cap) I p) Left)))
+          (Less xs-file (lends xs-names xs-area) xs-nodes xs-attributes xs-notes cap mode) I p) Left)))
       unfolding afterTurn
       turn p =
-          assigns ! (addr ! (from ! (fld ! refl (hop ! (look-in ! 38 (sub ! 0 refl (all !))) (stop !))))) (from ! (stop !))
+          assigns ! (addr ! (from ! (fld ! refl (hop ! (look-in ! 40 (sub ! 0 refl (all !))) (stop !))))) (from ! (stop !))
           (init ! 24 refl (tt, tt)) $
           assigns ! (agg ! (and-then ! (load ! (from ! (stop !)) (look ! 24 refl))
-          (and-then ! (load ! (from ! (fld ! refl (stop !))) (look-in ! 38 (sub ! 1 refl (all !)))) (no-more !)))) (from ! (stop !))
+          (and-then ! (load ! (from ! (fld ! refl (stop !))) (look-in ! 40 (sub ! 1 refl (all !)))) (no-more !)))) (from ! (stop !))
           (init ! 22 refl (tt, (tt, (record { fits = room-nodes .0 }, tt)))) $
-          assigns ! (addr ! (from ! (fld ! refl (hop ! (look-in ! 36 (sub ! 0 refl (all !))) (stop !))))) (from ! (stop !))
+          assigns ! (addr ! (from ! (fld ! refl (hop ! (look-in ! 38 (sub ! 0 refl (all !))) (stop !))))) (from ! (stop !))
           (init ! 20 refl (tt, tt)) $
           assigns ! (agg ! (and-then ! (load ! (from ! (stop !)) (look ! 20 refl))
-          (and-then ! (load ! (from ! (fld ! refl (stop !))) (look-in ! 36 (sub ! 1 refl (all !)))) (no-more !)))) (from ! (stop !))
+          (and-then ! (load ! (from ! (fld ! refl (stop !))) (look-in ! 38 (sub ! 1 refl (all !)))) (no-more !)))) (from ! (stop !))
           (init ! 18 refl (tt, (tt, (record { fits = room-attributes .0 }, tt)))) $
           -- each table is passed on, for a lifetime of the call
           move ! (2 ∷ 3 ∷ []) $ passes-on ! tt u32 (named 3) κ-nodes q-nodes γ-nodes b-nodes o-nodes (p .now-nodes) (v-nodes ∷ []) (λ ν-nodes δ-nodes.
@@ -474,8 +488,8 @@ module _ {M : Type 1} (𝓤 : URA M) (H : Heap 𝓤) (A : Atoms 𝓤) (W : Given
           _ (goes-advance ν-nodes ν-attributes δ-nodes δ-attributes (p .st) (p .now-nodes) (p .now-attributes) (p .is) (p .good)) $
           -- [pre; area; names; file; kept attributes; kept nodes; row; opened; local pointer; death pointer; …]
           calls-at ! fm (Advance 𝓤 H A at-mem run) known-advance (to-advance ν-nodes ν-attributes δ-nodes δ-attributes (p .st) (p .now-nodes)
-          (p .now-attributes)) (and-then ! (load ! (from ! (stop !)) (look ! 40 refl))
-          (and-then ! (load ! (from ! (stop !)) (look ! 38 refl)) (and-then ! (load ! (from ! (stop !)) (look ! 36 refl))
+          (p .now-attributes)) (and-then ! (load ! (from ! (stop !)) (look ! 42 refl))
+          (and-then ! (load ! (from ! (stop !)) (look ! 40 refl)) (and-then ! (load ! (from ! (stop !)) (look ! 38 refl))
           (and-then ! (load ! (from ! (stop !)) (look ! 18 refl)) (and-then ! (load ! (from ! (stop !)) (look ! 14 refl))
           (and-then ! (load ! (from ! (stop !)) (look ! 26 refl)) (no-more !))))))) (λ w.
           use1 W (later (some (λ (r : State). ((‵ (flft κ-file q-file) ⊛ ‵ (flft κ-names q-names) ⊛ ‵ (flft κ-area q-area) ⊛
@@ -495,7 +509,7 @@ module _ {M : Type 1} (𝓤 : URA M) (H : Heap 𝓤) (A : Atoms 𝓤) (W : Given
           fsplit ! $ fsplit ! $ move ! (1 ∷ []) $ feqL ! (λ lz-attributes. move ! (3 ∷ []) $ split ! $ move ! (1 ∷ []) $
           facts ! S.the-row (Is S.the-row) (shows 𝓤 H A S.the-row) r (w ∷ []) (λ is.
           land ! (from ! (stop !)) (store ! 29 refl (LL.lawful S.the-type S′.the-laws 𝓤 H A W .typed r _ is .0)) $
-          rewrite ! 29 (λ (u : Val). ‵ (fat fullShare S′.mir l₈ 0 u)) (ap only (S′.lowers .val-is r (w ∷ []) is)) refl $
+          rewrite ! 29 (λ (u : Val). ‵ (fat fullShare S′.mir l₉ 0 u)) (ap only (S′.lowers .val-is r (w ∷ []) is)) refl $
           -- [tokens back; final attributes; lasts; final nodes; area; names; file; kept attributes; kept nodes; row; …]
           split ! $ move ! (1 ∷ []) $ split ! $ move ! (1 ∷ []) $ split ! $ move ! (1 ∷ []) $ split ! $ move ! (1 ∷ []) $ split ! $
           -- the tables are taken back
@@ -507,59 +521,60 @@ module _ {M : Type 1} (𝓤 : URA M) (H : Heap 𝓤) (A : Atoms 𝓤) (W : Given
           ν-attributes δ-attributes (zs .1 .1 .1 .1 .0) lz-attributes $
           forget ! 26 refl $ forget ! 24 refl $ forget ! 22 refl $ forget ! 20 refl $
           keep ! (12 ∷ 13 ∷ 2 ∷ 3 ∷ 0 ∷ 1 ∷ 11 ∷ 7 ∷ 10 ∷ 6 ∷ 9 ∷ 5 ∷ 14 ∷ 15 ∷ 16 ∷ 17 ∷ 18 ∷ 19 ∷ 20 ∷ 21 ∷ 22 ∷ 23 ∷ 24 ∷ 25 ∷ 26 ∷ 27 ∷ 28 ∷ 29 ∷
-          30 ∷ 31 ∷ 32 ∷ 33 ∷ 34 ∷ 35 ∷ 36 ∷ 37 ∷ 38 ∷ 39 ∷ 40 ∷ 41 ∷ 42 ∷ 43 ∷ 44 ∷ 45 ∷ 46 ∷ 47 ∷ 48 ∷ 49 ∷ []) $
+          30 ∷ 31 ∷ 32 ∷ 33 ∷ 34 ∷ 35 ∷ 36 ∷ 37 ∷ 38 ∷ 39 ∷ 40 ∷ 41 ∷ 42 ∷ 43 ∷ 44 ∷ 45 ∷ 46 ∷ 47 ∷ 48 ∷ 49 ∷ 50 ∷ 51 ∷ []) $
           after p r (zs .1 .1 .1 .0) (zs .1 .1 .1 .1 .0) e (state-is r (w ∷ []) is) lz-nodes lz-attributes)))))))))
 
       -- the loop, and the rest of the body
-      looped : (p : Point xs-file (lends xs-names xs-area) xs-nodes xs-attributes xs-notes cap)
+      looped : (p : Point xs-file (lends xs-names xs-area) xs-nodes xs-attributes xs-notes cap mode)
           → Sq W (I p) (runs (𝓣 .C) (𝓣 .Λ) En mir.t-3 (atRet En Post))
-      looped p = into ! $ blocks ! $ loops ! 𝓣 (Less xs-file (lends xs-names xs-area) xs-nodes xs-attributes xs-notes cap)
-          (less-wf xs-file (lends xs-names xs-area) xs-nodes xs-attributes xs-notes cap) I {q = anyQ Left} turn p
+      looped p = into ! $ blocks ! $ loops ! 𝓣 (Less xs-file (lends xs-names xs-area) xs-nodes xs-attributes xs-notes cap mode)
+          (less-wf xs-file (lends xs-names xs-area) xs-nodes xs-attributes xs-notes cap mode) I {q = anyQ Left} turn p
 
     walk : ent 𝓤 (onEntry 𝓤 H A read.signature (κ-file, (κ-names, (κ-area, (κ-nodes, (κ-attributes, (κ-notes, tt))))))
         (q-file, (q-names, (q-area, (q-nodes, (q-attributes, (q-notes, tt)))))) a vals)
-        (WpFn 𝓤 H (𝓣 .C) (𝓣 .Λ) code.function (v-file ∷ v-names ∷ v-area ∷ v-nodes ∷ v-attributes ∷ v-notes ∷ vint w32 cap ∷ []) Post)
+        (WpFn 𝓤 H (𝓣 .C) (𝓣 .Λ) code.function (v-file ∷ v-names ∷ v-area ∷ v-nodes ∷ v-attributes ∷ v-notes ∷ vint w32 cap ∷ vint w32 mode ∷ []) Post)
     unfolding start
     walk =
         qed W ((‵ (flft κ-file q-file) ⊛ ‵ (flft κ-names q-names) ⊛ ‵ (flft κ-area q-area) ⊛ ‵ (flft κ-nodes q-nodes) ⊛
         ‵ (flft κ-attributes q-attributes) ⊛ ‵ (flft κ-notes q-notes) ⊛ ‵ ftrue) ∷
         ‵ (owns (ShrSlice (named 0) κ-file u8 ∷ ShrSlice (named 1) κ-names u32 ∷ ShrSlice (named 2) κ-area u8 ∷ MutSlice (named 3) κ-nodes u32 ∷
-        MutSlice (named 4) κ-attributes u32 ∷ MutSlice (named 5) κ-notes N.the-row ∷ u32 ∷ []) a vals) ∷ []) ∵
-        enter ! (𝓣 .C) (𝓣 .Λ) code.function (v-file ∷ v-names ∷ v-area ∷ v-nodes ∷ v-attributes ∷ v-notes ∷ vint w32 cap ∷ []) _ $ alloc1 ! (λ l₀.
-        alloc1 ! (λ l₁. alloc1 ! (λ l₂. alloc1 ! (λ l₃. alloc1 ! (λ l₄. alloc1 ! (λ l₅. alloc1 ! (λ l₆. alloc1 ! (λ l₇. alloc1 ! (λ l₈.
-        alloc1 ! (λ l₉. alloc1 ! (λ l₁₀. alloc1 ! (λ l₁₁. alloc1 ! (λ l₁₂. alloc1 ! (λ l₁₃. alloc1 ! (λ l₁₄. alloc1 ! (λ l₁₅. alloc1 ! (λ l₁₆.
-        alloc1 ! (λ l₁₇. alloc0 ! $ params1 ! $ pass1 ! (init ! 32 refl (tt, (tt, (record { fits = room-file .0 }, tt)))) $
-        pass1 ! (init ! 30 refl (tt, (tt, (record { fits = room-names .0 }, tt)))) $
-        pass1 ! (init ! 28 refl (tt, (tt, (record { fits = room-area .0 }, tt)))) $
-        pass1 ! (init ! 26 refl (tt, (tt, (record { fits = room-nodes .0 }, tt)))) $
-        pass1 ! (init ! 24 refl (tt, (tt, (record { fits = room-attributes .0 }, tt)))) $
-        pass1 ! (init ! 22 refl (tt, (tt, (record { fits = room-notes .0 }, tt)))) $ pass1 ! (init ! 20 refl (tt, record { fits = cap-fits })) $
-        pass0 ! $
-        assigns ! (of-opd ! (load ! (from ! (fld ! refl (stop !))) (look-in ! 22 (sub ! 1 refl (all !))))) (from ! (stop !))
+        MutSlice (named 4) κ-attributes u32 ∷ MutSlice (named 5) κ-notes N.the-row ∷ u32 ∷ u32 ∷ []) a vals) ∷ []) ∵
+        enter ! (𝓣 .C) (𝓣 .Λ) code.function (v-file ∷ v-names ∷ v-area ∷ v-nodes ∷ v-attributes ∷ v-notes ∷ vint w32 cap ∷ vint w32 mode ∷ []) _ $
+        alloc1 ! (λ l₀. alloc1 ! (λ l₁. alloc1 ! (λ l₂. alloc1 ! (λ l₃. alloc1 ! (λ l₄. alloc1 ! (λ l₅. alloc1 ! (λ l₆. alloc1 ! (λ l₇.
+        alloc1 ! (λ l₈. alloc1 ! (λ l₉. alloc1 ! (λ l₁₀. alloc1 ! (λ l₁₁. alloc1 ! (λ l₁₂. alloc1 ! (λ l₁₃. alloc1 ! (λ l₁₄. alloc1 ! (λ l₁₅.
+        alloc1 ! (λ l₁₆. alloc1 ! (λ l₁₇. alloc1 ! (λ l₁₈. alloc0 ! $ params1 ! $
+        pass1 ! (init ! 34 refl (tt, (tt, (record { fits = room-file .0 }, tt)))) $
+        pass1 ! (init ! 32 refl (tt, (tt, (record { fits = room-names .0 }, tt)))) $
+        pass1 ! (init ! 30 refl (tt, (tt, (record { fits = room-area .0 }, tt)))) $
+        pass1 ! (init ! 28 refl (tt, (tt, (record { fits = room-nodes .0 }, tt)))) $
+        pass1 ! (init ! 26 refl (tt, (tt, (record { fits = room-attributes .0 }, tt)))) $
+        pass1 ! (init ! 24 refl (tt, (tt, (record { fits = room-notes .0 }, tt)))) $ pass1 ! (init ! 22 refl (tt, record { fits = cap-fits })) $
+        pass1 ! (init ! 20 refl (tt, record { fits = mode-fits })) $ pass0 ! $
+        assigns ! (of-opd ! (load ! (from ! (fld ! refl (stop !))) (look-in ! 24 (sub ! 1 refl (all !))))) (from ! (stop !))
         (init ! 14 refl (tt, record { fits = room-notes .0 })) $
         use0 W (raw (Begin 𝓤 H A at-mem run .pre to-begin)) (goes-begin (room-notes .0)) $
         calls-at ! fm (Begin 𝓤 H A at-mem run) known-begin to-begin (and-then ! (load ! (from ! (stop !)) (look ! 15 refl))
-        (and-then ! (load ! (from ! (stop !)) (look ! 21 refl)) (no-more !))) (λ w.
+        (and-then ! (load ! (from ! (stop !)) (look ! 23 refl)) (and-then ! (load ! (from ! (stop !)) (look ! 21 refl)) (no-more !)))) (λ w.
         use1 W (later (some (λ (r : State). (‵ ftrue ⊛ ‵ (S.the-row .own r (w ∷ []))) ⊛ raw
-        (ensured 𝓤 H A begin.ended (begin.clauses 𝓤 H A at-mem run) tt (length xs-notes, (cap, tt)) tt r)))) (id⊢ 𝓤 _) $
+        (ensured 𝓤 H A begin.ended (begin.clauses 𝓤 H A at-mem run) tt (length xs-notes, (cap, (mode, tt))) tt r)))) (id⊢ 𝓤 _) $
         await ! tt $ pick ! (λ r. split ! $ move ! (1 ∷ []) $
-        use1 W (some (λ (zs : Unit {0} × (Unit {0} × Unit {0})). ‵ (lasts begin.ended tt (length xs-notes, (cap, tt)) zs) ⊛ raw
-        (fact 𝓤 (r ≡ first (length xs-notes) cap)))) (id⊢ 𝓤 _) $
-        pick ! (λ zs. split ! $ move ! (1 ∷ []) $ heard ! (r ≡ first (length xs-notes) cap) (λ e. move ! (1 ∷ []) $ split ! $ move ! (1 ∷ []) $
+        use1 W (some (λ (zs : Unit {0} × (Unit {0} × (Unit {0} × Unit {0}))). ‵ (lasts begin.ended tt (length xs-notes, (cap, (mode, tt))) zs) ⊛ raw
+        (fact 𝓤 (r ≡ first (length xs-notes) cap mode)))) (id⊢ 𝓤 _) $
+        pick ! (λ zs. split ! $ move ! (1 ∷ []) $ heard ! (r ≡ first (length xs-notes) cap mode) (λ e. move ! (1 ∷ []) $ split ! $ move ! (1 ∷ []) $
         facts ! S.the-row (Is S.the-row) (shows 𝓤 H A S.the-row) r (w ∷ []) (λ is.
         land ! (from ! (stop !)) (init ! 20 refl (LL.lawful S.the-type S′.the-laws 𝓤 H A W .typed r _ is .0)) $
-        rewrite ! 20 (λ (u : Val). ‵ (fat fullShare S′.mir l₈ 0 u)) (ap only (S′.lowers .val-is r (w ∷ []) is)) refl $
+        rewrite ! 20 (λ (u : Val). ‵ (fat fullShare S′.mir l₉ 0 u)) (ap only (S′.lowers .val-is r (w ∷ []) is)) refl $
         -- [tokens back; lasts; local pointer; death pointer; local bytes; death bytes; local test; death test; local again-attributes; death again-attributes; …]
         forget ! 16 refl $
         -- what the parameters own is taken apart, and the notes' borrow is opened
-        move ! (39 ∷ []) $ fsplit ! $ move ! (1 ∷ []) $ fsplit ! $ move ! (1 ∷ []) $ fsplit ! $ move ! (1 ∷ []) $ fsplit ! $ move ! (1 ∷ []) $
-        fsplit ! $ move ! (1 ∷ []) $ fsplit ! $ move ! (45 ∷ []) $ split ! $ move ! (1 ∷ []) $ split ! $ move ! (1 ∷ []) $ split ! $ move ! (1 ∷ []) $
+        move ! (41 ∷ []) $ fsplit ! $ move ! (1 ∷ []) $ fsplit ! $ move ! (1 ∷ []) $ fsplit ! $ move ! (1 ∷ []) $ fsplit ! $ move ! (1 ∷ []) $
+        fsplit ! $ move ! (1 ∷ []) $ fsplit ! $ move ! (47 ∷ []) $ split ! $ move ! (1 ∷ []) $ split ! $ move ! (1 ∷ []) $ split ! $ move ! (1 ∷ []) $
         split ! $ move ! (1 ∷ []) $ split ! $ move ! (1 ∷ []) $ split ! $ move ! (7 ∷ 0 ∷ []) $
         opens ! tt N.the-row (named 5) κ-notes q-notes γ-notes b-notes o-notes xs-notes (v-notes ∷ []) $
         keep ! (0 ∷ 1 ∷ 10 ∷ 4 ∷ 9 ∷ 3 ∷ 13 ∷ 7 ∷ 12 ∷ 6 ∷ 11 ∷ 5 ∷ 16 ∷ 17 ∷ 18 ∷ 19 ∷ 20 ∷ 21 ∷ 22 ∷ 23 ∷ 24 ∷ 25 ∷ 26 ∷ 27 ∷ 28 ∷ 29 ∷ 30 ∷ 31 ∷
-        32 ∷ 33 ∷ 34 ∷ 35 ∷ 36 ∷ 37 ∷ 38 ∷ 39 ∷ 40 ∷ 41 ∷ 42 ∷ 43 ∷ 44 ∷ 45 ∷ 46 ∷ 47 ∷ 48 ∷ 49 ∷ 50 ∷ 51 ∷ []) $
-        looped l₀ l₁ l₂ l₃ l₄ l₅ l₆ l₇ l₈ l₉ l₁₀ l₁₁ l₁₂ l₁₃ l₁₄ l₁₅ l₁₆ l₁₇ (start xs-file (lends xs-names xs-area) xs-nodes xs-attributes xs-notes
-        cap r e (state-is r (w ∷ []) is)))))))))))))))))))))))))
+        32 ∷ 33 ∷ 34 ∷ 35 ∷ 36 ∷ 37 ∷ 38 ∷ 39 ∷ 40 ∷ 41 ∷ 42 ∷ 43 ∷ 44 ∷ 45 ∷ 46 ∷ 47 ∷ 48 ∷ 49 ∷ 50 ∷ 51 ∷ 52 ∷ 53 ∷ []) $
+        looped l₀ l₁ l₂ l₃ l₄ l₅ l₆ l₇ l₈ l₉ l₁₀ l₁₁ l₁₂ l₁₃ l₁₄ l₁₅ l₁₆ l₁₇ l₁₈
+        (start xs-file (lends xs-names xs-area) xs-nodes xs-attributes xs-notes cap mode r e (state-is r (w ∷ []) is))))))))))))))))))))))))))
 
 module _ {M : Type 1} (𝓤 : URA M) (H : Heap 𝓤) (A : Atoms 𝓤) (W : Given 𝓤 H A) (mem : Memory → SProp 𝓤) (run : Routine → Fun 𝓤) (𝓣 : Tables 𝓤 H) where
   read-walks : Triple 𝓤 (𝓣 .C #walk·begin) (Begin 𝓤 H A mem run) → Triple 𝓤 (𝓣 .C #walk·advance) (Advance 𝓤 H A mem run)
@@ -567,7 +582,7 @@ module _ {M : Type 1} (𝓤 : URA M) (H : Heap 𝓤) (A : Atoms 𝓤) (W : Given
       (read.clauses 𝓤 H A mem run)
   read-walks known-begin known-advance known-answer-of =
       walked 𝓤 H A read.ended stayed (read.clauses 𝓤 H A mem run) (WpFn 𝓤 H (𝓣 .C) (𝓣 .Λ) code.function)
-      (λ κs. (slice-vals, (slice-vals, (slice-vals, (slice-vals, (slice-vals, (slice-vals, (uint-vals w32, tt))))))))
+      (λ κs. (slice-vals, (slice-vals, (slice-vals, (slice-vals, (slice-vals, (slice-vals, (uint-vals w32, (uint-vals w32, tt)))))))))
       (λ κs. (
         shr-slice-tells (named 0) (κs .0) u8,
         (
@@ -576,7 +591,10 @@ module _ {M : Type 1} (𝓤 : URA M) (H : Heap 𝓤) (A : Atoms 𝓤) (W : Given
             shr-slice-tells (named 2) (κs .1 .1 .0) u8,
             (
               mut-slice-tells (named 3) (κs .1 .1 .1 .0) u32,
-              (mut-slice-tells (named 4) (κs .1 .1 .1 .1 .0) u32, (mut-slice-tells (named 5) (κs .1 .1 .1 .1 .1 .0) N.the-row, (uint-tells w32, tt))),
+              (
+                mut-slice-tells (named 4) (κs .1 .1 .1 .1 .0) u32,
+                (mut-slice-tells (named 5) (κs .1 .1 .1 .1 .1 .0) N.the-row, (uint-tells w32, (uint-tells w32, tt))),
+              ),
             ),
           ),
         ),
@@ -588,7 +606,8 @@ module _ {M : Type 1} (𝓤 : URA M) (H : Heap 𝓤) (A : Atoms 𝓤) (W : Given
       (a .1 .1 .0 .ptr .1) (a .1 .1 .0 .name) (a .1 .1 .0 .now) (a .1 .1 .1 .0 .ptr .0) (a .1 .1 .1 .0 .ptr .1) (a .1 .1 .1 .0 .name)
       (a .1 .1 .1 .0 .now) (a .1 .1 .1 .1 .0 .ptr .0) (a .1 .1 .1 .1 .0 .ptr .1) (a .1 .1 .1 .1 .0 .name) (a .1 .1 .1 .1 .0 .now)
       (a .1 .1 .1 .1 .1 .0 .ptr .0) (a .1 .1 .1 .1 .1 .0 .ptr .1) (a .1 .1 .1 .1 .1 .0 .name) (a .1 .1 .1 .1 .1 .0 .now) (a .1 .1 .1 .1 .1 .1 .0)
-      (are .1 .1 .1 .1 .1 .1 .0 .1) 𝓣 (fmOf 𝓤 H (W .laws) 𝓣) known-begin known-advance known-answer-of
+      (are .1 .1 .1 .1 .1 .1 .0 .1) (a .1 .1 .1 .1 .1 .1 .1 .0) (are .1 .1 .1 .1 .1 .1 .1 .0 .1) 𝓣 (fmOf 𝓤 H (W .laws) 𝓣) known-begin known-advance
+      known-answer-of
       (are .0 .0 .1) (are .1 .0 .0 .1) (are .1 .1 .0 .0 .1) (are .1 .1 .1 .0 .0 .1) (are .1 .1 .1 .1 .0 .0 .1) (are .1 .1 .1 .1 .1 .0 .0 .1)))
 
   read-meets : Triple 𝓤 (𝓣 .C #walk·begin) (Begin 𝓤 H A mem run) → Triple 𝓤 (𝓣 .C #walk·advance) (Advance 𝓤 H A mem run)
@@ -605,7 +624,10 @@ module _ {M : Type 1} (𝓤 : URA M) (H : Heap 𝓤) (A : Atoms 𝓤) (W : Given
               goes-slice 𝓤 H A W 6 3 tt (plain (λ _. u32)),
               (
                 goes-slice 𝓤 H A W 6 4 tt (plain (λ _. u32)),
-                (goes-slice 𝓤 H A W 6 5 tt (plain (λ _. N.the-row)), (goes-none 𝓤 H A W 6 (λ _. u32) yes (λ κs x f. refl), tt)),
+                (
+                  goes-slice 𝓤 H A W 6 5 tt (plain (λ _. N.the-row)),
+                  (goes-none 𝓤 H A W 6 (λ _. u32) yes (λ κs x f. refl), (goes-none 𝓤 H A W 6 (λ _. u32) yes (λ κs x f. refl), tt)),
+                ),
               ),
             ),
           ),

@@ -53,6 +53,7 @@ use Rattle.walk.specs.Inner.Outcome.{first}
 use Rattle.walk.specs.Reading.{zeroNote}
 use Rattle.system_types.specs.Names.{lends}
 use Rattle.records.specs.Limits.{listedCap, listedNotes}
+use Rattle.records.specs.Words.{merged}
 use Rattle.walk.specs.Reading.{Reads}
 use Rattle.axml.proofs.Lending.{slice}
 use Rattle.axml.proofs.Locals.{lends-none, lends-array, array-back, repeat-is, each-field}
@@ -171,7 +172,7 @@ module _ {M : Type 1} (𝓤 : URA M) (H : Heap 𝓤) (A : Atoms 𝓤) (W : Given
       ‵ (finally u32 γ-nodes ws-nodes) ∷ ‵ (finally u32 γ-attributes ws-attributes) ∷ own-file ∷ []
 
   exits : (r : Listed) (v : Val) (ws-nodes ws-attributes : List ℕ) → Is L.the-row r (v ∷ [])
-      → Reads xs-file (lends [] []) xs-nodes xs-attributes ys listedCap (r .answer) ws-nodes ws-attributes (r .notes)
+      → Reads xs-file (lends [] []) xs-nodes xs-attributes ys listedCap merged (r .answer) ws-nodes ws-attributes (r .notes)
       → length ws-nodes ≡ length xs-nodes → length ws-attributes ≡ length xs-attributes → ent 𝓤 (⋆ 𝓤 H A (Kept ws-nodes ws-attributes)) (Post v)
   exits r v ws-nodes ws-attributes is e lw-nodes lw-attributes =
       qed W (Kept ws-nodes ws-attributes) ∵
@@ -194,7 +195,7 @@ module _ {M : Type 1} (𝓤 : URA M) (H : Heap 𝓤) (A : Atoms 𝓤) (W : Given
           slice l-names 0 δ-names [],
           (
             slice l-area 0 δ-area [],
-            (x-nodes γ-nodes xs-nodes, (x-attributes γ-attributes xs-attributes, (slice l-notes 0 δ-notes ys, (listedCap, tt)))),
+            (x-nodes γ-nodes xs-nodes, (x-attributes γ-attributes xs-attributes, (slice l-notes 0 δ-notes ys, (listedCap, (merged, tt))))),
           ),
         ),
       ),
@@ -202,7 +203,10 @@ module _ {M : Type 1} (𝓤 : URA M) (H : Heap 𝓤) (A : Atoms 𝓤) (W : Given
         v-file ∷ [],
         (
           sliceVal (l-names, 0) 0 ∷ [],
-          (sliceVal (l-area, 0) 0 ∷ [], (v-nodes ∷ [], (v-attributes ∷ [], (sliceVal (l-notes, 0) count ∷ [], (vint w32 listedCap ∷ [], tt))))),
+          (
+            sliceVal (l-area, 0) 0 ∷ [],
+            (v-nodes ∷ [], (v-attributes ∷ [], (sliceVal (l-notes, 0) count ∷ [], (vint w32 listedCap ∷ [], (vint w32 merged ∷ [], tt))))),
+          ),
         ),
       ),
     ),
@@ -223,6 +227,7 @@ module _ {M : Type 1} (𝓤 : URA M) (H : Heap 𝓤) (A : Atoms 𝓤) (W : Given
       qed W (Asked l-names l-area l-notes ν-names ν-area ν-notes δ-names δ-area δ-notes) ∵
       nothing ! $ move ! (6 ∷ 0 ∷ []) $ join ! $ move ! (5 ∷ 0 ∷ []) $ join ! $ move ! (4 ∷ 0 ∷ []) $ join ! $ move ! (3 ∷ 0 ∷ []) $ join ! $
       move ! (2 ∷ 0 ∷ []) $ join ! $ move ! (1 ∷ 0 ∷ []) $ join ! $ nothing ! $
+      owned ! u32 (Is u32) (uint-makes 𝓤 H A W w32) merged _ (refl, lit< tt) $ fjoin ! $
       owned ! u32 (Is u32) (uint-makes 𝓤 H A W w32) listedCap _ (refl, lit< tt) $ fjoin ! $ move ! (7 ∷ 0 ∷ []) $ fjoin ! $ move ! (6 ∷ 0 ∷ []) $
       fjoin ! $ move ! (5 ∷ 0 ∷ []) $ fjoin ! $ move ! (4 ∷ 0 ∷ []) $ fjoin ! $ move ! (3 ∷ 0 ∷ []) $ fjoin ! $ move ! (2 ∷ 0 ∷ []) $ fjoin ! $
       move ! (1 ∷ 0 ∷ []) $ join ! $ frame ! $ done !
@@ -278,7 +283,7 @@ module _ {M : Type 1} (𝓤 : URA M) (H : Heap 𝓤) (A : Atoms 𝓤) (W : Given
         (and-then ! (load ! (from ! (stop !)) (look ! 40 refl)) (and-then ! (load ! (from ! (stop !)) (look ! 23 refl))
         (and-then ! (load ! (from ! (stop !)) (look ! 19 refl)) (and-then ! (load ! (from ! (stop !)) (look ! 15 refl))
         (and-then ! (load ! (from ! (stop !)) (look ! 11 refl)) (and-then ! (load ! (from ! (stop !)) (look ! 7 refl))
-        (and-then ! (lit ! tt) (no-more !)))))))) (λ w.
+        (and-then ! (lit ! tt) (and-then ! (lit ! tt) (no-more !))))))))) (λ w.
         use1 W (later (some (λ (r : Answer). ((‵ (flft κ-file q-file) ⊛ ‵ (flft (ν-names ∷ []) fullShare) ⊛ ‵ (flft (ν-area ∷ []) fullShare) ⊛
         ‵ (flft κ-nodes q-nodes) ⊛ ‵ (flft κ-attributes q-attributes) ⊛ ‵ (flft (ν-notes ∷ []) fullShare) ⊛ ‵ ftrue) ⊛
         ‵ (B.the-row .own r (w ∷ []))) ⊛ raw (ensured 𝓤 H A read.ended (read.clauses 𝓤 H A at-mem run)
@@ -286,21 +291,28 @@ module _ {M : Type 1} (𝓤 : URA M) (H : Heap 𝓤) (A : Atoms 𝓤) (W : Given
           x-file,
           (
             slice l₆ 0 δ-names [],
-            (slice l₇ 0 δ-area [], (x-nodes γ-nodes xs-nodes, (x-attributes γ-attributes xs-attributes, (slice l₄ 0 δ-notes ys, (listedCap, tt))))),
+            (
+              slice l₇ 0 δ-area [],
+              (x-nodes γ-nodes xs-nodes, (x-attributes γ-attributes xs-attributes, (slice l₄ 0 δ-notes ys, (listedCap, (merged, tt))))),
+            ),
           ),
         ) tt r)))) (id⊢ 𝓤 _) $
         await ! tt $ pick ! (λ r. split ! $ move ! (1 ∷ []) $
-        use1 W (some (λ (zs : Unit {0} × (Unit {0} × (Unit {0} × (List ℕ × (List ℕ × (List Note × (Unit {0} × Unit {0}))))))).
+        use1 W (some (λ (zs : Unit {0} × (Unit {0} × (Unit {0} × (List ℕ × (List ℕ × (List Note × (Unit {0} × (Unit {0} × Unit {0})))))))).
         ‵ (lasts read.ended (κ-file, (ν-names ∷ [], (ν-area ∷ [], (κ-nodes, (κ-attributes, (ν-notes ∷ [], tt)))))) (
           x-file,
           (
             slice l₆ 0 δ-names [],
-            (slice l₇ 0 δ-area [], (x-nodes γ-nodes xs-nodes, (x-attributes γ-attributes xs-attributes, (slice l₄ 0 δ-notes ys, (listedCap, tt))))),
+            (
+              slice l₇ 0 δ-area [],
+              (x-nodes γ-nodes xs-nodes, (x-attributes γ-attributes xs-attributes, (slice l₄ 0 δ-notes ys, (listedCap, (merged, tt))))),
+            ),
           ),
-        ) zs) ⊛ raw (fact 𝓤 (Reads xs-file (lends [] []) xs-nodes xs-attributes ys listedCap r (zs .1 .1 .1 .0) (zs .1 .1 .1 .1 .0)
+        ) zs) ⊛ raw (fact 𝓤 (Reads xs-file (lends [] []) xs-nodes xs-attributes ys listedCap merged r (zs .1 .1 .1 .0) (zs .1 .1 .1 .1 .0)
         (zs .1 .1 .1 .1 .1 .0))))) (id⊢ 𝓤 _) $
         pick ! (λ zs. split ! $ move ! (1 ∷ []) $
-        heard ! (Reads xs-file (lends [] []) xs-nodes xs-attributes ys listedCap r (zs .1 .1 .1 .0) (zs .1 .1 .1 .1 .0) (zs .1 .1 .1 .1 .1 .0)) (λ e.
+        heard ! (Reads xs-file (lends [] []) xs-nodes xs-attributes ys listedCap merged r (zs .1 .1 .1 .0) (zs .1 .1 .1 .1 .0) (zs .1 .1 .1 .1 .1 .0))
+        (λ e.
         fsplit ! $ drop ! $ fsplit ! $ drop ! $ fsplit ! $ drop ! $ fsplit ! $ fsplit ! $ move ! (1 ∷ []) $ feqL ! (λ lz-nodes. move ! (1 ∷ []) $
         fsplit ! $ fsplit ! $ move ! (1 ∷ []) $ feqL ! (λ lz-attributes. move ! (1 ∷ []) $ fsplit ! $ fsplit ! $ move ! (1 ∷ []) $ feqL ! (λ lz-notes.
         move ! (4 ∷ []) $ split ! $ move ! (1 ∷ []) $ facts ! B.the-row (Is B.the-row) (shows 𝓤 H A B.the-row) r (w ∷ []) (λ is.

@@ -31,7 +31,7 @@ returns c =
     let a = at-start .args in
     let q = at-words .read-words in
     let n = at-numbers .read-numbers in
-    reads-by (a .file .now) (lends (a .names .now) (a .area .now)) (a .nodes .now) (a .attributes .now) (a .notes .now) (a .cap) (q .result)
+    reads-by (a .file .now) (lends (a .names .now) (a .area .now)) (a .nodes .now) (a .attributes .now) (a .notes .now) (a .cap) (a .mode) (q .result)
     (q .last .1 .1 .1 .0) (q .last .1 .1 .1 .1 .0) (q .last .1 .1 .1 .1 .1 .0) (q .ensures)
     (n .result) (n .ensures) (c .answer-of .result) (c .answer-of .ensures)
 

@@ -10,11 +10,11 @@ use Rattle.c_api.proofs.read_words.Statement.{statement}
 use Rattle.c_api.proofs.read_words.Tie as tie
 
 abbrev Inv-loop : tie.InvT-loop
-Inv-loop file names area nodes₀ attributes₀ notes₀ cap st₀ nodes attributes notes st =
-    Point file (lends names area) nodes₀ attributes₀ notes₀ cap nodes attributes notes st
+Inv-loop file names area nodes₀ attributes₀ notes₀ cap mode st₀ nodes attributes notes st =
+    Point file (lends names area) nodes₀ attributes₀ notes₀ cap mode nodes attributes notes st
 
 abbrev μ-loop : tie.MeasureT-loop
-μ-loop file names area nodes₀ attributes₀ notes₀ cap st₀ nodes attributes notes st = left file (lends names area) st
+μ-loop file names area nodes₀ attributes₀ notes₀ cap mode st₀ nodes attributes notes st = left file (lends names area) st
 
 begin-requires : tie.Need-begin-requires Inv-loop μ-loop
 begin-requires c κs = search needs
@@ -23,7 +23,7 @@ loop-holds : tie.Need-loop-holds Inv-loop μ-loop
 loop-holds c =
     let at-start = c .before .before .before .before .before .before .before in
     let a = at-start .args in
-    point-first (a .file .now) (lends (a .names .now) (a .area .now)) (a .nodes .now) (a .attributes .now) (a .notes .now) (a .cap) _ (c .begin .ensures)
+    point-first (a .file .now) (lends (a .names .now) (a .area .now)) (a .nodes .now) (a .attributes .now) (a .notes .now) (a .cap) (a .mode) _ (c .begin .ensures)
 
 advance-requires : tie.Need-advance-requires Inv-loop μ-loop
 advance-requires c κs =
@@ -69,7 +69,7 @@ returns c =
     let l = at-loop .loop in
     let q = at-advance .advance in
     let z = c .before .before .before .zero-from in
-    point-last (a .file .now) (lends (a .names .now) (a .area .now)) (a .nodes .now) (a .attributes .now) (a .notes .now) (a .cap)
+    point-last (a .file .now) (lends (a .names .now) (a .area .now)) (a .nodes .now) (a .attributes .now) (a .notes .now) (a .cap) (a .mode)
     (l .nodes) (l .attributes) (l .notes) (l .st) (l .inv) (q .result) (q .last .1 .1 .1 .0) (q .last .1 .1 .1 .1 .0) (q .ensures)
     (c .before .before .before .before .before .if1 .taken) (z .last .0) (z .ensures) (c .answer-of .result) (c .answer-of .ensures)
 
@@ -81,7 +81,7 @@ put-note-requires c κs =
     let a = at-start .args in
     let l = at-loop .loop in
     let q = at-advance .advance in
-    point-fits (a .file .now) (lends (a .names .now) (a .area .now)) (a .nodes .now) (a .attributes .now) (a .notes .now) (a .cap)
+    point-fits (a .file .now) (lends (a .names .now) (a .area .now)) (a .nodes .now) (a .attributes .now) (a .notes .now) (a .cap) (a .mode)
     (l .nodes) (l .attributes) (l .notes) (l .st) (l .inv) (q .result) (q .last .1 .1 .1 .0) (q .last .1 .1 .1 .1 .0) (q .ensures)
     (c .before .before .if1 .left)
 
@@ -96,7 +96,7 @@ mul-zero-from-2 c =
     let a = at-start .args in
     let l = at-loop .loop in
     let q = at-advance .advance in
-    let fits = point-fits (a .file .now) (lends (a .names .now) (a .area .now)) (a .nodes .now) (a .attributes .now) (a .notes .now) (a .cap)
+    let fits = point-fits (a .file .now) (lends (a .names .now) (a .area .now)) (a .nodes .now) (a .attributes .now) (a .notes .now) (a .cap) (a .mode)
     (l .nodes) (l .attributes) (l .notes) (l .st) (l .inv) (q .result) (q .last .1 .1 .1 .0) (q .last .1 .1 .1 .1 .0) (q .ensures)
     (c .before .before .before .before .before .before .before .before .if1 .left) in
     omega (arith, fits, l .inv .long-words, at-start .good .1 .1 .1 .1 .1 .0)
@@ -109,7 +109,7 @@ add-zero-from c =
     let a = at-start .args in
     let l = at-loop .loop in
     let q = at-advance .advance in
-    let fits = point-fits (a .file .now) (lends (a .names .now) (a .area .now)) (a .nodes .now) (a .attributes .now) (a .notes .now) (a .cap)
+    let fits = point-fits (a .file .now) (lends (a .names .now) (a .area .now)) (a .nodes .now) (a .attributes .now) (a .notes .now) (a .cap) (a .mode)
     (l .nodes) (l .attributes) (l .notes) (l .st) (l .inv) (q .result) (q .last .1 .1 .1 .0) (q .last .1 .1 .1 .1 .0) (q .ensures)
     (c .before .before .before .before .before .before .before .before .if1 .left) in
     omega (arith, fits, l .inv .long-words, at-start .good .1 .1 .1 .1 .1 .0)
@@ -122,7 +122,7 @@ zero-from-requires-2 c κs =
     let a = at-start .args in
     let l = at-loop .loop in
     let q = at-advance .advance in
-    let fits = point-fits (a .file .now) (lends (a .names .now) (a .area .now)) (a .nodes .now) (a .attributes .now) (a .notes .now) (a .cap)
+    let fits = point-fits (a .file .now) (lends (a .names .now) (a .area .now)) (a .nodes .now) (a .attributes .now) (a .notes .now) (a .cap) (a .mode)
     (l .nodes) (l .attributes) (l .notes) (l .st) (l .inv) (q .result) (q .last .1 .1 .1 .0) (q .last .1 .1 .1 .1 .0) (q .ensures)
     (c .before .before .before .before .before .before .before .before .if1 .left) in
     omega (arith, fits, c .before .before .before .before .before .put-note .kept .0)
@@ -161,13 +161,13 @@ returns-2 c =
     let z = c .before .before .before .zero-from2 in
     let due = c .before .before .before .before .before .before .before .before .before .before .before .before .if1 .left in
     let p =
-    point-next (a .file .now) (lends (a .names .now) (a .area .now)) (a .nodes .now) (a .attributes .now) (a .notes .now) (a .cap)
+    point-next (a .file .now) (lends (a .names .now) (a .area .now)) (a .nodes .now) (a .attributes .now) (a .notes .now) (a .cap) (a .mode)
     (l .nodes) (l .attributes) (l .notes) (l .st) (l .inv) (q .result) (q .last .1 .1 .1 .0) (q .last .1 .1 .1 .1 .0) (q .ensures)
     due (q .kept .1 .1 .1 .0) (q .kept .1 .1 .1 .1 .0) (w .last .0) (w .ensures) (w .kept .0) in
-    point-cleared (a .file .now) (lends (a .names .now) (a .area .now)) (a .nodes .now) (a .attributes .now) (a .notes .now) (a .cap)
+    point-cleared (a .file .now) (lends (a .names .now) (a .area .now)) (a .nodes .now) (a .attributes .now) (a .notes .now) (a .cap) (a .mode)
     (q .last .1 .1 .1 .0) (q .last .1 .1 .1 .1 .0) (w .last .0) (q .result) p
     (sym (c .before .before .before .before .before .before .is-clearing .ensures) ∙ c .before .before .before .before .before .if2 .taken)
-    (point-slot (a .file .now) (lends (a .names .now) (a .area .now)) (a .nodes .now) (a .attributes .now) (a .notes .now) (a .cap)
+    (point-slot (a .file .now) (lends (a .names .now) (a .area .now)) (a .nodes .now) (a .attributes .now) (a .notes .now) (a .cap) (a .mode)
     (l .nodes) (l .attributes) (l .notes) (l .st) (l .inv) (q .result) (q .last .1 .1 .1 .0) (q .last .1 .1 .1 .1 .0) (q .ensures) due)
     (z .last .0) (z .ensures) (c .answer-of2 .result) (c .answer-of2 .ensures)
 
@@ -179,7 +179,7 @@ loop-less c =
     let a = at-start .args in
     let l = at-loop .loop in
     let q = at-advance .advance in
-    point-less (a .file .now) (lends (a .names .now) (a .area .now)) (a .nodes .now) (a .attributes .now) (a .notes .now) (a .cap)
+    point-less (a .file .now) (lends (a .names .now) (a .area .now)) (a .nodes .now) (a .attributes .now) (a .notes .now) (a .cap) (a .mode)
     (l .nodes) (l .attributes) (l .notes) (l .st) (l .inv) (q .result) (q .last .1 .1 .1 .0) (q .last .1 .1 .1 .1 .0) (q .ensures)
     (c .before .before .before .before .before .before .before .if1 .left)
 
@@ -192,7 +192,7 @@ loop-again c =
     let l = at-loop .loop in
     let q = at-advance .advance in
     let w = c .before .before .before .before .put-note in
-    point-next (a .file .now) (lends (a .names .now) (a .area .now)) (a .nodes .now) (a .attributes .now) (a .notes .now) (a .cap)
+    point-next (a .file .now) (lends (a .names .now) (a .area .now)) (a .nodes .now) (a .attributes .now) (a .notes .now) (a .cap) (a .mode)
     (l .nodes) (l .attributes) (l .notes) (l .st) (l .inv) (q .result) (q .last .1 .1 .1 .0) (q .last .1 .1 .1 .1 .0) (q .ensures)
     (c .before .before .before .before .before .before .before .if1 .left) (q .kept .1 .1 .1 .0) (q .kept .1 .1 .1 .1 .0) (w .last .0) (w .ensures) (w .kept .0)
 

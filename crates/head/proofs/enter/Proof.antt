@@ -3,7 +3,12 @@ use mathlib.Core.Path.{refl, sym, _∙_, ap}
 use borrow.Author.Needs.{needs}
 use denote.Ref.{now}
 use Rattle.system_types.specs.Names.{lends}
-use Rattle.head.specs.declared.Entered.the-variants.{In}
+use Prim.Native.Nat.{ℕ}
+use mathlib.Core.Bool.{cond}
+use Rattle.errors.specs.declared.Refusal.the-variants.{ModeError}
+use Rattle.head.specs.Entry.{isMode}
+use Rattle.head.specs.Head.{openedOf}
+use Rattle.head.specs.declared.Entered.the-variants.{In, Out}
 use Rattle.head.specs.Inner.Entered.{askedBy}
 use Rattle.head.proofs.Entering.{entered-long, entered-off, entered-names, entered-good}
 use Rattle.head.proofs.enter.Statement.{statement}
@@ -29,19 +34,24 @@ check-names-requires c κs = search needs
 enum-told : tie.Need-enum-told
 enum-told c = search needs
 
-open-head-requires : tie.Need-open-head-requires
-open-head-requires c κs = search needs
+mode-of-requires : tie.Need-mode-of-requires
+mode-of-requires c κs = search needs
+
+enter-in-requires : tie.Need-enter-in-requires
+enter-in-requires c κs = search needs
 
 enum-known-read : tie.Need-enum-known-read
 enum-known-read c = search needs
 
 returns-3 : tie.Need-returns-3
 returns-3 c =
-    let at-names = c .before .before .before in
+    let at-told = c .before .before in
+    let at-names = at-told .before .before in
     let at-cap = at-names .before in
     let a = at-cap .before .before .before .before .before .before .args in
-    let good = sym (at-names .check-names .ensures) ∙ c .before .enum-told .given .1 in
-    ap In (c .open-head .ensures)
+    let good = sym (at-names .check-names .ensures) ∙ at-told .enum-told .given .1 in
+    c .enter-in .ensures
+    ∙ ap (λ (m : ℕ). cond (isMode m) (In (openedOf (now (a .file)))) (Out (ModeError m))) (c .before .mode-of .ensures)
     ∙ entered-good (now (a .file)) (lends (now (a .names)) (now (a .area))) (askedBy (a .asker)) (at-cap .before .before .if1 .left)
     (sym (at-cap .before .keeps-none .ensures) ∙ at-cap .if2 .left) good refl
 
@@ -63,7 +73,8 @@ enter-spec =
     returns-2
     check-names-requires
     enum-told
-    open-head-requires
+    mode-of-requires
+    enter-in-requires
     enum-known-read
     returns-3
     returns-4)

@@ -15,7 +15,7 @@ use Rattle.listing_text.proofs.put_attributes.Tie as tie
 
 abbrev Inv-loop : tie.InvT-loop
 Inv-loop out₀ p count attributes at₀ k₀ i₀ out at k i =
-    (i ≤ length attributes) × (k ≤ count) × (at ≤ p + 192 * k) × (length out ≡ length out₀) ×
+    (i ≤ length attributes) × (k ≤ count) × (at ≤ p + 224 * k) × (length out ≡ length out₀) ×
     Left p (linesText (attributeLines 0 count attributes)) out₀ at (linesText (attributeLines k (count - k) (drop i attributes))) out
 
 abbrev μ-loop : tie.MeasureT-loop

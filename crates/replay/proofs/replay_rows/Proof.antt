@@ -1,4 +1,4 @@
--- `replay::replay_rows` is safe and ends: each turn takes 80 bytes of the rows, and the four lent tables keep their lengths.
+-- `replay::replay_rows` is safe and ends: each turn takes 84 bytes of the rows, and the four lent tables keep their lengths.
 use Prim.Native.Nat.{_≤_, _-_}
 use mathlib.Core.Path.{_≡_}
 use borrow.Author.Needs.{needs}

@@ -1,4 +1,5 @@
--- `tables::has` meets its contract: it stops at the first record of this prefix whose name has the same text.
+-- `tables::has` meets its contract: it stops at the first record of this prefix whose name has the same text, and whose namespace too where
+-- the prefix asks for it.
 -- Invariant: no record before i is one, whichever index the wanted text was found for; what is known of it. Measure: the words left.
 use Prim.Native.Nat.{ℕ, _-_, _≤_}
 use mathlib.Core.Path.{_≡_, refl, sym, _∙_}
@@ -14,25 +15,25 @@ use Rattle.system_types.specs.Names.{lends}
 use Rattle.text.specs.Content.{plainIn, sameName}
 use Rattle.text.specs.Inner.Found.{partOf, Finds}
 use Rattle.text.proofs.Plains.{known-of}
-use Rattle.tables.proofs.Keys.{repeat-end, repeat-found, repeat-prefix, repeat-name, same-found}
+use Rattle.tables.proofs.Keys.{repeat-end, repeat-found, repeat-prefix, repeat-name, repeat-space, same-found}
 use Rattle.tables.proofs.has.Statement.{statement}
 use Rattle.tables.proofs.has.Tie as tie
 
 abbrev Inv-loop : tie.InvT-loop
-Inv-loop t names area h words prefix name wanted plain marks i₀ i =
+Inv-loop t names area h words prefix name ns wanted plain marks i₀ i =
     (i ≤ length words) × Known plain (plainIn (partOf (h .wide) t area wanted)) × ((n owner kind value : ℕ) → Finds t (lends names area) h n wanted
-    → isRepeat (byPrefix (sameName h t (lends names area))) (attributeWords owner prefix n kind value) words
-    ≡ isRepeat (byPrefix (sameName h t (lends names area))) (attributeWords owner prefix n kind value) (drop i words))
+    → isRepeat (byPrefix (sameName h t (lends names area))) (attributeWords owner prefix n kind value (ns .0)) words
+    ≡ isRepeat (byPrefix (sameName h t (lends names area))) (attributeWords owner prefix n kind value (ns .0)) (drop i words))
 
 abbrev μ-loop : tie.MeasureT-loop
-μ-loop t names area h words prefix name wanted plain marks i₀ i = length words - i
+μ-loop t names area h words prefix name ns wanted plain marks i₀ i = length words - i
 
 returns : tie.Need-returns Inv-loop μ-loop
 returns c =
     let a = c .before .before .before .before .before .args in
     let same = sameName (a .h) (a .t .now) (lends (a .names .now) (a .area .now)) in
     λ owner kind value.
-    sym (repeat-end (byPrefix same) (attributeWords owner (a .prefix) (a .name .0) kind value) (a .words .now) 0 (rw sub-zero (c .if1 .taken)))
+    sym (repeat-end (byPrefix same) (attributeWords owner (a .prefix) (a .name .0) kind value (a .ns .0)) (a .words .now) 0 (rw sub-zero (c .if1 .taken)))
 
 find-requires : tie.Need-find-requires Inv-loop μ-loop
 find-requires c κs = search needs
@@ -59,20 +60,20 @@ mul-if2 c = search needs
 shared-slice-read-if2 : tie.Need-shared-slice-read-if2 Inv-loop μ-loop
 shared-slice-read-if2 c = search needs
 
-add-t20 : tie.Need-add-t20 Inv-loop μ-loop
-add-t20 c =
+add-t22 : tie.Need-add-t22 Inv-loop μ-loop
+add-t22 c =
     let at-loop = c .before .before .before in
     let start = at-loop .before .before .before .before .before .before .before .before .before in
     omega (arith, at-loop .loop .inv .0, start .good .1 .1 .1 .1 .0)
 
-mul-t21 : tie.Need-mul-t21 Inv-loop μ-loop
-mul-t21 c =
+mul-t23 : tie.Need-mul-t23 Inv-loop μ-loop
+mul-t23 c =
     let at-loop = c .before .before .before in
     let start = at-loop .before .before .before .before .before .before .before .before .before in
     omega (arith, at-loop .loop .inv .0, start .good .1 .1 .1 .1 .0)
 
-shared-slice-read-t23 : tie.Need-shared-slice-read-t23 Inv-loop μ-loop
-shared-slice-read-t23 c = search needs
+shared-slice-read-t25 : tie.Need-shared-slice-read-t25 Inv-loop μ-loop
+shared-slice-read-t25 c = search needs
 
 same-as-known-requires : tie.Need-same-as-known-requires Inv-loop μ-loop
 same-as-known-requires c κs =
@@ -80,9 +81,26 @@ same-as-known-requires c κs =
     let start = at-loop .before .before .before .before .before .before .before .before .before in
     (start .pre, at-loop .before .before .before .find .ensures, at-loop .loop .inv .1, at-loop .before .marks-of .ensures)
 
+add-t27 : tie.Need-add-t27 Inv-loop μ-loop
+add-t27 c =
+    let s = c .before .before .before .before .before .before .before .before .before .before .before .before .before .before .before in
+    omega (arith, s .good .1 .1 .1 .1 .0)
+
+mul-t28 : tie.Need-mul-t28 Inv-loop μ-loop
+mul-t28 c =
+    let s = c .before .before .before .before .before .before .before .before .before .before .before .before .before .before .before in
+    omega (arith, s .good .1 .1 .1 .1 .0)
+
+shared-slice-read-t30 : tie.Need-shared-slice-read-t30 Inv-loop μ-loop
+shared-slice-read-t30 c = search needs
+
+same-space-requires : tie.Need-same-space-requires Inv-loop μ-loop
+same-space-requires c κs = search needs
+
 returns-2 : tie.Need-returns-2 Inv-loop μ-loop
 returns-2 c =
-    let at-if2 = c .before .before .before in
+    let at-if3 = c .before .before .before in
+    let at-if2 = at-if3 .before .before .before in
     let at-loop-test = at-if2 .before .before in
     let at-loop = at-loop-test .before in
     let at-find = at-loop .before .before .before in
@@ -92,11 +110,12 @@ returns-2 c =
     let wanted = at-find .find in
     let equal =
     same-found (a .h) (a .t .now) (lends (a .names .now) (a .area .now)) _ n (wanted .result) (wanted .ensures) _ _
-    (c .before .same-as-known .ensures) (c .if3 .taken) in
+    (at-if3 .before .same-as-known .ensures) (at-if3 .if3 .taken) in
     λ owner kind value.
     sym
     (at-loop .loop .inv .2 n owner kind value (wanted .ensures)
-    ∙ repeat-found same owner (a .prefix) n kind value (a .words .now) (at-loop .loop .i) (at-loop-test .loop-test .taken) (at-if2 .if2 .taken) equal)
+    ∙ repeat-found same owner (a .prefix) n kind value (a .ns .0) (a .words .now) (at-loop .loop .i) (at-loop-test .loop-test .taken) (at-if2 .if2 .taken) equal
+    (sym (c .before .same-space .ensures) ∙ c .if4 .taken))
 
 add-i : tie.Need-add-i Inv-loop μ-loop
 add-i c =
@@ -120,9 +139,14 @@ loop-again c =
       λ n owner kind value wanted.
           (at-loop .loop .inv .2 n owner kind value wanted
           ∙ ⊎-elim
-          (λ w. repeat-name same owner (a .prefix) n kind value (a .words .now) i long (w .0 .taken)
+          (λ w. repeat-space same owner (a .prefix) n kind value (a .ns .0) (a .words .now) i long (w .0 .taken)
+          (same-found (a .h) (a .t .now) (lends (a .names .now) (a .area .now)) _ n _ wanted _ _ (w .2 .ensures) (w .3 .taken))
+          (sym (w .5 .ensures) ∙ w .6 .left))
+          (λ v. ⊎-elim
+          (λ w. repeat-name same owner (a .prefix) n kind value (a .ns .0) (a .words .now) i long (w .0 .taken)
           (same-found (a .h) (a .t .now) (lends (a .names .now) (a .area .now)) _ n _ wanted _ _ (w .2 .ensures) (w .3 .left)))
-          (λ w. repeat-prefix same owner (a .prefix) n kind value (a .words .now) i long (w .left))
+          (λ w. repeat-prefix same owner (a .prefix) n kind value (a .ns .0) (a .words .now) i long (w .left))
+          v)
           (c .if2 .came)),
     )
 
@@ -134,7 +158,7 @@ returns-3 c =
     let n = a .name .0 in
     λ owner kind value.
     sym (at-loop .loop .inv .2 n owner kind value (at-loop .before .before .before .find .ensures)
-    ∙ repeat-end (byPrefix same) (attributeWords owner (a .prefix) n kind value) (a .words .now) (at-loop .loop .i) (c .loop-test .left))
+    ∙ repeat-end (byPrefix same) (attributeWords owner (a .prefix) n kind value (a .ns .0)) (a .words .now) (at-loop .loop .i) (c .loop-test .left))
 
 pub has-spec : {M : Type 1} → statement M
 has-spec =
@@ -151,10 +175,14 @@ has-spec =
     add-if2
     mul-if2
     shared-slice-read-if2
-    add-t20
-    mul-t21
-    shared-slice-read-t23
+    add-t22
+    mul-t23
+    shared-slice-read-t25
     same-as-known-requires
+    add-t27
+    mul-t28
+    shared-slice-read-t30
+    same-space-requires
     returns-2
     add-i
     loop-less

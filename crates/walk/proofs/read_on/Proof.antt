@@ -45,13 +45,13 @@ same-length : tie.Need-same-length Inv-loop μ-loop
 same-length c =
     let at-refuse = c .before .before .before .before in
     let at-run-in = at-refuse .before .before .before .before .before .before .before .before .before .before .before .before in
-    at-refuse .refuse .kept .0 ∙ at-run-in .run-in .kept .1 .1 .1 .1 .0 ∙ at-run-in .before .before .before .loop .inv .0
+    at-refuse .refuse .kept .0 ∙ at-run-in .run-in .kept .1 .1 .1 .1 .1 .0 ∙ at-run-in .before .before .before .loop .inv .0
 
 same-length-2 : tie.Need-same-length-2 Inv-loop μ-loop
 same-length-2 c =
     let at-refuse = c .before .before .before .before in
     let at-run-in = at-refuse .before .before .before .before .before .before .before .before .before .before .before .before in
-    at-refuse .refuse .kept .1 .0 ∙ at-run-in .run-in .kept .1 .1 .1 .1 .1 .0 ∙ at-run-in .before .before .before .loop .inv .1
+    at-refuse .refuse .kept .1 .0 ∙ at-run-in .run-in .kept .1 .1 .1 .1 .1 .1 .0 ∙ at-run-in .before .before .before .loop .inv .1
 
 returns : tie.Need-returns Inv-loop μ-loop
 returns c =
@@ -68,7 +68,7 @@ returns c =
     λ g.
     read-full (a .file .now) (lends (a .names .now) (a .area .now)) (a .nodes .now) (a .attributes .now) (a .st) g (l .nodes) (l .attributes) (l .cur)
     (l .tree) (l .inv .2 g)
-    (q .result) (q .last .1 .1 .1 .1 .0) (q .last .1 .1 .1 .1 .1 .0) (q .kept .1 .1 .1 .1 .0) (q .kept .1 .1 .1 .1 .1 .0) (q .ensures)
+    (q .result) (q .last .1 .1 .1 .1 .1 .0) (q .last .1 .1 .1 .1 .1 .1 .0) (q .kept .1 .1 .1 .1 .1 .0) (q .kept .1 .1 .1 .1 .1 .1 .0) (q .ensures)
     (s .0 .0) (s .1) (r .result) (r .last .0) (r .last .1 .0) (r .ensures)
 
 enum-told : tie.Need-enum-told Inv-loop μ-loop
@@ -85,20 +85,20 @@ finish-requires c κs =
     let g = at-start .pre .0 in
     read-keepable (a .file .now) (lends (a .names .now) (a .area .now)) (a .nodes .now) (a .attributes .now) (a .st) g (l .nodes) (l .attributes) (l .cur)
     (l .tree) (l .inv .2 g)
-    (q .result) (q .last .1 .1 .1 .1 .0) (q .last .1 .1 .1 .1 .1 .0) (q .kept .1 .1 .1 .1 .0) (q .kept .1 .1 .1 .1 .1 .0) (q .ensures)
+    (q .result) (q .last .1 .1 .1 .1 .1 .0) (q .last .1 .1 .1 .1 .1 .1 .0) (q .kept .1 .1 .1 .1 .1 .0) (q .kept .1 .1 .1 .1 .1 .1 .0) (q .ensures)
     (c .before .before .enum-told .given .1)
 
 same-length-3 : tie.Need-same-length-3 Inv-loop μ-loop
 same-length-3 c =
     let at-finish = c .before .before .before .before in
     let at-run-in = at-finish .before .before .before .before .before .before .before .before .before .before .before in
-    at-finish .finish .kept .0 ∙ at-run-in .run-in .kept .1 .1 .1 .1 .0 ∙ at-run-in .before .before .before .loop .inv .0
+    at-finish .finish .kept .0 ∙ at-run-in .run-in .kept .1 .1 .1 .1 .1 .0 ∙ at-run-in .before .before .before .loop .inv .0
 
 same-length-4 : tie.Need-same-length-4 Inv-loop μ-loop
 same-length-4 c =
     let at-finish = c .before .before .before .before in
     let at-run-in = at-finish .before .before .before .before .before .before .before .before .before .before .before in
-    at-finish .finish .kept .1 .0 ∙ at-run-in .run-in .kept .1 .1 .1 .1 .1 .0 ∙ at-run-in .before .before .before .loop .inv .1
+    at-finish .finish .kept .1 .0 ∙ at-run-in .run-in .kept .1 .1 .1 .1 .1 .1 .0 ∙ at-run-in .before .before .before .loop .inv .1
 
 returns-2 : tie.Need-returns-2 Inv-loop μ-loop
 returns-2 c =
@@ -114,7 +114,7 @@ returns-2 c =
     λ g.
     read-done (a .file .now) (lends (a .names .now) (a .area .now)) (a .nodes .now) (a .attributes .now) (a .st) g (l .nodes) (l .attributes) (l .cur)
     (l .tree) (l .inv .2 g)
-    (q .result) (q .last .1 .1 .1 .1 .0) (q .last .1 .1 .1 .1 .1 .0) (q .kept .1 .1 .1 .1 .0) (q .kept .1 .1 .1 .1 .1 .0) (q .ensures)
+    (q .result) (q .last .1 .1 .1 .1 .1 .0) (q .last .1 .1 .1 .1 .1 .1 .0) (q .kept .1 .1 .1 .1 .1 .0) (q .kept .1 .1 .1 .1 .1 .1 .0) (q .ensures)
     (at-enum-told .enum-told .given .1) (r .result) (r .last .0) (r .last .1 .0) (r .ensures)
 
 enum-known-stop-2 : tie.Need-enum-known-stop-2 Inv-loop μ-loop
@@ -136,13 +136,13 @@ same-length-5 : tie.Need-same-length-5 Inv-loop μ-loop
 same-length-5 c =
     let at-note-due = c .before .before .before .before in
     let at-run-in = at-note-due .before .before .before .before .before .before .before .before .before .before .before .before .before .before .before in
-    at-note-due .note-due .kept .0 ∙ at-run-in .run-in .kept .1 .1 .1 .1 .0 ∙ at-run-in .before .before .before .loop .inv .0
+    at-note-due .note-due .kept .0 ∙ at-run-in .run-in .kept .1 .1 .1 .1 .1 .0 ∙ at-run-in .before .before .before .loop .inv .0
 
 same-length-6 : tie.Need-same-length-6 Inv-loop μ-loop
 same-length-6 c =
     let at-note-due = c .before .before .before .before in
     let at-run-in = at-note-due .before .before .before .before .before .before .before .before .before .before .before .before .before .before .before in
-    at-note-due .note-due .kept .1 .0 ∙ at-run-in .run-in .kept .1 .1 .1 .1 .1 .0 ∙ at-run-in .before .before .before .loop .inv .1
+    at-note-due .note-due .kept .1 .0 ∙ at-run-in .run-in .kept .1 .1 .1 .1 .1 .1 .0 ∙ at-run-in .before .before .before .loop .inv .1
 
 returns-3 : tie.Need-returns-3 Inv-loop μ-loop
 returns-3 c =
@@ -163,7 +163,7 @@ returns-3 c =
     λ g.
     read-due (a .file .now) (lends (a .names .now) (a .area .now)) (a .nodes .now) (a .attributes .now) (a .st) g (l .nodes) (l .attributes) (l .cur) (l .tree)
     (l .inv .2 g)
-    (q .result) (q .last .1 .1 .1 .1 .0) (q .last .1 .1 .1 .1 .1 .0) (q .kept .1 .1 .1 .1 .0) (q .kept .1 .1 .1 .1 .1 .0) (q .ensures)
+    (q .result) (q .last .1 .1 .1 .1 .1 .0) (q .last .1 .1 .1 .1 .1 .1 .0) (q .kept .1 .1 .1 .1 .1 .0) (q .kept .1 .1 .1 .1 .1 .1 .0) (q .ensures)
     (s .0 .0) (s .1) under (r .result) (r .last .0) (r .last .1 .0) (r .ensures)
 
 pass-in-requires : tie.Need-pass-in-requires Inv-loop μ-loop
@@ -178,7 +178,7 @@ pass-in-requires c κs =
     let g = at-start .pre .0 in
     due-within (a .file .now) (lends (a .names .now) (a .area .now)) (a .nodes .now) (a .attributes .now) (a .st) g (l .nodes) (l .attributes) (l .cur) (l .tree)
     (l .inv .2 g)
-    (q .result) (q .last .1 .1 .1 .1 .0) (q .last .1 .1 .1 .1 .1 .0) (q .kept .1 .1 .1 .1 .0) (q .kept .1 .1 .1 .1 .1 .0) (q .ensures)
+    (q .result) (q .last .1 .1 .1 .1 .1 .0) (q .last .1 .1 .1 .1 .1 .1 .0) (q .kept .1 .1 .1 .1 .1 .0) (q .kept .1 .1 .1 .1 .1 .1 .0) (q .ensures)
     (at-stop2 .stop2 .given .0 .0) (at-stop2 .stop2 .given .1)
 
 loop-less : tie.Need-loop-less Inv-loop μ-loop
@@ -193,7 +193,7 @@ loop-less c =
     let g = at-start .pre .0 in
     let less = due-less (a .file .now) (lends (a .names .now) (a .area .now)) (a .nodes .now) (a .attributes .now) (a .st) g (l .nodes) (l .attributes) (l .cur)
     (l .tree) (l .inv .2 g)
-    (q .result) (q .last .1 .1 .1 .1 .0) (q .last .1 .1 .1 .1 .1 .0) (q .kept .1 .1 .1 .1 .0) (q .kept .1 .1 .1 .1 .1 .0) (q .ensures)
+    (q .result) (q .last .1 .1 .1 .1 .1 .0) (q .last .1 .1 .1 .1 .1 .1 .0) (q .kept .1 .1 .1 .1 .1 .0) (q .kept .1 .1 .1 .1 .1 .1 .0) (q .ensures)
     (at-stop2 .stop2 .given .0 .0) (at-stop2 .stop2 .given .1) in
     omega (arith, less, c .pass-in .ensures .low)
 
@@ -209,14 +209,14 @@ loop-again c =
     let s = at-stop2 .stop2 .given in
     let p = c .pass-in in
     let past = ltb-false _ _ (sym (rw (c .before .before .before .kind-index .ensures) at (c .before .before .is-due .ensures)) ∙ c .before .if1 .left) in (
-      q .kept .1 .1 .1 .1 .0 ∙ l .inv .0,
-      q .kept .1 .1 .1 .1 .1 .0 ∙ l .inv .1,
+      q .kept .1 .1 .1 .1 .1 .0 ∙ l .inv .0,
+      q .kept .1 .1 .1 .1 .1 .1 .0 ∙ l .inv .1,
       λ g.
-          read-passed (a .file .now) (lends (a .names .now) (a .area .now)) (a .nodes .now) (a .attributes .now) (a .st) g (q .last .1 .1 .1 .1 .0)
-          (q .last .1 .1 .1 .1 .1 .0) (q .result .cur) (q .result .tree)
+          read-passed (a .file .now) (lends (a .names .now) (a .area .now)) (a .nodes .now) (a .attributes .now) (a .st) g (q .last .1 .1 .1 .1 .1 .0)
+          (q .last .1 .1 .1 .1 .1 .1 .0) (q .result .cur) (q .result .tree)
           (read-past (a .file .now) (lends (a .names .now) (a .area .now)) (a .nodes .now) (a .attributes .now) (a .st) g (l .nodes) (l .attributes) (l .cur)
           (l .tree) (l .inv .2 g)
-          (q .result) (q .last .1 .1 .1 .1 .0) (q .last .1 .1 .1 .1 .1 .0) (q .kept .1 .1 .1 .1 .0) (q .kept .1 .1 .1 .1 .1 .0) (q .ensures)
+          (q .result) (q .last .1 .1 .1 .1 .1 .0) (q .last .1 .1 .1 .1 .1 .1 .0) (q .kept .1 .1 .1 .1 .1 .0) (q .kept .1 .1 .1 .1 .1 .1 .0) (q .ensures)
           (s .0 .0) (s .1) past) (p .result) (p .ensures),
     )
 

@@ -44,13 +44,14 @@ abbrev pub noTree : Tree
 noTree = record { nodes = 0; attributes = 0; first = 0; inner = 0; second = 0; upto = 0 }
 
 -- there is no head yet
-abbrev pub first : ℕ → ℕ → State
-first room cap = record {
+abbrev pub first : ℕ → ℕ → ℕ → State
+first room cap mode = record {
   done = false;
   slot = 0;
   note = zeroNote;
   room = room;
   cap = cap;
+  mode = mode;
   stage = Fresh;
   opened = unopened Whole;
   cur = firstCursor;
@@ -66,6 +67,7 @@ startedBy st o = record {
   note = zeroNote;
   room = st .room;
   cap = st .cap;
+  mode = st .mode;
   stage = InBody;
   opened = o;
   cur = firstCursor;
@@ -81,6 +83,7 @@ clearingAt st c a = record {
   note = zeroNote;
   room = st .room;
   cap = st .cap;
+  mode = st .mode;
   stage = Clearing a;
   opened = st .opened;
   cur = st .cur;
@@ -99,6 +102,7 @@ notedBy st c t x = record {
   note = noteOf x;
   room = st .room;
   cap = st .cap;
+  mode = st .mode;
   stage = InBody;
   opened = st .opened;
   cur = c;
@@ -147,7 +151,7 @@ pub record Noted (ns ats : List ℕ) (st : State) (c : Cursor) (t : Tree) (x : R
 -- ---- the outcome
 
 abbrev pub roomOf : List ℕ → List ℕ → State → Room
-roomOf ns ats st = record { nodes = length ns; attributes = length ats; notes = st .room; cap = st .cap }
+roomOf ns ats st = record { nodes = length ns; attributes = length ats; notes = st .room; cap = st .cap; mode = st .mode }
 
 -- with zeros from the place c on
 abbrev pub cleared : List NoteOf → ℕ → ℕ → List NoteOf
@@ -157,7 +161,7 @@ abbrev pub outcomeBy : Stage → List ℕ → Lent → List ℕ → List ℕ →
 outcomeBy Fresh f lent ns ats os st stack = reading (roomOf ns ats st) f lent
 outcomeBy InBody f lent ns ats os st stack =
     let t = tablesIn f (st .opened .head) in
-    let N = namesIn (st .opened .head) t lent in
+    let N = namesIn (st .mode) (st .opened .head) t lent in
     finalOf (roomOf ns ats st)
     (onFrom (roomOf ns ats st) N (st .opened) t (bodyIn f (st .opened .head)) ns ats (st .cur) (st .tree) stack (take (st .notes .used) os)
     (st .notes .counts))
@@ -205,5 +209,5 @@ Adv f lent ns ats st r ns′ ats′ = (g : Good f lent ns ats st) → Advanced f
 -- ---- the whole
 
 -- what a call of `read` leaves, as one equation
-pub record Leaves (f : List ℕ) (lent : Lent) (ns ats : List ℕ) (os : List NoteOf) (cap : ℕ) (r : ReadAnswer) (ns′ ats′ : List ℕ) (os′ : List NoteOf) : Type 0 where
-  pub whole : record { answer = r; nodes = ns′; attributes = ats′; notes = os′ } ≡ reading (roomIn ns ats os cap) f lent
+pub record Leaves (f : List ℕ) (lent : Lent) (ns ats : List ℕ) (os : List NoteOf) (cap mode : ℕ) (r : ReadAnswer) (ns′ ats′ : List ℕ) (os′ : List NoteOf) : Type 0 where
+  pub whole : record { answer = r; nodes = ns′; attributes = ats′; notes = os′ } ≡ reading (roomIn ns ats os cap mode) f lent

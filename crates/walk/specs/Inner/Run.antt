@@ -2,7 +2,7 @@
 --
 --   Running    a place of the reading: t the bytes that texts are read from, b the body, o the head
 --   onFrom     how the reading goes on from a cursor and a tree, with the notes os and the counts cs
---   Ran        where `run` stopped, and that the reading goes on from there; RanOn the same of every such place
+--   Ran        where `run` stopped, and that the reading goes on from there, in the mode that is given; RanOn the same of every such place
 --   RunningIn, RanIn   the same over a whole file, which is split behind the head
 use Prim.Native.Nat.{ℕ, _+_, _≤_, _<_}
 use mathlib.Core.Path.{_≡_}
@@ -35,9 +35,9 @@ pub record Running (t : List ℕ) (lent : Lent) (b : List ℕ) (o : Opened) (ns 
 abbrev pub onFrom : Room → Names → Opened → List ℕ → List ℕ → List ℕ → List ℕ → Cursor → Tree → List ℕ → List NoteOf → List ℕ → Out
 onFrom r N o t b ns ats c tree stack os cs = settle (N .repeats) r (going (tablesOf ns ats tree stack os cs)) (pending N o t b c)
 
-module _ (t : List ℕ) (lent : Lent) (b : List ℕ) (o : Opened) where
+module _ (mode : ℕ) (t : List ℕ) (lent : Lent) (b : List ℕ) (o : Opened) where
   abbrev pub N : Names
-  N = namesIn (o .head) t lent
+  N = namesIn mode (o .head) t lent
 
   -- what the reading comes to from here, in every room of these lengths
   abbrev pub ComesTo : List ℕ → List ℕ → Cursor → Tree → List ℕ → (Room → List NoteOf → List ℕ → Out) → Type 0
@@ -75,5 +75,5 @@ module _ (t : List ℕ) (lent : Lent) (b : List ℕ) (o : Opened) where
 abbrev pub RunningIn : List ℕ → Lent → Opened → List ℕ → List ℕ → Cursor → Tree → Type 0
 RunningIn f lent o ns ats c tree = Running (tablesIn f (o .head)) lent (bodyIn f (o .head)) o ns ats c tree
 
-abbrev pub RanIn : List ℕ → Lent → Opened → List ℕ → List ℕ → Cursor → Tree → Halt → List ℕ → List ℕ → Type 0
-RanIn f lent o ns ats c tree h ns′ ats′ = RanOn (tablesIn f (o .head)) lent (bodyIn f (o .head)) o ns ats c tree h ns′ ats′
+abbrev pub RanIn : ℕ → List ℕ → Lent → Opened → List ℕ → List ℕ → Cursor → Tree → Halt → List ℕ → List ℕ → Type 0
+RanIn mode f lent o ns ats c tree h ns′ ats′ = RanOn mode (tablesIn f (o .head)) lent (bodyIn f (o .head)) o ns ats c tree h ns′ ats′

@@ -101,7 +101,7 @@ abbrev pub ownWords : Tree → List ℕ → List ℕ
 ownWords t ats = take (attributeWidth * t .attributes - attributeWidth * t .first) (drop (attributeWidth * t .first) ats)
 
 abbrev pub newWords : Tree → ℕ → XmlAttributeElement → List ℕ
-newWords t p a = attributeWords (t .nodes - 1) p (a .name .0) (a .«data_type») (a .«data»)
+newWords t p a = attributeWords (t .nodes - 1) p (a .name .0) (a .«data_type») (a .«data») (a .«namespace_uri» .0)
 
 -- it repeats one of its element, or there is no element
 pub record Repeats (rule : Rule) (t : Tree) (p : ℕ) (a : XmlAttributeElement) (ns ats ns′ ats′ : List ℕ) : Type 0 where

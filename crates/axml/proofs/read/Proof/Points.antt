@@ -31,7 +31,7 @@ use Rattle.walk.proofs.State.Laws as S′
 pub fresh-reads : Fresh ≡ InBody → ⊥
 fresh-reads e = let z : _≡_ {A = ℕ} 0 1 = cc in omega arith
 
-module _ (file : List ℕ) (lent : Lent) (nodes attributes : List ℕ) (notes : List Note) (cap : ℕ) where
+module _ (file : List ℕ) (lent : Lent) (nodes attributes : List ℕ) (notes : List Note) (cap mode : ℕ) where
   pub record Point : Type 0 where
     pub turns : ℕ
     pub st : State
@@ -45,7 +45,7 @@ module _ (file : List ℕ) (lent : Lent) (nodes attributes : List ℕ) (notes : 
     pub room : st .room ≡ length notes
     pub good : Good file lent now-nodes now-attributes st
     pub enough : left file lent st ≤ turns
-    pub same : outcome file lent now-nodes now-attributes now-notes st (good .stack) ≡ reading (roomIn nodes attributes notes cap) file lent
+    pub same : outcome file lent now-nodes now-attributes now-notes st (good .stack) ≡ reading (roomIn nodes attributes notes cap mode) file lent
 
   abbrev pub Less : Point → Point → Type 0
   Less p p′ = p .turns < p′ .turns
@@ -55,13 +55,13 @@ module _ (file : List ℕ) (lent : Lent) (nodes attributes : List ℕ) (notes : 
 
   -- ---- before the first turn
   -- the ghost is written out, so that `start`'s outcome is that of the empty stack
-  abbrev pub first-good : (st : State) → st ≡ first (length notes) cap → Good file lent nodes attributes st
+  abbrev pub first-good : (st : State) → st ≡ first (length notes) cap mode → Good file lent nodes attributes st
   first-good st e = record { stack = []; onWay = λ m. absurd (fresh-reads (sym (ap (λ (s : State). s .stage) e) ∙ m)) }
 
-  pub first-same : outcome file lent nodes attributes notes (first (length notes) cap) [] ≡ reading (roomIn nodes attributes notes cap) file lent
+  pub first-same : outcome file lent nodes attributes notes (first (length notes) cap mode) [] ≡ reading (roomIn nodes attributes notes cap mode) file lent
   first-same = refl
 
-  unfoldable pub start : (st : State) → st ≡ first (length notes) cap → Is S.the-row st (S′.lowered st ∷ []) → Point
+  unfoldable pub start : (st : State) → st ≡ first (length notes) cap mode → Is S.the-row st (S′.lowered st ∷ []) → Point
   start st e is = record {
     turns = left file lent st;
     st = st;
@@ -113,10 +113,10 @@ module _ (file : List ℕ) (lent : Lent) (nodes attributes : List ℕ) (notes : 
     unfolding onward
     fewer d is ln la = omega (arith, advanced .due d .1, p .enough)
 
-    pub leaves : r .done ≡ true → (a : ReadAnswer) → Answers r a → Reads file lent nodes attributes notes cap a nodes′ attributes′ (p .now-notes)
+    pub leaves : r .done ≡ true → (a : ReadAnswer) → Answers r a → Reads file lent nodes attributes notes cap mode a nodes′ attributes′ (p .now-notes)
     leaves d a is =
         let e : _≡_ {A = Reading} (record { answer = a; nodes = nodes′; attributes = attributes′; notes = p .now-notes })
-        (reading (roomIn nodes attributes notes cap) file lent) = sym (advanced .ends d a is (p .now-notes) all-places) ∙ p .same in
+        (reading (roomIn nodes attributes notes cap mode) file lent) = sym (advanced .ends d a is (p .now-notes) all-places) ∙ p .same in
         record {
           answer = ap (λ (x : Reading). numbersOf (x .answer)) e;
           nodes = ap (λ (x : Reading). x .nodes) e;

@@ -27,19 +27,19 @@ valid-attribute-requires c κs = search needs
 returns : tie.Need-returns
 returns c =
     let a = c .before .before .before .before .before .before .before .args in
-    let N = namesIn (a .h) (a .t .now) (lends (a .names .now) (a .area .now)) in
+    let N = namesIn (a .mode) (a .h) (a .t .now) (lends (a .names .now) (a .area .now)) in
     ap (attributeBy N (a .a)) (sym (c .enum-told .given .1) ∙ c .before .before .name-state .ensures)
 
 returns-2 : tie.Need-returns-2
 returns-2 c =
     let a = c .before .before .before .before .before .before .before .before .args in
-    let N = namesIn (a .h) (a .t .now) (lends (a .names .now) (a .area .now)) in
+    let N = namesIn (a .mode) (a .h) (a .t .now) (lends (a .names .now) (a .area .now)) in
     c .invalid-attribute .ensures ∙ ap (attributeBy N (a .a)) (sym (c .before .enum-told2 .given .1) ∙ c .before .before .before .name-state .ensures)
 
 returns-3 : tie.Need-returns-3
 returns-3 c =
     let a = c .before .before .before .before .before .before .before .before .args in
-    let N = namesIn (a .h) (a .t .now) (lends (a .names .now) (a .area .now)) in
+    let N = namesIn (a .mode) (a .h) (a .t .now) (lends (a .names .now) (a .area .now)) in
     c .valid-attribute .ensures ∙ ap (attributeBy N (a .a)) (sym (c .before .enum-told3 .given .1) ∙ c .before .before .before .name-state .ensures)
 
 pub attribute-event-spec : {M : Type 1} → statement M

@@ -12,15 +12,15 @@ use Rattle.walk.proofs.placing.run.Statement.{statement}
 use Rattle.walk.proofs.placing.run.Tie as tie
 
 abbrev Inv-loop : tie.InvT-loop
-Inv-loop t names area o b nodes₀ attributes₀ cur₀ grown₀ nodes attributes cur grown =
+Inv-loop t names area mode o b nodes₀ attributes₀ cur₀ grown₀ nodes attributes cur grown =
     (length nodes ≡ length nodes₀) × (length attributes ≡ length attributes₀)
-    × ((g : Running t (lends names area) b o nodes₀ attributes₀ cur₀ grown₀) → RunHead t (lends names area) b o nodes₀ attributes₀ cur₀ grown₀ g nodes attributes cur grown)
+    × ((g : Running t (lends names area) b o nodes₀ attributes₀ cur₀ grown₀) → RunHead mode t (lends names area) b o nodes₀ attributes₀ cur₀ grown₀ g nodes attributes cur grown)
 
 abbrev μ-loop : tie.MeasureT-loop
-μ-loop t names area o b nodes₀ attributes₀ cur₀ grown₀ nodes attributes cur grown = steps b cur
+μ-loop t names area mode o b nodes₀ attributes₀ cur₀ grown₀ nodes attributes cur grown = steps b cur
 
 loop-holds : tie.Need-loop-holds Inv-loop μ-loop
-loop-holds c = (refl, refl, λ g. run-first _ _ _ _ _ _ _ _ g)
+loop-holds c = (refl, refl, λ g. run-first _ _ _ _ _ _ _ _ _ g)
 
 step-at-requires : tie.Need-step-at-requires Inv-loop μ-loop
 step-at-requires c κs =
@@ -36,8 +36,8 @@ place-requires c κs =
     let l = at-loop .loop in
     let s = at-step-at .step-at in
     let now = l .inv .2 (at-start .pre) .now in (
-      asks-for (a .t .now) (lends (a .names .now) (a .area .now)) (a .b .now) (a .o) (l .cur) (s .result) (now .ready) (now .within) (s .ensures),
-      fit-of (a .t .now) (lends (a .names .now) (a .area .now)) (a .b .now) (a .o) (l .nodes) (l .attributes) (l .cur) (l .grown) now,
+      asks-for (a .mode) (a .t .now) (lends (a .names .now) (a .area .now)) (a .b .now) (a .o) (l .cur) (s .result) (now .ready) (now .within) (s .ensures),
+      fit-of (a .mode) (a .t .now) (lends (a .names .now) (a .area .now)) (a .b .now) (a .o) (l .nodes) (l .attributes) (l .cur) (l .grown) now,
     )
 
 enum-known-p : tie.Need-enum-known-p Inv-loop μ-loop
@@ -54,7 +54,7 @@ loop-less c =
     let s = at-step-at .step-at in
     let q = at-place .place in
     let g = at-start .pre in
-    run-less (a .t .now) (lends (a .names .now) (a .area .now)) (a .b .now) (a .o) (a .nodes .now) (a .attributes .now) (a .c) (a .tree) g (l .nodes) (l .attributes)
+    run-less (a .mode) (a .t .now) (lends (a .names .now) (a .area .now)) (a .b .now) (a .o) (a .nodes .now) (a .attributes .now) (a .c) (a .tree) g (l .nodes) (l .attributes)
     (l .cur) (l .grown) (l .inv .2 g) (s .result) (s .ensures) (q .last .1 .1 .1 .1 .0) (q .last .1 .1 .1 .1 .1 .0) (q .kept .1 .1 .1 .1 .0)
     (q .kept .1 .1 .1 .1 .1 .0)
     (q .result) (q .ensures .0) (q .ensures .1) (c .before .p .given .0 .0) (c .before .p .given .1)
@@ -72,7 +72,7 @@ loop-again c =
       q .kept .1 .1 .1 .1 .0 ∙ l .inv .0,
       q .kept .1 .1 .1 .1 .1 .0 ∙ l .inv .1,
       λ g.
-          run-goes (a .t .now) (lends (a .names .now) (a .area .now)) (a .b .now) (a .o) (a .nodes .now) (a .attributes .now) (a .c) (a .tree) g (l .nodes)
+          run-goes (a .mode) (a .t .now) (lends (a .names .now) (a .area .now)) (a .b .now) (a .o) (a .nodes .now) (a .attributes .now) (a .c) (a .tree) g (l .nodes)
           (l .attributes)
           (l .cur) (l .grown) (l .inv .2 g) (s .result) (s .ensures) (q .last .1 .1 .1 .1 .0) (q .last .1 .1 .1 .1 .1 .0) (q .kept .1 .1 .1 .1 .0)
           (q .kept .1 .1 .1 .1 .1 .0)
@@ -99,7 +99,7 @@ returns c =
     let s = at-step-at .step-at in
     let q = at-place .place in
     λ g.
-    run-full (a .t .now) (lends (a .names .now) (a .area .now)) (a .b .now) (a .o) (a .nodes .now) (a .attributes .now) (a .c) (a .tree) g (l .nodes)
+    run-full (a .mode) (a .t .now) (lends (a .names .now) (a .area .now)) (a .b .now) (a .o) (a .nodes .now) (a .attributes .now) (a .c) (a .tree) g (l .nodes)
     (l .attributes)
     (l .cur) (l .grown) (l .inv .2 g) (s .result) (s .ensures) (q .last .1 .1 .1 .1 .0) (q .last .1 .1 .1 .1 .1 .0) (q .kept .1 .1 .1 .1 .0)
     (q .kept .1 .1 .1 .1 .1 .0)
@@ -125,7 +125,7 @@ returns-2 c =
     let s = at-step-at .step-at in
     let q = at-place .place in
     λ g.
-    run-due (a .t .now) (lends (a .names .now) (a .area .now)) (a .b .now) (a .o) (a .nodes .now) (a .attributes .now) (a .c) (a .tree) g (l .nodes)
+    run-due (a .mode) (a .t .now) (lends (a .names .now) (a .area .now)) (a .b .now) (a .o) (a .nodes .now) (a .attributes .now) (a .c) (a .tree) g (l .nodes)
     (l .attributes)
     (l .cur) (l .grown) (l .inv .2 g) (s .result) (s .ensures) (q .last .1 .1 .1 .1 .0) (q .last .1 .1 .1 .1 .1 .0) (q .kept .1 .1 .1 .1 .0)
     (q .kept .1 .1 .1 .1 .1 .0)
@@ -151,7 +151,7 @@ returns-3 c =
     let s = at-step-at .step-at in
     let q = at-place .place in
     λ g.
-    run-finished (a .t .now) (lends (a .names .now) (a .area .now)) (a .b .now) (a .o) (a .nodes .now) (a .attributes .now) (a .c) (a .tree) g (l .nodes)
+    run-finished (a .mode) (a .t .now) (lends (a .names .now) (a .area .now)) (a .b .now) (a .o) (a .nodes .now) (a .attributes .now) (a .c) (a .tree) g (l .nodes)
     (l .attributes)
     (l .cur) (l .grown) (l .inv .2 g) (s .result) (s .ensures) (q .last .1 .1 .1 .1 .0) (q .last .1 .1 .1 .1 .1 .0) (q .kept .1 .1 .1 .1 .0)
     (q .kept .1 .1 .1 .1 .1 .0)

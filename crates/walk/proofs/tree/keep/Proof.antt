@@ -37,7 +37,7 @@ same-length c = search needs
 
 returns-2 : tie.Need-returns-2
 returns-2 c =
-    let at-used = c .before .before .before .before .before in
+    let at-used = c .before .before .before .before .before .before in
     let at-from = at-used .before in
     let at-start = at-from .before .before .before .before .before .before .before in
     let a = at-start .args in
@@ -57,7 +57,7 @@ same-length-2 c = search needs
 
 returns-3 : tie.Need-returns-3
 returns-3 c =
-    let at-used = c .before .before .before .before .before .before in
+    let at-used = c .before .before .before .before .before .before .before in
     let at-from = at-used .before in
     let at-if1 = at-from .before in
     let at-start = at-if1 .before .before .before .before .before .before in
@@ -88,19 +88,19 @@ add-put-one-2 c = search needs
 sub-put-one : tie.Need-sub-put-one
 sub-put-one c =
     let half-way = c .before .before .before .before .before .before .before .before .before .before .before in
-    let at-start = half-way .before .before .before .before .before .before .before .before .before .before .before in
+    let at-start = half-way .before .before .before .before .before .before .before .before .before .before .before .before in
     omega (arith, at-start .pre .1 .sized .first)
 
 put-one-requires : tie.Need-put-one-requires
 put-one-requires c κs =
-    let at-if1 = c .before .before .before .before .before .before .before .before .before .before .before .before .before .before .before .before in
+    let at-if1 = c .before .before .before .before .before .before .before .before .before .before .before .before .before .before .before .before .before in
     let at-start = at-if1 .before .before .before .before .before .before in
     omega (arith, at-start .pre .1 .sized .nodes, c .before .before .node-place .ensures, at-if1 .if1 .left)
 
 kept-requires : tie.Need-kept-requires
 kept-requires c κs =
     let half-way = c .before .before .before .before .before .before .before .before .before .before .before .before in
-    let at-start = half-way .before .before .before .before .before .before .before .before .before .before .before .before .before in
+    let at-start = half-way .before .before .before .before .before .before .before .before .before .before .before .before .before .before in
     omega (arith, at-start .pre .1 .many)
 
 same-length-3 : tie.Need-same-length-3
@@ -117,7 +117,7 @@ returns-4 c =
     let at-if3 = at-put .before .before in
     let at-if2 = at-if3 .before in
     let at-has = at-if2 .before in
-    let at-used = at-has .before .before .before .before in
+    let at-used = at-has .before .before .before .before .before in
     let at-from = at-used .before in
     let at-if1 = at-from .before in
     let at-start = at-if1 .before .before .before .before .before .before in
