@@ -18,8 +18,9 @@ use Rattle.many_texts.specs.Many.{leaves, textsTo, wordsTo, valueOne, valuesAns
 use Rattle.c_api.specs.declared.values.AxmlValueAnswer.{AxmlValueAnswer}
 use Rattle.c_api.specs.declared.values.AxmlManyAnswer.{AxmlManyAnswer}
 
-abbrev pub attributeBy : ℕ → ℕ → ℕ → ℕ → ℕ → Attribute
-attributeBy owner prefix name kind «data» = record { owner = owner; prefix = prefix; name = record { 0 = name }; kind = kind; «data» = «data» }
+abbrev pub attributeBy : ℕ → ℕ → ℕ → ℕ → ℕ → ℕ → Attribute
+attributeBy owner prefix name kind «data» ns =
+    record { owner = owner; prefix = prefix; name = record { 0 = name }; kind = kind; «data» = «data»; ns = record { 0 = ns } }
 
 abbrev pub valueAnswerOf : ValueNumbers → AxmlValueAnswer
 valueAnswerOf n = record { refusal = n .refusal; value = n .value; length = n .length; uncovered = n .uncovered }

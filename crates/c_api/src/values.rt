@@ -68,9 +68,10 @@ pub extern "C" fn axml_value_text(
     name: u32,
     kind: u32,
     data: u32,
+    ns: u32,
 ) -> AxmlValueAnswer
     ensures { λ r. ⌜ AsksValue (now (file .entry)) (lends (now (names .entry)) (now (area .entry))) (now (items .entry)) (now («item_area» .entry))
-        (now (out .entry)) (attributeBy owner prefix name kind «data») r (now (out .exit)) ⌝ }
+        (now (out .entry)) (attributeBy owner prefix name kind «data» ns) r (now (out .exit)) ⌝ }
 {
     let attribute = Attribute {
         owner,
@@ -78,6 +79,7 @@ pub extern "C" fn axml_value_text(
         name: StringIndex(name),
         kind,
         data,
+        ns: StringIndex(ns),
     };
     let answer = value_text(file, names, area, items, item_area, out, attribute);
     value_answer_of(value_numbers(answer))

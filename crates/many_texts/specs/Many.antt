@@ -21,7 +21,7 @@ use Rattle.errors.specs.Refusal.{numberOf, manyNumbersOf}
 use Rattle.errors.specs.declared.Refusal.the-variants.{NothingFound, TextShort, TablesError, NoPlainText, AnswersFull}
 use Rattle.errors.specs.declared.ManyTexts.{ManyTexts}
 use Rattle.errors.specs.declared.ManyTexts.the-variants.{Answered, Refused}
-use Rattle.records.specs.Words.{attributeWidth, attributeOwner, attributePrefix, attributeName, attributeType, attributeData}
+use Rattle.records.specs.Words.{attributeWidth, attributeOwner, attributePrefix, attributeName, attributeType, attributeData, attributeNamespace}
 use Rattle.many_texts.specs.Words.{answerWidth, answerWords}
 use Rattle.system_types.specs.Names.{Lent}
 use Rattle.text.specs.Content.{Content, none, cut, some, textIn}
@@ -58,6 +58,7 @@ attributeAt w k =
       name = record { 0 = getD w (attributeWidth * k + attributeName) 0 };
       kind = getD w (attributeWidth * k + attributeType) 0;
       «data» = getD w (attributeWidth * k + attributeData) 0;
+      ns = record { 0 = getD w (attributeWidth * k + attributeNamespace) 0 };
     }
 
 -- ---- what all of them have

@@ -31,6 +31,7 @@ use head::open_file;
 use head::tables_of;
 use records::ATTRIBUTE_DATA;
 use records::ATTRIBUTE_NAME;
+use records::ATTRIBUTE_NAMESPACE;
 use records::ATTRIBUTE_OWNER;
 use records::ATTRIBUTE_PREFIX;
 use records::ATTRIBUTE_TYPE;
@@ -141,6 +142,7 @@ fn attribute_at(attributes: &[u32], k: usize) -> Attribute
         name: StringIndex(attributes[at + ATTRIBUTE_NAME]),
         kind: attributes[at + ATTRIBUTE_TYPE],
         data: attributes[at + ATTRIBUTE_DATA],
+        ns: StringIndex(attributes[at + ATTRIBUTE_NAMESPACE]),
     }
 }
 

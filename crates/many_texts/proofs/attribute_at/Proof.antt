@@ -52,6 +52,15 @@ mul-t22 c = search needs
 shared-slice-read-t24 : tie.Need-shared-slice-read-t24
 shared-slice-read-t24 c = search needs
 
+add-t26 : tie.Need-add-t26
+add-t26 c = search needs
+
+mul-t27 : tie.Need-mul-t27
+mul-t27 c = search needs
+
+shared-slice-read-t29 : tie.Need-shared-slice-read-t29
+shared-slice-read-t29 c = search needs
+
 returns : tie.Need-returns
 unfolding attributeAt
 returns c = cc
@@ -76,4 +85,7 @@ attribute-at-spec =
     add-t21
     mul-t22
     shared-slice-read-t24
+    add-t26
+    mul-t27
+    shared-slice-read-t29
     returns)
