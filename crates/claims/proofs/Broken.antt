@@ -22,7 +22,7 @@ use Rattle.anomaly.specs.Kept.{keptNotes}
 use Rattle.anomaly.specs.declared.Note.{Note}
 use Rattle.errors.specs.Refusal.{numbersOf, numberOf}
 use Rattle.errors.specs.declared.Numbers.{Numbers}
-use Rattle.errors.specs.declared.Refusal.the-variants.{TooLargeError, NotesOff}
+use Rattle.errors.specs.declared.Refusal.the-variants.{TooLargeError, NotesOff, ModeError}
 use Rattle.errors.specs.declared.ReadAnswer.{ReadAnswer}
 use Rattle.errors.specs.declared.ReadAnswer.the-variants.{Done, Refused}
 use Rattle.errors.specs.declared.ReadCounts.{ReadCounts}
@@ -33,7 +33,7 @@ use Rattle.system_types.specs.declared.NamesRead.{NamesRead}
 use Rattle.system_types.specs.declared.NamesRead.the-variants.{Good, Bad}
 use Rattle.head.specs.Head.{openedOf}
 use Rattle.head.specs.declared.Asker.the-variants.{Reading as Asking}
-use Rattle.head.specs.Entry.{passes, fails, firstOf, lengthCheck, keepsNone, namesCheckBy}
+use Rattle.head.specs.Entry.{passes, fails, firstOf, lengthCheck, keepsNone, namesCheckBy, isMode}
 use Rattle.events.specs.Events.{fileEvents}
 use Rattle.walk.specs.Settle.{Room, Out, settle}
 use Rattle.walk.specs.Reading.{Reading, refuses, reading, readingBy, settledIn, zeroNote, roomIn, Reads}
@@ -63,16 +63,19 @@ long-number r f lent h = rw (lt-ltb fileLimit (length f) h)
 
 empty-number : (r : Room) (lent : Lent) → _≡_ {A = ℕ} (numbersOf (reading r [] lent .answer) .refusal) 2 → ⊥
 unfolding reading lengthCheck numbersOf numberOf openedOf fileEvents settle
-empty-number r lent = go (keepsNone (Asking (r .cap))) (namesOf lent)
+empty-number r lent = go (keepsNone (Asking (r .cap) (r .mode))) (namesOf lent) (isMode (r .mode))
   where
     out : Out
     out = settledIn r [] lent (openedOf [])
 
-    go : (b : Bool) (n : NamesRead)
-        → _≡_ {A = ℕ} (numbersOf (readingBy r out (firstOf (lengthCheck [] ∷ cond b (fails NotesOff) passes ∷ namesCheckBy n ∷ passes ∷ [])) .answer) .refusal) 2 → ⊥
-    go true n e = let z : _≡_ {A = ℕ} 27 2 = e in omega arith
-    go false Good e = let z : _≡_ {A = ℕ} 1 2 = e in omega arith
-    go false (Bad k) e = let z : _≡_ {A = ℕ} 7 2 = e in omega arith
+    go : (b : Bool) (n : NamesRead) (m : Bool)
+        → _≡_ {A = ℕ}
+        (numbersOf (readingBy r out (firstOf (lengthCheck [] ∷ cond b (fails NotesOff) passes ∷ namesCheckBy n ∷ cond m passes (fails (ModeError (r .mode))) ∷ passes ∷ [])) .answer)
+        .refusal) 2 → ⊥
+    go true n m e = let z : _≡_ {A = ℕ} 27 2 = e in omega arith
+    go false (Bad k) m e = let z : _≡_ {A = ℕ} 7 2 = e in omega arith
+    go false Good false e = let z : _≡_ {A = ℕ} 16 2 = e in omega arith
+    go false Good true e = let z : _≡_ {A = ℕ} 1 2 = e in omega arith
 
 -- ---- what the promise says of starts and notes
 

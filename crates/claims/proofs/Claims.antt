@@ -220,15 +220,15 @@ module _ (f : List ℕ) (lent : Lent) (ns ats : List ℕ) (os : List Note) (cap 
   pub insertion-read : HasRoom a
       → left a ns₂ ats₂ os₂ ≡ withNotes (roomIn ns′ ats′ os′ cap′ mode) (left (Done c) ns₁ ats₁ os₁) c (keptNotes cap′ (placeNotes places))
   insertion-read room =
-      calls.insertion-read f lent ns ats os cap mode c ns₁ ats₁ os₁ first none places few limit ns′ ats′ os′ cap′ mode one a ns₂ ats₂ os₂ second room
+      calls.insertion-read f lent ns ats os cap mode c ns₁ ats₁ os₁ first none places few limit ns′ ats′ os′ cap′ one a ns₂ ats₂ os₂ second room
 
   pub insertion-read-same : length ns′ ≡ length ns → length ats′ ≡ length ats → HasRoom a → (ns₂ ≡ ns₁) × (ats₂ ≡ ats₁)
   insertion-read-same n m room =
-      calls.insertion-read-same f lent ns ats os cap mode c ns₁ ats₁ os₁ first none places few limit ns′ ats′ os′ cap′ mode one a ns₂ ats₂ os₂ second n m room
+      calls.insertion-read-same f lent ns ats os cap mode c ns₁ ats₁ os₁ first none places few limit ns′ ats′ os′ cap′ one a ns₂ ats₂ os₂ second n m room
 
   pub insertion-read-room : nodeWidth * c .nodes ≤ length ns′ → attributeWidth * c .attributes ≤ length ats′ → 2 * cap′ ≤ length os′ → HasRoom a
   insertion-read-room n m k =
-      calls.insertion-read-room f lent ns ats os cap mode c ns₁ ats₁ os₁ first none places few limit ns′ ats′ os′ cap′ mode one a ns₂ ats₂ os₂ second n m k
+      calls.insertion-read-room f lent ns ats os cap mode c ns₁ ats₁ os₁ first none places few limit ns′ ats′ os′ cap′ one a ns₂ ats₂ os₂ second n m k
 
 -- Text, content and first value, asked of the longer file, are those of the file: of any two results that the promises allow.
 module _ (r : Room) (f : List ℕ) (lent : Lent) (c : ReadCounts) (done : reading r f lent .answer ≡ Done c) (none : c .notes ≡ 0)
@@ -375,16 +375,16 @@ module _ (f : List ℕ) (lent : Lent) (ns ats ws : List ℕ) (cap mode : ℕ) (a
   pub c-insertion : isFullNumber (a′ .refusal) ≡ false
       → leftInC a′ ns₂ ats₂ ws₂ ≡ withNotesInC (length ns′) (length ats′) (length ws′) (leftInC a ns₁ ats₁ ws₁) (keptNotes cap′ (placeNotes places))
   c-insertion =
-      inC.insertion f lent ns ats ws cap mode a ns₁ ats₁ ws₁ first done none places few limit ns′ ats′ ws′ cap′ mode one a′ ns₂ ats₂ ws₂ second
+      inC.insertion f lent ns ats ws cap mode a ns₁ ats₁ ws₁ first done none places few limit ns′ ats′ ws′ cap′ one a′ ns₂ ats₂ ws₂ second
 
   pub c-insertion-same : length ns′ ≡ length ns → length ats′ ≡ length ats → isFullNumber (a′ .refusal) ≡ false → (ns₂ ≡ ns₁) × (ats₂ ≡ ats₁)
   c-insertion-same =
-      inC.insertion-same f lent ns ats ws cap mode a ns₁ ats₁ ws₁ first done none places few limit ns′ ats′ ws′ cap′ mode one a′ ns₂ ats₂ ws₂ second
+      inC.insertion-same f lent ns ats ws cap mode a ns₁ ats₁ ws₁ first done none places few limit ns′ ats′ ws′ cap′ one a′ ns₂ ats₂ ws₂ second
 
   pub c-insertion-room : nodeWidth * a .nodes ≤ length ns′ → attributeWidth * a .attributes ≤ length ats′ → noteWidth * (2 * cap′) ≤ length ws′
       → isFullNumber (a′ .refusal) ≡ false
   c-insertion-room =
-      inC.insertion-room f lent ns ats ws cap mode a ns₁ ats₁ ws₁ first done none places few limit ns′ ats′ ws′ cap′ mode one a′ ns₂ ats₂ ws₂ second
+      inC.insertion-room f lent ns ats ws cap mode a ns₁ ats₁ ws₁ first done none places few limit ns′ ats′ ws′ cap′ one a′ ns₂ ats₂ ws₂ second
 
 -- zeros
 module _ (f : List ℕ) (lent : Lent) (ns ats ws : List ℕ) (cap mode : ℕ) (a : AxmlAnswer) (ns′ ats′ ws′ : List ℕ) where

@@ -8,7 +8,7 @@ use lib.ListN.{length, drop}
 use lib.Dec.{eqb, ltb}
 use Rattle.chunk.specs.Walk.{turn, traceFrom, trace}
 use Rattle.anomaly.specs.declared.ResAnomaly.{ResAnomaly}
-use Rattle.anomaly.specs.declared.ResAnomaly.the-variants.{AttributeStartShifted, AttributeSizeMismatch, ElementTrailingBytes}
+use Rattle.anomaly.specs.declared.ResAnomaly.the-variants.{AttributeStartShifted, AttributeSizeMismatch, ElementTrailingBytes, InvalidElementName, UnclosedElements}
 use Rattle.records.specs.Words.{merged, apart}
 use Rattle.system_types.specs.Names.{Lent}
 use Rattle.text.specs.Content.{Content, contentOf, hasText, isAndroid, stateIn}
@@ -18,7 +18,8 @@ use Rattle.text.specs.declared.NameState.the-variants.{NoText, Invalid, Valid}
 use Rattle.head.specs.declared.HeadEnd.{HeadEnd}
 use Rattle.head.specs.declared.HeadEnd.the-variants.{Whole, TooSmall, HeaderSize, PoolShort, MapShort}
 use Rattle.head.specs.declared.Opened.{Opened}
-use Rattle.head.specs.Head.{garbageNotes, countNotes, offsetNotes}
+use Rattle.head.specs.Head.{garbageNotes, countNotes, offsetNotes, refusalOf}
+use Rattle.errors.specs.declared.Refusal.the-variants.{MissingRoot}
 use Rattle.xml_elements.specs.declared.XmlStartElement.{XmlStartElement}
 use Rattle.xml_elements.specs.declared.XmlAttributeElement.{XmlAttributeElement}
 use Rattle.xml_elements.specs.declared.Chunk.{Chunk}
@@ -30,7 +31,7 @@ use Rattle.xml_elements.specs.declared.Turn.the-variants.{Stop, Foreign, Met, C
 use Rattle.xml_elements.specs.Chunk.{strideOf, attributesAt, trailingOf, attributeAt, turnOf}
 use Rattle.events.specs.declared.Event.{Event}
 use Rattle.events.specs.declared.Event.the-variants.{Nothing, Open, Attribute, LeftOut, Close, Note, Refuse, Finish}
-use Rattle.events.specs.Events.{Names, prefixIn, namesIn, when, isValid, fixedOf, leading, attributeBy, attributeEvent, attributesOf, cutShort}
+use Rattle.events.specs.Events.{Names, prefixIn, namesIn, when, isValid, hasOne, fixedOf, leading, attributeBy, attributeEvent, attributesOf, cutShort}
 use Rattle.events.specs.Events.{fromLead, fromOpen, fromName, fromTrailing, fromSize, fromGap, Spot, chunkYield, cutYield, yieldOf, foreignNote}
 use Rattle.events.specs.Events.{lastOf, fromRoot, used, out, next, eventsOn, bodyEvents, notesOf, afterPool, fileEvents}
 use Rattle.claims.specs.Modes.{mergedPrefix}
@@ -64,12 +65,12 @@ merge-notes [] = refl
 merge-notes (x ∷ l) = ap (λ (m : List Event). Note x ∷ m) (merge-notes l)
 
 -- a list of which both parts are known
-merge-parts : {a b a′ b′ : List Event} → mergeAll a ≡ a′ → mergeAll b ≡ b′ → mergeAll (a ++ b) ≡ a′ ++ b′
-merge-parts {a} {b} p q = merge-append a b ∙ ap (λ (l : List Event). l ++ mergeAll b) p ∙ ap (λ (l : List Event). _ ++ l) q
+merge-parts : (a b : List Event) {a′ b′ : List Event} → mergeAll a ≡ a′ → mergeAll b ≡ b′ → mergeAll (a ++ b) ≡ a′ ++ b′
+merge-parts a b {a′} p q = merge-append a b ∙ ap (λ (l : List Event). l ++ mergeAll b) p ∙ ap (λ (l : List Event). a′ ++ l) q
 
-merge-cond : (c : Bool) {a b a′ b′ : List Event} → mergeAll a ≡ a′ → mergeAll b ≡ b′ → mergeAll (cond c a b) ≡ cond c a′ b′
-merge-cond true p q = p
-merge-cond false p q = q
+merge-cond : (c : Bool) (a b : List Event) {a′ b′ : List Event} → mergeAll a ≡ a′ → mergeAll b ≡ b′ → mergeAll (cond c a b) ≡ cond c a′ b′
+merge-cond true a b p q = p
+merge-cond false a b p q = q
 
 -- ---- a walk
 
@@ -77,9 +78,10 @@ module _ {S : Type 0} (used′ : List ℕ → S → ℕ) (out₁ out₂ : List �
     (outs : (l : List ℕ) (s : S) → mergeAll (out₂ l s) ≡ out₁ l s) (lasts : (s : S) → mergeAll (last s) ≡ last s) where
   traceFrom-map : (l : List ℕ) (n : ℕ) (s : S) → mergeAll (traceFrom used′ out₂ next′ last l n s) ≡ traceFrom used′ out₁ next′ last l n s
   unfolding traceFrom
-  traceFrom-map [] n s = merge-parts (outs [] s) (lasts s)
+  traceFrom-map [] n s = merge-parts (out₂ [] s) (last s) (outs [] s) (lasts s)
   traceFrom-map (x ∷ l) (suc n) s = traceFrom-map l n s
-  traceFrom-map (x ∷ l) zero s = merge-parts (outs (x ∷ l) s) (go (used′ (x ∷ l) s) (λ n. traceFrom-map l n (next′ (x ∷ l) s)))
+  traceFrom-map (x ∷ l) zero s =
+      merge-parts (out₂ (x ∷ l) s) (turn (used′ (x ∷ l) s) (last s) (λ n. traceFrom used′ out₂ next′ last l n (next′ (x ∷ l) s))) (outs (x ∷ l) s) (go (used′ (x ∷ l) s) (λ n. traceFrom-map l n (next′ (x ∷ l) s)))
     where
       go : (u : ℕ)
           → ((n : ℕ) → mergeAll (traceFrom used′ out₂ next′ last l n (next′ (x ∷ l) s)) ≡ traceFrom used′ out₁ next′ last l n (next′ (x ∷ l) s))
@@ -127,7 +129,8 @@ module _ (h : Head) (t : List ℕ) (lent : Lent) where
   module _ (s : XmlStartElement) (k : ℕ) (l : List ℕ) where
     lead-map : mergeAll (fromLead N₂ s k l) ≡ fromLead N₁ s k l
     unfolding fromLead
-    lead-map = merge-parts (merge-when (eqb k 0) leading) (attributes-map (s .«attribute_count») (strideOf s) (drop (attributesAt s) l))
+    lead-map =
+        merge-parts (when (eqb k 0) leading) (attributesOf N₂ (s .«attribute_count») (strideOf s) (drop (attributesAt s) l)) (merge-when (eqb k 0) leading) (attributes-map (s .«attribute_count») (strideOf s) (drop (attributesAt s) l))
 
     open-map : mergeAll (fromOpen N₂ s k l) ≡ fromOpen N₁ s k l
     unfolding fromOpen
@@ -135,25 +138,30 @@ module _ (h : Head) (t : List ℕ) (lent : Lent) where
 
     name-map : mergeAll (fromName N₂ s k l) ≡ fromName N₁ s k l
     unfolding fromName
-    name-map = merge-parts (merge-when (not (isValid (N₂ .state (s .name .0)))) _) open-map
+    name-map =
+        let e : Event = Note (InvalidElementName (s .name .0) (hasOne (N₂ .state (s .name .0)))) in
+        merge-parts (when (not (isValid (N₂ .state (s .name .0)))) e) (fromOpen N₂ s k l) (merge-when (not (isValid (N₂ .state (s .name .0)))) e) open-map
 
     trailing-map : (reach : ℕ) → mergeAll (fromTrailing N₂ s reach k l) ≡ fromTrailing N₁ s reach k l
     unfolding fromTrailing
     trailing-map reach =
-        merge-parts (merge-when (not (eqb (trailingOf s) 0)) (Note (ElementTrailingBytes (trailingOf s)))) (merge-cond (eqb reach 3) name-map refl)
+        merge-parts (when (not (eqb (trailingOf s) 0)) (Note (ElementTrailingBytes (trailingOf s)))) (cond (eqb reach 3) (fromName N₂ s k l) cutShort)
+        (merge-when (not (eqb (trailingOf s) 0)) (Note (ElementTrailingBytes (trailingOf s)))) (merge-cond (eqb reach 3) (fromName N₂ s k l) cutShort name-map refl)
 
     size-map : (reach : ℕ) → mergeAll (fromSize N₂ s reach k l) ≡ fromSize N₁ s reach k l
     unfolding fromSize
     size-map reach =
-        merge-parts
+        merge-parts (when (not (eqb (s .«attribute_count») 0) && ltb 20 (s .«attribute_size»)) (Note (AttributeSizeMismatch (s .«attribute_size»))))
+        (cond (ltb reach 2) cutShort (fromTrailing N₂ s reach k l))
         (merge-when (not (eqb (s .«attribute_count») 0) && ltb 20 (s .«attribute_size»)) (Note (AttributeSizeMismatch (s .«attribute_size»))))
-        (merge-cond (ltb reach 2) refl (trailing-map reach))
+        (merge-cond (ltb reach 2) cutShort (fromTrailing N₂ s reach k l) refl (trailing-map reach))
 
     gap-map : (reach : ℕ) → mergeAll (fromGap N₂ s reach k l) ≡ fromGap N₁ s reach k l
     unfolding fromGap
     gap-map reach =
-        merge-parts (merge-when (ltb 20 (s .«attribute_start»)) (Note (AttributeStartShifted (s .«attribute_start»))))
-        (merge-cond (eqb reach 0) refl (size-map reach))
+        merge-parts (when (ltb 20 (s .«attribute_start»)) (Note (AttributeStartShifted (s .«attribute_start»)))) (cond (eqb reach 0) cutShort (fromSize N₂ s reach k l))
+        (merge-when (ltb 20 (s .«attribute_start»)) (Note (AttributeStartShifted (s .«attribute_start»))))
+        (merge-cond (eqb reach 0) cutShort (fromSize N₂ s reach k l) refl (size-map reach))
 
   -- ---- a turn
 
@@ -181,22 +189,26 @@ module _ (h : Head) (t : List ℕ) (lent : Lent) where
 
   last-map : (p : Spot) → mergeAll (lastOf p) ≡ lastOf p
   last-map p =
-      merge-parts (merge-when (not (eqb (p .depth) 0)) _) (merge-when (eqb (p .starts) 0) _)
+      merge-parts (when (not (eqb (p .depth) 0)) (Note (UnclosedElements (p .depth)))) (fromRoot p) (merge-when (not (eqb (p .depth) 0)) (Note (UnclosedElements (p .depth))))
+      (merge-when (eqb (p .starts) 0) (Refuse MissingRoot))
 
   body-map : (b : List ℕ) → mergeAll (bodyEvents N₂ b) ≡ bodyEvents N₁ b
   unfolding bodyEvents eventsOn
-  body-map b = trace-map used (out N₁) (out N₂) next lastOf (λ l p. turn-map l p (turnOf l)) last-map b _
+  body-map b =
+      trace-map used (out N₁) (out N₂) next lastOf (λ l p. turn-map l p (turnOf l)) last-map b (record { run = 2; depth = 0; starts = 0 })
 
   -- ---- the file
 
   module _ (o : Opened) (b : List ℕ) where
     pool-map : (e : HeadEnd) → mergeAll (afterPool N₂ o t b e) ≡ afterPool N₁ o t b e
-    pool-map Whole = merge-parts (merge-notes (offsetNotes t o)) (body-map b)
-    pool-map (MapShort m) = merge-parts (merge-notes (offsetNotes t o)) refl
+    pool-map Whole = merge-parts (notesOf (offsetNotes t o)) (bodyEvents N₂ b) (merge-notes (offsetNotes t o)) (body-map b)
+    pool-map (MapShort m) = merge-parts (notesOf (offsetNotes t o)) (Refuse (refusalOf (MapShort m)) ∷ []) (merge-notes (offsetNotes t o)) refl
     pool-map (PoolShort e) = refl
     pool-map (TooSmall n) = refl
     pool-map (HeaderSize n) = refl
 
     pub merged-events : mergeAll (fileEvents N₂ o t b) ≡ fileEvents N₁ o t b
     unfolding fileEvents
-    merged-events = merge-parts (merge-notes (garbageNotes o)) (merge-parts (merge-notes (countNotes o)) (pool-map (o .end)))
+    merged-events =
+        merge-parts (notesOf (garbageNotes o)) (notesOf (countNotes o) ++ afterPool N₂ o t b (o .end)) (merge-notes (garbageNotes o))
+        (merge-parts (notesOf (countNotes o)) (afterPool N₂ o t b (o .end)) (merge-notes (countNotes o)) (pool-map (o .end)))

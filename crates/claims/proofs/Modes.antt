@@ -72,7 +72,7 @@ merged-not-own p = go (eqb p ownPrefix) refl
     go true e = refl
     go false e = e
 
-module _ (same : ℕ → ℕ → Bool) (trans : {i j k : ℕ} → same i j ≡ true → same j k ≡ true → same i k ≡ true) where
+module _ (same : ℕ → ℕ → Bool) (trans : (i j k : ℕ) → same i j ≡ true → same j k ≡ true → same i k ≡ true) where
   abbrev rule : Rule
   rule = byPrefix same
 
@@ -119,7 +119,7 @@ module _ (same : ℕ → ℕ → Bool) (trans : {i j k : ℕ} → same i j ≡ t
       sym (rule-plain o p n k v s (take attributeWidth w) plain) ∙ h in
       let y = both-true (eqb (getD (take attributeWidth w) 1 0) p) (same (getD (take attributeWidth w) 2 0) n) x in
       let z : rule (attributeWords o′ p n′ k′ v′ s′) (take attributeWidth w) ≡ true =
-      rule-plain o′ p n′ k′ v′ s′ (take attributeWidth w) plain ∙ rw (y .0, trans (y .1) eq) in
+      rule-plain o′ p n′ k′ v′ s′ (take attributeWidth w) plain ∙ rw (y .0, trans (getD (take attributeWidth w) 2 0) n n′ (y .1) eq) in
       rw z)
       (λ h. or-right (rule (attributeWords o′ p n′ k′ v′ s′) (take attributeWidth w))
       (repeat-other o p n k v s o′ n′ k′ v′ s′ plain eq c (drop attributeWidth w) h))
@@ -248,7 +248,9 @@ module _ (same : ℕ → ℕ → Bool) (trans : {i j k : ℕ} → same i j ≡ t
         first₁ = omega (arith, h .many₁);
         first₂ = omega (arith, h .many₂);
         all = h .all;
-        marks = λ k l. last-or (h .n) k l
+        marks = λ k l. last-or {P = λ (j : ℕ). Mark (t .attributes) (u .attributes)
+            (begin (t .nodes ++ nodeWords name fixed (parentIn (t .stack)) (h .m₁) 0 line) j)
+            (begin (u .nodes ++ nodeWords name fixed (parentIn (u .stack)) (h .m₂) 0 line) j)} (h .n) k l
             (λ j g.
             rw (
               word-old nodeWidth (t .nodes) (nodeWords name fixed (parentIn (t .stack)) (h .m₁) 0 line) (h .n) (h .nodes₁) j nodeFirst g (omega arith),
@@ -262,7 +264,7 @@ module _ (same : ℕ → ℕ → Bool) (trans : {i j k : ℕ} → same i j ≡ t
               low₂ = omega (arith, h .many₂);
               here = rw (← h .many₁, ← h .many₂, take-length (t .attributes), take-length (u .attributes)) (h .all);
             }));
-        covers = λ o p n k v s e. no-true (sym (rw (drop-length (u .attributes)) at e));
+        covers = λ o p n k v s e. no-true (rw (drop-length (u .attributes)) at e);
       })
 
   -- ---- an attribute
@@ -421,8 +423,8 @@ module _ (same : ℕ → ℕ → Bool) (trans : {i j k : ℕ} → same i j ≡ t
 -- ---- two readings
 
 -- texts that are equal to one are equal
-same-trans : (h : Head) (t : List ℕ) (lent : Lent) {i j k : ℕ} → sameName h t lent i j ≡ true → sameName h t lent j k ≡ true → sameName h t lent i k ≡ true
-same-trans h t lent {i} {j} {k} e f = go (contentOf h t lent i) (contentOf h t lent j) (contentOf h t lent k) e f
+same-trans : (h : Head) (t : List ℕ) (lent : Lent) (i j k : ℕ) → sameName h t lent i j ≡ true → sameName h t lent j k ≡ true → sameName h t lent i k ≡ true
+same-trans h t lent i j k e f = go (contentOf h t lent i) (contentOf h t lent j) (contentOf h t lent k) e f
   where
     go : (a b c : Content) → sameText a b ≡ true → sameText b c ≡ true → sameText a c ≡ true
     go a b c x y =

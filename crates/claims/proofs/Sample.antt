@@ -74,8 +74,8 @@ s-by-theorem =
     let done : reading room fileS (lends [] []) .answer ≡ Done counts = ap (λ (x : Reading). x .answer) s-reads in
     let few : length some ≤ placesIn fileS = rw (s-places .0) (omega arith) in
     let limit : length (insertedFile some fileS) ≤ fileLimit = rw s-limit (omega arith) in
-    insertion room fileS (lends [] []) counts done refl some few limit room (omega arith)
-    (insertion-room room fileS (lends [] []) counts done refl some few limit room (omega arith) (omega arith) (omega arith) (rw s-kept (omega arith)))
+    insertion room fileS (lends [] []) counts done refl some few limit room (omega arith) refl
+    (insertion-room room fileS (lends [] []) counts done refl some few limit room (omega arith) refl (omega arith) (omega arith) (rw s-kept (omega arith)))
     ∙ rw (s-reads, s-kept)
 
 pub s-by-computing : reading room (insertedFile some fileS) (lends [] []) ≡ expected
