@@ -252,11 +252,11 @@ struct axml_first_answer axml_first_value(const uint8_t *file, size_t file_bytes
 
 /* The text of an attribute's value in UTF-8, at the front of out and zeros behind it; zeros alone where it is refused (V1 to V12). No 0 ends it.
  * file, names, area: as for axml_read. items, item_words: the lent items, `struct axml_item` each, over item_area; 0 words are no items.
- * owner, prefix, name, type, data: the words of the attribute, as a table has them. */
+ * owner, prefix, name, type, data, ns: the words of the attribute, as a table has them. */
 struct axml_value_answer axml_value_text(const uint8_t *file, size_t file_bytes, const uint32_t *names, size_t name_words, const uint8_t *area,
                                          size_t area_bytes, const uint32_t *items, size_t item_words, const uint8_t *item_area,
                                          size_t item_area_bytes, uint8_t *out, size_t out_bytes, uint32_t owner, uint32_t prefix, uint32_t name,
-                                         uint32_t type, uint32_t data);
+                                         uint32_t type, uint32_t data, uint32_t ns);
 
 /* The texts of the values of the first attribute_count records of a table, one behind the other at the front of out, and for each a
  * `struct axml_part`, in the order of the records (V13 to V16). Names, items and head are checked once. out and answers have zeros behind the last.

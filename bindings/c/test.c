@@ -298,7 +298,7 @@ static void value(const char *what, const uint32_t *items, size_t item_words, si
   memset(out, 0xa5, sizeof out);
   memcpy(wanted, text, length);
   struct axml_value_answer r =
-      axml_value_text(S, S_BYTES, no_words, 0, no_bytes, 0, items, item_words, named, sizeof named, out, room, 9, prefix, name, type, data);
+      axml_value_text(S, S_BYTES, no_words, 0, no_bytes, 0, items, item_words, named, sizeof named, out, room, 9, prefix, name, type, data, 77);
   expect(r.refusal == refusal, what, "refusal");
   expect(r.value == number, what, "value");
   expect(r.length == length, what, "length");

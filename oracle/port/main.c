@@ -197,10 +197,10 @@ static void put_values(bytes file, names s, names items, const uint32_t *attribu
         if (a.refusal || a.count != count || a.length != needed || all[needed] != 0xa5) fail("many value texts are refused");
         zeros_behind(parts, AXML_PART_WORDS * (size_t)count, n);
         for (uint32_t k = 0; k < count; k++) {
-            const uint32_t *w = attributes + 5 * (size_t)k;
+            const uint32_t *w = attributes + AXML_ATTRIBUTE_WORDS * (size_t)k;
             const struct axml_part *p = (const struct axml_part *)parts + k;
             struct axml_value_answer v = axml_value_text(file.at, file.n, s.words, s.n, s.area, s.length, items.words, items.n, items.area,
-                                                         items.length, buffer, buffer_size, w[0], w[1], w[2], w[3], w[4]);
+                                                         items.length, buffer, buffer_size, w[0], w[1], w[2], w[3], w[4], w[5]);
             if (v.refusal == AXML_TEXT_SHORT) fail("a value text is longer than the buffer");
             if (v.refusal != p->refusal || v.length != p->length || v.uncovered != p->uncovered) fail("a value text by itself has other numbers");
             if (memcmp(buffer, all + p->start, p->length)) fail("a value text by itself is another");

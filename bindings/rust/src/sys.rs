@@ -157,7 +157,7 @@ extern "C" {
     fn axml_value_text(
         file: Bytes, file_bytes: usize, names: Words, name_words: usize, area: Bytes, area_bytes: usize,
         items: Words, item_words: usize, item_area: Bytes, item_area_bytes: usize, out: *mut u8, out_bytes: usize,
-        owner: u32, prefix: u32, name: u32, kind: u32, data: u32,
+        owner: u32, prefix: u32, name: u32, kind: u32, data: u32, ns: u32,
     ) -> ValueAnswer;
     fn axml_value_texts(
         file: Bytes, file_bytes: usize, names: Words, name_words: usize, area: Bytes, area_bytes: usize,
@@ -224,7 +224,7 @@ pub fn value_text(file: &[u8], names: &SystemNames, items: &Items, out: &mut [u8
         axml_value_text(
             file.as_ptr(), file.len(), w.as_ptr(), w.len(), a.as_ptr(), a.len(), items.words.as_ptr(), items.words.len(),
             items.area.as_ptr(), items.area.len(), out.as_mut_ptr(), out.len(), words[ATTRIBUTE_OWNER], words[ATTRIBUTE_PREFIX],
-            words[ATTRIBUTE_NAME], words[ATTRIBUTE_TYPE], words[ATTRIBUTE_DATA],
+            words[ATTRIBUTE_NAME], words[ATTRIBUTE_TYPE], words[ATTRIBUTE_DATA], words[ATTRIBUTE_NS],
         )
     }
 }
