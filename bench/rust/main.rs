@@ -128,7 +128,7 @@ fn values(names: &Names, items: &Names, rounds: usize, path: &str) {
     let file = std::fs::read(path).unwrap();
     let mut tables = Tables::of(file.len());
     let answer = tables.read(&file, names);
-    tables.attributes.truncate(5 * answer.attributes as usize);
+    tables.attributes.truncate(ours::ATTRIBUTE_WORDS * answer.attributes as usize);
     let asked = values::Asked::of(&file, &tables.attributes);
     let mut texts = values::Texts::of(&file, names, items, &tables.attributes);
     held(path, asked.equal(&texts));

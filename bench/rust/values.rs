@@ -1,6 +1,6 @@
 //! The texts of all attributes' values: the Rust's `to_string`, with `get_attr_value` before it, as axml.rs asks them; and ours, all at once.
 
-use crate::ours::Names;
+use crate::ours::{ATTRIBUTE_WORDS, Names};
 use apk_info_axml_valued::axml::ANDROID_NAMESPACE;
 use apk_info_axml_valued::head;
 use apk_info_axml_valued::structs::attrs_manifest::get_attr_value;
@@ -30,7 +30,7 @@ impl Asked {
     pub fn of(file: &[u8], attributes: &[u32]) -> Asked {
         let (pool, map) = head(file).unwrap();
         let attributes = attributes
-            .chunks_exact(5)
+            .chunks_exact(ATTRIBUTE_WORDS)
             .map(|w| {
                 let name = (w[1] != 2).then(|| pool.get_with_resources(w[2], &map, true).unwrap().into_owned());
                 (name, ResourceValue { size: 8, res: 0, data_type: ResourceValueType::from(w[3] as u8), data: w[4] })
@@ -87,7 +87,7 @@ pub struct Texts {
 
 impl Texts {
     pub fn of(file: &[u8], names: &Names, items: &Names, attributes: &[u32]) -> Texts {
-        let mut texts = Texts { out: vec![], parts: vec![0; 6 * (attributes.len() / 5)] };
+        let mut texts = Texts { out: vec![], parts: vec![0; 6 * (attributes.len() / ATTRIBUTE_WORDS)] };
         let a = texts.call(file, names, items, attributes);
         assert!(a.refusal == 11 && a.count == 0 && a.length == 0);
         texts.out = vec![0; a.value as usize];
@@ -102,7 +102,7 @@ impl Texts {
             axml_value_texts(
                 file.as_ptr(), file.len(), names.words.as_ptr(), names.words.len(), names.area.as_ptr(), names.area.len(), items.words.as_ptr(),
                 items.words.len(), items.area.as_ptr(), items.area.len(), attributes.as_ptr(), attributes.len(), out.as_mut_ptr(), out.len(),
-                parts.as_mut_ptr(), parts.len(), (attributes.len() / 5) as u32,
+                parts.as_mut_ptr(), parts.len(), (attributes.len() / ATTRIBUTE_WORDS) as u32,
             )
         }
     }

@@ -325,13 +325,13 @@ module _ (f : List ℕ) (lent : Lent) (ns ats : List ℕ) (os : List Note) (cap 
 
   -- Nothing is lost without a note (P7). The kept nodes are exactly the starts before the first, other than the very first, that never gets its end; and
   -- where a start is dropped, the last note is 12, with the number of starts that never get their end.
-  pub nothing-lost : (c : ReadCounts) → Reads f lent ns ats os cap (Done c) ns′ ats′ os′ → NothingLost (marksIn f) c ns′ os′
-  nothing-lost c h = lost.nothing-lost f lent ns ats os cap c ns′ ats′ os′ h
+  pub nothing-lost : (c : ReadCounts) → Reads f lent ns ats os cap mode (Done c) ns′ ats′ os′ → NothingLost (marksIn f) c ns′ os′
+  nothing-lost c h = lost.nothing-lost f lent ns ats os cap mode c ns′ ats′ os′ h
 
   -- so a reading without note 12 dropped no start that was read whole
-  pub unnoted-kept : (c : ReadCounts) → Reads f lent ns ats os cap (Done c) ns′ ats′ os′ → ofNumber 12 (take (c .notes) os′) ≡ 0
+  pub unnoted-kept : (c : ReadCounts) → Reads f lent ns ats os cap mode (Done c) ns′ ats′ os′ → ofNumber 12 (take (c .notes) os′) ≡ 0
       → c .nodes ≡ length (startNames (marksIn f))
-  unnoted-kept c h = lost.whole-kept f lent ns ats os cap c ns′ ats′ os′ h
+  unnoted-kept c h = lost.whole-kept f lent ns ats os cap mode c ns′ ats′ os′ h
 
 module _ (f : List ℕ) (lent : Lent) (before : List ℕ) (i : ℕ) (after : List ℕ) where
   pub text-refused-zeros : (x : Refusal) → TextReads f lent before i (textIs.Refused x) after

@@ -103,23 +103,23 @@ module _ (rule : Rule) (r : Room) (es : List Event) (t : Tables) (e : settle rul
 
 -- ---- a reading
 
-module _ (f : List ℕ) (lent : Lent) (ns ats : List ℕ) (os : List Note) (cap : ℕ) (c : ReadCounts) (ns′ ats′ : List ℕ) (os′ : List Note)
-    (reads : Reads f lent ns ats os cap (Done c) ns′ ats′ os′) where
+module _ (f : List ℕ) (lent : Lent) (ns ats : List ℕ) (os : List Note) (cap mode : ℕ) (c : ReadCounts) (ns′ ats′ : List ℕ) (os′ : List Note)
+    (reads : Reads f lent ns ats os cap mode (Done c) ns′ ats′ os′) where
   abbrev es : List Event
-  es = eventsOf f lent
+  es = eventsOf mode f lent
 
   abbrev ms : List Mark
   ms = marksIn f
 
   shape : Structured es cap c ns′ ats′ os′
-  shape = tree.structured f lent ns ats os cap c ns′ ats′ os′ reads
+  shape = tree.structured f lent ns ats os cap mode c ns′ ats′ os′ reads
 
   marks : eventMarks es ≡ ms
   marks =
-      file-marks (namesFor f lent) (openedOf f) (tablesIn f (openedOf f .head)) (bodyIn f (openedOf f .head)) (tree.stays f lent ns ats os cap c ns′ ats′ os′ reads)
+      file-marks (namesFor mode f lent) (openedOf f) (tablesIn f (openedOf f .head)) (bodyIn f (openedOf f .head)) (tree.stays f lent ns ats os cap mode c ns′ ats′ os′ reads)
 
   walk : WalkedFile es
-  walk = tree.walk f lent ns ats os cap c ns′ ats′ os′ reads
+  walk = tree.walk f lent ns ats os cap mode c ns′ ats′ os′ reads
 
   deep : depthFrom 0 es ≡ stillOpen ms
   deep =
@@ -134,14 +134,14 @@ module _ (f : List ℕ) (lent : Lent) (ns ats : List ℕ) (os : List Note) (cap 
   all-starts = shape .starts ∙ events-starts es ∙ ap (λ (x : List Mark). length (startNames x)) marks
 
   one : 1 ≤ cap
-  one = success (roomIn ns ats os cap) f lent c (sym (numbersOf-unique (Done c) (reading (roomIn ns ats os cap) f lent .answer) (reads .answer))) .cap
+  one = success (roomIn ns ats os cap mode) f lent c (sym (numbersOf-unique (Done c) (reading (roomIn ns ats os cap mode) f lent .answer) (reads .answer))) .cap
 
   pub nothing-lost : NothingLost ms c ns′ os′
   nothing-lost = record {
     starts = all-starts;
     kept =
-        let d = done-by f lent ns ats os cap c ns′ ats′ os′ reads in
-        d .nodes ∙ settled-kept _ _ es (d .tables) (d .out) _ (done-shaped f lent ns ats os cap (d .tables) (d .out) .stack) ∙ ap keptOf marks;
+        let d = done-by f lent ns ats os cap mode c ns′ ats′ os′ reads in
+        d .nodes ∙ settled-kept _ _ es (d .tables) (d .out) _ (done-shaped f lent ns ats os cap mode (d .tables) (d .out) .stack) ∙ ap keptOf marks;
     names = λ k l. shape .names k l ∙ ap (λ (x : List ℕ). getD x k 0) (events-names es ∙ ap startNames marks);
     lines = λ k l. shape .lines k l ∙ ap (λ (x : List ℕ). getD x k 0) (events-lines es ∙ ap startLines marks);
     parents = shape .parents;
@@ -150,7 +150,7 @@ module _ (f : List ℕ) (lent : Lent) (ns ats : List ℕ) (os : List Note) (cap 
         record {
           before = map noteOf kept;
           split =
-              tree.notes-kept f lent ns ats os cap c ns′ ats′ os′ reads
+              tree.notes-kept f lent ns ats os cap mode c ns′ ats′ os′ reads
               ∙ ap (map noteOf) (walked-last es walk cap one (λ z. omega (arith, shape .closed z)))
               ∙ map-append noteOf kept (UnclosedElements (depthFrom 0 es) ∷ [])
               ∙ ap (λ (x : Note). map noteOf kept ++ (x ∷ [])) (twelve (depthFrom 0 es) ∙ ap (λ (n : ℕ). made 12 n 0) deep);
