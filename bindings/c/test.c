@@ -152,6 +152,45 @@ static void first(const char *what, const char *tag, const char *name, uint32_t 
   expect(r.reference == (refusal == 0 && type == 1), what, "reference");
 }
 
+/* Pairs over the area "aandroid": `a` and `android` are found, with type and data of the table; the list has garbage in it before the call, and what
+ * lies behind its words stays garbage. */
+enum { ANSWERS = 15 };
+
+static void many(const char *what, size_t bytes, const uint32_t *pairs, size_t pair_words, size_t answer_words, uint32_t node_count, uint32_t refusal,
+                 uint64_t value, const uint32_t *wanted) {
+  const uint32_t tree[5] = {ROOT}, owned[5] = {0, AXML_PREFIX_XMLNS, 0, 1, 9};
+  uint32_t answers[ANSWERS];
+  memset(answers, 0xa5, sizeof answers);
+  struct axml_many_answer r = axml_first_values(S, bytes, no_words, 0, no_bytes, 0, tree, 5, owned, 5, pairs, pair_words, (const uint8_t *)"aandroid", 8,
+                                                answers, answer_words, node_count, 1);
+  expect(r.refusal == refusal, what, "refusal");
+  expect(r.value == value, what, "value");
+  expect(r.count == (refusal ? 0 : pair_words / AXML_PAIR_WORDS), what, "count");
+  expect(memcmp(answers, wanted, 4 * answer_words) == 0, what, "words of answers");
+  for (size_t i = answer_words; i < ANSWERS; i++) expect(answers[i] == 0xa5a5a5a5u, what, "behind the answers");
+}
+
+static void many_pairs(void) {
+  const uint32_t nothing[ANSWERS] = {0};
+  const uint32_t pairs[12] = {0, 1, 1, 7, 0, 1, 0, 1, 1, 7, 8, 0};
+  const uint32_t found[ANSWERS] = {AXML_DONE, 1, 9, 1, AXML_NOTHING_FOUND, 0, 0, 0, AXML_NOTHING_FOUND};
+  many("three pairs", S_BYTES, pairs, 12, 12, 1, AXML_DONE, 0, found);
+  many("three pairs, words left over", S_BYTES, pairs, 12, 15, 1, AXML_DONE, 0, found);
+  const uint32_t first_alone[ANSWERS] = {AXML_DONE, 1, 9, 1};
+  many("one pair in fifteen words", S_BYTES, pairs, 4, 15, 1, AXML_DONE, 0, first_alone);
+  many("no pairs", S_BYTES, no_words, 0, 3, 1, AXML_DONE, 0, nothing);
+  many("no pairs, no words", S_BYTES, no_words, 0, 0, 1, AXML_DONE, 0, nothing);
+  many("two places for three pairs", S_BYTES, pairs, 12, 11, 1, AXML_ANSWERS_FULL, 2, nothing);
+  many("eleven words of pairs", S_BYTES, pairs, 11, 15, 1, AXML_PAIRS, 2, nothing);
+  many("eleven words, two bad pairs and no place", S_BYTES, (const uint32_t[11]){0, 1, 1, 7, 0, 9, 0, 1, 1, 7, 8}, 11, 3, 1, AXML_PAIRS, 1, nothing);
+  many("a name past the end", S_BYTES, (const uint32_t[8]){0, 1, 1, 7, 0, 1, 9, 0}, 8, 15, 1, AXML_PAIRS, 1, nothing);
+  many("a sum that would wrap", S_BYTES, (const uint32_t[4]){4294967295u, 1, 0, 1}, 4, 15, 1, AXML_PAIRS, 0, nothing);
+  many("two nodes in five words", S_BYTES, pairs, 11, 3, 2, AXML_TABLES, 2, nothing);
+  many("two nodes in five words, no pairs", S_BYTES, no_words, 0, 3, 2, AXML_TABLES, 2, nothing);
+  many("8 bytes", 8, pairs, 11, 3, 2, AXML_POOL_HEADER, 8, nothing);
+  many("7 bytes, no pairs", 7, no_words, 0, 0, 1, AXML_TOO_SMALL, 7, nothing);
+}
+
 /* The place of a content in what was lent, and its bytes there. */
 static void content(const char *what, const uint8_t *bytes, size_t count, const uint32_t *names, size_t name_words, const char *area, size_t area_bytes,
                     uint32_t index, uint32_t slice, uint64_t start, uint64_t length, const char *wanted) {
@@ -206,6 +245,7 @@ int main(void) {
   readings();
   questions();
   contents();
+  many_pairs();
   printf("test: %u checks, %u wrong\n", checks, failures);
   return failures != 0;
 }

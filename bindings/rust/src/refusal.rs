@@ -30,6 +30,10 @@ pub enum Refusal {
     NothingFound,
     /// The lent tables do not fit the question, with the number of nodes, or the first bad one.
     Tables(u64),
+    /// A pair does not lie in its area, or words remain, with the first such pair, or how many whole ones there are.
+    Pairs(u64),
+    /// There are more pairs than places for answers, with the places that there are.
+    AnswersFull(u64),
     /// A count of a round-up would pass 4,294,967,295.
     RoundUpFull,
     /// A chunk in the string pool's place is cut, with the file offset at which its bytes should begin.
@@ -66,6 +70,8 @@ impl Refusal {
             11 => Refusal::TextShort(value),
             12 => Refusal::NothingFound,
             13 => Refusal::Tables(value),
+            20 => Refusal::Pairs(value),
+            21 => Refusal::AnswersFull(value),
             29 => Refusal::RoundUpFull,
             41 => Refusal::PoolGarbage(value),
             42 => Refusal::PoolHeader(value),
@@ -92,6 +98,8 @@ impl Refusal {
             Refusal::TextShort(_) => 11,
             Refusal::NothingFound => 12,
             Refusal::Tables(_) => 13,
+            Refusal::Pairs(_) => 20,
+            Refusal::AnswersFull(_) => 21,
             Refusal::RoundUpFull => 29,
             Refusal::PoolGarbage(_) => 41,
             Refusal::PoolHeader(_) => 42,
@@ -110,7 +118,7 @@ impl Refusal {
             Refusal::TooSmall(v) | Refusal::HeaderSize(v) | Refusal::SystemNames(v) | Refusal::NodesFull(v) => v,
             Refusal::AttributesFull(v) | Refusal::NotesFull(v) | Refusal::TextShort(v) | Refusal::Tables(v) => v,
             Refusal::PoolGarbage(v) | Refusal::PoolHeader(v) | Refusal::PoolOffsets(v) | Refusal::PoolStyles(v) | Refusal::PoolData(v) => v,
-            Refusal::MapHeader(v) | Refusal::MapIds(v) | Refusal::Other(_, v) => v,
+            Refusal::Pairs(v) | Refusal::AnswersFull(v) | Refusal::MapHeader(v) | Refusal::MapIds(v) | Refusal::Other(_, v) => v,
             Refusal::TooLarge | Refusal::NoElement | Refusal::NothingFound | Refusal::RoundUpFull => 0,
         }
     }
@@ -129,6 +137,8 @@ impl Refusal {
             Refusal::TextShort(_) => "the buffer is too short for the text",
             Refusal::NothingFound => "nothing was found",
             Refusal::Tables(_) => "the tables do not fit the question",
+            Refusal::Pairs(_) => "the pairs do not lie in their area",
+            Refusal::AnswersFull(_) => "the list of answers is full",
             Refusal::RoundUpFull => "a count of the round-up is full",
             Refusal::PoolGarbage(_) => "the chunk before the string pool is cut short",
             Refusal::PoolHeader(_) => "the string pool's header is cut short",
@@ -150,7 +160,8 @@ impl fmt::Display for Refusal {
             Refusal::TooLarge => write!(f, " (at most {} bytes are read)", crate::LONGEST_FILE),
             Refusal::HeaderSize(n) => write!(f, " but {n} (an APK is a zip: take AndroidManifest.xml out of it first)"),
             Refusal::SystemNames(n) => write!(f, " at entry {n} (ids rise and have the top byte 1, names are ASCII and not empty)"),
-            Refusal::NodesFull(n) | Refusal::AttributesFull(n) | Refusal::NotesFull(n) => write!(f, " ({n} places)"),
+            Refusal::Pairs(n) => write!(f, " at pair {n}"),
+            Refusal::NodesFull(n) | Refusal::AttributesFull(n) | Refusal::NotesFull(n) | Refusal::AnswersFull(n) => write!(f, " ({n} places)"),
             Refusal::TextShort(n) => write!(f, " ({n} bytes are needed)"),
             Refusal::Tables(n) => write!(f, " ({n})"),
             Refusal::PoolGarbage(n) | Refusal::PoolHeader(n) | Refusal::PoolData(n) | Refusal::MapHeader(n) => write!(f, ": byte {n} should be the first of it"),

@@ -5,7 +5,7 @@
 use crate::SystemNames;
 
 /// The form of the C interface that this file declares: the header's AXML_ABI.
-pub const ABI: u32 = 3;
+pub const ABI: u32 = 4;
 
 /// Bytes of the longest file that is read.
 pub const LONGEST_FILE: usize = 16_777_216;
@@ -35,6 +35,14 @@ pub const NOTE_WORDS: usize = 3;
 pub const NOTE_KIND: usize = 0;
 pub const NOTE_A: usize = 1;
 pub const NOTE_B: usize = 2;
+
+/// Words of a pair: where tag and name begin in the area, and their lengths, by turns.
+pub const PAIR_WORDS: usize = 4;
+/// Words of the answer to a pair, and the place of each.
+pub const PAIR_ANSWER_WORDS: usize = 4;
+pub const PAIR_ANSWER_REFUSAL: usize = 0;
+pub const PAIR_ANSWER_TYPE: usize = 1;
+pub const PAIR_ANSWER_DATA: usize = 2;
 
 /// Words of a round-up, and the place of each.
 pub const ROUND_UP_WORDS: usize = 132;
@@ -88,6 +96,13 @@ pub struct FirstAnswer {
 }
 
 #[repr(C)]
+pub struct ManyAnswer {
+    pub refusal: u32,
+    pub value: u64,
+    pub count: u64,
+}
+
+#[repr(C)]
 pub struct AddAnswer {
     pub refusal: u32,
     pub value: u64,
@@ -114,6 +129,11 @@ extern "C" {
         nodes: Words, node_words: usize, attributes: Words, attribute_words: usize,
         tag: Bytes, tag_bytes: usize, name: Bytes, name_bytes: usize, node_count: u32, attribute_count: u32,
     ) -> FirstAnswer;
+    fn axml_first_values(
+        file: Bytes, file_bytes: usize, names: Words, name_words: usize, area: Bytes, area_bytes: usize,
+        nodes: Words, node_words: usize, attributes: Words, attribute_words: usize, pairs: Words, pair_words: usize, pair_area: Bytes, pair_area_bytes: usize,
+        answers: MutWords, answer_words: usize, node_count: u32, attribute_count: u32,
+    ) -> ManyAnswer;
     fn axml_round_up_add(
         round_up: MutWords, round_up_words: usize, notes: Words, note_words: usize, refusal: u32, note_count: u32, file_bytes: usize,
     ) -> AddAnswer;
@@ -158,6 +178,20 @@ pub fn first_value(file: &[u8], names: &SystemNames, nodes: &[u32], attributes: 
         axml_first_value(
             file.as_ptr(), file.len(), w.as_ptr(), w.len(), a.as_ptr(), a.len(), nodes.as_ptr(), nodes.len(), attributes.as_ptr(), attributes.len(),
             tag.as_ptr(), tag.len(), name.as_ptr(), name.len(), node_count, attribute_count,
+        )
+    }
+}
+
+pub fn first_values(
+    file: &[u8], names: &SystemNames, nodes: &[u32], attributes: &[u32], pairs: &[u32], pair_area: &[u8], answers: &mut [u32],
+) -> ManyAnswer {
+    same_form();
+    let (w, a) = (&names.words, &names.area);
+    let (node_count, attribute_count) = ((nodes.len() / NODE_WORDS) as u32, (attributes.len() / ATTRIBUTE_WORDS) as u32);
+    unsafe {
+        axml_first_values(
+            file.as_ptr(), file.len(), w.as_ptr(), w.len(), a.as_ptr(), a.len(), nodes.as_ptr(), nodes.len(), attributes.as_ptr(), attributes.len(),
+            pairs.as_ptr(), pairs.len(), pair_area.as_ptr(), pair_area.len(), answers.as_mut_ptr(), answers.len(), node_count, attribute_count,
         )
     }
 }

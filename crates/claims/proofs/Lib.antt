@@ -42,3 +42,4 @@ pub mod InC
 pub mod Lists
 pub mod Claims
 pub mod Month
+pub mod Many
