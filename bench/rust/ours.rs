@@ -24,8 +24,8 @@ const CAP: usize = 16;
 
 /// System names: three words for each, and the bytes that they lie in.
 pub struct Names {
-    words: Vec<u32>,
-    area: Vec<u8>,
+    pub words: Vec<u32>,
+    pub area: Vec<u8>,
 }
 
 impl Names {

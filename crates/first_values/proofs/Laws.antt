@@ -1,5 +1,5 @@
 -- Laws of specs/Pairs.antt, for this crate. No contract cites this file.
--- In order: a pair by the words at its place (`words-..`), pair by pair whether it lies inside (`pairsFrom-..`, `pairsOf-..`), the answers one
+-- In order: a pair by the words at its place (`words-..`), the tag of the one before it (`repeats-before`), pair by pair whether it lies inside (`pairsFrom-..`, `pairsOf-..`), the answers one
 -- behind the other (`answersFrom-..`, `answers-put`), the node of a pair (`node-..`), what is left behind (`gives-..`), and the call by whether
 -- the file is open (`many-open`, `many-closed`).
 use Prim.Native.Nat.{ℕ, zero, suc, _+_, _-_, _*_, _/_, _%_, _≤_, _<_}
@@ -8,13 +8,14 @@ use mathlib.Core.Path.{_≡_, refl, sym, _∙_, ap}
 use mathlib.Core.List.{List, [], _∷_, _++_, append-nil, append-assoc}
 use mathlib.Core.Bool.{Bool, true, false, cond}
 use borrow.Author.Tests.{le-leb, lt-leb, eq-eqb, ne-eqb}
-use lib.ListN.{length, take, drop, getD, replicate, length-append}
+use lib.ListN.{length, take, drop, getD, replicate, length-append, length-drop}
 use lib.Seq.{drop-drop, getD-drop, take-at, drop-append-add}
 use lib.Dec.{leb, eqb}
-use Rattle.errors.specs.Refusal.{pairNumbersOf}
+use Rattle.errors.specs.Refusal.{firstNumbersOf, pairNumbersOf}
 use Rattle.errors.specs.declared.Refusal.{Refusal}
 use Rattle.errors.specs.declared.Refusal.the-variants.{PairsError, AnswersFull}
 use Rattle.errors.specs.declared.FirstAnswer.{FirstAnswer}
+use Rattle.errors.specs.declared.FirstNumbers.{FirstNumbers}
 use Rattle.errors.specs.declared.ManyAnswer.{ManyAnswer}
 use Rattle.errors.specs.declared.ManyAnswer.the-variants.{Answered, Refused}
 use Rattle.head.specs.Head.{tablesIn}
@@ -23,41 +24,53 @@ use Rattle.head.proofs.Zeros.{zero-behind}
 use Rattle.items.specs.Items.{partIn}
 use Rattle.records.specs.Words.{pairWidth, pairTag, pairTagLength, pairName, pairNameLength, answerWidth}
 use Rattle.records.proofs.Places.{drop-record}
+use Rattle.utf.specs.Text.{eqBytes}
+use Rattle.utf.proofs.Equal.{eqBytes-true}
 use Rattle.system_types.specs.Names.{Lent}
 use Rattle.text.specs.declared.Head.{Head}
-use Rattle.first_value.specs.Question.{sharedOf}
+use Rattle.first_value.specs.Question.{sharedOf, valueBy}
 use Rattle.first_value.specs.declared.NodeFound.{NodeFound}
 use Rattle.first_value.proofs.Search.{first-shared}
-use Rattle.first_values.specs.Pairs.{isInside, pairInside, tagIn, nameIn, tagOf, nameOf, pairsFrom, pairsOf, answerTo, answersFrom, manyBy, listBy}
+use Rattle.first_values.specs.Pairs.{isInside, pairInside, tagIn, nameIn, tagOf, nameOf, pairsFrom, pairsOf, numberWords, answerTo, answersFrom, manyBy, listBy}
 use Rattle.first_values.specs.Pairs.{asks, manyAnswer, answersAfter, ManyReads}
-use Rattle.first_values.specs.Inner.Known.{asksIn, NodeOf, Repeats, Gives}
+use Rattle.first_values.specs.Inner.Known.{findsIn, asksIn, NodeOf, Repeats, Gives}
 use Rattle.first_values.specs.declared.PairsRead.{PairsRead}
 use Rattle.first_values.specs.declared.PairsRead.the-variants.{Whole, Bad}
 
--- ---- a pair by the words at its place, j being where they begin
+-- ---- a pair by the words at its place
 
-module _ (area w : List ℕ) {j k : ℕ} (at : j ≡ pairWidth * k) where
-  word : (n : ℕ) → getD w (j + n) 0 ≡ getD (drop (pairWidth * k) w) n 0
-  word n = ap (λ (x : ℕ). getD w (x + n) 0) at ∙ sym (getD-drop (pairWidth * k) w n 0)
+module _ (area w : List ℕ) (k : ℕ) where
+  word : (n : ℕ) → getD w (pairWidth * k + n) 0 ≡ getD (drop (pairWidth * k) w) n 0
+  word n = sym (getD-drop (pairWidth * k) w n 0)
 
-  pub words-tag : {s : List ℕ} → s ≡ partIn area (getD w (j + pairTag) 0) (getD w (j + pairTagLength) 0) → s ≡ tagOf w area k
+  pub words-tag : {s : List ℕ} → s ≡ partIn area (getD w (pairWidth * k + pairTag) 0) (getD w (pairWidth * k + pairTagLength) 0) → s ≡ tagOf w area k
   words-tag e = e ∙ rw (word pairTag, word pairTagLength)
 
-  pub words-name : {s : List ℕ} → s ≡ partIn area (getD w (j + pairName) 0) (getD w (j + pairNameLength) 0) → s ≡ nameOf w area k
+  pub words-name : {s : List ℕ} → s ≡ partIn area (getD w (pairWidth * k + pairName) 0) (getD w (pairWidth * k + pairNameLength) 0) → s ≡ nameOf w area k
   words-name e = e ∙ rw (word pairName, word pairNameLength)
 
   pub words-outside
-      : {b : Bool} → b ≡ isInside area (getD w (j + pairTag) 0) (getD w (j + pairTagLength) 0) → b ≡ false
+      : {b : Bool} → b ≡ isInside area (getD w (pairWidth * k + pairTag) 0) (getD w (pairWidth * k + pairTagLength) 0) → b ≡ false
       → false ≡ pairInside area (drop (pairWidth * k) w)
-  words-outside e q = let e′ : isInside area (getD (drop (pairWidth * k) w) pairTag 0) (getD (drop (pairWidth * k) w) pairTagLength 0) ≡ false =
-      rw (← word pairTag, ← word pairTagLength) (sym e ∙ q) in rw e′
+  words-outside e q =
+      let e′ : isInside area (getD (drop (pairWidth * k) w) pairTag 0) (getD (drop (pairWidth * k) w) pairTagLength 0) ≡ false =
+      rw (← word pairTag, ← word pairTagLength) (sym e ∙ q) in
+      rw e′
 
   pub words-inside
-      : {a b : Bool} → a ≡ isInside area (getD w (j + pairTag) 0) (getD w (j + pairTagLength) 0) → a ≡ true
-      → b ≡ isInside area (getD w (j + pairName) 0) (getD w (j + pairNameLength) 0)
+      : {a b : Bool} → a ≡ isInside area (getD w (pairWidth * k + pairTag) 0) (getD w (pairWidth * k + pairTagLength) 0) → a ≡ true
+      → b ≡ isInside area (getD w (pairWidth * k + pairName) 0) (getD w (pairWidth * k + pairNameLength) 0)
       → b ≡ pairInside area (drop (pairWidth * k) w)
-  words-inside e q f = let e′ : isInside area (getD (drop (pairWidth * k) w) pairTag 0) (getD (drop (pairWidth * k) w) pairTagLength 0) ≡ true =
-      rw (← word pairTag, ← word pairTagLength) (sym e ∙ q) in f ∙ rw (e′, word pairName, word pairNameLength)
+  words-inside e q f =
+      let e′ : isInside area (getD (drop (pairWidth * k) w) pairTag 0) (getD (drop (pairWidth * k) w) pairTagLength 0) ≡ true =
+      rw (← word pairTag, ← word pairTagLength) (sym e ∙ q) in
+      f ∙ rw (e′, word pairName, word pairNameLength)
+
+-- the tag of the pair before it
+pub repeats-before : (pairs area : List ℕ) (k : ℕ) {s s′ : List ℕ} {b : Bool} → 1 ≤ k → s ≡ tagOf pairs area k → s′ ≡ tagOf pairs area (k - 1)
+    → b ≡ eqBytes s s′ → b ≡ true → Repeats pairs area k
+repeats-before pairs area k {s} {s′} p e f g q =
+    record { before = k - 1; next = (let z : k ≡ k - 1 + 1 = omega (arith, p) in z); same = sym e ∙ eqBytes-true s s′ (sym g ∙ q) ∙ f }
 
 -- ---- whether all lie inside
 
@@ -80,6 +93,19 @@ module _ (area : List ℕ) (left n : ℕ) (w : List ℕ) (k : ℕ) where
   pub pairsFrom-next : {b : Bool} → k < n → b ≡ pairInside area (drop (pairWidth * k) w) → b ≡ true
       → pairsFrom area left k (n - k) (drop (pairWidth * k) w) ≡ pairsFrom area left (k + 1) (n - (k + 1)) (drop (pairWidth * (k + 1)) w)
   pairsFrom-next p e q = pairsFrom-step p ∙ rw (← e, q)
+
+  -- behind the last pair
+  pub pairsFrom-left : n ≤ k → k ≤ n → (left ≡ 0 → ⊥) → pairsFrom area left k (n - k) (drop (pairWidth * k) w) ≡ Bad n
+  pairsFrom-left p q z = pairsFrom-end p ∙ rw (ne-eqb left 0 z) (ap Bad (let e : k ≡ n = omega arith in e))
+
+  pub pairsFrom-whole : n ≤ k → k ≤ n → left ≡ 0 → pairsFrom area left k (n - k) (drop (pairWidth * k) w) ≡ Whole n
+  pairsFrom-whole p q z = pairsFrom-end p ∙ rw (eq-eqb left 0 z) (ap Whole (let e : k ≡ n = omega arith in e))
+
+-- what all pairs say
+pub pairsOf-by : (pairs area : List ℕ) {n : ℕ} {x : PairsRead} → n ≡ length pairs / pairWidth
+    → pairsFrom area (length pairs % pairWidth) 0 n pairs ≡ x → x ≡ pairsOf pairs area
+unfolding pairsOf
+pairsOf-by pairs area e f = sym f ∙ ap (λ (m : ℕ). pairsFrom area (length pairs % pairWidth) 0 m pairs) e
 
 -- where all are good, there are as many as were counted
 pairsFrom-count : (area : List ℕ) (left k n : ℕ) (w : List ℕ) {m : ℕ} → pairsFrom area left k n w ≡ Whole m → m ≡ k + n
@@ -139,6 +165,29 @@ module _ (ask : List ℕ → List ℕ → FirstAnswer) (area : List ℕ) where
       ap (λ (m : ℕ). answersFrom ask area m w) (let z : k + 1 ≡ suc k = omega arith in z) ∙ answersFrom-last k w
       ∙ ap (λ (x : List ℕ). answersFrom ask area k w ++ x) (sym g) in
       f ∙ rw (t, d, s)
+
+  -- a list as long as before
+  pub answers-long : (w before l : List ℕ) (k : ℕ) → answerWidth * k ≤ length before → l ≡ answersFrom ask area k w ++ drop (answerWidth * k) before
+      → length l ≡ length before
+  answers-long w before l k p e =
+      ap length e ∙ length-append (answersFrom ask area k w) (drop (answerWidth * k) before)
+      ∙ rw (answersFrom-length k w, length-drop (answerWidth * k) before) (omega (arith, p))
+
+  -- all of them
+  pub answers-all : (w before l : List ℕ) {k n : ℕ} → l ≡ answersFrom ask area k w ++ drop (answerWidth * k) before → k ≡ n
+      → l ≡ answersFrom ask area n w ++ drop (answerWidth * n) before
+  answers-all w before l e q = e ∙ ap (λ (m : ℕ). answersFrom ask area m w ++ drop (answerWidth * m) before) q
+
+-- the words of an answer, by what the search gave
+pub answer-words
+    : (h : Head) (t : List ℕ) (lent : Lent) (ns : List ℕ) (nodes : ℕ) (ats pairs area : List ℕ) (k : ℕ) {node : NodeFound} {name : List ℕ}
+    {value : FirstAnswer} {numbers : FirstNumbers}
+    → node ≡ findsIn h t lent ns nodes (tagOf pairs area k)
+    → name ≡ nameOf pairs area k
+    → value ≡ valueBy h t lent name ats node
+    → numbers ≡ firstNumbersOf value
+    → numberWords numbers ≡ answerTo (asksIn h t lent ns nodes ats (tagOf pairs area k) (nameOf pairs area k))
+answer-words h t lent ns nodes ats pairs area k e f g q = ap numberWords (q ∙ ap firstNumbersOf (g ∙ rw (e, f)))
 
 pub answersFrom-same
     : (f g : List ℕ → List ℕ → FirstAnswer) → ((tag name : List ℕ) → f tag name ≡ g tag name)
