@@ -37,8 +37,11 @@ same-length-2 c = search needs
 returns-2 : tie.Need-returns-2
 returns-2 c =
     let a = c .before .before .before .before .before .before .before .before .before .before .before .before .before .before .before .before .before .args in
-    gives-answers _ (a .answers .now) _ _ (a .n) (answersFrom-length (asksIn (a .h) (now (a .t)) (lends (now (a .names)) (now (a .area))) (now (a .nodes)) (a .node-count) (now (a .attributes))) (now (a .pair-area)) (a .n) (now (a .pairs)))
-    (c .before .before .before .before .before .before .before .before .if1 .left) (c .before .before .before .before .before .before .answer-each .ensures) (c .before .before .zero-from .ensures)
+    let ask = asksIn (a .h) (now (a .t)) (lends (now (a .names)) (now (a .area))) (now (a .nodes)) (a .node-count) (now (a .attributes)) in
+    let test = c .before .before .before .before .before .before .before .before .if1 in
+    let each = c .before .before .before .before .before .before .answer-each in
+    let long = answersFrom-length ask (now (a .pair-area)) (a .n) (now (a .pairs)) in
+    gives-answers _ (a .answers .now) _ _ (a .n) long (test .left) (each .ensures) (c .before .before .zero-from .ensures)
 
 pub answer-pairs-spec : {M : Type 1} → statement M
 answer-pairs-spec =

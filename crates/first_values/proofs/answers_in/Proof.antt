@@ -20,8 +20,9 @@ answer-pairs-requires : tie.Need-answer-pairs-requires
 answer-pairs-requires c κs =
     let s = c .before .before .before .before .before .before .before .before .before .before .before .before .before in
     let a = s .args in
-    let e = pairsOf-count (now (a .pairs)) (now (a .pair-area)) (sym (c .before .before .before .before .read-pairs .ensures) ∙ c .before .before .read .given .1) in
-    (s .pre .0, s .pre .1, omega (arith, e))
+    let e = sym (c .before .before .before .before .read-pairs .ensures) ∙ c .before .before .read .given .1 in
+    let n = pairsOf-count (now (a .pairs)) (now (a .pair-area)) e in
+    (s .pre .0, s .pre .1, omega (arith, n))
 
 enum-known-read-2 : tie.Need-enum-known-read-2
 enum-known-read-2 c = search needs
@@ -35,8 +36,10 @@ same-length c = search needs
 returns : tie.Need-returns
 returns c =
     let a = c .before .before .before .before .before .before .before .before .before .before .before .before .before .before .before .before .args in
-    gives-whole (asksIn (a .h) (now (a .t)) (lends (now (a .names)) (now (a .area))) (now (a .nodes)) (a .node-count) (now (a .attributes))) (now (a .pairs)) (now (a .pair-area)) (length (a .answers .now)) _ (c .before .before .before .before .before .before .before .read-pairs .ensures) (c .before .before .before .before .before .read .given .1)
-    (c .before .before .answer-pairs .ensures)
+    let ask = asksIn (a .h) (now (a .t)) (lends (now (a .names)) (now (a .area))) (now (a .nodes)) (a .node-count) (now (a .attributes)) in
+    let read = c .before .before .before .before .before .before .before .read-pairs in
+    let told = c .before .before .before .before .before .read in
+    gives-whole ask (now (a .pairs)) (now (a .pair-area)) (length (a .answers .now)) _ (read .ensures) (told .given .1) (c .before .before .answer-pairs .ensures)
 
 same-length-2 : tie.Need-same-length-2
 same-length-2 c = search needs
@@ -44,8 +47,9 @@ same-length-2 c = search needs
 returns-2 : tie.Need-returns-2
 returns-2 c =
     let a = c .before .before .before .before .before .before .before .before .before .before .before .before .before .before .before .before .args in
-    gives-bad (now (a .pairs)) (now (a .pair-area)) _ (length (a .answers .now)) _ (c .before .before .before .before .before .before .before .read-pairs .ensures) (c .before .before .before .before .before .read2 .given .1)
-    (c .before .before .refuse .ensures _)
+    let read = c .before .before .before .before .before .before .before .read-pairs in
+    let told = c .before .before .before .before .before .read2 in
+    gives-bad (now (a .pairs)) (now (a .pair-area)) _ (length (a .answers .now)) _ (read .ensures) (told .given .1) (c .before .before .refuse .ensures _)
 
 pub answers-in-spec : {M : Type 1} → statement M
 answers-in-spec =

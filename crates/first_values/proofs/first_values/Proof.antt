@@ -38,8 +38,8 @@ returns : tie.Need-returns
 returns c =
     let a = c .before .before .before .before .before .before .before .before .before .before .before .before .before .before .before .before .before .args in
     let e = sym (c .before .before .before .before .before .before .before .before .open-tables .ensures) ∙ c .before .before .before .before .before .before .opened .given .1 in
-    many-open (now (a .file)) (lends (now (a .names)) (now (a .area))) (now (a .nodes)) (now (a .attributes)) (now (a .pairs)) (now (a .pair-area)) (a .answers .now)
-    (a .node-count) (a .attribute-count) _ _ e (c .before .before .before .before .tables-of .ensures) (c .before .before .answers-in .ensures)
+    many-open (now (a .file)) (lends (now (a .names)) (now (a .area))) (now (a .nodes)) (now (a .attributes)) (now (a .pairs)) (now (a .pair-area))
+    (a .answers .now) (a .node-count) (a .attribute-count) _ _ e (c .before .before .before .before .tables-of .ensures) (c .before .before .answers-in .ensures)
 
 same-length-2 : tie.Need-same-length-2
 same-length-2 c = search needs
@@ -48,8 +48,8 @@ returns-2 : tie.Need-returns-2
 returns-2 c =
     let a = c .before .before .before .before .before .before .before .before .before .before .before .before .before .before .before .before .args in
     let e = sym (c .before .before .before .before .before .before .before .open-tables .ensures) ∙ c .before .before .before .before .before .opened2 .given .1 in
-    many-closed (now (a .file)) (lends (now (a .names)) (now (a .area))) (now (a .nodes)) (now (a .attributes)) (now (a .pairs)) (now (a .pair-area)) (a .answers .now)
-    (a .node-count) (a .attribute-count) _ _ e (c .before .before .refuse .ensures)
+    many-closed (now (a .file)) (lends (now (a .names)) (now (a .area))) (now (a .nodes)) (now (a .attributes)) (now (a .pairs)) (now (a .pair-area))
+    (a .answers .now) (a .node-count) (a .attribute-count) _ _ e (c .before .before .refuse .ensures)
 
 pub first-values-spec : {M : Type 1} → statement M
 first-values-spec =

@@ -14,8 +14,8 @@ returns : tie.Need-returns
 returns c =
     let s = c .before .before .before .before .before .before .before .before in
     let a = s .args in
-    node-repeats (findsIn (a .h) (now (a .t)) (lends (now (a .names)) (now (a .area))) (now (a .nodes)) (a .node-count)) (now (a .pairs)) (now (a .pair-area)) (a .k) (a .last)
-    (s .pre .3) (c .before .repeats-tag .ensures (c .if1 .taken))
+    let find = findsIn (a .h) (now (a .t)) (lends (now (a .names)) (now (a .area))) (now (a .nodes)) (a .node-count) in
+    node-repeats find (now (a .pairs)) (now (a .pair-area)) (a .k) (a .last) (s .pre .3) (c .before .repeats-tag .ensures (c .if1 .taken))
 
 tag-at-requires : tie.Need-tag-at-requires
 tag-at-requires c κs = search needs

@@ -59,7 +59,9 @@ is-inside-requires-2 c κs = search needs
 returns-2 : tie.Need-returns-2
 returns-2 c =
     let a = c .before .before .before .before .before .before .before .before .before .args in
-    words-inside (now (a .area)) (now (a .pairs)) (a .k) (c .before .before .before .before .is-inside .ensures) (not-false _ (c .before .before .before .if1 .left)) (c .is-inside2 .ensures)
+    let tag = c .before .before .before .before .is-inside in
+    let test = c .before .before .before .if1 in
+    words-inside (now (a .area)) (now (a .pairs)) (a .k) (tag .ensures) (not-false _ (test .left)) (c .is-inside2 .ensures)
 
 pub is-pair-inside-spec : {M : Type 1} → statement M
 is-pair-inside-spec =
