@@ -35,6 +35,16 @@ static void *finds(void *p)
     return p;
 }
 
+/* the two pairs have one tag, and other names */
+static void *finds_many(void *p)
+{
+    static const uint32_t pairs[2 * AXML_PAIR_WORDS] = {0, 1, 0, 1, 0, 1, 1, 1};
+    static uint32_t answers[2 * AXML_PAIR_ANSWER_WORDS];
+    axml_first_values(file, bytes, none, 0, (const uint8_t *)none, 0, table[0], words[0], table[1], words[1], pairs, 2 * AXML_PAIR_WORDS, text, 2, answers,
+                      2 * AXML_PAIR_ANSWER_WORDS, 1, 1);
+    return p;
+}
+
 static size_t used(void *(*call)(void *))
 {
     pthread_attr_t a;
@@ -55,9 +65,9 @@ static size_t used(void *(*call)(void *))
 int main(int argc, char **argv)
 {
     used(nothing); /* the first thread of a program needs more: the loader's */
-    size_t base = used(nothing), most[3] = {0, 0, 0};
-    void *(*calls[3])(void *) = {reads, asks, finds};
-    const char *names[3] = {"axml_read", "axml_text", "axml_first_value"};
+    size_t base = used(nothing), most[4] = {0, 0, 0, 0};
+    void *(*calls[4])(void *) = {reads, asks, finds, finds_many};
+    const char *names[4] = {"axml_read", "axml_text", "axml_first_value", "axml_first_values"};
     for (int i = 1; i < argc; i++) {
         FILE *f = fopen(argv[i], "rb");
         if (!f) { perror(argv[i]); return 1; }
@@ -66,11 +76,11 @@ int main(int argc, char **argv)
         fclose(f);
         words[0] = AXML_NODE_WORDS * (bytes / 36 + 1), words[1] = AXML_ATTRIBUTE_WORDS * (bytes / 20 + 2), words[2] = 3 * 13 * 16;
         for (int k = 0; k < 3; k++) table[k] = realloc(table[k], 4 * words[k]);
-        for (int k = 0; k < 3; k++) {
+        for (int k = 0; k < 4; k++) {
             size_t n = used(calls[k]) - base;
             if (n > most[k]) most[k] = n;
         }
     }
-    for (int k = 0; k < 3; k++) printf("%s: %zu bytes of stack at most, over %d files\n", names[k], most[k], argc - 1);
+    for (int k = 0; k < 4; k++) printf("%s: %zu bytes of stack at most, over %d files\n", names[k], most[k], argc - 1);
     return 0;
 }

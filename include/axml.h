@@ -20,19 +20,22 @@ extern "C" {
 
 /* The form of this interface: raised whenever a record, a signature or a number below changes or is added. A library is of this form exactly if
  * axml_abi() == AXML_ABI; one that is of another must not be called. */
-#define AXML_ABI 7u
+#define AXML_ABI 8u
 uint32_t axml_abi(void);
 
 /* The longest file that is read, in bytes: one byte more is refused with AXML_TOO_LARGE. */
 #define AXML_LONGEST_FILE 16777216u
 
-/* Words of one record. A table has words / 6 places for nodes and attributes, words / 3 for notes, words / 6 for answers, rounded down (B6). */
+/* Words of one record. A table has words / 6 places for nodes and attributes, words / 3 for notes, words / 6 for parts, words / 4 for answers to pairs,
+ * rounded down (B6). */
 #define AXML_NODE_WORDS 6u
 #define AXML_ATTRIBUTE_WORDS 6u
 #define AXML_NOTE_WORDS 3u
 #define AXML_NAME_WORDS 3u
 #define AXML_ITEM_WORDS 6u
 #define AXML_PART_WORDS 6u
+#define AXML_PAIR_WORDS 4u
+#define AXML_PAIR_ANSWER_WORDS 4u
 
 /* Kinds of notes: enum axml_note_kind. */
 #define AXML_NOTE_KINDS 13u
@@ -63,7 +66,8 @@ enum axml_refusal {
   AXML_ITEMS = 14,           /* the lent items break their rule: the first such item, or how many whole ones there are (V3) */
   AXML_NO_PLAIN_TEXT = 15,   /* a value of this type has no plain text: the type (V10) */
   AXML_MODE = 16,            /* the mode is none of enum axml_mode: that number (B16) */
-  AXML_ANSWERS_FULL = 21,    /* an answer has no place: the places that there are (V15) */
+  AXML_PAIRS = 20,           /* a pair does not lie in its area, or words remain: the first such pair, or how many whole ones there are (M3) */
+  AXML_ANSWERS_FULL = 21,    /* an answer has no place: the places that there are (V15, M3) */
   AXML_NOTES_OFF = 27,       /* a reading at a cap of 0, which would keep no note: 0 */
   AXML_ROUND_UP_FULL = 29,   /* a count of a round-up would pass 4294967295: 0 (R6) */
   /* a part of the head is cut, and the value is the file offset at which it should begin (H15) */
@@ -174,6 +178,22 @@ struct axml_part {
   uint32_t replaced;   /* 0 */
 };
 
+/* Four words of the lent pairs (M1): UTF-8 bytes of a tag and of a name, each a part of an area of bytes. */
+struct axml_pair {
+  uint32_t tag_start;
+  uint32_t tag_length;
+  uint32_t name_start;
+  uint32_t name_length;
+};
+
+/* Four words of the list of answers, one for each pair (M4): the numbers of axml_first_value's answer. */
+struct axml_pair_answer {
+  uint32_t refusal;    /* AXML_DONE, or AXML_NOTHING_FOUND, and then the other words are 0 */
+  uint32_t type;
+  uint32_t data;
+  uint32_t reference;  /* 1 if the type is a reference (C7) */
+};
+
 /* The answer of a reading. Where it is refused, the four counts are 0 and every lent table is zeros (B7). */
 struct axml_answer {
   uint32_t refusal;     /* enum axml_refusal */
@@ -223,6 +243,13 @@ struct axml_first_answer {
   uint32_t reference;  /* 1 if the type is a reference (C7) */
 };
 
+/* The answer of a call with many pairs. */
+struct axml_pairs_answer {
+  uint32_t refusal;
+  uint64_t value;
+  uint64_t count;  /* pairs answered; 0 where the call is refused */
+};
+
 /* Reads a file into three lent tables, whose words behind the last record are zeros afterwards (B8).
  * file, file_bytes: the file. names, name_words: the lent system names, `struct axml_name` each, over area, area_bytes; 0 words are no names.
  * nodes, attributes, notes: the tables, as words of `struct axml_node`, `struct axml_attribute`, `struct axml_note`.
@@ -270,6 +297,16 @@ struct axml_many_answer axml_value_texts(const uint8_t *file, size_t file_bytes,
 struct axml_many_answer axml_texts(const uint8_t *file, size_t file_bytes, const uint32_t *names, size_t name_words, const uint8_t *area,
                                    size_t area_bytes, const uint32_t *indices, size_t index_words, uint8_t *out, size_t out_bytes,
                                    uint32_t *answers, size_t answer_words);
+
+/* What axml_first_value answers to each of many pairs, at the front of answers, and zeros behind them; zeros alone where the call is refused (M1 to M5).
+ * Names and head are checked once, whatever the number of pairs; pairs of one tag that stand together cost one search for it.
+ * file, names, area, nodes, attributes, node_count, attribute_count: as for axml_first_value. pairs: `struct axml_pair` each, as words, any number of
+ * them, over pair_area. answers: `struct axml_pair_answer` each, as words. */
+struct axml_pairs_answer axml_first_values(const uint8_t *file, size_t file_bytes, const uint32_t *names, size_t name_words, const uint8_t *area,
+                                           size_t area_bytes, const uint32_t *nodes, size_t node_words, const uint32_t *attributes,
+                                           size_t attribute_words, const uint32_t *pairs, size_t pair_words, const uint8_t *pair_area,
+                                           size_t pair_area_bytes, uint32_t *answers, size_t answer_words, uint32_t node_count,
+                                           uint32_t attribute_count);
 
 /* Words of a round-up, the counts of a month of files (R1, R2): word AXML_ROUND_UP_READ is how many were read, word AXML_ROUND_UP_REFUSED + n how many were
  * refused with n, and word AXML_ROUND_UP_GRID + AXML_ROUND_UP_CLASSES * k + c how many notes of kind k were kept in files of the size class c: 0 up to 4096

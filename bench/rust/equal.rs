@@ -38,6 +38,14 @@ macro_rules! build {
                 KEPT.with(|k| *k.borrow_mut() = None);
             }
 
+            /// Whether what is kept has a value for this tag and name, made as the Rust makes it.
+            pub fn finds(tag: &str, name: &str) -> bool {
+                KEPT.with(|k| match &*k.borrow() {
+                    Some(Ok(axml)) => black_box(axml.get_attribute_value(tag, name, None)).is_some(),
+                    _ => false,
+                })
+            }
+
             /// Whether the Rust's answer says what our tables say: the refusal with its value; or each node's name and parent, each attribute's
             /// prefix, name and value, and each note, in order and as texts.
             pub fn equal(file: &[u8], ours: &Tables, answer: &Answer) -> Result<(), String> {
@@ -138,6 +146,10 @@ pub fn kept(file: &[u8], names: bool) {
 pub fn forget() {
     plain::forget();
     named::forget();
+}
+
+pub fn finds(tag: &str, name: &str, names: bool) -> bool {
+    if names { named::finds(tag, name) } else { plain::finds(tag, name) }
 }
 
 pub fn equal(file: &[u8], names: bool, ours: &Tables, answer: &Answer) -> Result<(), String> {

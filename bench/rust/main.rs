@@ -5,6 +5,9 @@
 //!                              each as median and quartiles. Where the answers differ it says so and ends with 1.
 //!   grow ROUNDS FILE..         the files in turns, ours with no names; for each a line: nanoseconds per byte, and those of the last file over
 //!                              them, each as median and quartiles
+//!   ask NAMES ROUNDS FILE      forty pairs of a file that was read, asked of the Rust one by one, of ours one by one, and of ours at once; a line: how many
+//!                              have a value, nanoseconds of each, and those of the first and of the second over those of the third, each as
+//!                              median and quartiles
 //!   values NAMES ITEMS ROUNDS FILE   as `time`, of the value texts of all attributes: the Rust's strings of them, and ours all at once
 //!   count SIDE NAMES FILE      calls SIDE (freed, rust, ours) once, in `measured`, for a tool that counts instructions
 //!
@@ -15,6 +18,7 @@ use std::time::Instant;
 
 mod equal;
 mod ours;
+mod pairs;
 mod values;
 
 use ours::{Names, Tables};
@@ -164,6 +168,53 @@ fn grow(rounds: usize, paths: &[String]) {
     }
 }
 
+fn ask(names: &Names, rounds: usize, path: &str) {
+    let file = std::fs::read(path).unwrap();
+    let mut tables = Tables::of(file.len());
+    let answer = tables.read(&file, names);
+    equal::kept(&file, names.lent());
+    let mut asked = pairs::Asked::of(&file, names, &tables, (answer.nodes, answer.attributes));
+    let found = asked.equal().unwrap_or_else(|why| {
+        println!("{path}: the answers differ: {why}");
+        std::process::exit(1);
+    });
+    // what is asked, 20 times over, by the time of this thread
+    let mut took = |way: usize| {
+        let t = ran();
+        for _ in 0..20 {
+            match way {
+                0 => pairs::PAIRS.iter().for_each(|(tag, name)| {
+                    black_box(equal::finds(tag, name, names.lent()));
+                }),
+                1 => pairs::PAIRS.iter().for_each(|(tag, name)| {
+                    black_box(asked.one(tag, name));
+                }),
+                _ => {
+                    black_box(asked.all());
+                }
+            }
+        }
+        (ran() - t) / 20.0
+    };
+    let mut times: [Vec<f64>; 3] = Default::default();
+    for round in 0..rounds {
+        for k in 0..3 {
+            let way = (round + k) % 3;
+            times[way].push(took(way));
+        }
+    }
+    let ratio = |way: usize| {
+        let mut r: Vec<f64> = times[way].iter().zip(&times[2]).map(|(x, y)| x / y).collect();
+        let [low, middle, high] = quartiles(&mut r);
+        [middle, low, high]
+    };
+    let ratios = [ratio(0), ratio(1)].concat();
+    let medians = times.map(|mut v| quartiles(&mut v)[1]);
+    let words: Vec<String> = medians.into_iter().chain(ratios).map(|x| format!("{x:.4}")).collect();
+    println!("{found} {}", words.join(" "));
+    equal::forget();
+}
+
 fn count(side: &str, names: &Names, path: &str) {
     let side = match side {
         "freed" => Side::Freed,
@@ -181,6 +232,10 @@ fn main() {
     match args.as_slice() {
         [what, side, names, path] if what == "count" => count(side, &Names::of(names), path),
         [what, rounds, paths @ ..] if what == "grow" => grow(rounds.parse().unwrap(), paths),
+        [what, names, rounds, path] if what == "ask" => {
+            let (names, rounds, path) = (Names::of(names), rounds.parse().unwrap(), path.clone());
+            std::thread::Builder::new().stack_size(4 << 30).spawn(move || ask(&names, rounds, &path)).unwrap().join().unwrap();
+        }
         [what, names, items, rounds, path] if what == "values" => {
             values(&Names::of(names), &Names::items(items), rounds.parse().unwrap(), path);
         }

@@ -236,6 +236,45 @@ static void first(const char *what, const char *tag, const char *name, uint32_t 
   expect(r.reference == (refusal == 0 && type == 1), what, "reference");
 }
 
+/* Pairs over the area "aandroid": `a` and `android` are found, with type and data of the table; the list has garbage in it before the call, and what
+ * lies behind its words stays garbage. */
+enum { PAIR_ANSWERS = 15 };
+
+static void ask_pairs(const char *what, size_t bytes, const uint32_t *pairs, size_t pair_words, size_t answer_words, uint32_t node_count, uint32_t refusal,
+                      uint64_t value, const uint32_t *wanted) {
+  const uint32_t tree[6] = {ROOT}, owned[6] = {0, AXML_PREFIX_XMLNS, 0, 1, 9, 0};
+  uint32_t answers[PAIR_ANSWERS];
+  memset(answers, 0xa5, sizeof answers);
+  struct axml_pairs_answer r = axml_first_values(S, bytes, no_words, 0, no_bytes, 0, tree, 6, owned, 6, pairs, pair_words, (const uint8_t *)"aandroid", 8,
+                                                 answers, answer_words, node_count, 1);
+  expect(r.refusal == refusal, what, "refusal");
+  expect(r.value == value, what, "value");
+  expect(r.count == (refusal ? 0 : pair_words / AXML_PAIR_WORDS), what, "count");
+  expect(memcmp(answers, wanted, 4 * answer_words) == 0, what, "words of answers");
+  for (size_t i = answer_words; i < PAIR_ANSWERS; i++) expect(answers[i] == 0xa5a5a5a5u, what, "behind the answers");
+}
+
+static void many_pairs(void) {
+  const uint32_t nothing[PAIR_ANSWERS] = {0};
+  const uint32_t pairs[12] = {0, 1, 1, 7, 0, 1, 0, 1, 1, 7, 8, 0};
+  const uint32_t found[PAIR_ANSWERS] = {AXML_DONE, 1, 9, 1, AXML_NOTHING_FOUND, 0, 0, 0, AXML_NOTHING_FOUND};
+  ask_pairs("three pairs", S_BYTES, pairs, 12, 12, 1, AXML_DONE, 0, found);
+  ask_pairs("three pairs, words left over", S_BYTES, pairs, 12, 15, 1, AXML_DONE, 0, found);
+  const uint32_t first_alone[PAIR_ANSWERS] = {AXML_DONE, 1, 9, 1};
+  ask_pairs("one pair in fifteen words", S_BYTES, pairs, 4, 15, 1, AXML_DONE, 0, first_alone);
+  ask_pairs("no pairs", S_BYTES, no_words, 0, 3, 1, AXML_DONE, 0, nothing);
+  ask_pairs("no pairs, no words", S_BYTES, no_words, 0, 0, 1, AXML_DONE, 0, nothing);
+  ask_pairs("two places for three pairs", S_BYTES, pairs, 12, 11, 1, AXML_ANSWERS_FULL, 2, nothing);
+  ask_pairs("eleven words of pairs", S_BYTES, pairs, 11, 15, 1, AXML_PAIRS, 2, nothing);
+  ask_pairs("eleven words, two bad pairs and no place", S_BYTES, (const uint32_t[11]){0, 1, 1, 7, 0, 9, 0, 1, 1, 7, 8}, 11, 3, 1, AXML_PAIRS, 1, nothing);
+  ask_pairs("a name past the end", S_BYTES, (const uint32_t[8]){0, 1, 1, 7, 0, 1, 9, 0}, 8, 15, 1, AXML_PAIRS, 1, nothing);
+  ask_pairs("a sum that would wrap", S_BYTES, (const uint32_t[4]){4294967295u, 1, 0, 1}, 4, 15, 1, AXML_PAIRS, 0, nothing);
+  ask_pairs("two nodes in six words", S_BYTES, pairs, 11, 3, 2, AXML_TABLES, 2, nothing);
+  ask_pairs("two nodes in six words, no pairs", S_BYTES, no_words, 0, 3, 2, AXML_TABLES, 2, nothing);
+  ask_pairs("8 bytes", 8, pairs, 11, 3, 2, AXML_POOL_HEADER, 8, nothing);
+  ask_pairs("7 bytes, no pairs", 7, no_words, 0, 0, 1, AXML_TOO_SMALL, 7, nothing);
+}
+
 /* The place of a content in what was lent, and its bytes there. */
 static void content(const char *what, const uint8_t *bytes, size_t count, const uint32_t *names, size_t name_words, const char *area, size_t area_bytes,
                     uint32_t index, uint32_t slice, uint64_t start, uint64_t length, const char *wanted) {
@@ -344,9 +383,9 @@ static void many(const char *what, struct axml_many_answer r, struct axml_many_a
 
 static void values_of(const char *what, size_t out_bytes, size_t answer_words, uint32_t count, struct axml_many_answer wanted, const char *text,
                       const uint32_t *words, size_t n) {
-  const uint32_t records[15] = {0, 0, 0, 16, 6, 0, 0, 0, 4, 1, 0, 1, 0, 16, 5};
+  const uint32_t records[18] = {0, 0, 0, 16, 6, 0, 0, 0, 0, 4, 1, 0, 0, 1, 0, 16, 5, 0};
   fill();
-  many(what, axml_value_texts(S, S_BYTES, no_words, 0, no_bytes, 0, enums, 12, named, sizeof named, records, 15, bytes, out_bytes, answers, answer_words, count),
+  many(what, axml_value_texts(S, S_BYTES, no_words, 0, no_bytes, 0, enums, 12, named, sizeof named, records, 18, bytes, out_bytes, answers, answer_words, count),
        wanted, text, out_bytes, words, n, answer_words);
 }
 
@@ -381,6 +420,7 @@ int main(void) {
   contents();
   values();
   manies();
+  many_pairs();
   printf("test: %u checks, %u wrong\n", checks, failures);
   return failures != 0;
 }

@@ -213,6 +213,47 @@ static void put_values(bytes file, names s, names items, const uint32_t *attribu
     }
 }
 
+/* First values of so many pairs, all of them asked at once; each has to be what it is asked by itself. */
+static void put_firsts(bytes file, names s, const uint32_t *nodes, size_t node_words, const uint32_t *attributes, size_t attribute_words,
+                       struct axml_answer a, uint32_t asked)
+{
+    bytes *texts = room((2 * (size_t)asked + 1) * sizeof *texts);
+    uint32_t *pairs = room(4 * (size_t)AXML_PAIR_WORDS * asked + 4), *answers = patterned((size_t)AXML_PAIR_ANSWER_WORDS * asked + 1);
+    size_t length = 0, k;
+    for (k = 0; k < 2 * (size_t)asked; k++) {
+        texts[k] = text();
+        pairs[2 * k] = length;
+        pairs[2 * k + 1] = texts[k].n;
+        length += texts[k].n;
+    }
+    uint8_t *area = room(length + 1);
+    for (k = 0; k < 2 * (size_t)asked; k++) memcpy(area + pairs[2 * k], texts[k].at, texts[k].n);
+    struct axml_pairs_answer m =
+        axml_first_values(file.at, file.n, s.words, s.n, s.area, s.length, nodes, node_words, attributes, attribute_words, pairs,
+                          (size_t)AXML_PAIR_WORDS * asked, area, length, answers, (size_t)AXML_PAIR_ANSWER_WORDS * asked + 1, a.nodes, a.attributes);
+    /* what refuses any pair refuses all of them */
+    struct axml_first_answer any = axml_first_value(file.at, file.n, s.words, s.n, s.area, s.length, nodes, node_words, attributes, attribute_words, area, 0,
+                                                    area, 0, a.nodes, a.attributes);
+    int closed = any.refusal && any.refusal != AXML_NOTHING_FOUND;
+    if (closed ? m.refusal != any.refusal || m.value != any.value || m.count : m.refusal || m.count != asked) fail("many pairs were not answered as one by one");
+    zeros_behind(answers, closed ? 0 : (size_t)AXML_PAIR_ANSWER_WORDS * asked, (size_t)AXML_PAIR_ANSWER_WORDS * asked + 1);
+    for (k = 0; k < asked; k++) {
+        bytes tag = texts[2 * k], name = texts[2 * k + 1];
+        struct axml_first_answer v = axml_first_value(file.at, file.n, s.words, s.n, s.area, s.length, nodes, node_words, attributes, attribute_words, tag.at,
+                                                      tag.n, name.at, name.n, a.nodes, a.attributes);
+        const uint32_t alone[AXML_PAIR_ANSWER_WORDS] = {v.refusal, v.type, v.data, v.reference};
+        const uint32_t *here = answers + AXML_PAIR_ANSWER_WORDS * k;
+        if (!closed && memcmp(here, alone, sizeof alone)) fail("a pair among many is answered otherwise than alone");
+        for (size_t i = 0; i < AXML_PAIR_ANSWER_WORDS; i++) put_word(a.refusal ? NONE : here[i]);
+        free(tag.at);
+        free(name.at);
+    }
+    free(texts);
+    free(pairs);
+    free(answers);
+    free(area);
+}
+
 static void answer(uint32_t flags, uint32_t cap, names s, names items, uint32_t asked)
 {
     size_t rooms[3], k;
@@ -261,21 +302,7 @@ static void answer(uint32_t flags, uint32_t cap, names s, names items, uint32_t 
             else put_name(file, s, attributes[AXML_ATTRIBUTE_WORDS * k + 2]);
     }
     if (flags & VALUES) put_values(file, s, items, attributes, rooms[1], a.attributes);
-    while (asked--) {
-        bytes tag = text(), name = text();
-        if (a.refusal) {
-            for (k = 0; k < 4; k++) put_word(NONE);
-        } else {
-            struct axml_first_answer v = axml_first_value(file.at, file.n, s.words, s.n, s.area, s.length, nodes, rooms[0], attributes, rooms[1],
-                                                          tag.at, tag.n, name.at, name.n, a.nodes, a.attributes);
-            put_word(v.refusal);
-            put_word(v.type);
-            put_word(v.data);
-            put_word(v.reference);
-        }
-        free(tag.at);
-        free(name.at);
-    }
+    put_firsts(file, s, nodes, rooms[0], attributes, rooms[1], a, asked);
     uint32_t length = used;
     fwrite(&length, 1, 4, stdout);
     fwrite(out, 1, used, stdout);

@@ -41,6 +41,8 @@ fn numbers() {
     is("AXML_PART_WORDS", sys::PART_WORDS as u64);
     is("AXML_ITEM_ENUM", sys::ITEM_ENUM.into());
     is("AXML_ITEM_FLAG", sys::ITEM_FLAG.into());
+    is("AXML_PAIR_WORDS", sys::PAIR_WORDS as u64);
+    is("AXML_PAIR_ANSWER_WORDS", sys::PAIR_ANSWER_WORDS as u64);
     is("AXML_NO_PARENT", sys::NO_PARENT.into());
     is("AXML_PREFIX_ANDROID", sys::PREFIX_ANDROID.into());
     is("AXML_PREFIX_XMLNS", sys::PREFIX_XMLNS.into());
@@ -61,14 +63,14 @@ fn numbers() {
     let refusals = [
         "AXML_TOO_SMALL", "AXML_TOO_LARGE", "AXML_HEADER_SIZE", "AXML_MISSING_ROOT", "AXML_SYSTEM_NAMES",
         "AXML_NODES_FULL", "AXML_ATTRIBUTES_FULL", "AXML_NOTES_FULL", "AXML_TEXT_SHORT", "AXML_NOTHING_FOUND", "AXML_TABLES",
-        "AXML_ITEMS", "AXML_NO_PLAIN_TEXT", "AXML_MODE", "AXML_ANSWERS_FULL",
+        "AXML_ITEMS", "AXML_NO_PLAIN_TEXT", "AXML_MODE", "AXML_PAIRS", "AXML_ANSWERS_FULL",
         "AXML_NOTES_OFF", "AXML_ROUND_UP_FULL",
         "AXML_POOL_GARBAGE", "AXML_POOL_HEADER", "AXML_POOL_OFFSETS", "AXML_POOL_STYLES", "AXML_POOL_DATA", "AXML_MAP_HEADER", "AXML_MAP_IDS",
     ];
     let cases = [
         Refusal::TooSmall(0), Refusal::TooLarge, Refusal::HeaderSize(0), Refusal::NoElement,
         Refusal::SystemNames(0), Refusal::NodesFull(0), Refusal::AttributesFull(0), Refusal::NotesFull(0), Refusal::TextShort(0),
-        Refusal::NothingFound, Refusal::Tables(0), Refusal::Items(0), Refusal::NoPlainText(0), Refusal::Mode(0), Refusal::AnswersFull(0), Refusal::NotesOff, Refusal::RoundUpFull, Refusal::PoolGarbage(0), Refusal::PoolHeader(0), Refusal::PoolOffsets(0), Refusal::PoolStyles(0),
+        Refusal::NothingFound, Refusal::Tables(0), Refusal::Items(0), Refusal::NoPlainText(0), Refusal::Mode(0), Refusal::Pairs(0), Refusal::AnswersFull(0), Refusal::NotesOff, Refusal::RoundUpFull, Refusal::PoolGarbage(0), Refusal::PoolHeader(0), Refusal::PoolOffsets(0), Refusal::PoolStyles(0),
         Refusal::PoolData(0), Refusal::MapHeader(0), Refusal::MapIds(0),
     ];
     for (name, refusal) in refusals.iter().zip(cases) {
@@ -112,6 +114,12 @@ fn places() {
     assert_eq!(fields(&header, "axml_attribute").len(), sys::ATTRIBUTE_WORDS);
     assert_eq!([sys::NOTE_KIND, sys::NOTE_A, sys::NOTE_B], ["kind", "a", "b"].map(|f| at("axml_note", f)));
     assert_eq!(fields(&header, "axml_note").len(), sys::NOTE_WORDS);
+    assert_eq!(fields(&header, "axml_pair"), ["tag_start", "tag_length", "name_start", "name_length"]);
+    assert_eq!(fields(&header, "axml_pair").len(), sys::PAIR_WORDS);
+    let answer = [sys::PAIR_ANSWER_REFUSAL, sys::PAIR_ANSWER_TYPE, sys::PAIR_ANSWER_DATA];
+    assert_eq!(answer, ["refusal", "type", "data"].map(|f| at("axml_pair_answer", f)));
+    assert_eq!(fields(&header, "axml_pair_answer").len(), sys::PAIR_ANSWER_WORDS);
+    assert_eq!(fields(&header, "axml_pairs_answer"), ["refusal", "value", "count"]);
     assert_eq!(fields(&header, "axml_answer"), ["refusal", "value", "starts", "nodes", "attributes", "notes"]);
     assert_eq!(fields(&header, "axml_text_answer"), ["refusal", "value", "length"]);
     assert_eq!(fields(&header, "axml_content_answer"), ["slice", "start", "length"]);
@@ -154,5 +162,5 @@ fn words() {
         };
         assert!(said.starts_with(words), "{said}");
     }
-    assert_eq!((refusals, notes), (23, NoteKind::ALL.len()));
+    assert_eq!((refusals, notes), (25, NoteKind::ALL.len()));
 }

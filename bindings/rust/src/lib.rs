@@ -20,6 +20,7 @@
 #[cfg(test)]
 mod held;
 mod note;
+mod pairs;
 mod refusal;
 mod round_up;
 mod sys;
@@ -185,6 +186,19 @@ impl Manifest {
     pub fn first_value(&self, tag: &str, name: &str) -> Option<Value> {
         let a = sys::first_value(&self.file, &self.names, &self.nodes, &self.attributes, tag.as_bytes(), name.as_bytes());
         (a.refusal == sys::DONE).then_some(Value { kind: a.kind, data: a.data })
+    }
+
+    /// What [`Manifest::first_value`] answers to each pair of tag and name, in their order. The file's head and the system names are checked once,
+    /// and pairs of one tag that stand together cost one search for it. The only refusal is [`Refusal::Pairs`], where all tags and names together
+    /// have more bytes than 32 bits count.
+    pub fn first_values(&self, pairs: &[(&str, &str)]) -> Result<Vec<Option<Value>>, Refusal> {
+        let (words, area) = pairs::words_of(pairs);
+        let mut answers = vec![0; sys::PAIR_ANSWER_WORDS * pairs.len()];
+        let a = sys::first_values(&self.file, &self.names, &self.nodes, &self.attributes, &words, &area, &mut answers);
+        match Refusal::from_number(a.refusal, a.value) {
+            Some(refusal) => Err(refusal),
+            None => Ok(answers.chunks_exact(sys::PAIR_ANSWER_WORDS).map(pairs::value_of).collect()),
+        }
     }
 }
 

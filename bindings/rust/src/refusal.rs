@@ -36,6 +36,8 @@ pub enum Refusal {
     NoPlainText(u64),
     /// There is no such mode of a reading, with its number.
     Mode(u64),
+    /// A pair does not lie in its area, or words remain, with the first such pair, or how many whole ones there are.
+    Pairs(u64),
     /// An answer has no place, with the places that there are.
     AnswersFull(u64),
     /// A cap of 0, at which a reading would keep no note.
@@ -79,6 +81,7 @@ impl Refusal {
             14 => Refusal::Items(value),
             15 => Refusal::NoPlainText(value),
             16 => Refusal::Mode(value),
+            20 => Refusal::Pairs(value),
             21 => Refusal::AnswersFull(value),
             27 => Refusal::NotesOff,
             29 => Refusal::RoundUpFull,
@@ -110,6 +113,7 @@ impl Refusal {
             Refusal::Items(_) => 14,
             Refusal::NoPlainText(_) => 15,
             Refusal::Mode(_) => 16,
+            Refusal::Pairs(_) => 20,
             Refusal::AnswersFull(_) => 21,
             Refusal::NotesOff => 27,
             Refusal::RoundUpFull => 29,
@@ -131,7 +135,7 @@ impl Refusal {
             Refusal::AttributesFull(v) | Refusal::NotesFull(v) | Refusal::TextShort(v) | Refusal::Tables(v) => v,
             Refusal::Items(v) | Refusal::NoPlainText(v) | Refusal::Mode(v) | Refusal::AnswersFull(v) => v,
             Refusal::PoolGarbage(v) | Refusal::PoolHeader(v) | Refusal::PoolOffsets(v) | Refusal::PoolStyles(v) | Refusal::PoolData(v) => v,
-            Refusal::MapHeader(v) | Refusal::MapIds(v) | Refusal::Other(_, v) => v,
+            Refusal::Pairs(v) | Refusal::MapHeader(v) | Refusal::MapIds(v) | Refusal::Other(_, v) => v,
             Refusal::TooLarge | Refusal::NoElement | Refusal::NothingFound | Refusal::NotesOff | Refusal::RoundUpFull => 0,
         }
     }
@@ -153,6 +157,7 @@ impl Refusal {
             Refusal::Items(_) => "the items break their rule",
             Refusal::NoPlainText(_) => "the value has no plain text",
             Refusal::Mode(_) => "there is no such mode",
+            Refusal::Pairs(_) => "the pairs do not lie in their area",
             Refusal::AnswersFull(_) => "the table of answers is full",
             Refusal::NotesOff => "a cap of 0 would keep no notes: ask for 1 or more of each kind",
             Refusal::RoundUpFull => "a count of the round-up is full",
@@ -179,6 +184,7 @@ impl fmt::Display for Refusal {
             Refusal::NodesFull(n) | Refusal::AttributesFull(n) | Refusal::NotesFull(n) | Refusal::AnswersFull(n) => write!(f, " ({n} places)"),
             Refusal::Items(n) => write!(f, " at item {n} (names are ASCII and not empty, items of one attribute stand together and have one kind)"),
             Refusal::NoPlainText(n) => write!(f, " (type {n})"),
+            Refusal::Pairs(n) => write!(f, " at pair {n}"),
             Refusal::TextShort(n) => write!(f, " ({n} bytes are needed)"),
             Refusal::Tables(n) | Refusal::Mode(n) => write!(f, " ({n})"),
             Refusal::PoolGarbage(n) | Refusal::PoolHeader(n) | Refusal::PoolData(n) | Refusal::MapHeader(n) => write!(f, ": byte {n} should be the first of it"),

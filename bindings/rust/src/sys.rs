@@ -5,7 +5,7 @@
 use crate::{Items, SystemNames};
 
 /// The form of the C interface that this file declares: the header's AXML_ABI.
-pub const ABI: u32 = 7;
+pub const ABI: u32 = 8;
 
 /// Bytes of the longest file that is read.
 pub const LONGEST_FILE: usize = 16_777_216;
@@ -55,6 +55,14 @@ pub const PART_REFUSAL: usize = 0;
 pub const PART_START: usize = 1;
 pub const PART_LENGTH: usize = 2;
 pub const PART_UNCOVERED: usize = 3;
+
+/// Words of a pair: where tag and name begin in the area, and their lengths, by turns.
+pub const PAIR_WORDS: usize = 4;
+/// Words of the answer to a pair, and the place of each.
+pub const PAIR_ANSWER_WORDS: usize = 4;
+pub const PAIR_ANSWER_REFUSAL: usize = 0;
+pub const PAIR_ANSWER_TYPE: usize = 1;
+pub const PAIR_ANSWER_DATA: usize = 2;
 
 /// Words of a round-up, and the place of each.
 pub const ROUND_UP_WORDS: usize = 132;
@@ -128,6 +136,13 @@ pub struct FirstAnswer {
 }
 
 #[repr(C)]
+pub struct PairsAnswer {
+    pub refusal: u32,
+    pub value: u64,
+    pub count: u64,
+}
+
+#[repr(C)]
 pub struct AddAnswer {
     pub refusal: u32,
     pub value: u64,
@@ -168,6 +183,11 @@ extern "C" {
         file: Bytes, file_bytes: usize, names: Words, name_words: usize, area: Bytes, area_bytes: usize,
         indices: Words, index_words: usize, out: *mut u8, out_bytes: usize, answers: MutWords, answer_words: usize,
     ) -> ManyAnswer;
+    fn axml_first_values(
+        file: Bytes, file_bytes: usize, names: Words, name_words: usize, area: Bytes, area_bytes: usize,
+        nodes: Words, node_words: usize, attributes: Words, attribute_words: usize, pairs: Words, pair_words: usize, pair_area: Bytes, pair_area_bytes: usize,
+        answers: MutWords, answer_words: usize, node_count: u32, attribute_count: u32,
+    ) -> PairsAnswer;
     fn axml_round_up_add(
         round_up: MutWords, round_up_words: usize, notes: Words, note_words: usize, refusal: u32, note_count: u32, file_bytes: usize,
     ) -> AddAnswer;
@@ -249,6 +269,20 @@ pub fn texts(file: &[u8], names: &SystemNames, indices: &[u32], out: &mut [u8], 
         axml_texts(
             file.as_ptr(), file.len(), w.as_ptr(), w.len(), a.as_ptr(), a.len(), indices.as_ptr(), indices.len(),
             out.as_mut_ptr(), out.len(), answers.as_mut_ptr(), answers.len(),
+        )
+    }
+}
+
+pub fn first_values(
+    file: &[u8], names: &SystemNames, nodes: &[u32], attributes: &[u32], pairs: &[u32], pair_area: &[u8], answers: &mut [u32],
+) -> PairsAnswer {
+    same_form();
+    let (w, a) = (&names.words, &names.area);
+    let (node_count, attribute_count) = ((nodes.len() / NODE_WORDS) as u32, (attributes.len() / ATTRIBUTE_WORDS) as u32);
+    unsafe {
+        axml_first_values(
+            file.as_ptr(), file.len(), w.as_ptr(), w.len(), a.as_ptr(), a.len(), nodes.as_ptr(), nodes.len(), attributes.as_ptr(), attributes.len(),
+            pairs.as_ptr(), pairs.len(), pair_area.as_ptr(), pair_area.len(), answers.as_mut_ptr(), answers.len(), node_count, attribute_count,
         )
     }
 }

@@ -160,3 +160,16 @@ fn content_is_a_part_of_what_was_lent() {
     empty[41] = 0;
     assert_eq!(Manifest::read(&empty).unwrap().content(0), Some(&b""[..]));
 }
+
+#[test]
+fn many_pairs_are_answered_as_one_by_one() {
+    let m = Manifest::read(&file(&[START, END])).unwrap();
+    assert_eq!(m.first_values(&[]), Ok(vec![]));
+    let pairs = [("a", "android"), ("a", "b"), ("b", "android"), ("a", "android"), ("a", ""), ("", "android"), ("invalid-element", "android")];
+    let one_by_one: Vec<_> = pairs.iter().map(|(tag, name)| m.first_value(tag, name)).collect();
+    assert_eq!(m.first_values(&pairs), Ok(one_by_one.clone()));
+    assert_eq!(one_by_one[3], Some(Value { kind: 3, data: 0 }));
+    assert_eq!(one_by_one.iter().flatten().count(), 2);
+    assert_eq!(m.first_values(&[("a", "android"); 41]), Ok(vec![Some(Value { kind: 3, data: 0 }); 41]));
+    assert_eq!(Refusal::Pairs(2).to_string(), "the pairs do not lie in their area at pair 2");
+}

@@ -5,3 +5,4 @@ pub mod Same
 pub mod Placing
 pub mod Month
 pub mod Valued
+pub mod Asked

@@ -8,7 +8,8 @@
 --         5: refusal 27, a cap of 0
 --         6: axml_value_text, axml_value_texts, axml_texts; refusals 14, 15, 21
 --         7: attributes of six words, the namespace index behind the others; axml_read takes a mode, and refusal 16
+--         8: axml_first_values; refusal 20
 use Prim.Native.Nat.{ℕ}
 
 abbrev pub abi : ℕ
-abi = 7
+abi = 8

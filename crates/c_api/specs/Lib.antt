@@ -5,4 +5,5 @@ pub mod Place
 pub mod Abi
 pub mod Adding
 pub mod Values
+pub mod Asking
 pub mod Inner

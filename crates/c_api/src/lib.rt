@@ -5,12 +5,15 @@
 // `same-reading` (proofs/Same.antt) says that both are one reading. Definitions: specs/Words.antt, specs/Answers.antt.
 pub mod abi;
 pub mod adding;
+pub mod asking;
 pub mod content;
 pub mod values;
 
 pub use abi::axml_abi;
 pub use adding::AxmlAddAnswer;
 pub use adding::axml_round_up_add;
+pub use asking::AxmlPairsAnswer;
+pub use asking::axml_first_values;
 pub use content::AxmlContentAnswer;
 pub use content::axml_content;
 pub use values::AxmlManyAnswer;

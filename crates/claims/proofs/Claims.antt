@@ -9,7 +9,7 @@
 --   numbers-unique   equal numbers are equal answers: of a reading; text-numbers-unique, first-numbers-unique of the two questions
 -- Insertion (P3): a file without a note, and the file with complete foreign chunks at some of its places.
 --   insertion        of the promise; insertion-read of two calls. What the hypotheses and the notes mean: insertion-head to insertion-cap
---   insertion-text, insertion-content, insertion-first   the three questions answer as before
+--   insertion-text, insertion-content, insertion-first, insertion-many   the questions answer as before
 -- Room (L1): suffices of a file of any length, read-suffices of a call; listing-suffices, read-listed-suffices of a listing.
 -- A part of the head that is short (P6): part-offset, part-cut of a reading, text-part-cut of the text question.
 -- Zeros (P1, B7, B8): refused-zeros, done-zeros, text-refused-zeros, text-done-zeros. Every success: structured, notes-kept.
@@ -22,9 +22,11 @@
 -- readings; month-unique, month-numbers-unique, c-month-unique: one answer.
 -- Value texts (V1 to V16): value-unique to value-done-zeros of one; value-decimal-broken, value-first-broken: versions that cannot meet its promise; decimal-read,
 -- signed-read, hex-read, flag-whole, flag-none of the texts; values-unique to values-single of many, texts-unique to texts-single of many string indices.
+-- Many pairs at once (M): many-unique, many-numbers-unique, c-many-unique: one answer; many-refused-zeros, many-done-zeros; many-asks: each answer is the single
+-- question's; many-found: it finds a value or says 12; twelve-to-all-broken, many-meets-some.
 -- The marked cases (L5): `cases-right` of proofs/Cases.antt, one table and one theorem; `cases-read` of proofs/Given.antt: `read` gives them.
 -- Texts and names (P2): what ties them to Unicode's tables and to XML's ranges is named in ARCHITECTURE.md.
-use Prim.Native.Nat.{ℕ, _+_, _-_, _*_, _^_, _≤_, _<_}
+use Prim.Native.Nat.{ℕ, _+_, _-_, _*_, _/_, _^_, _≤_, _<_}
 use mathlib.Core.Path.{_≡_, sym, _∙_}
 use mathlib.Core.List.{List, [], _∷_, _++_, map}
 use lib.Ieee.{Float}
@@ -139,6 +141,19 @@ use Rattle.many_texts.specs.Single.{IsPart}
 use Rattle.many_texts.proofs.Claimed as manies
 use Rattle.claims.specs.Month as month
 use Rattle.claims.proofs.Month as months
+use Rattle.errors.specs.Refusal.{pairNumbersOf}
+use Rattle.errors.specs.declared.ManyAnswer.{ManyAnswer}
+use Rattle.errors.specs.declared.ManyAnswer.the-variants as pairsIs
+use Rattle.errors.specs.declared.FirstAnswer.the-variants as firstIs
+use Rattle.errors.specs.declared.Refusal.the-variants.{NothingFound}
+use Rattle.errors.proofs.Laws.{pairNumbersOf-unique}
+use Rattle.records.specs.Words as layout
+use Rattle.first_values.specs.Pairs.{tagOf, nameOf, answerTo, manyAnswer, answersAfter, ManyReads}
+use Rattle.first_values.proofs.Unique as asked
+use Rattle.c_api.specs.declared.asking.AxmlPairsAnswer.{AxmlPairsAnswer}
+use Rattle.c_api.specs.Asking.{AsksMany}
+use Rattle.claims.specs.Askers.{Asker, MeetsAll, TwelveToAll}
+use Rattle.claims.proofs.Many as many
 
 module _ (f : List ℕ) (lent : Lent) (ns ats : List ℕ) (os : List Note) (cap mode : ℕ) where
   pub read-unique : (r r′ : ReadAnswer) (ns₁ ns₂ ats₁ ats₂ : List ℕ) (os₁ os₂ : List Note) → Reads f lent ns ats os cap mode r ns₁ ats₁ os₁
@@ -244,6 +259,11 @@ module _ (r : Room) (f : List ℕ) (lent : Lent) (c : ReadCounts) (done : readin
       → FirstReads f lent ns ats tag name nodes attributes a → FirstReads (insertedFile places f) lent ns ats tag name nodes attributes a′
       → a′ ≡ a
   insertion-first = values.insertion-first r f lent c done none places limit
+
+  pub insertion-many : (ns ats pairs area before : List ℕ) (nodes attributes : ℕ) (a a′ : ManyAnswer) (after after′ : List ℕ)
+      → ManyReads f lent ns ats pairs area before nodes attributes a after
+      → ManyReads (insertedFile places f) lent ns ats pairs area before nodes attributes a′ after′ → (a′ ≡ a) × (after′ ≡ after)
+  insertion-many = values.insertion-many r f lent c done none places limit
 
 -- with nothing put in it is the same file
 pub insertion-none : (f : List ℕ) → insertedFile [] f ≡ f
@@ -630,3 +650,49 @@ module _ (f : List ℕ) (lent : Lent) (indices out₀ table₀ : List ℕ) where
           → IsPart (textNumbersOf (textAnswer f lent room (getD indices i 0)) .refusal)
           (textNumbersOf (textAnswer f lent room (getD indices i 0)) .length) 0 (textBuffer f lent room (getD indices i 0)) i out table
       texts-single = manies.texts-single f lent indices out₀ table₀ out table k b done
+
+-- ---- many pairs at once (M1 to M5)
+
+module _ (f : List ℕ) (lent : Lent) (ns ats pairs area before : List ℕ) (nodes attributes : ℕ) where
+  -- one answer, every word of the list included
+  pub many-unique : (r r′ : ManyAnswer) (after after′ : List ℕ) → ManyReads f lent ns ats pairs area before nodes attributes r after
+      → ManyReads f lent ns ats pairs area before nodes attributes r′ after′ → (r ≡ r′) × (after ≡ after′)
+  many-unique r r′ after after′ = asked.many-unique f lent ns ats pairs area before nodes attributes
+
+  pub c-many-unique : (a b : AxmlPairsAnswer) (after after′ : List ℕ) → AsksMany f lent ns ats pairs area before nodes attributes a after
+      → AsksMany f lent ns ats pairs area before nodes attributes b after′ → (a ≡ b) × (after ≡ after′)
+  c-many-unique a b after after′ p q = (p .answer ∙ sym (q .answer), p .list ∙ sym (q .list))
+
+  -- zeros in the whole list on a refusal, and behind the answers, one for each pair
+  pub many-refused-zeros : (x : Refusal) (after : List ℕ) → ManyReads f lent ns ats pairs area before nodes attributes (pairsIs.Refused x) after
+      → after ≡ replicate (length before) 0
+  many-refused-zeros = asked.many-refused f lent ns ats pairs area before nodes attributes
+
+  module _ (n : ℕ) (after : List ℕ) (answered : ManyReads f lent ns ats pairs area before nodes attributes (pairsIs.Answered n) after) where
+    pub many-done-zeros : (n ≡ length pairs / layout.pairWidth) × ZeroBehind 0 (layout.answerWidth * n) before after
+    many-done-zeros =
+        let d = asked.many-done f lent ns ats pairs area before nodes attributes n after answered in
+        (d .0, record { long = d .2; there = d .1; zeros = d .3 })
+
+    -- answer i is what any call of the single question answers to pair i
+    pub many-asks : (i : ℕ) → i < n → (a : FirstAnswer) → FirstReads f lent ns ats (tagOf pairs area i) (nameOf pairs area i) nodes attributes a
+        → take layout.answerWidth (drop (layout.answerWidth * i) after) ≡ answerTo a
+    many-asks = asked.many-asks f lent ns ats pairs area before nodes attributes n after answered
+
+    -- which finds a value, or says 12 and nothing else
+    pub many-found : (tag name : List ℕ) (x : Refusal) → FirstReads f lent ns ats tag name nodes attributes (firstIs.Refused x) → x ≡ NothingFound
+    many-found = asked.many-found f lent ns ats pairs area before nodes attributes n after answered
+
+pub many-numbers-unique : (a b : ManyAnswer) → pairNumbersOf a ≡ pairNumbersOf b → a ≡ b
+many-numbers-unique = pairNumbersOf-unique
+
+-- one that says 12 to every pair breaks the promise, which can be met: by the definition itself
+pub twelve-to-all-broken : (A : Asker) → MeetsAll A → TwelveToAll A → ⊥
+twelve-to-all-broken = many.twelve-to-all-broken
+
+pub many-meets-some : MeetsAll (λ f lent ns ats pairs area before nodes attributes.
+    record {
+      answer = manyAnswer f lent ns ats nodes attributes pairs area (length before);
+      list = answersAfter f lent ns ats nodes attributes pairs area (length before);
+    })
+many-meets-some = many.many-meets-some

@@ -49,3 +49,4 @@ pub mod Merging
 pub mod Modes
 pub mod Claims
 pub mod Month
+pub mod Many

@@ -35,7 +35,7 @@ use Rattle.text.specs.Content.{systemOf, stringAt, stringOf, contentOf}
 use Rattle.head.specs.Head.{tablesOf, openedOf, outsideIn}
 use Rattle.head.specs.Entry.{lengthCheck}
 use Rattle.head.specs.Ask.{openOf, textAnswer, textBuffer, contentAnswer}
-use Rattle.first_value.specs.Question.{androidName, runsFrom, fitOf, findNode, findValue, firstAnswer}
+use Rattle.first_value.specs.Question.{androidName, runsFrom, fitOf, findNode, findValue, sharedOf, firstAnswer}
 use Rattle.xml_elements.specs.Chunk.{startOf, attributeAt, startTurn, xmlTurn, numberOf, turnOf}
 use Rattle.events.specs.Events.{attributeEvent, attributesOf, fromLead, fromOpen, fromName, fromTrailing, fromSize, fromGap, eventsOn, bodyEvents, fileEvents}
 use Rattle.records.specs.Words.{nodeWidth, attributeWidth, merged}
@@ -93,7 +93,7 @@ pub s-asked : (textAnswer (insertedFile some fileS) (lends [] []) 2 0 ≡ Text 1
     × (firstAnswer (insertedFile some fileS) (lends [] []) firstNode lead (0x61 ∷ []) androidName 1 1 ≡ Found 3 0 false)
 unfolding fileS headS startS endS insertedFile inserted chunksOf restOf u16le u32le headerOf isXml sortOf contentLen foreignLen walk walkFrom
     countOf numbered endOf poolFrom behindGarbage poolOf offsetOf split8 split16 idsIn idsBy mapOf idOf isAscii isGood namesFrom nameOf systemOf
-    stringAt stringOf contentOf tablesOf openedOf lengthCheck openOf textAnswer textBuffer contentAnswer firstAnswer fitOf runsFrom
+    stringAt stringOf contentOf tablesOf openedOf lengthCheck openOf textAnswer textBuffer contentAnswer firstAnswer sharedOf fitOf runsFrom
     findNode findValue startOf startTurn xmlTurn numberOf turnOf matched isWhole longest anyWhole spelt encode step8 stepsAfter bytesOf
     allSound textOf eqBytes f105 f102 isReference valueTypeNumber valueTypeOf
 s-asked = (refl, refl, refl, refl)

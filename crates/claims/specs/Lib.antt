@@ -10,3 +10,4 @@ pub mod Readers
 pub mod Parts
 pub mod Month
 pub mod Modes
+pub mod Askers

@@ -5,7 +5,7 @@ use native.Mathlib.Omega.{arith}
 use mathlib.Core.Path.{_≡_, refl, sym, _∙_, ap}
 use mathlib.Core.Bool.{Bool, true, false, cond}
 use lib.Dec.{eqb}
-use Rattle.errors.specs.Refusal.{numberOf, valueOf, numbersOf, textNumbersOf, firstNumbersOf, valueNumbersOf, manyNumbersOf}
+use Rattle.errors.specs.Refusal.{numberOf, valueOf, numbersOf, textNumbersOf, firstNumbersOf, valueNumbersOf, manyNumbersOf, pairNumbersOf}
 use Rattle.errors.specs.declared.Refusal.{Refusal}
 use Rattle.errors.specs.declared.Refusal.the-variants.{TooSmallError, TooLargeError, HeaderSizeError}
 use Rattle.errors.specs.declared.Refusal.the-variants.{MissingRoot, SystemNamesError, NodesFull}
@@ -20,16 +20,19 @@ use Rattle.errors.specs.declared.TextNumbers.{TextNumbers}
 use Rattle.errors.specs.declared.FirstNumbers.{FirstNumbers}
 use Rattle.errors.specs.declared.ValueNumbers.{ValueNumbers}
 use Rattle.errors.specs.declared.ManyNumbers.{ManyNumbers}
+use Rattle.errors.specs.declared.PairNumbers.{PairNumbers}
 use Rattle.errors.specs.declared.ReadAnswer as read
 use Rattle.errors.specs.declared.TextAnswer as text
 use Rattle.errors.specs.declared.FirstAnswer as first
 use Rattle.errors.specs.declared.ValueAnswer as value′
 use Rattle.errors.specs.declared.ManyTexts as many
+use Rattle.errors.specs.declared.ManyAnswer as pairs
 use Rattle.errors.specs.declared.ReadAnswer.the-variants as readIs
 use Rattle.errors.specs.declared.TextAnswer.the-variants as textIs
 use Rattle.errors.specs.declared.FirstAnswer.the-variants as firstIs
 use Rattle.errors.specs.declared.ValueAnswer.the-variants as valueIs
 use Rattle.errors.specs.declared.ManyTexts.the-variants as manyIs
+use Rattle.errors.specs.declared.ManyAnswer.the-variants as pairsIs
 
 -- what leads back from its image tells two things apart
 unique : {A B : Type 0} (f : A → B) (g : B → A) → ((c : A) → g (f c) ≡ c) → (a b : A) → f a ≡ f b → a ≡ b
@@ -239,3 +242,16 @@ manyOf-back (manyIs.Refused r) = rw (numberOf-some r) (ap manyIs.Refused (refusa
 
 pub manyNumbersOf-unique : (a b : many.ManyTexts) → manyNumbersOf a ≡ manyNumbersOf b → a ≡ b
 manyNumbersOf-unique = unique manyNumbersOf manyOf manyOf-back
+
+-- ---- many pairs
+
+pairsOf : PairNumbers → pairs.ManyAnswer
+pairsOf n = cond (eqb (n .refusal) 0) (pairsIs.Answered (n .count)) (pairsIs.Refused (refusalOf (n .refusal) (n .value)))
+
+pairsOf-back : (a : pairs.ManyAnswer) → pairsOf (pairNumbersOf a) ≡ a
+unfolding pairsOf pairNumbersOf
+pairsOf-back (pairsIs.Answered n) = refl
+pairsOf-back (pairsIs.Refused r) = rw (numberOf-some r) (ap pairsIs.Refused (refusalOf-back r))
+
+pub pairNumbersOf-unique : (a b : pairs.ManyAnswer) → pairNumbersOf a ≡ pairNumbersOf b → a ≡ b
+pairNumbersOf-unique = unique pairNumbersOf pairsOf pairsOf-back

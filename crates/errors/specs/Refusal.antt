@@ -7,6 +7,7 @@
 --   firstNumbersOf   the same of a first-value question; its reference is 1 or 0
 --   valueNumbersOf   the same of a value text: the length, and how many set bits no name covers
 --   manyNumbersOf    the same of many texts at once: how many, and the bytes of all of them
+--   pairNumbersOf    the same of many pairs at once: how many
 --
 -- Equal numbers are equal answers: `numbersOf-unique` and its like in proofs/Laws.antt.
 use Prim.Native.Nat.{ℕ}
@@ -25,16 +26,19 @@ use Rattle.errors.specs.declared.TextNumbers.{TextNumbers}
 use Rattle.errors.specs.declared.FirstNumbers.{FirstNumbers}
 use Rattle.errors.specs.declared.ValueNumbers.{ValueNumbers}
 use Rattle.errors.specs.declared.ManyNumbers.{ManyNumbers}
+use Rattle.errors.specs.declared.PairNumbers.{PairNumbers}
 use Rattle.errors.specs.declared.ReadAnswer as read
 use Rattle.errors.specs.declared.TextAnswer as text
 use Rattle.errors.specs.declared.FirstAnswer as first
 use Rattle.errors.specs.declared.ValueAnswer as value′
 use Rattle.errors.specs.declared.ManyTexts as many
+use Rattle.errors.specs.declared.ManyAnswer as pairs
 use Rattle.errors.specs.declared.ReadAnswer.the-variants as readIs
 use Rattle.errors.specs.declared.TextAnswer.the-variants as textIs
 use Rattle.errors.specs.declared.FirstAnswer.the-variants as firstIs
 use Rattle.errors.specs.declared.ValueAnswer.the-variants as valueIs
 use Rattle.errors.specs.declared.ManyTexts.the-variants as manyIs
+use Rattle.errors.specs.declared.ManyAnswer.the-variants as pairsIs
 
 unfoldable pub numberOf : Refusal → ℕ
 numberOf (TooSmallError length) = 1
@@ -120,3 +124,7 @@ valueNumbersOf (valueIs.Refused r) = record { refusal = numberOf r; value = valu
 unfoldable pub manyNumbersOf : many.ManyTexts → ManyNumbers
 manyNumbersOf (manyIs.Answered n s) = record { refusal = 0; value = 0; count = n; length = s }
 manyNumbersOf (manyIs.Refused r) = record { refusal = numberOf r; value = valueOf r; count = 0; length = 0 }
+
+unfoldable pub pairNumbersOf : pairs.ManyAnswer → PairNumbers
+pairNumbersOf (pairsIs.Answered n) = record { refusal = 0; value = 0; count = n }
+pairNumbersOf (pairsIs.Refused r) = record { refusal = numberOf r; value = valueOf r; count = 0 }

@@ -6,7 +6,7 @@
 // of a question without an answer. Definitions: specs/Refusal.antt.
 ghost use mathlib.Core.Path.{_≡_};
 ghost use mathlib.Core.Bool.{cond};
-ghost use Rattle.errors.specs.Refusal.{numberOf, valueOf, numbersOf, textNumbersOf, firstNumbersOf, valueNumbersOf, manyNumbersOf};
+ghost use Rattle.errors.specs.Refusal.{numberOf, valueOf, numbersOf, textNumbersOf, firstNumbersOf, valueNumbersOf, manyNumbersOf, pairNumbersOf};
 
 // One case for each number of a refusal.
 pub enum Refusal {
@@ -311,6 +311,39 @@ pub fn many_numbers(a: ManyTexts) -> ManyNumbers
             value: refusal_value(e),
             count: 0,
             length: 0,
+        },
+    }
+}
+
+// ---- many pairs
+
+// How many pairs were answered, or why none was.
+pub enum ManyAnswer {
+    Answered(usize),
+    Refused(Refusal),
+}
+
+// The numbers of a `ManyAnswer`.
+pub struct PairNumbers {
+    pub refusal: u32,
+    pub value: u64,
+    pub count: u64,
+}
+
+// The numbers of many pairs' answer. Ruled out: a count beside a refusal, and the places as the count of a refused answer.
+pub fn pair_numbers(a: ManyAnswer) -> PairNumbers
+    ensures { λ r. ⌜ r ≡ pairNumbersOf a ⌝ }
+{
+    match a {
+        ManyAnswer::Answered(n) => PairNumbers {
+            refusal: 0,
+            value: 0,
+            count: n as u64,
+        },
+        ManyAnswer::Refused(e) => PairNumbers {
+            refusal: refusal_number(e),
+            value: refusal_value(e),
+            count: 0,
         },
     }
 }

@@ -25,7 +25,7 @@ use Rattle.text.specs.Content.{systemOf, stringAt, stringOf, contentOf}
 use Rattle.head.specs.Head.{tablesOf, openedOf}
 use Rattle.head.specs.Entry.{lengthCheck}
 use Rattle.head.specs.Ask.{openOf}
-use Rattle.first_value.specs.Question.{invalidElement, androidName, runsFrom, fitOf, findNode, findValue, firstAnswer}
+use Rattle.first_value.specs.Question.{invalidElement, androidName, runsFrom, fitOf, findNode, findValue, sharedOf, firstAnswer}
 
 unfoldable pub head : List ℕ
 head =
@@ -80,5 +80,5 @@ pub cases-right : answers cases ≡ results cases
 unfolding cases head two three u16le u32le headerOf valueTypeOf valueTypeNumber isReference matched isWhole longest anyWhole spelt encode step8
     stepsAfter bytesOf allSound textOf eqBytes countOf numbered endOf poolFrom behindGarbage poolOf offsetOf split8 split16 idsIn idsBy mapOf
     idOf isAscii isGood namesFrom nameOf systemOf stringAt stringOf contentOf tablesOf openedOf lengthCheck openOf runsFrom fitOf
-    findNode findValue firstAnswer
+    findNode findValue sharedOf firstAnswer
 cases-right = refl

@@ -1,6 +1,7 @@
 -- Laws of specs/Question.antt on the search and the question. No contract cites this file.
 -- In order: record by record (`findNode-..`, `findValue-..`), the attributes of a node that is found lie in a table that fits
--- (`run-inside`, `run-words`), their values (`value-run`), the question by whether the file is open (`first-open`, `first-closed`),
+-- (`run-inside`, `run-fits`), their values (`value-run`), what is asked once (`shared-..`), the question by whether the file is open
+-- (`first-open`, `first-closed`),
 -- and two answers that its promise allows are equal (`first-unique`).
 use Prim.Native.Nat.{ℕ, zero, suc, _+_, _-_, _*_, _≤_, _<_}
 use native.Mathlib.Omega.{arith}
@@ -21,6 +22,7 @@ use Rattle.errors.proofs.Laws.{firstNumbersOf-unique}
 use Rattle.text.specs.declared.Head.{Head}
 use Rattle.head.specs.Head.{tablesIn}
 use Rattle.head.specs.Ask.{openOf}
+use Rattle.head.specs.declared.OpenRead.{OpenRead}
 use Rattle.head.specs.declared.OpenRead.the-variants.{Open, Closed}
 use Rattle.head.proofs.Cases.{rest-all}
 use Rattle.records.specs.Words.{nodeWidth, nodeName, nodeFixed, nodeFirst, nodeCount}
@@ -28,7 +30,9 @@ use Rattle.records.specs.Words.{attributeWidth, attributePrefix, attributeName,
 use Rattle.records.proofs.Places.{drop-record}
 use Rattle.system_types.specs.Names.{Lent}
 use Rattle.first_value.specs.Question.{runsFrom, fitOf, tagIs, nameIs, foundBy, findNode, findValue}
-use Rattle.first_value.specs.Question.{valueBy, firstBy, firstAnswer, FirstReads}
+use Rattle.first_value.specs.Question.{valueBy, fittedBy, sharedBy, sharedOf, firstAnswer, FirstReads}
+use Rattle.first_value.specs.Inner.Run.{RunFits}
+use Rattle.first_value.specs.declared.Fit.{Fit}
 use Rattle.first_value.specs.declared.Fit.the-variants.{Fitting, Unfit}
 use Rattle.first_value.specs.declared.NodeFound.{NodeFound}
 use Rattle.first_value.specs.declared.NodeFound.the-variants.{Run, NoNode}
@@ -134,43 +138,82 @@ run-inside h t lent tag attributes k (suc n) w {first} {number} f e =
         omega arith
     go false p f′ false e′ ind = ind f′ e′
 
--- in words, j being where they begin
-pub run-words
-    : (h : Head) (t : List ℕ) (lent : Lent) (tag ns ats : List ℕ) (n a : ℕ) {r : NodeFound} {first number j : ℕ}
+-- so they lie in the table
+pub run-fits
+    : (h : Head) (t : List ℕ) (lent : Lent) (tag ns ats : List ℕ) (n a : ℕ) {r : NodeFound}
     → fitOf ns ats n a ≡ Fitting
     → r ≡ findNode h t lent tag n ns
-    → r ≡ Run first number
-    → j ≡ attributeWidth * first
-    → j + attributeWidth * number ≤ length ats
-run-words h t lent tag ns ats n a f e q i =
-    let g = fitOf-fits ns ats n a f in
-    let p = run-inside h t lent tag a 0 n ns (g .runs) (sym e ∙ q) in
-    omega arith
+    → RunFits ats r
+run-fits h t lent tag ns ats n a f e =
+    record {
+      inside = λ first number q.
+          let g = fitOf-fits ns ats n a f in
+          let p = run-inside h t lent tag a 0 n ns {first = first} {number = number} (g .runs) (sym e ∙ q) in
+          omega (arith, g .attributes, p);
+    }
 
--- its values, in the table from there on
+-- its values, in the table from there on, j being where they begin
 pub value-run
-    : (h : Head) (t : List ℕ) (lent : Lent) (tag ns name ats : List ℕ) (n : ℕ) {f : NodeFound} {r : FirstAnswer} {first number j : ℕ}
-    → f ≡ findNode h t lent tag n ns
-    → f ≡ Run first number
+    : (h : Head) (t : List ℕ) (lent : Lent) (name ats : List ℕ) {node : NodeFound} {r : FirstAnswer} {first number j : ℕ}
+    → node ≡ Run first number
     → j ≡ attributeWidth * first
     → r ≡ findValue h t lent name number (take (length ats - j) (drop j ats))
-    → r ≡ valueBy h t lent name ats (findNode h t lent tag n ns)
-value-run h t lent tag ns name ats n {j = j} e q i g = let g′ = rw (rest-all j ats, i) at g in rw (← e, q) g′
+    → r ≡ valueBy h t lent name ats node
+value-run h t lent name ats {j = j} q i g = let g′ = rw (rest-all j ats, i) at g in rw q g′
+
+-- ---- what is asked once
+
+-- a head that is opened beside tables: the file is open, and they fit
+pub record Shared (f : List ℕ) (lent : Lent) (ns ats : List ℕ) (nodes attributes : ℕ) (h : Head) : Type 0 where
+  pub opens : openOf f lent ≡ Open h
+  pub fits : fitOf ns ats nodes attributes ≡ Fitting
+
+module _ (f : List ℕ) (lent : Lent) (ns ats : List ℕ) (nodes attributes : ℕ) where
+  pub shared-open : {h : Head} {fit : Fit} {r : OpenRead} → openOf f lent ≡ Open h → fit ≡ fitOf ns ats nodes attributes → r ≡ fittedBy h fit
+      → r ≡ sharedOf f lent ns ats nodes attributes
+  unfolding sharedOf
+  shared-open e q g = rw (e, ← q) g
+
+  pub shared-closed : {why : Refusal} → openOf f lent ≡ Closed why → Closed why ≡ sharedOf f lent ns ats nodes attributes
+  unfolding sharedOf
+  shared-closed e = rw e
+
+  pub shared-opens : {h : Head} → sharedOf f lent ns ats nodes attributes ≡ Open h → Shared f lent ns ats nodes attributes h
+  unfolding sharedOf
+  shared-opens {h} e = go (openOf f lent) refl (fitOf ns ats nodes attributes) refl e
+    where
+      go
+          : (x : OpenRead) → openOf f lent ≡ x
+          → (y : Fit) → fitOf ns ats nodes attributes ≡ y
+          → sharedBy y x ≡ Open h
+          → Shared f lent ns ats nodes attributes h
+      go (Closed r) p y q g = let z : _≡_ {A = ℕ} 0 1 = cc in absurd (let v : ⊥ = omega arith in v)
+      go (Open h′) p (Unfit k) q g = let z : _≡_ {A = ℕ} 0 1 = cc in absurd (let v : ⊥ = omega arith in v)
+      go (Open h′) p Fitting q g = record { opens = p ∙ g; fits = q }
 
 -- ---- the question
 
 module _ (f : List ℕ) (lent : Lent) (ns ats tag name : List ℕ) (nodes attributes : ℕ) where
+  -- the answer where the head is open and the tables fit
+  pub first-shared
+      : {h : Head}
+      → sharedOf f lent ns ats nodes attributes ≡ Open h
+      → firstAnswer f lent ns ats tag name nodes attributes
+      ≡ valueBy h (tablesIn f h) lent name ats (findNode h (tablesIn f h) lent tag nodes ns)
+  unfolding firstAnswer
+  first-shared e = rw e
+
   pub first-open
       : {h : Head} {t : List ℕ} {r : FirstAnswer}
-      → openOf f lent ≡ Open h
+      → sharedOf f lent ns ats nodes attributes ≡ Open h
       → t ≡ tablesIn f h
-      → r ≡ firstBy h t lent ns ats tag name nodes (fitOf ns ats nodes attributes)
+      → r ≡ valueBy h t lent name ats (findNode h t lent tag nodes ns)
       → FirstReads f lent ns ats tag name nodes attributes r
-  unfolding firstAnswer
   first-open {r = r} e q g =
-      let same : r ≡ firstAnswer f lent ns ats tag name nodes attributes = rw e (rw q at g) in record { answer = ap firstNumbersOf same }
+      let same : r ≡ firstAnswer f lent ns ats tag name nodes attributes = rw (first-shared e) (rw q at g) in record { answer = ap firstNumbersOf same }
 
-  pub first-closed : {why : Refusal} → openOf f lent ≡ Closed why → FirstReads f lent ns ats tag name nodes attributes (Refused why)
+  pub first-closed
+      : {why : Refusal} → sharedOf f lent ns ats nodes attributes ≡ Closed why → FirstReads f lent ns ats tag name nodes attributes (Refused why)
   unfolding firstAnswer
   first-closed e = record { answer = rw e }
 

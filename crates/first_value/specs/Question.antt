@@ -2,6 +2,7 @@
 --
 --   FirstReads    THE PROMISE of the first-value question, by the numbers of its answer
 --   firstAnswer   the answer: the head's refusals, 13 where the tables do not fit, 12 where nothing is found, or type, data and reference
+--   sharedOf      what does not depend on tag and name: the head, or the first refusal, 13 the last of them
 --   fitOf         whether the lent tables fit the counts; the node count, or the first node that does not
 --   tagIs         whether a node has the tag; nameIs whether an attribute has the name
 --   findNode      the first of n nodes with the tag: where its attributes begin and how many it has
@@ -98,19 +99,26 @@ module _ (h : Head) (t : List ℕ) (lent : Lent) where
   valueBy name ats NoNode = Refused NothingFound
   valueBy name ats (Run first number) = findValue name number (drop (attributeWidth * first) ats)
 
-  -- the tables before the search
-  abbrev pub firstBy : List ℕ → List ℕ → List ℕ → List ℕ → ℕ → Fit → FirstAnswer
-  firstBy ns ats tag name nodes (Unfit k) = Refused (TablesError k)
-  firstBy ns ats tag name nodes Fitting = valueBy name ats (findNode tag nodes ns)
-
 -- ---- the answer: Q4
 
-abbrev pub askedBy : List ℕ → Lent → List ℕ → List ℕ → List ℕ → List ℕ → ℕ → ℕ → OpenRead → FirstAnswer
-askedBy f lent ns ats tag name nodes attributes (Closed r) = Refused r
-askedBy f lent ns ats tag name nodes attributes (Open h) = firstBy h (tablesIn f h) lent ns ats tag name nodes (fitOf ns ats nodes attributes)
+abbrev pub fittedBy : Head → Fit → OpenRead
+fittedBy h (Unfit k) = Closed (TablesError k)
+fittedBy h Fitting = Open h
+
+-- the tables are looked at before any of them is searched
+abbrev pub sharedBy : Fit → OpenRead → OpenRead
+sharedBy fit (Closed r) = Closed r
+sharedBy fit (Open h) = fittedBy h fit
+
+unfoldable pub sharedOf : List ℕ → Lent → List ℕ → List ℕ → ℕ → ℕ → OpenRead
+sharedOf f lent ns ats nodes attributes = sharedBy (fitOf ns ats nodes attributes) (openOf f lent)
+
+abbrev pub askedBy : List ℕ → Lent → List ℕ → List ℕ → List ℕ → List ℕ → ℕ → OpenRead → FirstAnswer
+askedBy f lent ns ats tag name nodes (Closed r) = Refused r
+askedBy f lent ns ats tag name nodes (Open h) = valueBy h (tablesIn f h) lent name ats (findNode h (tablesIn f h) lent tag nodes ns)
 
 unfoldable pub firstAnswer : List ℕ → Lent → List ℕ → List ℕ → List ℕ → List ℕ → ℕ → ℕ → FirstAnswer
-firstAnswer f lent ns ats tag name nodes attributes = askedBy f lent ns ats tag name nodes attributes (openOf f lent)
+firstAnswer f lent ns ats tag name nodes attributes = askedBy f lent ns ats tag name nodes (sharedOf f lent ns ats nodes attributes)
 
 pub record FirstReads (f : List ℕ) (lent : Lent) (ns ats tag name : List ℕ) (nodes attributes : ℕ) (r : FirstAnswer) : Type 0 where
   pub answer : firstNumbersOf r ≡ firstNumbersOf (firstAnswer f lent ns ats tag name nodes attributes)

@@ -16,7 +16,8 @@ ghost use Rattle.records.specs.Words.{nodeWidth, attributeWidth};
 ghost use Rattle.system_types.specs.Names.{lends};
 ghost use Rattle.text.specs.Inner.Found.{Asks};
 ghost use Rattle.first_value.specs.declared.Fit.the-variants.{Fitting};
-ghost use Rattle.first_value.specs.Question.{fitOf, foundBy, findNode, findValue, valueBy, firstBy, FirstReads};
+ghost use Rattle.first_value.specs.Question.{fitOf, foundBy, findNode, findValue, valueBy, fittedBy, sharedOf, FirstReads};
+ghost use Rattle.first_value.specs.Inner.Run.{RunFits};
 use common::StringIndex;
 use common::is_reference;
 use common::value_type_of;
@@ -51,7 +52,8 @@ pub enum NodeFound {
 
 // ---- the search
 
-fn find_node(
+// The first node of that tag. Ruled out: a later one where the first has no attributes.
+pub fn find_node(
     t: &[u8],
     names: &[u32],
     area: &[u8],
@@ -128,6 +130,33 @@ fn find_value(
     FirstAnswer::Refused(Refusal::NothingFound)
 }
 
+// In the attributes of a node that was found, which lie in the table. Ruled out: a value where no node was found.
+pub fn value_of(
+    t: &[u8],
+    names: &[u32],
+    area: &[u8],
+    h: Head,
+    name: &[u8],
+    attributes: &[u32],
+    node: NodeFound,
+) -> FirstAnswer
+    requires { ⌜ Asks (now t) (lends (now names) (now area)) h × RunFits (now attributes) node ⌝ }
+    ensures { λ r. ⌜ r ≡ valueBy h (now (t .entry)) (lends (now (names .entry)) (now (area .entry))) (now (name .entry)) (now (attributes .entry)) node ⌝ }
+{
+    match node {
+        NodeFound::Run(first, number) => find_value(
+            t,
+            names,
+            area,
+            h,
+            name,
+            &attributes[attribute_place(first)..],
+            number,
+        ),
+        NodeFound::NoNode => FirstAnswer::Refused(Refusal::NothingFound),
+    }
+}
+
 // In tables that fit, a node's attributes lie inside.
 fn value_in(
     t: &[u8],
@@ -146,58 +175,46 @@ fn value_in(
         (findNode h (now (t .entry)) (lends (now (names .entry)) (now (area .entry))) (now (tag .entry)) «node_count» (now (nodes .entry))) ⌝ }
 {
     let node = find_node(t, names, area, h, tag, nodes, node_count);
-    match node {
-        NodeFound::Run(first, number) => find_value(
-            t,
-            names,
-            area,
-            h,
-            name,
-            &attributes[attribute_place(first)..],
-            number,
-        ),
-        NodeFound::NoNode => FirstAnswer::Refused(Refusal::NothingFound),
+    value_of(t, names, area, h, name, attributes, node)
+}
+
+// ---- what is asked once, however many questions follow
+
+fn fitted(h: Head, fit: Fit) -> OpenRead
+    ensures { λ r. ⌜ r ≡ fittedBy h fit ⌝ }
+{
+    match fit {
+        Fit::Fitting => OpenRead::Open(h),
+        Fit::Unfit(k) => OpenRead::Closed(Refusal::TablesError(k)),
     }
 }
 
-fn first_in(
-    t: &[u8],
+// The head of a file whose lent tables fit their counts, or the first refusal: the names and the head first, then the tables.
+// Ruled out: 13 for a file that is refused itself, and a head beside tables that do not fit.
+pub fn open_tables(
+    file: &[u8],
     names: &[u32],
     area: &[u8],
-    h: Head,
     nodes: &[u32],
     attributes: &[u32],
-    tag: &[u8],
-    name: &[u8],
     node_count: u32,
     attribute_count: u32,
-) -> FirstAnswer
-    requires { ⌜ Asks (now t) (lends (now names) (now area)) h ⌝ }
-    ensures { λ r. ⌜ r ≡ firstBy h (now (t .entry)) (lends (now (names .entry)) (now (area .entry))) (now (nodes .entry)) (now (attributes .entry))
-        (now (tag .entry)) (now (name .entry)) «node_count» (fitOf (now (nodes .entry)) (now (attributes .entry)) «node_count» «attribute_count») ⌝ }
+) -> OpenRead
+    ensures { λ r. ⌜ r ≡ sharedOf (now (file .entry)) (lends (now (names .entry)) (now (area .entry))) (now (nodes .entry)) (now (attributes .entry))
+        «node_count» «attribute_count» ⌝ }
 {
-    let fit = fit_of(nodes, attributes, node_count, attribute_count);
-    match fit {
-        Fit::Fitting => value_in(
-            t,
-            names,
-            area,
-            h,
-            nodes,
-            attributes,
-            tag,
-            name,
-            node_count,
-            attribute_count,
-        ),
-        Fit::Unfit(k) => FirstAnswer::Refused(Refusal::TablesError(k)),
+    let opened = open_file(file, names, area);
+    match opened {
+        OpenRead::Open(h) => fitted(h, fit_of(nodes, attributes, node_count, attribute_count)),
+        OpenRead::Closed(why) => OpenRead::Closed(why),
     }
 }
 
 // ---- the question
 
 // Type and data of the first attribute of that name on the first node of that tag, and whether the type is a reference. The tables may
-// hold any words; the answer tells the first that is amiss: 2, 7, 1, 3, 4, 5, then 13 (the tables, all nodes up to the count) and 12.
+// hold any words; the answer tells the first that is amiss: 2, 7, 1, 3, those of
+// the head, then 13 (the tables, all nodes up to the count) and 12.
 // Ruled out: the value of a later node where the first of that tag has no such attribute, and a value where a node behind it does not fit.
 pub fn first_value(
     file: &[u8],
@@ -213,9 +230,17 @@ pub fn first_value(
     ensures { λ r. ⌜ FirstReads (now (file .entry)) (lends (now (names .entry)) (now (area .entry))) (now (nodes .entry)) (now (attributes .entry))
         (now (tag .entry)) (now (name .entry)) «node_count» «attribute_count» r ⌝ }
 {
-    let opened = open_file(file, names, area);
+    let opened = open_tables(
+        file,
+        names,
+        area,
+        nodes,
+        attributes,
+        node_count,
+        attribute_count,
+    );
     match opened {
-        OpenRead::Open(h) => first_in(
+        OpenRead::Open(h) => value_in(
             tables_of(file, h),
             names,
             area,

@@ -1,7 +1,8 @@
--- The words of a record, by name: docs/FORMAT.md, B9, B11, B12, N4. The one place that knows them; src/lib.rt has the same numbers in code.
+-- The words of a record, by name: docs/FORMAT.md, B9, B11, B12, N4, M1, M4. The one place that knows them; src/lib.rt has the same numbers in code.
 --
---   nodeWidth, nodeName ..            how many words a node has, and the place of each; attributeWidth .., noteWidth .., nameWidth .. likewise
---   nodeWords, attributeWords, noteWords, nameWords   the words of a record in their order
+--   nodeWidth, nodeName ..            how many words a node has, and the place of each; attributeWidth .., noteWidth .., nameWidth .. likewise,
+--                                     and pairWidth .., answerWidth ..: of a pair of a question, and of the answer to it
+--   nodeWords, attributeWords, noteWords, nameWords, answerWords   the words of a record in their order
 --   noParent                          the parent word of the first node
 --   ownPrefix                         the prefix word of an attribute of a namespace that is not Android's, in the mode that tells it
 --   merged, apart                     the modes of a reading
@@ -112,6 +113,49 @@ nameLength = 2
 
 abbrev pub nameWords : ℕ → ℕ → ℕ → List ℕ
 nameWords id start length = id ∷ start ∷ length ∷ []
+
+-- ---- a pair of a question: parts of an area of bytes
+
+abbrev pub pairWidth : ℕ
+pairWidth = 4
+
+-- where its tag begins in the area
+abbrev pub pairTag : ℕ
+pairTag = 0
+
+-- the bytes of its tag
+abbrev pub pairTagLength : ℕ
+pairTagLength = 1
+
+-- where its name begins in the area
+abbrev pub pairName : ℕ
+pairName = 2
+
+-- the bytes of its name
+abbrev pub pairNameLength : ℕ
+pairNameLength = 3
+
+-- ---- the answer to a pair
+
+abbrev pub answerWidth : ℕ
+answerWidth = 4
+
+-- 0 where a value was found, else 12
+abbrev pub answerRefusal : ℕ
+answerRefusal = 0
+
+abbrev pub answerType : ℕ
+answerType = 1
+
+abbrev pub answerData : ℕ
+answerData = 2
+
+-- 1 for a reference, else 0
+abbrev pub answerReference : ℕ
+answerReference = 3
+
+abbrev pub answerWords : ℕ → ℕ → ℕ → ℕ → List ℕ
+answerWords refusal kind «data» reference = refusal ∷ kind ∷ «data» ∷ reference ∷ []
 
 -- ---- the mode of a reading
 

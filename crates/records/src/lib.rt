@@ -1,7 +1,7 @@
-// What the words of a record are: of a node, an attribute, a note and a lent system name, each word by its name; how long a file may be; and
-// the room of a listing. The one place that knows these numbers in code, as specs/Words.antt and specs/Limits.antt are in definitions.
+// What the words of a record are: of a node, an attribute, a note, a lent system name, a pair of a question and its answer, each word by its
+// name; how long a file may be; and the room of a listing. The one place that knows these numbers in code, as specs/Words.antt and specs/Limits.antt are in definitions.
 //
-// Mirrors nothing of the Rust's, whose tree has vectors and structs of its own. docs/FORMAT.md, B2, B9, B11, B12, N4, L1.
+// Mirrors nothing of the Rust's, whose tree has vectors and structs of its own. docs/FORMAT.md, B2, B9, B11, B12, N4, M1, M4, L1.
 // A further word of a record is its width, its place and its parameter here; who stores the record gives the word, and nobody else changes.
 ghost use mathlib.Core.Path.{_≡_};
 ghost use mathlib.Core.List.{_++_};
@@ -66,6 +66,30 @@ pub const NAME_ID: usize = 0;
 pub const NAME_START: usize = 1;
 // the bytes of its text
 pub const NAME_LENGTH: usize = 2;
+
+// ---- a pair of a question: parts of an area of bytes
+
+pub const PAIR_WORDS: usize = 4;
+// where its tag begins in the area
+pub const PAIR_TAG: usize = 0;
+// the bytes of its tag
+pub const PAIR_TAG_LENGTH: usize = 1;
+// where its name begins in the area
+pub const PAIR_NAME: usize = 2;
+// the bytes of its name
+pub const PAIR_NAME_LENGTH: usize = 3;
+
+// ---- the answer to a pair
+
+pub const ANSWER_WORDS: usize = 4;
+// 0 where a value was found, else 12
+pub const ANSWER_REFUSAL: usize = 0;
+
+pub const ANSWER_TYPE: usize = 1;
+
+pub const ANSWER_DATA: usize = 2;
+// 1 for a reference, else 0
+pub const ANSWER_REFERENCE: usize = 3;
 
 // ---- the mode of a reading
 

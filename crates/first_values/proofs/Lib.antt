@@ -1,0 +1,4 @@
+-- The root of the crate's laws.
+pub mod Cases
+pub mod Laws
+pub mod Unique
