@@ -158,10 +158,10 @@ enum { ANSWERS = 15 };
 
 static void many(const char *what, size_t bytes, const uint32_t *pairs, size_t pair_words, size_t answer_words, uint32_t node_count, uint32_t refusal,
                  uint64_t value, const uint32_t *wanted) {
-  const uint32_t tree[5] = {ROOT}, owned[5] = {0, AXML_PREFIX_XMLNS, 0, 1, 9};
+  const uint32_t tree[AXML_NODE_WORDS] = {ROOT}, owned[AXML_ATTRIBUTE_WORDS] = {0, AXML_PREFIX_XMLNS, 0, 1, 9};
   uint32_t answers[ANSWERS];
   memset(answers, 0xa5, sizeof answers);
-  struct axml_many_answer r = axml_first_values(S, bytes, no_words, 0, no_bytes, 0, tree, 5, owned, 5, pairs, pair_words, (const uint8_t *)"aandroid", 8,
+  struct axml_many_answer r = axml_first_values(S, bytes, no_words, 0, no_bytes, 0, tree, AXML_NODE_WORDS, owned, AXML_ATTRIBUTE_WORDS, pairs, pair_words, (const uint8_t *)"aandroid", 8,
                                                 answers, answer_words, node_count, 1);
   expect(r.refusal == refusal, what, "refusal");
   expect(r.value == value, what, "value");
@@ -185,8 +185,8 @@ static void many_pairs(void) {
   many("eleven words, two bad pairs and no place", S_BYTES, (const uint32_t[11]){0, 1, 1, 7, 0, 9, 0, 1, 1, 7, 8}, 11, 3, 1, AXML_PAIRS, 1, nothing);
   many("a name past the end", S_BYTES, (const uint32_t[8]){0, 1, 1, 7, 0, 1, 9, 0}, 8, 15, 1, AXML_PAIRS, 1, nothing);
   many("a sum that would wrap", S_BYTES, (const uint32_t[4]){4294967295u, 1, 0, 1}, 4, 15, 1, AXML_PAIRS, 0, nothing);
-  many("two nodes in five words", S_BYTES, pairs, 11, 3, 2, AXML_TABLES, 2, nothing);
-  many("two nodes in five words, no pairs", S_BYTES, no_words, 0, 3, 2, AXML_TABLES, 2, nothing);
+  many("two nodes in the words of one", S_BYTES, pairs, 11, 3, 2, AXML_TABLES, 2, nothing);
+  many("two nodes in the words of one, no pairs", S_BYTES, no_words, 0, 3, 2, AXML_TABLES, 2, nothing);
   many("8 bytes", 8, pairs, 11, 3, 2, AXML_POOL_HEADER, 8, nothing);
   many("7 bytes, no pairs", 7, no_words, 0, 0, 1, AXML_TOO_SMALL, 7, nothing);
 }
