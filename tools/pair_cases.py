@@ -57,6 +57,11 @@ def padded(b):
     return words(len(b)) + b + bytes(-len(b) % 4)
 
 
+def table(width, *records):
+    """Records of the words that matter here, filled up to the words of a record."""
+    return [x for w in records for x in w + [0] * (width - len(w))]
+
+
 def main():
     r = random.Random(7)
     out = []
@@ -82,6 +87,7 @@ def main():
             continue
         read += 1
         nodes, attributes = [x for n in right[3] for x in n], [x for a in right[4] for x in a]
+        node_words, attribute_words = len(right[3][0]), len(right[4][0])
         head = model.Head(f, names, lambda *_: None, set(), "")
         tags = sorted({b"invalid-element" if n[1] else head.text(n[0]) or b"" for n in right[3]}) + [b"", b"zz"]
         called = sorted({head.text(a[2]) or b"" for a in right[4][1:]} | {b"android"}) + [b"", b"zz"]
@@ -97,8 +103,8 @@ def main():
         case(names, f, nodes, attributes, pairs, area, len(pairs) + r.randrange(4), len(right[3]), len(right[4]))
     # the order of refusals, and each number at its edge, over one file and its tables
     f = cases.whole(cases.pool([cases.utf8("a"), cases.utf8("b"), cases.utf8(""), cases.utf8("invalid-element")]), cases.id_map())
-    nodes = [0, 0, TOP, 0, 2, 1, 1, 0, 0, 2, 1, 2, 0, 0, 0, 0, 3, 3]
-    attributes = [0, 2, 0, 3, 0, 0, 0, 0, 1, 1, 7, TOP, 1, 1, 1, 257, 8, 5]
+    nodes = table(node_words, [0, 0, TOP, 0, 2], [1, 0, 0, 2, 1], [0, 0, 0, 0, 3])
+    attributes = table(attribute_words, [0, 2, 0, 3, 0], [0, 0, 1, 1, 7], [1, 1, 1, 257, 8])
     area = b"abandroidinvalid-element"
     end = len(area)
     good = [0, 1, 1, 1, 0, 1, 2, 7, 9, 15, 1, 1]

@@ -2,3 +2,4 @@
 pub mod Cases
 pub mod Laws
 pub mod Search
+pub mod Remembered

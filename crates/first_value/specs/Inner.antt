@@ -1,2 +1,3 @@
 -- How the code goes: not part of what a reader must believe.
 pub mod Run
+pub mod Others

@@ -4,10 +4,12 @@
 // Definitions: specs/Question.antt. Differs from the Rust: the tree is two lent tables, which may hold any words, so they are looked at
 // before they are searched; head and names are checked again at each call.
 pub mod called;
+pub mod once;
 pub mod runs;
 
 use called::is_named;
-use called::is_tagged;
+use once::OTHERS;
+use once::is_tagged_once;
 use runs::fit_of;
 ghost use mathlib.Core.Path.{_≡_};
 ghost use Prim.Native.Nat.{_*_, _≤_};
@@ -52,7 +54,8 @@ pub enum NodeFound {
 
 // ---- the search
 
-// The first node of that tag. Ruled out: a later one where the first has no attributes.
+// The first node of that tag. A name that was found to be another is not looked up again (once.rt).
+// Ruled out: a later node where the first has no attributes.
 pub fn find_node(
     t: &[u8],
     names: &[u32],
@@ -65,15 +68,17 @@ pub fn find_node(
     requires { ⌜ Asks (now t) (lends (now names) (now area)) h × (nodeWidth * count ≤ length (now nodes)) ⌝ }
     ensures { λ r. ⌜ r ≡ findNode h (now (t .entry)) (lends (now (names .entry)) (now (area .entry))) (now (tag .entry)) count (now (nodes .entry)) ⌝ }
 {
+    let mut others = [0u64; OTHERS];
     let mut k = 0;
     while k < count {
         let at = node_place(k);
-        if is_tagged(
+        if is_tagged_once(
             t,
             names,
             area,
             h,
             tag,
+            &mut others,
             nodes[at + NODE_FIXED],
             StringIndex(nodes[at + NODE_NAME]),
         ) {
