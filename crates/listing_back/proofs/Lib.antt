@@ -1,0 +1,8 @@
+-- The root of the crate's laws.
+pub mod Numerals
+pub mod Lines
+pub mod Sorts
+pub mod Steps
+pub mod Heads
+pub mod Whole
+pub mod Samples

@@ -1,0 +1,2 @@
+-- The definitions computed.
+use mathlib.Core.Path.{_≡_, refl}
