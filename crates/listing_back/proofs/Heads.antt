@@ -14,28 +14,28 @@ use Rattle.listing_back.specs.Back.{isListed, isPlain, zeroWhere, refusa
 use Rattle.listing_back.proofs.Lines.{plainKey, anyOver-first, anyOver-others}
 use Rattle.listing_back.proofs.Steps.{Headed, head-taken, head-back, anyOver-cons, no-over}
 
-abbrev line1 : Step → Step
+abbrev pub line1 : Step → Step
 line1 st = headLine (headForm refusalKey) 1 refusalTest st
 
-abbrev line2 : Step → Step
+abbrev pub line2 : Step → Step
 line2 st = headLine (headForm valueKey) 2 valueTest st
 
-abbrev line3 : Step → Step
+abbrev pub line3 : Step → Step
 line3 st = headLine (headForm capKey) 3 anyTest st
 
-abbrev line4 : Step → Step
+abbrev pub line4 : Step → Step
 line4 st = headLine (headForm startsKey) 4 countTest st
 
-abbrev line5 : Step → Step
+abbrev pub line5 : Step → Step
 line5 st = headLine (headForm nodesKey) 5 countTest st
 
-abbrev line6 : Step → Step
+abbrev pub line6 : Step → Step
 line6 st = headLine (headForm attributesKey) 6 countTest st
 
-abbrev line7 : Step → Step
+abbrev pub line7 : Step → Step
 line7 st = headLine (headForm notesKey) 7 notesTest st
 
-headOf-lines : (s : List ℕ) → headOf s ≡ line7 (line6 (line5 (line4 (line3 (line2 (line1 (goes [] s)))))))
+pub headOf-lines : (s : List ℕ) → headOf s ≡ line7 (line6 (line5 (line4 (line3 (line2 (line1 (goes [] s)))))))
 unfolding headOf
 headOf-lines s = refl
 
