@@ -20,14 +20,14 @@ extern "C" {
 
 /* The form of this interface: raised whenever a record, a signature or a number below changes or is added. A library is of this form exactly if
  * axml_abi() == AXML_ABI; one that is of another must not be called. */
-#define AXML_ABI 3u
+#define AXML_ABI 4u
 uint32_t axml_abi(void);
 
 /* The longest file that is read, in bytes: one byte more is refused with AXML_TOO_LARGE. */
 #define AXML_LONGEST_FILE 16777216u
 
-/* Words of one record. A table has words / 5 places for nodes and attributes, words / 3 for notes, rounded down (B6). */
-#define AXML_NODE_WORDS 5u
+/* Words of one record. A table has words / 6 places for nodes, words / 5 for attributes, words / 3 for notes, rounded down (B6). */
+#define AXML_NODE_WORDS 6u
 #define AXML_ATTRIBUTE_WORDS 5u
 #define AXML_NOTE_WORDS 3u
 #define AXML_NAME_WORDS 3u
@@ -100,13 +100,14 @@ enum axml_slice {
   AXML_SLICE_FILE = 2   /* the file: bytes of its string pool before decoding, UTF-8 or UTF-16 */
 };
 
-/* Five words of the node table (B9). */
+/* Six words of the node table (B9). */
 struct axml_node {
   uint32_t name;    /* string index of its name */
   uint32_t fixed;   /* 1: it is called `invalid-element`; else 0 */
   uint32_t parent;  /* number of an earlier node; AXML_NO_PARENT for the first */
   uint32_t first;   /* its first attribute */
   uint32_t count;   /* how many attributes it has */
+  uint32_t line;    /* line number of its start chunk, as the file has it */
 };
 
 /* Five words of the attribute table (B11). */

@@ -53,7 +53,7 @@ def main(program, seed, count):
                     same("first value", ours, (no, 0, kind, data, ref))
                     firsts += not no
             due = [a.due.count(c) for c in b"EAN"]
-            room = [5 * due[0] + 3, 5 * due[1] + 3, due[2] + 1]
+            room = [rust.NODE * due[0] + 3, 5 * due[1] + 3, due[2] + 1]
             t = r.randrange(3)
             room[t] = r.randrange(room[t] + 1)
             same(f"reading with room {room}", model.coarse(model.read(f, names, cap, room, trusted=True)), cases.due_answer(a, room))

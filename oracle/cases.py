@@ -22,7 +22,7 @@ Layout. A word is four bytes, the low one first. A text is a word n, n bytes, an
                     longer of pool and map. Refused: C and K are 0, and the answer holds for every index and set.
                     where, start, length: the content, 0 empty (0, 0), 1 a part of the file, 2 a part of the set's area.
   kind 2, read:     words set, cap, node words, attribute words, note places; text: the file; words refusal, value, starts, nodes,
-                    attributes, notes; then 5 words for each node, 5 for each attribute, 3 for each note. All else is zero.
+                    attributes, notes; then 6 words for each node, 5 for each attribute, 3 for each note. All else is zero.
   kind 3, text:     words W; W words; text: the area; words room, index; text: the file; words refusal, value; text: the answer;
                     words where, start, length of the content. These names may break their rule.
   kind 4, first:    word set; text: the file; word n, n node words; word n, n attribute words; texts: tag, name; words node count,
@@ -117,13 +117,13 @@ def id_map(*ids, head=8, rest=b"", kind=0x180):
     return struct.pack("<HHI", kind, head, head + 4 * len(ids) + len(rest)) + words(*ids) + rest
 
 
-def start(name, *attributes, gap=b"", size=20, said=None, tail=b"", chunk=None, at=None):
+def start(name, *attributes, gap=b"", size=20, said=None, tail=b"", chunk=None, at=None, line=1, comment=NONE):
     """attributes: (namespace, name, type, data) each."""
     body = gap
     for ns, n, k, d in attributes:
         body += struct.pack("<IIIHBBI", ns, n, NONE, 8, 0, k, d) + bytes(max(size - 20, 0))
     whole = 36 + len(body) + len(tail)
-    return struct.pack("<HHIIIIIHHHHHH", 0x102, 16, whole if chunk is None else chunk, 1, NONE, NONE, name, 20 + len(gap) if at is None else at, size,
+    return struct.pack("<HHIIIIIHHHHHH", 0x102, 16, whole if chunk is None else chunk, line, comment, NONE, name, 20 + len(gap) if at is None else at, size,
                        len(attributes) if said is None else said, 0, 0, 0) + body + tail
 
 
@@ -177,6 +177,8 @@ def relatives():
     yield f(root, start(1), start(0), e, start(6), start(7), e)                                                            # finished children are dropped
     yield f(root, start(1), e, start(6), start(7), e, e, start(1), start(0), e)
     yield f(root, e, start(1), e, start(1), e, e)
+    yield f(start(0, line=NONE, comment=5), start(3, line=0, comment=6), start(99, line=7, comment=0), e, e, start(1, line=256), e, e)  # lines as they stand
+    yield f(start(0, line=12), start(3, line=13), start(1, line=14), e, foreign(0x105), e, e)
     yield f(e, root, e)
     yield f(foreign(0x105), foreign(0x200, 16), foreign(0x102, 8), foreign(0x17F, 8), foreign(0x105), root, foreign(0), e)  # stretches
     yield f(foreign(0x105, size=100_000), foreign(0, size=9), bytes(1), root, e)
@@ -218,7 +220,7 @@ def room_files():
 
 def due_answer(a, room):
     """What follows from the order in which the Rust's records fall due: the first without a place refuses."""
-    places = {ord("E"): (8, room[0] // 5), ord("A"): (9, room[1] // 5), ord("N"): (10, room[2])}
+    places = {ord("E"): (8, room[0] // rust.NODE), ord("A"): (9, room[1] // 5), ord("N"): (10, room[2])}
     used = dict.fromkeys(places, 0)
     for d in a.due:
         number, most = places[d]
@@ -346,12 +348,12 @@ def make_reads(program, path):
         k, cap = (0, 16) if i < len(by_hand) else r.choice(((0, 16), (1, 8), (0, 1), (0, 2), (0, 0)))
         a = next(rust.ask(program, SETS, [(rust.DUE, cap, k, f, [])]))
         due = [a.due.count(c) for c in b"EAN"]
-        ample = 5 * due[0] + 3, 5 * due[1] + 3, due[2] + 2
-        rooms = [(0, 0, 0), (0, ample[1], 0), (ample[0], 0, 0), (4, 4, due[2])]
+        ample = rust.NODE * due[0] + 3, 5 * due[1] + 3, due[2] + 2
+        rooms = [(0, 0, 0), (0, ample[1], 0), (ample[0], 0, 0), (5, 4, due[2])]
         for t in range(3):
             for places in sorted({0, 1, due[t] - 1, due[t]} - {-1}):
                 room = list(ample)
-                room[t] = places if t == 2 else 5 * places + r.choice((0, 1, 4))
+                room[t] = places if t == 2 else rust.NODE * places + r.choice((0, 1, 5)) if t == 0 else 5 * places + r.choice((0, 1, 4))
                 rooms.append(tuple(room))
         for room in rooms:
             if (f, k, cap, room) not in seen:
@@ -381,7 +383,7 @@ def make_reads(program, path):
     for (f, k, cap, room), a in zip(chosen, answers):
         if room is None:
             due = [a.due.count(c) for c in b"EAN"]
-            room = 5 * due[0] + r.randrange(12), 5 * due[1] + r.randrange(12), due[2] + r.randrange(3)
+            room = rust.NODE * due[0] + r.randrange(12), 5 * due[1] + r.randrange(12), due[2] + r.randrange(3)
         answer = due_answer(a, room)
         right, told = look(f, k, cap, room)
         assert model.coarse(right) == answer, f.hex()
@@ -449,15 +451,15 @@ def make_questions(program, path):
             cases.append(first_case(k, f, nodes, attributes, tag, name, len(a.nodes), len(a.attributes), answer))
     # and of tables that no reading made: the model's
     p = whole(pool([utf8("a"), utf8("b"), utf8(""), utf8("invalid-element")]), id_map())
-    node, attribute = [0, 0, NONE, 0, 2, 1, 0, 0, 2, 1, 0, 0, 0, 0, 3], [0, 2, 0, 3, 0, 0, 0, 1, 1, 7, 1, 1, 1, 257, 8]
+    node, attribute = [0, 0, NONE, 0, 2, 9, 1, 0, 0, 2, 1, 9, 0, 0, 0, 0, 3, 9], [0, 2, 0, 3, 0, 0, 0, 1, 1, 7, 1, 1, 1, 257, 8]
     odd = [(node, attribute, n, a) for n in (0, 1, 2, 3, 4, NONE) for a in (0, 1, 2, 3, 4, NONE)]
-    odd += [(node[:k], attribute, 3, 3) for k in (14, 10, 0)] + [(node, attribute[:k], 2, 3) for k in (14, 10, 0)] + [(node + [9], attribute + [9, 9], 3, 3)]
+    odd += [(node[:k], attribute, 3, 3) for k in (17, 15, 12, 0)] + [(node, attribute[:k], 2, 3) for k in (14, 10, 0)] + [(node + [9], attribute + [9, 9], 3, 3)]
 
     def at(t, i, v):
         return t[:i] + [v] + t[i + 1:]
-    odd += [(at(node, i, v), attribute, 3, 3) for i, v in ((3, 1), (3, 2), (3, NONE), (4, 3), (4, 4), (4, NONE), (8, 3), (8, 4), (9, 0), (13, 1), (14, 4),
-                                                           (0, 9), (0, 2), (1, 1), (1, 2), (1, NONE), (6, 1), (0, 1), (2, 7), (0, 3))]
-    odd += [(at(at(node, 13, 4), 14, 0), attribute, 3, 3), (at(at(node, 3, NONE), 4, NONE), attribute, 3, 3)]
+    odd += [(at(node, i, v), attribute, 3, 3) for i, v in ((3, 1), (3, 2), (3, NONE), (4, 3), (4, 4), (4, NONE), (9, 3), (9, 4), (10, 0), (15, 1), (16, 4),
+                                                           (0, 9), (0, 2), (1, 1), (1, 2), (1, NONE), (7, 1), (0, 1), (2, 7), (0, 3), (5, 0), (5, NONE))]
+    odd += [(at(at(node, 15, 4), 16, 0), attribute, 3, 3), (at(at(node, 3, NONE), 4, NONE), attribute, 3, 3)]
     odd += [(node, at(attribute, i, v), 3, 3) for i, v in ((6, 2), (6, 3), (7, 9), (8, 7), (8, 2), (8, 0x101), (8, 0x107), (13, 7), (13, 1), (12, 2),
                                                            (7, 2), (5, 9), (1, 0), (9, NONE))]
     for n, a, nc, ac in odd:
@@ -584,7 +586,7 @@ def replay_cases(reads, questions):
         assert c.word() == 2
         k, *lent = c.words(5)
         f, answer = c.text(), c.words(6)
-        yield read_row(names[k], lent, f, answer, [c.words(n * many) for n, many in zip((5, 5, 3), answer[3:])])
+        yield read_row(names[k], lent, f, answer, [c.words(n * many) for n, many in zip((rust.NODE, 5, 3), answer[3:])])
     names, cases = open_cases(questions)
     tried = {}
     for c in cases:
@@ -604,10 +606,10 @@ def replay_cases(reads, questions):
         else:
             yield names[0], 6, c.words(3), []
     # names that may break their rule, which comes before all rules of the file: the model's answers
-    node, attribute = [0, 0, NONE, 0, 1], [0, 0, 1, 3, 7]
+    node, attribute = [0, 0, NONE, 0, 1, 2], [0, 0, 1, 3, 7]
     for (_, _, f), own in tried.items():
-        refusal, value, starts, *tables = model.read(f, own, 8, (11, 5, 2))
-        yield read_row(own, [8, 11, 5, 2], f, [refusal, value, starts, *map(len, tables)], [[x for row in t for x in row] for t in tables])
+        refusal, value, starts, *tables = model.read(f, own, 8, (13, 5, 2))
+        yield read_row(own, [8, 13, 5, 2], f, [refusal, value, starts, *map(len, tables)], [[x for row in t for x in row] for t in tables])
         asked = [b"name", "é".encode()]
         answer = model.first_value(f, own, node, attribute, *asked, 1, 1)
         yield own, 4, [1, 1, *answer], [f, words(*node), words(*attribute), *asked]
@@ -721,7 +723,7 @@ def check(path):
             k, cap, *room = c.words(5)
             f = c.text()
             refusal, value, starts, a, b_, m = c.words(6)
-            rows = [tuple(c.words(5)) for _ in range(a)], [tuple(c.words(5)) for _ in range(b_)], [tuple(c.words(3)) for _ in range(m)]
+            rows = [tuple(c.words(rust.NODE)) for _ in range(a)], [tuple(c.words(5)) for _ in range(b_)], [tuple(c.words(3)) for _ in range(m)]
             assert (refusal, value, starts, *rows) == model.read(f, sets[k], cap, tuple(room), trusted=True)
             for key, x in zip(("node words", "attribute words", "note places"), room):
                 top(key, x)

@@ -14,6 +14,7 @@ import re
 import struct
 
 LIMIT = 16_777_216
+NODE = 6  # words of a node
 NONE = 0xFFFFFFFF
 XML = (0x100, 0x101, 0x102, 0x103, 0x104, 0x17F)
 START = "A-Z_a-z\u00c0-\u00d6\u00d8-\u00f6\u00f8-\u02ff\u0370-\u037d\u037f-\u1fff\u200c\u200d\u2070-\u218f\u2c00-\u2fef\u3001-\ud7ff" \
@@ -67,6 +68,7 @@ WRONG = {
     "note_12_never": "W27", "note_12_counts_open": "W27", "note_12_only_if_whole": "W27", "no_start_is_empty": "W28",
     "finished_children_kept": "W29", "nothing_dropped": "W29", "starts_are_nodes": "B15", "dropped_notes_too": "W29", "dropped_attributes_counted": "W29",
     "node_before_note_9": "B3", "past_cap_due": "B4", "repeat_due": "B4", "dropped_need_no_room": "B5", "places_rounded_up": "B6",
+    "nodes_of_five_words": "B6", "comment_for_line": "B9", "line_of_end": "B9", "line_only_if_valid": "B9",
     "first_zero_if_none": "B10", "parent_is_one_up": "B9", "cap_over_all_kinds": "B13", "last_kept": "B13", "cap_plus_1": "B13", "cap_0_is_1": "B13",
     "value_10_is_used": "B1", "value_1_is_0": "B1", "value_3_is_0": "B1",
 }
@@ -513,8 +515,9 @@ class Walk:
     def __init__(self, file, names, cap, room, hits, w):
         self.hits, self.w = hits, w
         self.cap = cap + 1 if w == "cap_plus_1" or w == "cap_0_is_1" and cap == 0 else cap
-        up = 4 if w == "places_rounded_up" else 0
-        self.node_places, self.attribute_places, self.note_places = (room[0] + up) // 5, (room[1] + up) // 5, room[2]
+        up = w == "places_rounded_up"
+        node = 5 if w == "nodes_of_five_words" else NODE
+        self.node_places, self.attribute_places, self.note_places = (room[0] + up * (node - 1)) // node, (room[1] + up * 4) // 5, room[2]
         self.counts = [0] * 13
         self.notes, self.nodes, self.attributes = [], [], []
         self.starts, self.depth, self.open = 0, 0, []
@@ -618,6 +621,8 @@ class Walk:
                         hits.add("W9-cut")
                         if w == "cut_end_noted":
                             self.note(11)
+                    if w == "line_of_end" and self.open:
+                        self.nodes[self.open[-1]][5] = u32(f, begin + 8)[0]
                     if not (w == "cut_end_not_counted" and n - at < 8):
                         self.end(u32(f, at + 4)[0] if n - at >= 8 else None)
                     at = self.plain(f, at, n, 8, size, "end_skipped_by_size", begin)
@@ -784,7 +789,8 @@ class Walk:
             if w != "invalid_element_silent":
                 self.note(9, index, 1 if w == "note_9_b_always_1" else 0 if w == "note_9_b_always_0" else int(t is not None))
         self.starts += 1
-        self.node([0 if fixed and w == "fixed_index_zero" else index, fixed, parent, first, 0])
+        line = 0 if fixed and w == "line_only_if_valid" else u32(f, begin - (4 if w == "comment_for_line" else 8))[0]
+        self.node([0 if fixed and w == "fixed_index_zero" else index, fixed, parent, first, 0, line])
         lead = not self.open
         if w == "lead_where_depth_0":
             lead = self.depth == 0
@@ -912,8 +918,8 @@ def read(file, names=NO_NAMES, cap=16, room=(1 << 40, 1 << 40, 1 << 40), hits=No
     try:
         r = Walk(file, names, cap, room, hits, w)
         if w == "dropped_need_no_room":
-            if 5 * len(r.nodes) > room[0] - room[0] % 5:
-                raise Refused(8, room[0] // 5)
+            if len(r.nodes) > room[0] // NODE:
+                raise Refused(8, room[0] // NODE)
             if 5 * len(r.attributes) > room[1] - room[1] % 5:
                 raise Refused(9, room[1] // 5)
     except Refused as e:
@@ -957,13 +963,13 @@ def first_value(file, names, nodes, attributes, tag, name, node_count, attribute
     """The first-value question (Q4 to Q8): nodes and attributes are lists of words."""
     try:
         head = opened(file, names, set(), "", trusted)
-        if 5 * node_count > len(nodes) or 5 * attribute_count > len(attributes):
+        if NODE * node_count > len(nodes) or 5 * attribute_count > len(attributes):
             raise Refused(13, node_count)
         for i in range(node_count):
-            if nodes[5 * i + 3] + nodes[5 * i + 4] > attribute_count:
+            if nodes[NODE * i + 3] + nodes[NODE * i + 4] > attribute_count:
                 raise Refused(13, i)
         for i in range(node_count):
-            index, fixed, _, first, count = nodes[5 * i:5 * i + 5]
+            index, fixed, _, first, count, _ = nodes[NODE * i:NODE * i + NODE]
             if (b"invalid-element" if fixed == 1 else head.text(index)) != tag:
                 continue
             for k in range(first, first + count):

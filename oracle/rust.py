@@ -6,6 +6,8 @@
 import struct
 import subprocess
 
+from model import NODE
+
 TEXTS, NAMES, VALUES, DUE = 1, 2, 4, 8
 NONE = 0xFFFFFFFF
 
@@ -30,9 +32,9 @@ class Answer:
     def __init__(self, b, flags, questions):
         self.refusal, self.value, self.starts, n, a, m = struct.unpack_from("<6I", b)
         at = 24
-        self.tables = b[at:at + 20 * n + 20 * a + 12 * m]
-        self.nodes = list(struct.iter_unpack("<5I", b[at:at + 20 * n]))
-        at += 20 * n
+        self.tables = b[at:at + 4 * NODE * n + 20 * a + 12 * m]
+        self.nodes = list(struct.iter_unpack(f"<{NODE}I", b[at:at + 4 * NODE * n]))
+        at += 4 * NODE * n
         self.attributes = list(struct.iter_unpack("<5I", b[at:at + 20 * a]))
         at += 20 * a
         self.notes = list(struct.iter_unpack("<3I", b[at:at + 12 * m]))

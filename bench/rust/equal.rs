@@ -1,6 +1,6 @@
 //! The Rust, built twice: with no system names, and with those of oracle/system-names.txt. What is asked of either is written once.
 
-use crate::ours::{Answer, Tables};
+use crate::ours::{Answer, NODE_WORDS, Tables};
 
 macro_rules! build {
     ($module:ident, $of:ident) => {
@@ -66,7 +66,7 @@ macro_rules! build {
                 let (mut node, mut attribute) = (0, 0);
                 let mut open: Vec<(&Element, u32)> = vec![(&axml.root, u32::MAX)];
                 while let Some((element, parent)) = open.pop() {
-                    let row = ours.nodes.get(5 * node..5 * node + 5).ok_or("too few nodes")?;
+                    let row = ours.nodes.get(NODE_WORDS * node..NODE_WORDS * (node + 1)).ok_or("too few nodes")?;
                     let name = if row[1] == 1 { INVALID_ELEMENT_NAME.to_string() } else { text(row[0]).unwrap_or_default() };
                     same("name of node", node, element.name(), &name)?;
                     same("parent of node", node, parent, row[2])?;

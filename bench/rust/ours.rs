@@ -22,6 +22,9 @@ unsafe extern "C" {
 /// The Rust's cap of notes of a kind.
 const CAP: usize = 16;
 
+/// Words of a node.
+pub const NODE_WORDS: usize = 6;
+
 /// System names: three words for each, and the bytes that they lie in.
 pub struct Names {
     words: Vec<u32>,
@@ -63,7 +66,7 @@ pub struct Tables {
 impl Tables {
     /// Room for whatever a file of so many bytes holds: an element is 36 bytes or more, an attribute 20, and the first element has one more.
     pub fn of(bytes: usize) -> Tables {
-        Tables { nodes: vec![0; 5 * (bytes / 36 + 1)], attributes: vec![0; 5 * (bytes / 20 + 1)], notes: vec![0; 3 * 13 * CAP] }
+        Tables { nodes: vec![0; NODE_WORDS * (bytes / 36 + 1)], attributes: vec![0; 5 * (bytes / 20 + 1)], notes: vec![0; 3 * 13 * CAP] }
     }
 
     pub fn read(&mut self, file: &[u8], names: &Names) -> Answer {

@@ -1,4 +1,4 @@
-/* Prints the tree of a binary AndroidManifest.xml and its package: `example FILE`. What must not be forgotten is on this page: the tables are
+/* Prints the tree of a binary AndroidManifest.xml, each element behind its line, and its package: `example FILE`. What must not be forgotten is on this page: the tables are
  * sized by the file, a refusal is looked at before the counts, and names are asked for by their index. */
 #include <stdio.h>
 #include <stdlib.h>
@@ -41,6 +41,7 @@ int main(int count, char **words) {
   if (r.refusal != AXML_DONE) return fprintf(stderr, "refusal %u, value %lu\n", r.refusal, (unsigned long)r.value), 1;
 
   for (uint32_t i = 0; i < r.nodes; i++) {
+    printf("%u: ", nodes[i].line);
     for (uint32_t up = nodes[i].parent; up != AXML_NO_PARENT; up = nodes[up].parent) printf("  ");
     if (nodes[i].fixed)
       printf("invalid-element");

@@ -6,19 +6,19 @@
 #include "sample.h"
 
 static uint8_t file[AXML_LONGEST_FILE + 1];
-static uint32_t nodes[10], attributes[10], notes[6];
+static uint32_t nodes[12], attributes[10], notes[6];
 
 /* Expects a reading with the node and the attribute of S and one note 3 with that type; or, with refused, refusal 2 and zeros all over. */
 static int read_as(const char *what, size_t bytes, int refused, uint32_t type) {
-  static const uint32_t node[10] = {0, 0, AXML_NO_PARENT, 0, 1}, attribute[10] = {0, AXML_PREFIX_XMLNS, 0, 3, 0}, zeros[10];
+  static const uint32_t node[12] = {0, 0, AXML_NO_PARENT, 0, 1, 1}, attribute[10] = {0, AXML_PREFIX_XMLNS, 0, 3, 0}, zeros[12];
   const uint32_t note[6] = {AXML_NON_XML_CHUNK, type};
   memset(nodes, 0xa5, sizeof nodes);
   memset(attributes, 0xa5, sizeof attributes);
   memset(notes, 0xa5, sizeof notes);
-  struct axml_answer r = axml_read(file, bytes, zeros, 0, file, 0, nodes, 10, attributes, 10, notes, 6, 8);
+  struct axml_answer r = axml_read(file, bytes, zeros, 0, file, 0, nodes, 12, attributes, 10, notes, 6, 8);
   uint32_t one = refused ? 0 : 1;
   int right = r.refusal == (refused ? AXML_TOO_LARGE : AXML_DONE) && r.value == 0 && r.starts == one && r.nodes == one && r.attributes == one &&
-              r.notes == one && memcmp(nodes, refused ? zeros : node, 40) == 0 && memcmp(attributes, refused ? zeros : attribute, 40) == 0 &&
+              r.notes == one && memcmp(nodes, refused ? zeros : node, 48) == 0 && memcmp(attributes, refused ? zeros : attribute, 40) == 0 &&
               memcmp(notes, refused ? zeros : note, 24) == 0;
   printf("large: %s: refusal %u, notes %u: %s\n", what, r.refusal, r.notes, right ? "right" : "WRONG");
   return right;

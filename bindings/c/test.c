@@ -6,7 +6,7 @@
 #include "axml.h"
 #include "sample.h"
 
-enum { TABLE = 12, NOTES = 11, FILE_BYTES = 256 }; /* two places and two words over; three places and two words over */
+enum { TABLE = 14, NOTES = 11, FILE_BYTES = 256 }; /* two places and some words over; three places and two words over */
 
 static uint32_t checks, failures;
 
@@ -25,7 +25,7 @@ struct expected {
   uint32_t nodes[TABLE], attributes[TABLE], notes[NOTES];
 };
 
-#define ROOT 0, 0, AXML_NO_PARENT, 0, 1
+#define ROOT 0, 0, AXML_NO_PARENT, 0, 1, 1
 #define LEADING 0, AXML_PREFIX_XMLNS, 0, 3, 0
 
 static const uint32_t no_words[1];
@@ -88,7 +88,7 @@ static void readings(void) {
   reads(file, insert(S_BYTES, S + S_START, 36), &again);
   const struct expected deep = {"first 88 and the start", {0, 0, 2, 1, 1, 1}, {ROOT}, {LEADING}, {AXML_UNCLOSED_ELEMENTS, 2, 0}};
   reads(file, insert(S_END, S + S_START, 36) - 24, &deep);
-  const struct expected two = {"S, its start, its end", {0, 0, 2, 2, 1, 0}, {ROOT, 0, 0, 0, 1, 0}, {LEADING}, {0}};
+  const struct expected two = {"S, its start, its end", {0, 0, 2, 2, 1, 0}, {ROOT, 0, 0, 0, 1, 0, 1}, {LEADING}, {0}};
   reads(file, insert(S_BYTES, S + S_START, 60), &two);
 
   /* without its map, bytes 44 to 51, the start is taken for one */
@@ -106,12 +106,19 @@ static void readings(void) {
   memcpy(file, S, S_BYTES);
   file[S_NAME] = 1;
   const struct expected nameless = {
-      "element name 1", {0, 0, 1, 1, 1, 1}, {1, 1, AXML_NO_PARENT, 0, 1}, {LEADING}, {AXML_INVALID_ELEMENT_NAME, 1, 0}};
+      "element name 1", {0, 0, 1, 1, 1, 1}, {1, 1, AXML_NO_PARENT, 0, 1, 1}, {LEADING}, {AXML_INVALID_ELEMENT_NAME, 1, 0}};
   reads(file, S_BYTES, &nameless);
+  /* the line is the start's as it stands, not its comment's number nor the end's line */
+  memcpy(file, S, S_BYTES);
+  memset(file + S_START + 8, 0xff, 4);
+  file[S_START + 12] = 5;
+  file[S_END + 8] = 7;
+  const struct expected last_line = {"line 4294967295", {0, 0, 1, 1, 1, 0}, {0, 0, AXML_NO_PARENT, 0, 1, 4294967295u}, {LEADING}, {0}};
+  reads(file, S_BYTES, &last_line);
 
   /* tables without a place, whose words are zeros all the same, and lent names that break their rule */
   const struct expected no_node = {"no place for a node", {AXML_NODES_FULL, 0, 0, 0, 0, 0}, {0}, {0}, {0}};
-  reads_in(S, S_BYTES, no_words, 0, 4, TABLE, NOTES, 8, &no_node);
+  reads_in(S, S_BYTES, no_words, 0, 5, TABLE, NOTES, 8, &no_node);
   const struct expected no_attribute = {"no place for an attribute", {AXML_ATTRIBUTES_FULL, 0, 0, 0, 0, 0}, {0}, {0}, {0}};
   reads_in(S, S_BYTES, no_words, 0, TABLE, 4, NOTES, 8, &no_attribute);
   const struct expected no_note = {"one place for two notes", {AXML_NOTES_FULL, 1, 0, 0, 0, 0}, {0}, {0}, {0}};
@@ -139,11 +146,11 @@ static void texts(const char *what, size_t bytes, uint32_t index, size_t room, u
 }
 
 static void first(const char *what, const char *tag, const char *name, uint32_t node_count, uint32_t refusal, uint64_t value, uint32_t type) {
-  const uint32_t tree[5] = {ROOT}, owned[5] = {0, AXML_PREFIX_XMLNS, 0, type, 9};
+  const uint32_t tree[6] = {ROOT}, owned[5] = {0, AXML_PREFIX_XMLNS, 0, type, 9};
   size_t tag_bytes = 0, name_bytes = 0;
   while (tag[tag_bytes]) tag_bytes++;
   while (name[name_bytes]) name_bytes++;
-  struct axml_first_answer r = axml_first_value(S, S_BYTES, no_words, 0, no_bytes, 0, tree, 5, owned, 5, (const uint8_t *)tag, tag_bytes,
+  struct axml_first_answer r = axml_first_value(S, S_BYTES, no_words, 0, no_bytes, 0, tree, 6, owned, 5, (const uint8_t *)tag, tag_bytes,
                                                 (const uint8_t *)name, name_bytes, node_count, 1);
   expect(r.refusal == refusal, what, "refusal");
   expect(r.value == value, what, "value");
@@ -193,7 +200,7 @@ static void questions(void) {
   first("value", "a", "android", 1, AXML_DONE, 0, 3);
   first("reference", "a", "android", 1, AXML_DONE, 0, 1);
   first("tag and name swapped", "android", "a", 1, AXML_NOTHING_FOUND, 0, 3);
-  first("two nodes in five words", "a", "android", 2, AXML_TABLES, 2, 3);
+  first("two nodes in six words", "a", "android", 2, AXML_TABLES, 2, 3);
   expect(axml_is_valid_name((const uint8_t *)"a-b", 3), "a-b", "valid");
   expect(!axml_is_valid_name((const uint8_t *)"a:b", 3), "a:b", "not valid");
   expect(!axml_is_valid_name(no_bytes, 0), "no text", "not valid");

@@ -10,6 +10,7 @@ pub struct Start {
     pub name: u32,
     /// its name was replaced
     pub fixed: bool,
+    pub line: u32,
 }
 
 /// An attribute with a valid name, kept or not. Its number stands in the tree in front of its value.
@@ -70,8 +71,8 @@ pub(crate) fn due(what: u8) {
     with(|t| t.due.push(what));
 }
 
-pub(crate) fn start(name: u32) {
-    with(|t| t.starts.push(Start { name, fixed: false }));
+pub(crate) fn start(name: u32, line: u32) {
+    with(|t| t.starts.push(Start { name, fixed: false, line }));
 }
 
 pub(crate) fn invalid_element(name: u32) {

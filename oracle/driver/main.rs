@@ -60,7 +60,7 @@ struct Attribute<'a> {
 }
 
 struct Node<'a> {
-    words: [u32; 5],
+    words: [u32; 6],
     name: &'a str,
 }
 
@@ -120,7 +120,7 @@ fn reading<'a>(file: &[u8], answer: &'a Result<AXML, AXMLError>, t: &Trace) -> R
         let start = &t.starts[me];
         assert!(!start.fixed || element.name() == INVALID_ELEMENT_NAME);
         let count = r.attributes.len() as u32 - first;
-        r.nodes.push(Node { words: [start.name, start.fixed as u32, parent, first, count], name: element.name() });
+        r.nodes.push(Node { words: [start.name, start.fixed as u32, parent, first, count, start.line], name: element.name() });
         let children: Vec<&Element> = element.childrens().collect();
         open.extend(children.into_iter().rev().map(|c| (c, me as u32)));
     }
@@ -252,8 +252,8 @@ fn listing(file: &[u8]) {
         writeln!(out, "{key}={n}").unwrap();
     }
     for (i, n) in r.nodes.iter().enumerate() {
-        let [name, fixed, parent, first, count] = n.words;
-        writeln!(out, "node={i} name={name} fixed={fixed} parent={parent} first={first} count={count}").unwrap();
+        let [name, fixed, parent, first, count, line] = n.words;
+        writeln!(out, "node={i} name={name} fixed={fixed} parent={parent} first={first} count={count} line={line}").unwrap();
     }
     for (i, a) in r.attributes.iter().enumerate() {
         let [owner, prefix, name, kind, data] = a.words;

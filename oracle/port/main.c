@@ -153,14 +153,14 @@ static void answer(uint32_t flags, uint32_t cap, names s, uint32_t asked)
         for (k = 0; k < 3; k++) rooms[k] = word();
     bytes file = text();
     if (!(flags & ROOMS)) {
-        rooms[0] = 5 * (file.n / 36 + 1);
+        rooms[0] = AXML_NODE_WORDS * (file.n / 36 + 1);
         rooms[1] = 5 * (file.n / 20 + 2);
         rooms[2] = 13 * (size_t)cap;
         if (rooms[2] > file.n) rooms[2] = file.n; /* a note comes of at least a byte */
     }
     uint32_t *nodes = patterned(rooms[0]), *attributes = patterned(rooms[1]), *notes = patterned(3 * rooms[2]);
     struct axml_answer a = axml_read(file.at, file.n, s.words, s.n, s.area, s.length, nodes, rooms[0], attributes, rooms[1], notes, 3 * rooms[2], cap);
-    zeros_behind(nodes, 5 * (size_t)a.nodes, rooms[0]);
+    zeros_behind(nodes, AXML_NODE_WORDS * (size_t)a.nodes, rooms[0]);
     zeros_behind(attributes, 5 * (size_t)a.attributes, rooms[1]);
     zeros_behind(notes, 3 * (size_t)a.notes, 3 * rooms[2]);
     used = 0;
@@ -172,7 +172,7 @@ static void answer(uint32_t flags, uint32_t cap, names s, uint32_t asked)
     put_word(a.nodes);
     put_word(a.attributes);
     put_word(a.notes);
-    put(nodes, 20 * (size_t)a.nodes);
+    put(nodes, 4 * AXML_NODE_WORDS * (size_t)a.nodes);
     put(attributes, 20 * (size_t)a.attributes);
     put(notes, 12 * (size_t)a.notes);
     if (flags & TEXTS) {
@@ -186,8 +186,8 @@ static void answer(uint32_t flags, uint32_t cap, names s, uint32_t asked)
     }
     if (flags & NAMES) {
         for (k = 0; k < a.nodes; k++)
-            if (nodes[5 * k + 1] == 1) put_text("invalid-element", 15);
-            else put_name(file, s, nodes[5 * k]);
+            if (nodes[AXML_NODE_WORDS * k + 1] == 1) put_text("invalid-element", 15);
+            else put_name(file, s, nodes[AXML_NODE_WORDS * k]);
         for (k = 0; k < a.attributes; k++)
             if (attributes[5 * k + 1] == 2) put_text("android", 7);
             else put_name(file, s, attributes[5 * k + 2]);

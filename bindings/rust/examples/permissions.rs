@@ -1,4 +1,4 @@
-//! cargo run --example permissions FILE: what a manifest asks to be granted, a line each on standard output; what is odd about the file, or
+//! cargo run --example permissions FILE: what a manifest asks to be granted, a line each on standard output behind the element's line; what is odd about the file, or
 //! why it was refused, on standard error. Ends with 1 where the file was not read.
 
 use itelbash::Manifest;
@@ -18,7 +18,7 @@ fn main() {
     });
     for node in manifest.nodes().filter(|n| n.name() == "uses-permission") {
         for attribute in node.attributes().filter(|a| a.name() == "name") {
-            println!("{}", attribute.text().unwrap_or_default());
+            println!("{}: {}", node.line(), attribute.text().unwrap_or_default());
         }
     }
     for note in manifest.notes() {

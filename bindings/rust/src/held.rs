@@ -96,8 +96,8 @@ fn kinds() {
 fn places() {
     let header = repository("include/axml.h");
     let at = |record: &str, field: &str| fields(&header, record).iter().position(|f| f == field).unwrap_or_else(|| panic!("{record} has no {field}"));
-    let node = [sys::NODE_NAME, sys::NODE_FIXED, sys::NODE_PARENT, sys::NODE_FIRST, sys::NODE_COUNT];
-    assert_eq!(node, ["name", "fixed", "parent", "first", "count"].map(|f| at("axml_node", f)));
+    let node = [sys::NODE_NAME, sys::NODE_FIXED, sys::NODE_PARENT, sys::NODE_FIRST, sys::NODE_COUNT, sys::NODE_LINE];
+    assert_eq!(node, ["name", "fixed", "parent", "first", "count", "line"].map(|f| at("axml_node", f)));
     assert_eq!(fields(&header, "axml_node").len(), sys::NODE_WORDS);
     let attribute = [sys::ATTRIBUTE_OWNER, sys::ATTRIBUTE_PREFIX, sys::ATTRIBUTE_NAME, sys::ATTRIBUTE_TYPE, sys::ATTRIBUTE_DATA];
     assert_eq!(attribute, ["owner", "prefix", "name", "type", "data"].map(|f| at("axml_attribute", f)));

@@ -191,6 +191,11 @@ impl<'a> Node<'a> {
         (parent != sys::NO_PARENT).then_some(Node { of: self.of, index: parent as usize })
     }
 
+    /// The line of its start, as the file has it: in a manifest that a build tool wrote, its line in the source.
+    pub fn line(&self) -> u32 {
+        self.word(sys::NODE_LINE)
+    }
+
     /// Its attributes, in the order of the file.
     pub fn attributes(&self) -> impl ExactSizeIterator<Item = Attribute<'a>> + 'a {
         let of = self.of;

@@ -5,7 +5,7 @@
 use crate::SystemNames;
 
 /// The form of the C interface that this file declares: the header's AXML_ABI.
-pub const ABI: u32 = 3;
+pub const ABI: u32 = 4;
 
 /// Bytes of the longest file that is read.
 pub const LONGEST_FILE: usize = 16_777_216;
@@ -13,12 +13,13 @@ pub const LONGEST_FILE: usize = 16_777_216;
 pub const KINDS: usize = 13;
 
 /// Words of a node, and the place of each.
-pub const NODE_WORDS: usize = 5;
+pub const NODE_WORDS: usize = 6;
 pub const NODE_NAME: usize = 0;
 pub const NODE_FIXED: usize = 1;
 pub const NODE_PARENT: usize = 2;
 pub const NODE_FIRST: usize = 3;
 pub const NODE_COUNT: usize = 4;
+pub const NODE_LINE: usize = 5;
 /// The parent of the first node.
 pub const NO_PARENT: u32 = 4_294_967_295;
 

@@ -28,6 +28,7 @@ fn sample() {
     assert_eq!((m.starts(), m.nodes().len(), m.attributes().len(), m.notes().len()), (1, 1, 1, 0));
     assert_eq!(m.root().name(), "a");
     assert!(m.root().parent().is_none());
+    assert_eq!(m.root().line(), 1);
     let a = m.root().attributes().next().unwrap();
     assert_eq!((a.owner().index(), a.prefix(), a.name().as_str()), (0, Prefix::Xmlns, "android"));
     assert_eq!(a.value(), Value { kind: 3, data: 0 });
@@ -58,6 +59,15 @@ fn parents_and_unclosed_elements() {
     let m = Manifest::read(&file(&[START, START, START, END])).unwrap();
     assert_eq!((m.starts(), m.nodes().len()), (3, 1));
     assert_eq!(notes(&m).last().map(|n| n.0), Some(NoteKind::UnclosedElements));
+}
+
+#[test]
+fn the_line_is_the_starts_as_it_stands() {
+    let mut s = file(&[START, END]);
+    s[HEAD.len() + 8..HEAD.len() + 12].fill(0xff); // its line
+    s[HEAD.len() + 12] = 5; // its comment
+    s[HEAD.len() + START.len() + 8] = 7; // the end's line
+    assert_eq!(Manifest::read(&s).unwrap().root().line(), 4_294_967_295);
 }
 
 #[test]

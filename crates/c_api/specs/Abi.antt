@@ -4,7 +4,8 @@
 --   abi   1: nodes and attributes of five words, notes and names of three; axml_read, axml_text, axml_content, axml_first_value
 --         2: refusals 41 to 45, 51, 52 in place of 4 and 5
 --         3: axml_round_up_add
+--         4: nodes of six words, the line behind the others
 use Prim.Native.Nat.{ℕ}
 
 abbrev pub abi : ℕ
-abi = 3
+abi = 4

@@ -1,13 +1,13 @@
 -- File S and its relatives (docs/FORMAT.md, L4 and L5), computed: one table, one theorem.
 --
---   fileS, startS, endS   the sample, its start chunk and its end chunk
+--   fileS, startS, endS   the sample, its start chunk and its end chunk; startL, endL the same of other lines
 --   Case                  a file and its whole reading: the answer, every word of the two tables, every note
 --   cases                 the marked ones, with places for 3 nodes, 3 attributes and 4 notes, cap 8, no system names
 --   cases-right           each file's reading is that of the table
 use Prim.Native.Nat.{ℕ, _*_}
 use mathlib.Core.Path.{_≡_, refl}
 use mathlib.Core.List.{List, [], _∷_, _++_}
-use lib.ListN.{take, replicate}
+use lib.ListN.{take, drop, replicate}
 use Rattle.anomaly.specs.declared.Note.{Note}
 use Rattle.anomaly.specs.Note.{noteOf, kindIndex}
 use Rattle.errors.specs.declared.Refusal.the-variants.{TooSmallError, StringPoolHeader}
@@ -62,6 +62,15 @@ fileS = headS ++ (startS ++ endS)
 abbrev pub foreignChunk : List ℕ
 foreignChunk = 0x05 ∷ 0x01 ∷ 0x08 ∷ 0x00 ∷ 0x08 ∷ 0x00 ∷ 0x00 ∷ 0x00 ∷ []
 
+-- its start with the line 4294967295 and the comment 5, and an end with the line 7
+unfoldable pub startL : List ℕ
+unfolding startS
+startL = take 8 startS ++ (0xff ∷ 0xff ∷ 0xff ∷ 0xff ∷ 0x05 ∷ 0x00 ∷ 0x00 ∷ 0x00 ∷ drop 16 startS)
+
+unfoldable pub endL : List ℕ
+unfolding endS
+endL = take 8 endS ++ (0x07 ∷ drop 9 endS)
+
 -- ---- the readings
 
 abbrev pub room : Room
@@ -83,21 +92,28 @@ note k a = record { kind = k; a = a; b = 0 }
 abbrev pub refusal : ReadAnswer → Reading
 refusal a = record { answer = a; nodes = noNodes 3; attributes = noAttributes 3; notes = none }
 
--- the first node has the leading attribute alone
+-- the first node has the leading attribute alone, and the line of its start
+abbrev pub firstAt : ℕ → List ℕ
+firstAt line = nodeWords 0 0 noParent 0 1 line
+
+-- of the line of S, which is 1
 abbrev pub firstNode : List ℕ
-firstNode = nodeWords 0 0 noParent 0 1
+firstNode = firstAt 1
 
 abbrev pub lead : List ℕ
 lead = attributeWords 0 2 0 3 0
 
--- one node, with so many starts, and these notes of which the first n count
-abbrev pub oneNode : ℕ → ℕ → List Note → Reading
-oneNode starts n os = record {
+-- one node of this line, with so many starts, and these notes of which the first n count
+abbrev pub oneAt : ℕ → ℕ → ℕ → List Note → Reading
+oneAt line starts n os = record {
   answer = Done (record { starts = starts; nodes = 1; attributes = 1; notes = n });
-  nodes = firstNode ++ noNodes 2;
+  nodes = firstAt line ++ noNodes 2;
   attributes = lead ++ noAttributes 2;
   notes = os;
 }
+
+abbrev pub oneNode : ℕ → ℕ → List Note → Reading
+oneNode starts n os = oneAt 1 starts n os
 
 pub record Case : Type 0 where
   pub file : List ℕ
@@ -109,7 +125,7 @@ row f r = record { file = f; result = r }
 -- ---- the table
 
 unfoldable pub cases : List Case
-unfolding fileS headS startS endS
+unfolding fileS headS startS endS startL endL
 cases =
     row fileS (oneNode 1 0 none) ∷
     row (take 7 fileS) (refusal (Refused (TooSmallError 7))) ∷
@@ -124,11 +140,12 @@ cases =
     row (take 88 fileS ++ startS) (oneNode 2 1 (note 12 2 ∷ zeroNote ∷ zeroNote ∷ zeroNote ∷ [])) ∷
     row (fileS ++ (startS ++ endS)) (record {
       answer = Done (record { starts = 2; nodes = 2; attributes = 1; notes = 0 });
-      nodes = firstNode ++ (nodeWords 0 0 0 1 0 ++ noNodes 1);
+      nodes = firstNode ++ (nodeWords 0 0 0 1 0 1 ++ noNodes 1);
       attributes = lead ++ noAttributes 2;
       notes = none;
     }) ∷
-    row (take 88 fileS ++ (foreignChunk ++ endS)) (oneNode 1 1 (note 3 261 ∷ zeroNote ∷ zeroNote ∷ zeroNote ∷ [])) ∷ []
+    row (take 88 fileS ++ (foreignChunk ++ endS)) (oneNode 1 1 (note 3 261 ∷ zeroNote ∷ zeroNote ∷ zeroNote ∷ [])) ∷
+    row (headS ++ (startL ++ endL)) (oneAt 4294967295 1 0 none) ∷ []
 
 abbrev pub readings : List Case → List Reading
 readings [] = []
@@ -139,7 +156,7 @@ results [] = []
 results (c ∷ cs) = c .result ∷ results cs
 
 pub cases-right : readings cases ≡ results cases
-unfolding cases fileS headS startS endS reading settle u16le u32le headerOf isXml sortOf contentLen foreignLen walk walkFrom trace traceFrom
+unfolding cases fileS headS startS endS startL endL reading settle u16le u32le headerOf isXml sortOf contentLen foreignLen walk walkFrom trace traceFrom
     countOf numbered endOf poolFrom behindGarbage poolOf offsetOf outsideOf split8 split16 idsIn idsBy mapOf idOf isAscii isGood namesFrom
     nameOf systemOf stringAt stringOf contentOf tablesOf openedOf outsideIn lengthCheck startOf attributeAt startTurn xmlTurn numberOf
     turnOf attributeEvent attributesOf fromLead fromOpen fromName fromTrailing fromSize fromGap eventsOn bodyEvents fileEvents repeatsOne

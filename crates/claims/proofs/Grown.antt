@@ -29,7 +29,7 @@ module _ (rule : Rule) where
   grow t (Refuse x) = t
   grow t (Note x) = t
   grow t Close = closed t
-  grow t (Open name fixed line) = opened t (name .0) fixed
+  grow t (Open name fixed line) = opened t (name .0) fixed line
   grow t (Attribute p a) =
       cond (eqb (length (t .nodes)) 0) t (cond (repeated rule t p a) t (kept t p a))
 
@@ -45,7 +45,7 @@ module _ (rule : Rule) where
   grown-others t (Refuse x ∷ es) = grown-others t es
   grown-others t (Note x ∷ es) = grown-others t es
   grown-others t (Close ∷ es) = grown-others (closed t) es
-  grown-others t (Open name fixed line ∷ es) = grown-others (opened t (name .0) fixed) es
+  grown-others t (Open name fixed line ∷ es) = grown-others (opened t (name .0) fixed line) es
   grown-others t (Attribute p a ∷ es) = grown-others (grow t (Attribute p a)) es
 
   -- what a table has after an event it keeps: nodes, attributes

@@ -52,7 +52,7 @@ Idle (Refuse x) = ⊥
 pub record Still (e : Event) : Type 0 where
   pub opens : isOpen e ≡ 0
   pub depth : (d : ℕ) → stepped d e ≡ d
-  pub order : (pick : ℕ → ℕ → ℕ) (es : List Event) → opensAs pick (e ∷ es) ≡ opensAs pick es
+  pub order : (pick : ℕ → ℕ → ℕ → ℕ) (es : List Event) → opensAs pick (e ∷ es) ≡ opensAs pick es
   pub notes : (es : List Event) → notesIn (e ∷ es) ≡ notesIn es
 
 pub idle-still : (e : Event) → Idle e → Still e
@@ -71,7 +71,7 @@ pub record Goes (r : Room) (I : List Event → Tables → Type 0) : Type 0 where
   pub idles : (t : Tables) (e : Event) (es : List Event) → Idle e → I (e ∷ es) t → I es t
   pub closes : (t : Tables) (es : List Event) → I (Close ∷ es) t → I es (closed t)
   pub opens : (t : Tables) (es : List Event) (n : StringIndex) (f l : ℕ) → length (t .nodes) + nodeWidth ≤ r .nodes → I (Open n f l ∷ es) t
-      → I es (opened t (n .0) f)
+      → I es (opened t (n .0) f l)
   pub keeps : (t : Tables) (es : List Event) (p : ℕ) (a : XmlAttributeElement) → (length (t .nodes) ≡ 0 → ⊥)
       → length (t .attributes) + attributeWidth ≤ r .attributes → I (Attribute p a ∷ es) t → I es (kept t p a)
   pub notes : (t : Tables) (es : List Event) (x : ResAnomaly) → getD (t .counts) (kindIndex x) 0 < r .cap → length (t .notes) < r .notes

@@ -103,10 +103,10 @@ module _ (rule : Rule) (r : Room) where
     attributes = λ h. h;
   }
 
-  push-open : (t : Tables) (name fixed : ℕ) {e : Event} → grow rule (bare t) e ≡ opened (bare t) name fixed → noted e ≡ [] → Stays e
-      → length (t .nodes) + nodeWidth ≤ r .nodes → Pushed t e (opened t name fixed)
+  push-open : (t : Tables) (name fixed line : ℕ) {e : Event} → grow rule (bare t) e ≡ opened (bare t) name fixed line → noted e ≡ [] → Stays e
+      → length (t .nodes) + nodeWidth ≤ r .nodes → Pushed t e (opened t name fixed line)
   unfolding keptFrom
-  push-open t name fixed g n s room = record {
+  push-open t name fixed line g n s room = record {
     tree = sym g;
     notes = rw n (sym (append-nil (t .notes)));
     counts = λ ns. rw n;
@@ -125,7 +125,7 @@ module _ (rule : Rule) (r : Room) where
       record { tree = refl; notes = sym (append-nil (t .notes)); counts = λ ns. refl; stays = tt; nodes = λ h. h; attributes = λ h. h }
   push-tells t (Open name fixed line) =
       cond-by (Tells t (Open name fixed line)) (leb (length (t .nodes) + nodeWidth) (r .nodes))
-      (λ e. push-open t (name .0) fixed refl refl tt (leb-true _ _ e)) (λ e s. refl)
+      (λ e. push-open t (name .0) fixed line refl refl tt (leb-true _ _ e)) (λ e s. refl)
   push-tells t (Attribute p a) = none (eqb (length (t .nodes)) 0) refl
     where
       A : Event

@@ -21,7 +21,7 @@ use Rattle.errors.specs.declared.ReadAnswer.the-variants.{Done}
 use Rattle.errors.specs.declared.ReadCounts.{ReadCounts}
 use Rattle.head.specs.Head.{openedOf, tablesIn, bodyIn}
 use Rattle.events.specs.declared.Event.{Event}
-use Rattle.records.specs.Words.{nodeWidth, nodeName, nodeFixed, nodeParent, nodeFirst, nodeCount, attributeWidth, attributeOwner}
+use Rattle.records.specs.Words.{nodeWidth, nodeName, nodeFixed, nodeParent, nodeFirst, nodeCount, nodeLine, attributeWidth, attributeOwner}
 use Rattle.records.specs.Repeats.{Rule}
 use Rattle.system_types.specs.Names.{Lent}
 use Rattle.walk.specs.Settle.{Room, Tables, settle, nothingYet}
@@ -35,7 +35,7 @@ use Rattle.claims.proofs.StructureTables.{Shaped, kept-in, pos}
 use Rattle.claims.proofs.StructureDone.{DoneBy, done-by, done-shaped}
 use Rattle.claims.proofs.StructureCounts.{settled-starts}
 use Rattle.claims.proofs.Noted.{settled-notes, kept-number}
-use Rattle.claims.proofs.StructureOrder.{settled-names, settled-fixed}
+use Rattle.claims.proofs.StructureOrder.{settled-names, settled-fixed, settled-lines}
 use Rattle.claims.proofs.StructureWalk.{WalkedFile, walked-some, file-ends}
 use Rattle.claims.proofs.StructureOpen.{Near, near-none, near-second, settled-near, settled-walked}
 use Rattle.claims.proofs.StructureSaid.{walked-said, walked-twelve, walked-none}
@@ -162,6 +162,7 @@ module _ (f : List ℕ) (lent : Lent) (ns ats : List ℕ) (os : List Note) (cap 
         within = omega (arith, k .nodes, h .nodes);
         names = λ i l. sn i nodeName l (omega arith) ∙ settled-names rule r es t (d .out) (h .n) i (h .nodes) (omega (arith, k .nodes));
         fixed = λ i l. sn i nodeFixed l (omega arith) ∙ settled-fixed rule r es t (d .out) (h .n) i (h .nodes) (omega (arith, k .nodes));
+        lines = λ i l. sn i nodeLine l (omega arith) ∙ settled-lines rule r es t (d .out) (h .n) i (h .nodes) (omega (arith, k .nodes));
         parents = parents-same (t .nodes) ns′ (nodesKept t) (h .n) sn (k .nodes) (h .parents);
         runs = runs;
         owns = owns;

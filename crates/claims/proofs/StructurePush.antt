@@ -22,7 +22,7 @@ use Rattle.claims.proofs.PushBy.{InTables, settle-in}
 -- ---- events put away
 
 module _ (rule : Rule) (r : Room) (P : Tables → Type 0)
-    (opens : (t : Tables) (name fixed : ℕ) → length (t .nodes) + nodeWidth ≤ r .nodes → P t → P (opened t name fixed))
+    (opens : (t : Tables) (name fixed line : ℕ) → length (t .nodes) + nodeWidth ≤ r .nodes → P t → P (opened t name fixed line))
     (closes : (t : Tables) → P t → P (closed t))
     (keeps : (t : Tables) (p : ℕ) (a : XmlAttributeElement) → (length (t .nodes) ≡ 0 → ⊥) → length (t .attributes) + attributeWidth ≤ r .attributes → P t
     → P (kept t p a))
@@ -32,7 +32,7 @@ module _ (rule : Rule) (r : Room) (P : Tables → Type 0)
       settle-in rule r (λ es t. P t) (record {
         idles = λ t e es i h. h;
         closes = λ t es h. closes t h;
-        opens = λ t es n f l g h. opens t (n .0) f g h;
+        opens = λ t es n f l g h. opens t (n .0) f l g h;
         keeps = λ t es p a some g h. keeps t p a some g h;
         notes = λ t es x d g h. notes t x g h;
         past = λ t es x d h. h;

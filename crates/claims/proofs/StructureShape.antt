@@ -86,9 +86,9 @@ split-lt P n i h low top = go (ltb i n) refl
 
 -- ---- a node opens
 
-module _ (w v : List ℕ) (n m name fixed parent : ℕ) (len : length w ≡ nodeWidth * n) where
+module _ (w v : List ℕ) (n m name fixed parent line : ℕ) (len : length w ≡ nodeWidth * n) where
   abbrev node : List ℕ
-  node = nodeWords name fixed parent m 0
+  node = nodeWords name fixed parent m 0 line
 
   pub opens-parents : (s : List ℕ) → parent ≡ parentIn s → Falls n s → Descends w n → Descends (w ++ node) (n + 1)
   opens-parents s p f h i l = split-lt (λ i. Parent (w ++ node) i) n i l

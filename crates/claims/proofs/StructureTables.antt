@@ -61,8 +61,8 @@ module _ (r : Room) where
     first = λ i e. absurd (let y : ⊥ = omega arith in y);
   }
 
-  shaped-opened : (t : Tables) (name fixed : ℕ) → length (t .nodes) + nodeWidth ≤ r .nodes → Shaped r t → Shaped r (opened t name fixed)
-  shaped-opened t name fixed room h =
+  shaped-opened : (t : Tables) (name fixed line : ℕ) → length (t .nodes) + nodeWidth ≤ r .nodes → Shaped r t → Shaped r (opened t name fixed line)
+  shaped-opened t name fixed line room h =
       let da : length (t .attributes) / attributeWidth ≡ h .m = omega (arith, h .attributes) in
       let dn : length (t .nodes) / nodeWidth ≡ h .n = omega (arith, h .nodes) in
       rw (da, dn) (record {
@@ -74,12 +74,12 @@ module _ (r : Room) where
         attributesFit = h .attributesFit;
         notesFit = h .notesFit;
         stack = falls-opened (h .n) (t .stack) (h .stack);
-        parents = opens-parents (t .nodes) (t .attributes) (h .n) (h .m) name fixed _ (h .nodes) (t .stack) refl (h .stack) (h .parents);
-        runs = opens-runs (t .nodes) (t .attributes) (h .n) (h .m) name fixed _ (h .nodes) (h .runs);
-        owns = opens-owns (t .nodes) (t .attributes) (h .n) (h .m) name fixed _ (h .nodes) (h .owns);
+        parents = opens-parents (t .nodes) (t .attributes) (h .n) (h .m) name fixed _ line (h .nodes) (t .stack) refl (h .stack) (h .parents);
+        runs = opens-runs (t .nodes) (t .attributes) (h .n) (h .m) name fixed _ line (h .nodes) (h .runs);
+        owns = opens-owns (t .nodes) (t .attributes) (h .n) (h .m) name fixed _ line (h .nodes) (h .owns);
         first = λ i e.
             let q : i ≡ h .n = omega arith in
-            rw q (omega (arith, word-new nodeWidth (t .nodes) (nodeWords name fixed (parentIn (t .stack)) (h .m) 0) (h .n) (h .nodes) nodeFirst, h .attributes));
+            rw q (omega (arith, word-new nodeWidth (t .nodes) (nodeWords name fixed (parentIn (t .stack)) (h .m) 0 line) (h .n) (h .nodes) nodeFirst, h .attributes));
       })
 
   shaped-kept : (t : Tables) (p : ℕ) (a : XmlAttributeElement) → (length (t .nodes) ≡ 0 → ⊥) → length (t .attributes) + attributeWidth ≤ r .attributes → Shaped r t

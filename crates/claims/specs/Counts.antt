@@ -4,7 +4,7 @@
 --   opensIn       how many elements open: the starts that were read whole
 --   attributesIn  how many attributes are due, the leading one included
 --   notesIn       the anomalies among them, in order: the notes that are due, before any cap
---   openNames     the name indices of the elements that open, in order; openFixed their fixed words
+--   openNames     the name indices of the elements that open, in order; openFixed their fixed words; openLines their lines
 --   depthFrom     the depth behind these events: an element adds one, an end takes one away, not below 0
 use Prim.Native.Nat.{ℕ, _+_, _-_}
 use mathlib.Core.List.{List, [], _∷_, _++_}
@@ -57,9 +57,9 @@ notesIn [] = []
 notesIn (e ∷ es) = noted e ++ notesIn es
 
 -- what an element that opens is put down with, of all of them in order
-abbrev pub opensAs : (ℕ → ℕ → ℕ) → List Event → List ℕ
+abbrev pub opensAs : (ℕ → ℕ → ℕ → ℕ) → List Event → List ℕ
 opensAs pick [] = []
-opensAs pick (Open name fixed line ∷ es) = pick (name .0) fixed ∷ opensAs pick es
+opensAs pick (Open name fixed line ∷ es) = pick (name .0) fixed line ∷ opensAs pick es
 opensAs pick (Nothing ∷ es) = opensAs pick es
 opensAs pick (Attribute p a ∷ es) = opensAs pick es
 opensAs pick (LeftOut n ∷ es) = opensAs pick es
@@ -69,10 +69,13 @@ opensAs pick (Refuse x ∷ es) = opensAs pick es
 opensAs pick (Finish ∷ es) = opensAs pick es
 
 abbrev pub openNames : List Event → List ℕ
-openNames es = opensAs (λ name fixed. name) es
+openNames es = opensAs (λ name fixed line. name) es
 
 abbrev pub openFixed : List Event → List ℕ
-openFixed es = opensAs (λ name fixed. fixed) es
+openFixed es = opensAs (λ name fixed line. fixed) es
+
+abbrev pub openLines : List Event → List ℕ
+openLines es = opensAs (λ name fixed line. line) es
 
 abbrev pub stepped : ℕ → Event → ℕ
 stepped d (Open name fixed line) = d + 1

@@ -20,9 +20,9 @@ use Rattle.anomaly.specs.Note.{noteOf}
 use Rattle.anomaly.specs.Kept.{keptNotes}
 use Rattle.anomaly.specs.declared.Note.{Note}
 use Rattle.errors.specs.declared.ReadCounts.{ReadCounts}
-use Rattle.records.specs.Words.{nodeWidth, nodeName, nodeFixed, nodeParent, nodeFirst, nodeCount, noParent, attributeWidth, attributeOwner}
+use Rattle.records.specs.Words.{nodeWidth, nodeName, nodeFixed, nodeParent, nodeFirst, nodeCount, nodeLine, noParent, attributeWidth, attributeOwner}
 use Rattle.events.specs.declared.Event.{Event}
-use Rattle.claims.specs.Counts.{opensIn, notesIn, openNames, openFixed, depthFrom}
+use Rattle.claims.specs.Counts.{opensIn, notesIn, openNames, openFixed, openLines, depthFrom}
 
 abbrev pub word : ℕ → List ℕ → ℕ → ℕ → ℕ
 word width w i k = getD w (width * i + k) 0
@@ -71,6 +71,7 @@ pub record Structured (es : List Event) (cap : ℕ) (c : ReadCounts) (ns ats : L
   pub within : c .nodes ≤ c .starts
   pub names : (i : ℕ) → i < c .nodes → nodeWord ns i nodeName ≡ getD (openNames es) i 0
   pub fixed : (i : ℕ) → i < c .nodes → nodeWord ns i nodeFixed ≡ getD (openFixed es) i 0
+  pub lines : (i : ℕ) → i < c .nodes → nodeWord ns i nodeLine ≡ getD (openLines es) i 0
   pub parents : Descends ns (c .nodes)
   pub runs : Runs ns (c .nodes) (c .attributes)
   pub owns : Owns ns ats (c .nodes)

@@ -33,7 +33,7 @@ head =
     32 ∷ 0 ∷ 0 ∷ 0 ∷ 0 ∷ 0 ∷ 0 ∷ 0 ∷ 0 ∷ 0 ∷ 0 ∷ 0 ∷ 1 ∷ 1 ∷ 97 ∷ 0 ∷ 128 ∷ 1 ∷ 8 ∷ 0 ∷ 8 ∷ 0 ∷ 0 ∷ 0 ∷ []
 
 unfoldable pub two : List ℕ
-two = nodeWords 0 0 noParent 0 1 ++ nodeWords 0 1 0 1 2
+two = nodeWords 0 0 noParent 0 1 3 ++ nodeWords 0 1 0 1 2 4
 
 unfoldable pub three : List ℕ
 three = attributeWords 0 2 0 3 9 ++ attributeWords 1 0 0 7 77 ++ attributeWords 1 1 5 2 8
@@ -58,12 +58,12 @@ cases =
     asked two three (97 ∷ []) androidName 3 0 (Refused (TablesError 3)) ∷
     asked two three (97 ∷ []) androidName 2 4 (Refused (TablesError 2)) ∷
     -- a first attribute past the count, of a node without attributes
-    asked (nodeWords 0 0 0 4 0) three (98 ∷ []) androidName 1 3 (Refused (TablesError 0)) ∷
+    asked (nodeWords 0 0 0 4 0 3) three (98 ∷ []) androidName 1 3 (Refused (TablesError 0)) ∷
     -- a sum that does not wrap
-    asked (nodeWords 0 0 0 4294967295 2) three (98 ∷ []) androidName 1 3 (Refused (TablesError 0)) ∷
+    asked (nodeWords 0 0 0 4294967295 2 3) three (98 ∷ []) androidName 1 3 (Refused (TablesError 0)) ∷
     -- a fixed word of 2 leaves the text of the name
-    asked (nodeWords 0 2 0 0 1) three (97 ∷ []) androidName 1 3 (Found 3 9 false) ∷
-    asked (nodeWords 0 2 0 0 1) three invalidElement androidName 1 3 (Refused NothingFound) ∷
+    asked (nodeWords 0 2 0 0 1 3) three (97 ∷ []) androidName 1 3 (Found 3 9 false) ∷
+    asked (nodeWords 0 2 0 0 1 3) three invalidElement androidName 1 3 (Refused NothingFound) ∷
     -- no nodes
     asked two three (97 ∷ []) androidName 0 0 (Refused NothingFound) ∷
     []

@@ -83,7 +83,7 @@ module _ (h : Head) (t : List ℕ) (lent : Lent) where
   abbrev pub nameIs : List ℕ → ℕ → ℕ → Bool
   nameIs name prefix index = cond (eqb prefix 2) (eqBytes name androidName) (textIs index name)
 
-  -- a node is name index, fixed word, parent, first attribute, number of attributes: B9
+  -- a node is name index, fixed word, parent, first attribute, number of attributes, line: B9
   unfoldable pub findNode : List ℕ → ℕ → List ℕ → NodeFound
   findNode tag zero w = NoNode
   findNode tag (suc n) w = cond (tagIs tag (getD w nodeFixed 0) (getD w nodeName 0)) (Run (getD w nodeFirst 0) (getD w nodeCount 0)) (findNode tag n (drop nodeWidth w))

@@ -9,9 +9,9 @@ use Rattle.anomaly.specs.declared.Note.{Note}
 use Rattle.errors.specs.declared.Refusal.{Refusal}
 use Rattle.errors.specs.declared.ReadAnswer.the-variants.{Refused}
 use Rattle.errors.specs.Refusal.{numbersOf}
-use Rattle.records.specs.Words.{nodeName, nodeFixed, nodeParent, nodeFirst, nodeCount}
+use Rattle.records.specs.Words.{nodeName, nodeFixed, nodeParent, nodeFirst, nodeCount, nodeLine as lineWord}
 use Rattle.records.specs.Words.{attributeOwner, attributePrefix, attributeName, attributeType, attributeData}
-use Rattle.listing_text.specs.Keys.{nodeKey, nameKey, fixedKey, parentKey, firstKey, countKey, attributeKey, ownerKey, prefixKey, typeKey, dataKey}
+use Rattle.listing_text.specs.Keys.{nodeKey, nameKey, fixedKey, parentKey, firstKey, countKey, lineKey, attributeKey, ownerKey, prefixKey, typeKey, dataKey}
 use Rattle.listing_text.specs.Listing.{Field, Line, fieldText, lineText, linesText, field, nodeLine, attributeLine}
 use Rattle.listing_text.specs.Listing.{headLines, recordLines, noteLines, listing}
 use Rattle.listing_text.specs.Inner.Three.{threeText}
@@ -34,6 +34,11 @@ pub lineText-six : (f g h i j k : Field) → threeText 32 32 f g h ++ threeText 
 unfolding lineText
 lineText-six f g h i j k = simp append-assoc
 
+pub lineText-seven :
+    (f g h i j k l : Field) → threeText 32 32 f g h ++ (threeText 32 32 i j k ++ (fieldText l ++ (10 ∷ []))) ≡ lineText (f ∷ g ∷ h ∷ i ∷ j ∷ k ∷ l ∷ [])
+unfolding lineText
+lineText-seven f g h i j k l = simp append-assoc
+
 pub lineText-four : (f g h i : Field) → threeText 32 32 f g h ++ (fieldText i ++ (10 ∷ [])) ≡ lineText (f ∷ g ∷ h ∷ i ∷ [])
 unfolding lineText
 lineText-four f g h i = simp append-assoc
@@ -46,13 +51,14 @@ linesText-seven f g h i j k l = simp append-assoc
 
 -- the words of a record, read one by one
 pub nodeLine-drop :
-    (k i : ℕ) (w : List ℕ) {a b c d e : ℕ} → a ≡ getD w (i + nodeName) 0 → b ≡ getD w (i + nodeFixed) 0 → c ≡ getD w (i + nodeParent) 0 → d ≡ getD w (i + nodeFirst) 0 →
-    e ≡ getD w (i + nodeCount) 0 →
-    threeText 32 32 (field nodeKey k) (field nameKey a) (field fixedKey b) ++ threeText 32 10 (field parentKey c) (field firstKey d) (field countKey e) ≡
+    (k i : ℕ) (w : List ℕ) {a b c d e f : ℕ} → a ≡ getD w (i + nodeName) 0 → b ≡ getD w (i + nodeFixed) 0 → c ≡ getD w (i + nodeParent) 0 → d ≡ getD w (i + nodeFirst) 0 →
+    e ≡ getD w (i + nodeCount) 0 → f ≡ getD w (i + lineWord) 0 →
+    threeText 32 32 (field nodeKey k) (field nameKey a) (field fixedKey b) ++
+    (threeText 32 32 (field parentKey c) (field firstKey d) (field countKey e) ++ (fieldText (field lineKey f) ++ (10 ∷ []))) ≡
     lineText (nodeLine k (drop i w))
-nodeLine-drop k i w {a} {b} {c} {d} {e} pa pb pc pd pe =
-    rw (getD-drop i w nodeName 0, getD-drop i w nodeFixed 0, getD-drop i w nodeParent 0, getD-drop i w nodeFirst 0, getD-drop i w nodeCount 0, ← pa, ← pb, ← pc, ← pd, ← pe)
-    (lineText-six (field nodeKey k) (field nameKey a) (field fixedKey b) (field parentKey c) (field firstKey d) (field countKey e))
+nodeLine-drop k i w {a} {b} {c} {d} {e} {f} pa pb pc pd pe pf =
+    rw (getD-drop i w nodeName 0, getD-drop i w nodeFixed 0, getD-drop i w nodeParent 0, getD-drop i w nodeFirst 0, getD-drop i w nodeCount 0, getD-drop i w lineWord 0, ← pa, ← pb, ← pc, ← pd, ← pe, ← pf)
+    (lineText-seven (field nodeKey k) (field nameKey a) (field fixedKey b) (field parentKey c) (field firstKey d) (field countKey e) (field lineKey f))
 
 pub attributeLine-drop :
     (k i : ℕ) (w : List ℕ) {a b c d e : ℕ} → a ≡ getD w (i + attributeOwner) 0 → b ≡ getD w (i + attributePrefix) 0 → c ≡ getD w (i + attributeName) 0 → d ≡ getD w (i + attributeType) 0 →

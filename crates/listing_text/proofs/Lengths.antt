@@ -11,11 +11,11 @@ use lib.Dec.{ltb}
 use lib.ListN.{length, drop, getD, length-append, length-drop}
 use Rattle.anomaly.specs.declared.Note.{Note}
 use Rattle.errors.specs.declared.Numbers.{Numbers}
-use Rattle.records.specs.Words.{nodeWidth, nodeName, nodeFixed, nodeParent, nodeFirst, nodeCount}
+use Rattle.records.specs.Words.{nodeWidth, nodeName, nodeFixed, nodeParent, nodeFirst, nodeCount, nodeLine as lineWord}
 use Rattle.records.specs.Words.{attributeWidth, attributeOwner, attributePrefix, attributeName, attributeType, attributeData}
 use Rattle.records.specs.Limits.{listedNodes, listedAttributes, listedNotes}
 use Rattle.listing_text.specs.Size.{headBytes, lineBytes, listedBytes}
-use Rattle.listing_text.specs.Keys.{nodeKey, nameKey, fixedKey, parentKey, firstKey, countKey, attributeKey, ownerKey}
+use Rattle.listing_text.specs.Keys.{nodeKey, nameKey, fixedKey, parentKey, firstKey, countKey, lineKey, attributeKey, ownerKey}
 use Rattle.listing_text.specs.Keys.{prefixKey, typeKey, dataKey, noteKey, kindKey, aKey, bKey}
 use Rattle.listing_text.specs.Listing.{Field, Line, field, lineText, linesText, headLines, nodeLine, recordLines}
 use Rattle.listing_text.specs.Listing.{attributeLine, noteLine, noteLines, listingText}
@@ -44,11 +44,28 @@ module _ (f g h i : Field) where
         decimal-le (k .number),
       ))
 
+  seven-le :
+      (j k l : Field) → length (lineText (f ∷ g ∷ h ∷ i ∷ j ∷ k ∷ l ∷ [])) ≤
+      length (f .key) + length (g .key) + length (h .key) + length (i .key) + length (j .key) + length (k .key) + length (l .key) + 154
+  unfolding lineText
+  seven-le j k l =
+      simp length-append
+      (omega (
+        arith,
+        decimal-le (f .number),
+        decimal-le (g .number),
+        decimal-le (h .number),
+        decimal-le (i .number),
+        decimal-le (j .number),
+        decimal-le (k .number),
+        decimal-le (l .number),
+      ))
+
 pub nodeLine-le : (k : ℕ) (w : List ℕ) → length (lineText (nodeLine k w)) ≤ lineBytes
 nodeLine-le k w =
     let h =
-    six-le (field nodeKey k) (field nameKey (getD w nodeName 0)) (field fixedKey (getD w nodeFixed 0)) (field parentKey (getD w nodeParent 0)) (field firstKey (getD w nodeFirst 0))
-    (field countKey (getD w nodeCount 0))
+    seven-le (field nodeKey k) (field nameKey (getD w nodeName 0)) (field fixedKey (getD w nodeFixed 0)) (field parentKey (getD w nodeParent 0)) (field firstKey (getD w nodeFirst 0))
+    (field countKey (getD w nodeCount 0)) (field lineKey (getD w lineWord 0))
     in
     omega arith
 

@@ -12,7 +12,7 @@ abbrev pub sampleNumbers : Numbers
 sampleNumbers = record { refusal = 0; value = 0; starts = 1; nodes = 1; attributes = 1; notes = 0 }
 
 abbrev pub sampleNodes : List ℕ
-sampleNodes = 0 ∷ 0 ∷ 4294967295 ∷ 0 ∷ 1 ∷ []
+sampleNodes = 0 ∷ 0 ∷ 4294967295 ∷ 0 ∷ 1 ∷ 1 ∷ []
 
 abbrev pub sampleAttributes : List ℕ
 sampleAttributes = 0 ∷ 2 ∷ 0 ∷ 3 ∷ 0 ∷ []
@@ -45,12 +45,12 @@ attributesLine = 97 ∷ 116 ∷ 116 ∷ 114 ∷ 105 ∷ 98 ∷ 117 ∷ 116 ∷ 1
 abbrev pub notesLine : List ℕ
 notesLine = 110 ∷ 111 ∷ 116 ∷ 101 ∷ 115 ∷ 61 ∷ 48 ∷ 10 ∷ []
 
--- node=0 name=0 fixed=0 parent=4294967295 first=0 count=1
+-- node=0 name=0 fixed=0 parent=4294967295 first=0 count=1 line=1
 abbrev pub nodeText : List ℕ
 nodeText =
     110 ∷ 111 ∷ 100 ∷ 101 ∷ 61 ∷ 48 ∷ 32 ∷ 110 ∷ 97 ∷ 109 ∷ 101 ∷ 61 ∷ 48 ∷ 32 ∷ 102 ∷ 105 ∷ 120 ∷ 101 ∷ 100 ∷ 61 ∷ 48 ∷ 32 ∷ 112 ∷ 97 ∷
     114 ∷ 101 ∷ 110 ∷ 116 ∷ 61 ∷ 52 ∷ 50 ∷ 57 ∷ 52 ∷ 57 ∷ 54 ∷ 55 ∷ 50 ∷ 57 ∷ 53 ∷ 32 ∷ 102 ∷ 105 ∷ 114 ∷ 115 ∷ 116 ∷ 61 ∷ 48 ∷ 32 ∷ 99 ∷
-    111 ∷ 117 ∷ 110 ∷ 116 ∷ 61 ∷ 49 ∷ 10 ∷ []
+    111 ∷ 117 ∷ 110 ∷ 116 ∷ 61 ∷ 49 ∷ 32 ∷ 108 ∷ 105 ∷ 110 ∷ 101 ∷ 61 ∷ 49 ∷ 10 ∷ []
 
 -- attribute=0 owner=0 prefix=2 name=0 type=3 data=0
 abbrev pub attributeText : List ℕ

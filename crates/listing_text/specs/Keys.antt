@@ -54,6 +54,10 @@ firstKey = 102 ∷ 105 ∷ 114 ∷ 115 ∷ 116 ∷ []
 abbrev pub countKey : List ℕ
 countKey = 99 ∷ 111 ∷ 117 ∷ 110 ∷ 116 ∷ []
 
+-- line
+abbrev pub lineKey : List ℕ
+lineKey = 108 ∷ 105 ∷ 110 ∷ 101 ∷ []
+
 -- attribute
 abbrev pub attributeKey : List ℕ
 attributeKey = 97 ∷ 116 ∷ 116 ∷ 114 ∷ 105 ∷ 98 ∷ 117 ∷ 116 ∷ 101 ∷ []

@@ -15,10 +15,10 @@ use lib.Dec.{ltb}
 use Rattle.anomaly.specs.declared.Note.{Note}
 use Rattle.digits.specs.Digits.{decimal}
 use Rattle.errors.specs.declared.Numbers.{Numbers}
-use Rattle.records.specs.Words.{nodeWidth, nodeName, nodeFixed, nodeParent, nodeFirst, nodeCount}
+use Rattle.records.specs.Words.{nodeWidth, nodeName, nodeFixed, nodeParent, nodeFirst, nodeCount, nodeLine as lineWord}
 use Rattle.records.specs.Words.{attributeWidth, attributeOwner, attributePrefix, attributeName, attributeType, attributeData}
 use Rattle.listing_text.specs.Keys.{refusalKey, valueKey, capKey, startsKey, nodesKey, attributesKey, notesKey}
-use Rattle.listing_text.specs.Keys.{nodeKey, nameKey, fixedKey, parentKey, firstKey, countKey}
+use Rattle.listing_text.specs.Keys.{nodeKey, nameKey, fixedKey, parentKey, firstKey, countKey, lineKey}
 use Rattle.listing_text.specs.Keys.{attributeKey, ownerKey, prefixKey, typeKey, dataKey, noteKey, kindKey, aKey, bKey}
 
 pub record Field : Type 0 where
@@ -58,7 +58,7 @@ headLines cap n =
 abbrev pub nodeLine : ℕ → List ℕ → Line
 nodeLine k w =
     field nodeKey k ∷ field nameKey (getD w nodeName 0) ∷ field fixedKey (getD w nodeFixed 0) ∷ field parentKey (getD w nodeParent 0) ∷
-    field firstKey (getD w nodeFirst 0) ∷ field countKey (getD w nodeCount 0) ∷ []
+    field firstKey (getD w nodeFirst 0) ∷ field countKey (getD w nodeCount 0) ∷ field lineKey (getD w lineWord 0) ∷ []
 
 abbrev pub attributeLine : ℕ → List ℕ → Line
 attributeLine k w =

@@ -1,7 +1,7 @@
 -- How many bytes a listing takes at most: docs/FORMAT.md, L1. src/lib.rt has the same numbers in code.
 --
 --   headBytes     the seven lines of every listing, whatever their numbers
---   lineBytes     the line of a record, whatever its numbers: the longest is an attribute's, with 20 digits in each of six numbers
+--   lineBytes     the line of a record, whatever its numbers: the longest is a node's, with 20 digits in each of seven numbers
 --   listedBytes   the listing of full tables of a listing's room, so that a buffer of this length always suffices
 --
 -- Laws: proofs/Lengths.antt, `listingText-fits`.
@@ -12,7 +12,7 @@ abbrev pub headBytes : ℕ
 headBytes = 195
 
 abbrev pub lineBytes : ℕ
-lineBytes = 164
+lineBytes = 187
 
 abbrev pub listedBytes : ℕ
 listedBytes = headBytes + lineBytes * (listedNodes + listedAttributes + listedNotes)

@@ -25,6 +25,7 @@ use records::LISTED_NOTES;
 use records::NODE_COUNT;
 use records::NODE_FIRST;
 use records::NODE_FIXED;
+use records::NODE_LINE;
 use records::NODE_NAME;
 use records::NODE_PARENT;
 use records::NODE_WORDS;
@@ -42,7 +43,7 @@ ghost use Rattle.listing_text.specs.Printed.{Printed};
 // specs/Size.antt.
 const HEAD_BYTES: usize = 195;
 
-const LINE_BYTES: usize = 164;
+const LINE_BYTES: usize = 187;
 
 pub const LISTED_BYTES: usize = HEAD_BYTES
     + LINE_BYTES * (LISTED_NODES + LISTED_ATTRIBUTES + LISTED_NOTES);
@@ -89,13 +90,14 @@ fn word(words: &[u32], i: usize, place: usize) -> u64
 // The line of the node with the number k, whose words begin at i.
 fn put_node(out: &mut [u8], p: usize, k: u32, nodes: &[u32], i: usize) -> usize
     requires { ⌜ (p < 1152921504606846976) × (i + nodeWidth ≤ length (now nodes)) ⌝ }
-    ensures { λ r. ⌜ Wrote 192 p (lineText (nodeLine k (drop i (now (nodes .entry))))) (now (out .entry)) r (now (out .exit)) ⌝ }
+    ensures { λ r. ⌜ Wrote 224 p (lineText (nodeLine k (drop i (now (nodes .entry))))) (now (out .entry)) r (now (out .exit)) ⌝ }
 {
     let name = word(nodes, i, NODE_NAME);
     let fixed = word(nodes, i, NODE_FIXED);
     let parent = word(nodes, i, NODE_PARENT);
     let first = word(nodes, i, NODE_FIRST);
     let count = word(nodes, i, NODE_COUNT);
+    let line = word(nodes, i, NODE_LINE);
     let a = put_three(
         out,
         p,
@@ -108,7 +110,7 @@ fn put_node(out: &mut [u8], p: usize, k: u32, nodes: &[u32], i: usize) -> usize
         32,
         32,
     );
-    put_three(
+    let b = put_three(
         out,
         a,
         b"parent",
@@ -118,8 +120,9 @@ fn put_node(out: &mut [u8], p: usize, k: u32, nodes: &[u32], i: usize) -> usize
         b"count",
         count,
         32,
-        10,
-    )
+        32,
+    );
+    put_field(out, b, b"line", line, 10)
 }
 
 // The line of the attribute with the number k, whose words begin at i.
@@ -170,7 +173,7 @@ fn put_note(out: &mut [u8], p: usize, k: u32, o: Note) -> usize
 // The lines of the first `count` nodes; a node that the table does not hold whole has none.
 fn put_nodes(out: &mut [u8], p: usize, count: u32, nodes: &[u32]) -> usize
     requires { ⌜ p < 100000000000000 ⌝ }
-    ensures { λ r. ⌜ Wrote (192 * count) p (linesText (nodeLines 0 count (now (nodes .entry)))) (now (out .entry)) r (now (out .exit)) ⌝ }
+    ensures { λ r. ⌜ Wrote (224 * count) p (linesText (nodeLines 0 count (now (nodes .entry)))) (now (out .entry)) r (now (out .exit)) ⌝ }
 {
     let mut at = p;
     let mut k: u32 = 0;
@@ -235,7 +238,7 @@ fn put_listing(
     notes: [Note; LISTED_NOTES],
 ) -> usize
     ensures { λ r.
-        ⌜ Wrote (224 + (192 * (n .nodes) + (192 * (n .attributes) + 128 * listedNotes))) 0
+        ⌜ Wrote (224 + (224 * (n .nodes) + (192 * (n .attributes) + 128 * listedNotes))) 0
         (listingText cap n (now (nodes .entry)) (now (attributes .entry)) notes)
         (now (out .entry)) r (now (out .exit)) ⌝ }
 {

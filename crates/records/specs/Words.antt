@@ -9,7 +9,7 @@ use mathlib.Core.List.{List, [], _∷_}
 -- ---- a node
 
 abbrev pub nodeWidth : ℕ
-nodeWidth = 5
+nodeWidth = 6
 
 -- the index of its name
 abbrev pub nodeName : ℕ
@@ -31,11 +31,15 @@ nodeFirst = 3
 abbrev pub nodeCount : ℕ
 nodeCount = 4
 
+-- the line of its start chunk, as read
+abbrev pub nodeLine : ℕ
+nodeLine = 5
+
 abbrev pub noParent : ℕ
 noParent = 4294967295
 
-abbrev pub nodeWords : ℕ → ℕ → ℕ → ℕ → ℕ → List ℕ
-nodeWords name fixed parent first count = name ∷ fixed ∷ parent ∷ first ∷ count ∷ []
+abbrev pub nodeWords : ℕ → ℕ → ℕ → ℕ → ℕ → ℕ → List ℕ
+nodeWords name fixed parent first count line = name ∷ fixed ∷ parent ∷ first ∷ count ∷ line ∷ []
 
 -- ---- an attribute
 

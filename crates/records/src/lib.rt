@@ -12,7 +12,7 @@ use anomaly::KINDS;
 
 // ---- a node
 
-pub const NODE_WORDS: usize = 5;
+pub const NODE_WORDS: usize = 6;
 // the index of its name
 pub const NODE_NAME: usize = 0;
 // 1 for `invalid-element`, else 0
@@ -23,6 +23,8 @@ pub const NODE_PARENT: usize = 2;
 pub const NODE_FIRST: usize = 3;
 // how many attributes it has
 pub const NODE_COUNT: usize = 4;
+// the line of its start chunk, as read
+pub const NODE_LINE: usize = 5;
 
 pub const NO_PARENT: u32 = 4294967295;
 
@@ -101,16 +103,18 @@ pub fn put_node(
     parent: u32,
     first: u32,
     count: u32,
+    line: u32,
 )
     requires { ⌜ i + nodeWidth ≤ length (now words) ⌝ }
     ensures { λ _. ⌜ now (words .exit)
-        ≡ take i (now (words .entry)) ++ nodeWords name fixed parent first count ++ drop (i + nodeWidth) (now (words .entry)) ⌝ }
+        ≡ take i (now (words .entry)) ++ nodeWords name fixed parent first count line ++ drop (i + nodeWidth) (now (words .entry)) ⌝ }
 {
     words[i + NODE_NAME] = name;
     words[i + NODE_FIXED] = fixed;
     words[i + NODE_PARENT] = parent;
     words[i + NODE_FIRST] = first;
     words[i + NODE_COUNT] = count;
+    words[i + NODE_LINE] = line;
 }
 
 // The words of an attribute, from the place `i` on. Ruled out: as above.

@@ -63,12 +63,12 @@ second-in w (k ∷ j ∷ i ∷ r) h n = second-in w (j ∷ i ∷ r) (h .3) n
 -- ---- a node opens
 
 module _ (rule : Rule) (ns ats ns′ : List ℕ) (t : Tree) (name : StringIndex) (fixed line : ℕ) (room : nodeWidth * t .nodes + nodeWidth ≤ length ns)
-    (len : length ns′ ≡ length ns) (put : ns′ ≡ take (nodeWidth * t .nodes) ns ++ openedWords t (name .0) fixed ++ drop (nodeWidth * t .nodes + nodeWidth) ns) where
+    (len : length ns′ ≡ length ns) (put : ns′ ≡ take (nodeWidth * t .nodes) ns ++ openedWords t (name .0) fixed line ++ drop (nodeWidth * t .nodes + nodeWidth) ns) where
   abbrev w : List ℕ
   w = take (nodeWidth * t .nodes) ns
 
   abbrev opening : List ℕ
-  opening = openedWords t (name .0) fixed
+  opening = openedWords t (name .0) fixed line
 
   lw : length w ≡ nodeWidth * t .nodes
   lw = length-take-le (nodeWidth * t .nodes) ns (omega arith)

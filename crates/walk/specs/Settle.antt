@@ -60,9 +60,9 @@ closedIn (k ∷ j ∷ r) = j ∷ r
 -- ---- one event
 
 -- its node has no attributes yet
-abbrev pub opened : Tables → ℕ → ℕ → Tables
-opened t name fixed = record {
-  nodes = t .nodes ++ nodeWords name fixed (parentIn (t .stack)) (length (t .attributes) / attributeWidth) 0;
+abbrev pub opened : Tables → ℕ → ℕ → ℕ → Tables
+opened t name fixed line = record {
+  nodes = t .nodes ++ nodeWords name fixed (parentIn (t .stack)) (length (t .attributes) / attributeWidth) 0 line;
   attributes = t .attributes;
   first = length (t .attributes);
   stack = length (t .nodes) / nodeWidth ∷ t .stack;
@@ -112,7 +112,7 @@ push rule r (going t) Finish = going t
 push rule r (going t) (LeftOut n) = going t
 push rule r (going t) (Refuse x) = refused x
 push rule r (going t) (Open name fixed line) =
-    cond (leb (length (t .nodes) + nodeWidth) (r .nodes)) (going (opened t (name .0) fixed)) (refused (NodesFull (r .nodes / nodeWidth)))
+    cond (leb (length (t .nodes) + nodeWidth) (r .nodes)) (going (opened t (name .0) fixed line)) (refused (NodesFull (r .nodes / nodeWidth)))
 push rule r (going t) Close = going (closed t)
 push rule r (going t) (Attribute p a) =
     cond (eqb (length (t .nodes)) 0) (going t)

@@ -2,7 +2,6 @@
 //
 // Mirrors axml.rs (apk-info 13770539b8): the body of the loop of `get_xml_tree`.
 // Definitions: specs/Inner/Tree.antt, specs/Inner/Run.antt. Differs from the Rust: a record without a place refuses.
-ghost use Prim.Native.Nat.{ℕ};
 ghost use Rattle.records.specs.Repeats.{Rule, byPrefix};
 ghost use Rattle.system_types.specs.Names.{lends};
 ghost use Rattle.text.specs.Content.{sameName};
@@ -58,15 +57,16 @@ fn open_place(
     tree: Tree,
     name: StringIndex,
     fixed: u32,
+    line: u32,
 ) -> Placed
     requires { ⌜ Fit (now nodes) (now attributes) tree ⌝ }
-    ensures { λ r. ⌜ ((rule : Rule) (line : ℕ) → Places rule r (now (nodes .entry)) (now (attributes .entry)) tree (Open name fixed line)
+    ensures { λ r. ⌜ ((rule : Rule) → Places rule r (now (nodes .entry)) (now (attributes .entry)) tree (Open name fixed line)
         (now (nodes .exit)) (now (attributes .entry))) ⌝ }
 {
     if nodes.len() - node_place(tree.nodes) < NODE_WORDS {
         return Placed::Full(Refusal::NodesFull(nodes.len() / NODE_WORDS));
     }
-    Placed::Done(open_node(nodes, tree, name, fixed))
+    Placed::Done(open_node(nodes, tree, name, fixed, line))
 }
 
 // The innermost element closes.
@@ -119,7 +119,7 @@ pub fn place(
 {
     match e {
         Event::Nothing => Placed::Done(tree),
-        Event::Open(name, fixed, line) => open_place(nodes, attributes, tree, name, fixed),
+        Event::Open(name, fixed, line) => open_place(nodes, attributes, tree, name, fixed, line),
         Event::Attribute(prefix, a) => keep_place(
             t,
             names,

@@ -134,12 +134,12 @@ fn parent_of(tree: Tree) -> u32
 }
 
 // An element opens: its node is stored behind the others.
-// Ruled out: a parent that is not the innermost open element, and a count of attributes that is not 0.
-pub fn open_node(nodes: &mut [u32], tree: Tree, name: StringIndex, fixed: u32) -> Tree
+// Ruled out: a parent that is not the innermost open element, a count of attributes that is not 0, and another line than its start's.
+pub fn open_node(nodes: &mut [u32], tree: Tree, name: StringIndex, fixed: u32, line: u32) -> Tree
     requires { ⌜ (nodeWidth * tree .nodes + nodeWidth ≤ length (now nodes)) × (tree .nodes < 4294967295) ⌝ }
     ensures { λ r. ⌜ (r ≡ openedTree tree)
         × (now (nodes .exit)
-        ≡ take (nodeWidth * tree .nodes) (now (nodes .entry)) ++ openedWords tree (name .0) fixed ++ drop (nodeWidth * tree .nodes + nodeWidth) (now (nodes .entry))) ⌝ }
+        ≡ take (nodeWidth * tree .nodes) (now (nodes .entry)) ++ openedWords tree (name .0) fixed line ++ drop (nodeWidth * tree .nodes + nodeWidth) (now (nodes .entry))) ⌝ }
 {
     put_node(
         nodes,
@@ -149,6 +149,7 @@ pub fn open_node(nodes: &mut [u32], tree: Tree, name: StringIndex, fixed: u32) -
         parent_of(tree),
         tree.attributes,
         0,
+        line,
     );
     tree.opened()
 }

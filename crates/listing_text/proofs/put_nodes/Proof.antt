@@ -15,7 +15,7 @@ use Rattle.listing_text.proofs.put_nodes.Tie as tie
 
 abbrev Inv-loop : tie.InvT-loop
 Inv-loop out₀ p count nodes at₀ k₀ i₀ out at k i =
-    (i ≤ length nodes) × (k ≤ count) × (at ≤ p + 192 * k) × (length out ≡ length out₀) ×
+    (i ≤ length nodes) × (k ≤ count) × (at ≤ p + 224 * k) × (length out ≡ length out₀) ×
     Left p (linesText (nodeLines 0 count nodes)) out₀ at (linesText (nodeLines k (count - k) (drop i nodes))) out
 
 abbrev μ-loop : tie.MeasureT-loop

@@ -52,13 +52,22 @@ mul-words-5 c = search needs
 slice-write-words-5 : tie.Need-slice-write-words-5
 slice-write-words-5 c = simp length-set (omega arith)
 
+add-words-6 : tie.Need-add-words-6
+add-words-6 c = search needs
+
+mul-words-6 : tie.Need-mul-words-6
+mul-words-6 c = search needs
+
+slice-write-words-6 : tie.Need-slice-write-words-6
+slice-write-words-6 c = simp length-set (omega arith)
+
 same-length : tie.Need-same-length
 same-length c = search needs
 
 returns : tie.Need-returns
 returns c =
     let a = c .args in
-    put-words (nodeWords (a .name) (a .fixed) (a .parent) (a .first) (a .count)) (a .words .now) (a .i) (c .pre)
+    put-words (nodeWords (a .name) (a .fixed) (a .parent) (a .first) (a .count) (a .line)) (a .words .now) (a .i) (c .pre)
 
 pub put-node-spec : {M : Type 1} → statement M
 put-node-spec =
@@ -79,5 +88,8 @@ put-node-spec =
     add-words-5
     mul-words-5
     slice-write-words-5
+    add-words-6
+    mul-words-6
+    slice-write-words-6
     same-length
     returns)

@@ -50,8 +50,8 @@ abbrev pub keptTree : Tree → Tree
 keptTree t = record { nodes = t .nodes; attributes = t .attributes + 1; first = t .first; inner = t .inner; second = t .second; upto = t .upto }
 
 -- the words of the node that opens
-abbrev pub openedWords : Tree → ℕ → ℕ → List ℕ
-openedWords t name fixed = nodeWords name fixed (parentOf t) (t .attributes) 0
+abbrev pub openedWords : Tree → ℕ → ℕ → ℕ → List ℕ
+openedWords t name fixed line = nodeWords name fixed (parentOf t) (t .attributes) 0 line
 
 abbrev pub keptNodes : Tree → ℕ
 keptNodes t = cond (eqb (t .second) 0) (t .nodes) (t .second)

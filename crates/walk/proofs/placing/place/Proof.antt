@@ -67,7 +67,7 @@ returns-2 c =
     let e = at-e .e .given in
     let rule = byPrefix (sameName (a .h) (a .t .now) (lends (a .names .now) (a .area .now))) in (
       (λ o h. place-as rule (a .nodes .now) (a .attributes .now) (a .tree) o (a .e) (q .result) (q .last .0) (a .attributes .now) _ (e .1)
-          (q .ensures rule _ o h)),
+          (q .ensures rule o h)),
       not-end (q .result) (a .e) (not-other (a .e) _ (e .1) tt),
     )
 
