@@ -40,5 +40,6 @@ pub mod BrokenSample
 pub mod Broken
 pub mod InC
 pub mod Lists
+pub mod Relisted
 pub mod Claims
 pub mod Month

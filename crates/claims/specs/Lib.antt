@@ -8,3 +8,4 @@ pub mod Cleared
 pub mod Readers
 pub mod Parts
 pub mod Month
+pub mod Relisted

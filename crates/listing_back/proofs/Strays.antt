@@ -158,7 +158,7 @@ module _ (n : ℕ) where
   pub listed-map : 3 < n → (n ≡ 6 → ⊥) → 41 ≤ n → 45 < n → 51 ≤ n → leb n 52 ≡ isListed n
   listed-map h e l u m = rw (lt-leb n 3 h, ne-eqb n 6 e, le-leb 41 n l, lt-leb n 45 u, le-leb 51 n m)
 
-  listed-over : 4294967296 ≤ n → isListed n ≡ false
+  pub listed-over : 4294967296 ≤ n → isListed n ≡ false
   listed-over h =
       let a : 3 < n = omega arith in
       let b : n ≡ 6 → ⊥ = λ e. let z : ⊥ = omega arith in z in

@@ -2,7 +2,8 @@
 --
 --   Listable           what a listing can say in tables with so many words: the numbers pass the tests of the head, 32 bits hold each, and each
 --                      table has the words of just its records, for which there is room
---   relisting-taken    READ BEHIND PRINTED
+--   Printable          the same of tables that may have more words than those of their records: the words of a reading, zeros behind them
+--   relisting-taken    READ BEHIND PRINTED; relisting-trimmed of longer tables, whose first words come back
 --   relisting-back     PRINTED BEHIND READ: the text of what was read is the text that was read, so that there is no other
 use Prim.Native.Nat.{ℕ, zero, suc, _+_, _*_, _/_, _≤_, _<_}
 use mathlib.Core.Path.{_≡_, refl, sym, ap, subst, _∙_}
@@ -18,6 +19,7 @@ use Rattle.listing_text.proofs.Laws.{linesText-append}
 use Rattle.listing_back.specs.Forms.{formText}
 use Rattle.listing_back.specs.Due.{Step, stops, goes, anyOver, stray, Table, records, ended}
 use Rattle.listing_back.specs.Back.{headOf, headNumbers, headCap, Relisting, Found, fault, found, Words, nodeTable, attributeTable, noteTable, inNotes, inAttributes, inNodes, inHead, relisting, noteWordsLine, relistText}
+use Rattle.listing_back.proofs.Lines.{anyOver-first, anyOver-others}
 use Rattle.listing_back.proofs.Steps.{stops-never, ManyRecords, records-taken, records-back}
 use Rattle.listing_back.proofs.Sorts.{Sort, nodeSort, attributeSort, noteSort}
 use Rattle.listing_back.proofs.Heads.{headList, Tested, head-of-taken, HeadBack, head-of-back}
@@ -36,7 +38,27 @@ pub record Listable (w : Words) (x : Relisting) : Type 0 where
   pub nodes : Filled nodeWidth (x .numbers .nodes) (w .nodes / nodeWidth) (x .nodes)
   pub attributes : Filled attributeWidth (x .numbers .attributes) (w .attributes / attributeWidth) (x .attributes)
   pub notes : Filled noteWidth (x .numbers .notes) (w .notes / noteWidth) (x .notes)
-  pub few : (x .numbers .nodes < 4294967296) × (x .numbers .attributes < 4294967296) × (x .numbers .notes < 4294967296)
+
+pub record Leading (width n places : ℕ) (w : List ℕ) : Type 0 where
+  pub many : width * n ≤ length w
+  pub small : anyOver (take (width * n) w) ≡ false
+  pub room : n ≤ places
+
+pub record Printable (w : Words) (x : Relisting) : Type 0 where
+  pub tested : Tested (headList (x .cap) (x .numbers))
+  pub nodes : Leading nodeWidth (x .numbers .nodes) (w .nodes / nodeWidth) (x .nodes)
+  pub attributes : Leading attributeWidth (x .numbers .attributes) (w .attributes / attributeWidth) (x .attributes)
+  pub notes : Leading noteWidth (x .numbers .notes) (w .notes / noteWidth) (x .notes)
+
+-- the words of just its records
+abbrev pub trimmed : Relisting → Relisting
+trimmed x = record {
+  cap = x .cap;
+  numbers = x .numbers;
+  nodes = take (nodeWidth * x .numbers .nodes) (x .nodes);
+  attributes = take (attributeWidth * x .numbers .attributes) (x .attributes);
+  notes = take (noteWidth * x .numbers .notes) (x .notes);
+}
 
 four-texts : (a b c d : List Line) → linesText (a ++ (b ++ (c ++ d))) ≡ linesText a ++ (linesText b ++ (linesText c ++ (linesText d ++ [])))
 four-texts a b c d = simp (linesText-append, append-nil)
@@ -55,28 +77,52 @@ relistText-parts x =
 
 table-taken :
     (t : Table) {width : ℕ} {line : ℕ → List ℕ → Line} (sort : Sort width line) (same : t .form ≡ formText (line 0 [])) (n ln : ℕ) (w r : List ℕ) →
-    Filled width n (t .places) w → n < 4294967296 → records t ln 0 n (goes [] (linesText (recordLines width line 0 n w) ++ r)) ≡ goes w r
-table-taken t {width} {line} sort same n ln w r f h =
-    let a : take (width * n) w ≡ w = take-all (width * n) w (let m = f .many in omega arith) in
-    records-taken t sort same n ln 0 [] w r (let m = f .room in omega arith) (omega arith) (let m = f .many in omega arith) (ap anyOver a ∙ f .small) ∙
-    ap (λ (x : List ℕ). goes x r) a
+    Leading width n (t .places) w → n < 4294967296 → records t ln 0 n (goes [] (linesText (recordLines width line 0 n w) ++ r)) ≡ goes (take (width * n) w) r
+table-taken t sort same n ln w r f h =
+    records-taken t sort same n ln 0 [] w r (let m = f .room in omega arith) (omega arith) (f .many) (f .small)
 
-pub relisting-taken : (w : Words) (x : Relisting) → Listable w x → relisting w (relistText x) ≡ found x
+-- the counts of a head are numbers of 32 bits
+few : (a b c d e f g : ℕ) → anyOver (a ∷ b ∷ c ∷ d ∷ e ∷ f ∷ g ∷ []) ≡ false → (e < 4294967296) × (f < 4294967296) × (g < 4294967296)
+few a b c d e f g o =
+    let o5 = anyOver-others d (e ∷ f ∷ g ∷ []) (anyOver-others c (d ∷ e ∷ f ∷ g ∷ []) (anyOver-others b (c ∷ d ∷ e ∷ f ∷ g ∷ []) (anyOver-others a (b ∷ c ∷ d ∷ e ∷ f ∷ g ∷ []) o))) in
+    let o6 = anyOver-others e (f ∷ g ∷ []) o5 in
+    (anyOver-first e (f ∷ g ∷ []) o5, anyOver-first f (g ∷ []) o6, anyOver-first g [] (anyOver-others f (g ∷ []) o6))
+
+pub relisting-trimmed : (w : Words) (x : Relisting) → Printable w x → relisting w (relistText x) ≡ found (trimmed x)
 unfolding relisting
-relisting-taken w x l =
+relisting-trimmed w x l =
     let n = x .numbers in
     let h = headList (x .cap) n in
+    let m = few (n .refusal) (n .value) (x .cap) (n .starts) (n .nodes) (n .attributes) (n .notes) (l .tested .small) in
     let cs : List ℕ = linesText (recordLines noteWidth noteWordsLine 0 (n .notes) (x .notes)) ++ [] in
     let bs : List ℕ = linesText (recordLines attributeWidth attributeLine 0 (n .attributes) (x .attributes)) ++ cs in
     let as′ : List ℕ = linesText (recordLines nodeWidth nodeLine 0 (n .nodes) (x .nodes)) ++ bs in
+    let y = trimmed x in
     let s0 : headOf (relistText x) ≡ goes h as′ = ap headOf (relistText-parts x) ∙ head-of-taken (x .cap) n as′ (l .tested) in
-    let s1 = table-taken (nodeTable w) nodeSort refl (n .nodes) 8 (x .nodes) bs (l .nodes) (l .few .0) in
-    let s2 = table-taken (attributeTable w) attributeSort refl (n .attributes) (8 + n .nodes) (x .attributes) cs (l .attributes) (l .few .1) in
-    let s3 = table-taken (noteTable w) noteSort refl (n .notes) (8 + n .nodes + n .attributes) (x .notes) [] (l .notes) (l .few .2) in
+    let s1 = table-taken (nodeTable w) nodeSort refl (n .nodes) 8 (x .nodes) bs (l .nodes) (m .0) in
+    let s2 = table-taken (attributeTable w) attributeSort refl (n .attributes) (8 + n .nodes) (x .attributes) cs (l .attributes) (m .1) in
+    let s3 = table-taken (noteTable w) noteSort refl (n .notes) (8 + n .nodes + n .attributes) (x .notes) [] (l .notes) (m .2) in
     ap (inHead w) s0 ∙
     (ap (inNodes w h) s1 ∙
-    (ap (inAttributes w h (x .nodes)) s2 ∙
-    ap (λ (st : Step). inNotes h (x .nodes) (x .attributes) (ended (8 + n .nodes + n .attributes + n .notes) st)) s3))
+    (ap (inAttributes w h (y .nodes)) s2 ∙
+    ap (λ (st : Step). inNotes h (y .nodes) (y .attributes) (ended (8 + n .nodes + n .attributes + n .notes) st)) s3))
+
+leads : {width n places : ℕ} {w : List ℕ} → Filled width n places w → Leading width n places w
+leads {width} {n} {places} {w} f =
+    let a : take (width * n) w ≡ w = take-all (width * n) w (let m = f .many in omega arith) in
+    record { many = (let m = f .many in omega arith); small = ap anyOver a ∙ f .small; room = f .room }
+
+whole-words : {width n places : ℕ} {w : List ℕ} → Filled width n places w → take (width * n) w ≡ w
+whole-words {width} {n} {places} {w} f = take-all (width * n) w (let m = f .many in omega arith)
+
+pub relisting-taken : (w : Words) (x : Relisting) → Listable w x → relisting w (relistText x) ≡ found x
+relisting-taken w x l =
+    relisting-trimmed w x (record { tested = l .tested; nodes = leads (l .nodes); attributes = leads (l .attributes); notes = leads (l .notes) }) ∙
+    trimmed-by x (whole-words (l .nodes)) (whole-words (l .attributes)) (whole-words (l .notes)) where
+      trimmed-by :
+          (x : Relisting) → take (nodeWidth * x .numbers .nodes) (x .nodes) ≡ x .nodes → take (attributeWidth * x .numbers .attributes) (x .attributes) ≡ x .attributes →
+          take (noteWidth * x .numbers .notes) (x .notes) ≡ x .notes → found (trimmed x) ≡ found x
+      trimmed-by x p q r = rw (p, q, r)
 
 -- ---- printed behind read
 

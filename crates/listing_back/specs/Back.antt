@@ -1,4 +1,4 @@
--- A listing read back: docs/FORMAT.md, L5 to L8.
+-- A listing read back: docs/FORMAT.md, L7 to L9.
 --
 --   isListed     the refusals that a listing can have, and 0: what the listing program answers
 --   isPlain      those without a value

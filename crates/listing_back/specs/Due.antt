@@ -1,4 +1,4 @@
--- What is due at a place of a listing, and what is wrong there: docs/FORMAT.md, L5, L6.
+-- What is due at a place of a listing, and what is wrong there: docs/FORMAT.md, L7, L8.
 --
 --   Step         what the lines so far leave: a refusal's number and its value, or the numbers that were taken and the bytes behind them
 --   isOver       more than 32 bits hold

@@ -1,4 +1,4 @@
--- The ten forms of a listing's lines, and taking a line apart by its form: docs/FORMAT.md, L5.
+-- The ten forms of a listing's lines, and taking a line apart by its form: docs/FORMAT.md, L7.
 --
 --   numberOf   the number at the front of bytes and the bytes behind it: `0`, or digits of which the first is not 0. No number where a 0 stands
 --              before another digit, or no digit stands there. It has any length

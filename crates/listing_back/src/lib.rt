@@ -1,6 +1,6 @@
 // A listing read back into the three tables that it was printed from.
 //
-// No file of the Rust reads a listing. docs/FORMAT.md, L5 to L8. Definitions: specs/Back.antt, specs/Due.antt, specs/Forms.antt.
+// No file of the Rust reads a listing. docs/FORMAT.md, L7 to L9. Definitions: specs/Back.antt, specs/Due.antt, specs/Forms.antt.
 // One pass over the bytes: a line is held against the form that is due, byte by byte, and a number is taken behind each `=` (taking.rt). Only a
 // line that is not the one due is looked at again, to tell its fault (stepping.rt).
 mod answering;

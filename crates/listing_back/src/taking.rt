@@ -319,7 +319,7 @@ fn take_record(text: &[u8], at: usize, n: u32, words: &mut [u32], i: usize) -> T
         return take_line(
             text,
             at,
-            b"node= name= fixed= parent= first= count=\n",
+            b"node= name= fixed= parent= first= count= line=\n",
             words,
             i,
         );
