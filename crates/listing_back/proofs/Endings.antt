@@ -344,7 +344,7 @@ whole-own w s = by-head (headOf s) (headOf-own s) where
   by-head (goes h r) o =
       by-nodes h (records (nodeTable w) 8 0 (headNumbers h .nodes) (goes [] r)) (records-own (nodeTable w) 8 0 (headNumbers h .nodes) (goes [] r) refl tt)
 
-relisting-own : (w : Words) (s : List ℕ) (a b : ℕ) → relisting w s ≡ fault a b → isOwn a ≡ true
+pub relisting-own : (w : Words) (s : List ℕ) (a b : ℕ) → relisting w s ≡ fault a b → isOwn a ≡ true
 relisting-own w s a b e = subst OwnFault e (whole-own w s)
 
 pub own-last :
@@ -502,3 +502,24 @@ both-zero n v = go (eqb n 0) (eqb v 0) where
 
 pub spot-inside : (text : List ℕ) (h : Heading) (s : Spot) → s ≡ spotOf h → h .at ≤ length text → s .at ≤ length text
 spot-inside text h s q i = rw q i
+
+-- ---- the two sorts of refusals do not meet
+
+pub own-never : (n : ℕ) → isOwn n ≡ true → n ≡ 0 → ⊥
+own-never n h e = let z : _≡_ {A = ℕ} 0 1 = (let q : isOwn 0 ≡ true = rw e at h in cc) in omega arith
+
+pub listed-own : (n : ℕ) → isListed n ≡ true → isOwn n ≡ true → ⊥
+listed-own n l o = go (leb 8 n && leb n 10) refl o where
+  gap : 3 < n → (n ≡ 6 → ⊥) → n < 41 → ⊥
+  gap a b c = contra (isListed n) l (sym (listed-none n a b c))
+  go : (t : Bool) → (leb 8 n && leb n 10) ≡ t → (t || (leb 24 n && leb n 26)) ≡ true → ⊥
+  go true p q =
+      let x = both (leb 8 n) (leb n 10) p in
+      let y = leb-true 8 n (x .0) in
+      let z = leb-true n 10 (x .1) in
+      gap (omega arith) (λ e. let v : ⊥ = omega arith in v) (omega arith)
+  go false p q =
+      let x = both (leb 24 n) (leb n 26) q in
+      let y = leb-true 24 n (x .0) in
+      let z = leb-true n 26 (x .1) in
+      gap (omega arith) (λ e. let v : ⊥ = omega arith in v) (omega arith)

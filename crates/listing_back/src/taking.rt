@@ -42,7 +42,7 @@ fn is_digit(b: u8) -> bool
 fn digit_value(b: u8) -> u64
     ensures { λ r. ⌜ (r ≡ b - 48) × (r < 256) ⌝ }
 {
-    if b < 48 {
+    if b <= 47 {
         return 0;
     }
     (b - 48) as u64
