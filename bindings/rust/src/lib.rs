@@ -19,11 +19,13 @@
 
 #[cfg(test)]
 mod held;
+mod listing;
 mod note;
 mod refusal;
 mod round_up;
 mod sys;
 
+pub use listing::Listing;
 pub use note::{Note, NoteKind};
 pub use refusal::Refusal;
 pub use round_up::{RoundUp, SizeClass};

@@ -30,6 +30,12 @@ pub enum Refusal {
     NothingFound,
     /// The lent tables do not fit the question, with the number of nodes, or the first bad one.
     Tables(u64),
+    /// A line is none of a listing, or says what it cannot, with that line, from 1.
+    ListingMalformed(u64),
+    /// A line of a listing has a number over 4,294,967,295, with that line.
+    ListingNumber(u64),
+    /// A line of a listing is not the one due, or the text ends before it, with that line.
+    ListingOrder(u64),
     /// A count of a round-up would pass 4,294,967,295.
     RoundUpFull,
     /// A chunk in the string pool's place is cut, with the file offset at which its bytes should begin.
@@ -66,6 +72,9 @@ impl Refusal {
             11 => Refusal::TextShort(value),
             12 => Refusal::NothingFound,
             13 => Refusal::Tables(value),
+            24 => Refusal::ListingMalformed(value),
+            25 => Refusal::ListingNumber(value),
+            26 => Refusal::ListingOrder(value),
             29 => Refusal::RoundUpFull,
             41 => Refusal::PoolGarbage(value),
             42 => Refusal::PoolHeader(value),
@@ -92,6 +101,9 @@ impl Refusal {
             Refusal::TextShort(_) => 11,
             Refusal::NothingFound => 12,
             Refusal::Tables(_) => 13,
+            Refusal::ListingMalformed(_) => 24,
+            Refusal::ListingNumber(_) => 25,
+            Refusal::ListingOrder(_) => 26,
             Refusal::RoundUpFull => 29,
             Refusal::PoolGarbage(_) => 41,
             Refusal::PoolHeader(_) => 42,
@@ -109,6 +121,7 @@ impl Refusal {
         match *self {
             Refusal::TooSmall(v) | Refusal::HeaderSize(v) | Refusal::SystemNames(v) | Refusal::NodesFull(v) => v,
             Refusal::AttributesFull(v) | Refusal::NotesFull(v) | Refusal::TextShort(v) | Refusal::Tables(v) => v,
+            Refusal::ListingMalformed(v) | Refusal::ListingNumber(v) | Refusal::ListingOrder(v) => v,
             Refusal::PoolGarbage(v) | Refusal::PoolHeader(v) | Refusal::PoolOffsets(v) | Refusal::PoolStyles(v) | Refusal::PoolData(v) => v,
             Refusal::MapHeader(v) | Refusal::MapIds(v) | Refusal::Other(_, v) => v,
             Refusal::TooLarge | Refusal::NoElement | Refusal::NothingFound | Refusal::RoundUpFull => 0,
@@ -129,6 +142,9 @@ impl Refusal {
             Refusal::TextShort(_) => "the buffer is too short for the text",
             Refusal::NothingFound => "nothing was found",
             Refusal::Tables(_) => "the tables do not fit the question",
+            Refusal::ListingMalformed(_) => "a line is none of a listing",
+            Refusal::ListingNumber(_) => "a line of the listing has a number over 4294967295",
+            Refusal::ListingOrder(_) => "a line of the listing is not the one due",
             Refusal::RoundUpFull => "a count of the round-up is full",
             Refusal::PoolGarbage(_) => "the chunk before the string pool is cut short",
             Refusal::PoolHeader(_) => "the string pool's header is cut short",
@@ -153,6 +169,7 @@ impl fmt::Display for Refusal {
             Refusal::NodesFull(n) | Refusal::AttributesFull(n) | Refusal::NotesFull(n) => write!(f, " ({n} places)"),
             Refusal::TextShort(n) => write!(f, " ({n} bytes are needed)"),
             Refusal::Tables(n) => write!(f, " ({n})"),
+            Refusal::ListingMalformed(n) | Refusal::ListingNumber(n) | Refusal::ListingOrder(n) => write!(f, ": line {n}"),
             Refusal::PoolGarbage(n) | Refusal::PoolHeader(n) | Refusal::PoolData(n) | Refusal::MapHeader(n) => write!(f, ": byte {n} should be the first of it"),
             Refusal::PoolOffsets(n) | Refusal::PoolStyles(n) | Refusal::MapIds(n) => write!(f, ": byte {n} should be the first of them"),
             Refusal::Other(number, value) => write!(f, " (number {number}, value {value})"),

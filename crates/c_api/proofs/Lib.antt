@@ -4,3 +4,4 @@ pub mod Points
 pub mod Same
 pub mod Placing
 pub mod Month
+pub mod Relists

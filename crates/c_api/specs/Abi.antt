@@ -5,7 +5,8 @@
 --         2: refusals 41 to 45, 51, 52 in place of 4 and 5
 --         3: axml_round_up_add
 --         4: nodes of six words, the line behind the others
+--         5: axml_read_listing
 use Prim.Native.Nat.{ℕ}
 
 abbrev pub abi : ℕ
-abi = 4
+abi = 5

@@ -4,4 +4,5 @@ pub mod Answers
 pub mod Place
 pub mod Abi
 pub mod Adding
+pub mod Relisting
 pub mod Inner

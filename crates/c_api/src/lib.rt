@@ -6,12 +6,15 @@
 pub mod abi;
 pub mod adding;
 pub mod content;
+pub mod relisting;
 
 pub use abi::axml_abi;
 pub use adding::AxmlAddAnswer;
 pub use adding::axml_round_up_add;
 pub use content::AxmlContentAnswer;
 pub use content::axml_content;
+pub use relisting::AxmlRelisted;
+pub use relisting::axml_read_listing;
 ghost use mathlib.Core.Path.{_≡_};
 ghost use mathlib.Core.Bool.{false};
 ghost use Prim.Native.Nat.{_+_, _*_, _≤_};

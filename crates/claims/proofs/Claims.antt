@@ -47,7 +47,7 @@ use Rattle.anomaly.specs.Note.{noteOf}
 use Rattle.anomaly.specs.declared.Note.{Note}
 use Rattle.anomaly.specs.Kept.{ofKind, keptNotes}
 use Rattle.anomaly.proofs.Laws.{keptNotes-of-kind}
-use Rattle.records.specs.Limits.{fileLimit, listedFile}
+use Rattle.records.specs.Limits.{fileLimit, listedFile, listedNodes, listedAttributes}
 use Rattle.listing_text.specs.Printed.{Printed}
 use Rattle.listed.specs.Lists.{listed, listedText, Lists}
 use Rattle.listed.specs.Roomy.{Roomy}
@@ -385,7 +385,7 @@ list-suffices = lists.list-suffices
 -- ---- a listing read back (L9)
 
 -- what the listing program prints, of a file that is read and of one that is refused alike
-pub relist-printed : (f ns ats : List ℕ) → In32 (listed f (length ns) (length ats))
+pub relist-printed : (f ns ats : List ℕ) → length ns ≡ nodeWidth * listedNodes → length ats ≡ attributeWidth * listedAttributes → In32 (listed f (length ns) (length ats))
     → relisting (listedWords (length ns) (length ats)) (listedText f (length ns) (length ats)) ≡ found (saidBy (listed f (length ns) (length ats)))
 relist-printed = relisted.listed-back
 

@@ -7,7 +7,7 @@ use mathlib.Core.Path.{_≡_, refl, sym, _∙_, ap, subst}
 use mathlib.Core.List.{List, [], _∷_, _++_}
 use mathlib.Core.Bool.{Bool, true, false, cond, not, _&&_}
 use borrow.Author.Tests.{le-ltb, le-leb, ltb-true, ltb-false}
-use lib.ListN.{length, take, replicate, length-replicate, take-append-drop}
+use lib.ListN.{length, take, drop, replicate, length-replicate, take-append-drop}
 use lib.Dec.{ltb, leb, eqb}
 use Rattle.anomaly.specs.declared.Note.{Note}
 use Rattle.digits.specs.Written.{fitted}
@@ -22,11 +22,11 @@ use Rattle.errors.specs.declared.ReadAnswer.the-variants.{Done, Refused}
 use Rattle.errors.specs.declared.ReadCounts.{ReadCounts}
 use Rattle.errors.specs.declared.Numbers.{Numbers}
 use Rattle.records.specs.Words.{nodeWidth, attributeWidth, noteWidth, noteWords}
-use Rattle.records.specs.Limits.{listedFile, listedNotes, listedCap}
+use Rattle.records.specs.Limits.{listedFile, listedNodes, listedAttributes, listedNotes, listedCap}
 use Rattle.system_types.specs.Names.{lends}
 use Rattle.walk.specs.Reading.{Reading, zeroNote, reading, refuses}
 use Rattle.listing_text.specs.Listing.{Line, linesText, headLines, nodeLines, attributeLines, recordLines, noteLines, listing, listingText}
-use Rattle.listed.specs.Lists.{listed, listedText}
+use Rattle.listed.specs.Lists.{listedRoom, listed, listedText}
 use Rattle.c_api.specs.Words.{wordsOf}
 use Rattle.c_api.proofs.Noting.{length-words}
 use Rattle.listing_back.specs.Due.{anyOver}
@@ -41,6 +41,7 @@ use Rattle.claims.specs.Cleared.{ZeroBehind, DoneZero}
 use Rattle.claims.specs.Relisted.{listedWords, saidBy, In32}
 use Rattle.claims.proofs.Calls.{reading-left}
 use Rattle.claims.proofs.Lists.{listed-long, listed-short, read-zeros}
+use Rattle.claims.proofs.Suffices.{SaidBy, said-by, listing-suffices}
 use Rattle.claims.proofs.Zeros.{behind, done-zeros}
 
 -- ---- notes as words
@@ -62,7 +63,8 @@ listing-words most n ns ats os =
 -- ---- what a listing can say
 
 anyOver-take : (n : ℕ) (l : List ℕ) → anyOver l ≡ false → anyOver (take n l) ≡ false
-anyOver-take n l h = neither (anyOver (take n l)) _ (sym (anyOver-append (take n l) _) ∙ (ap anyOver (take-append-drop n l) ∙ h)) .0
+anyOver-take n l h =
+    neither (anyOver (take n l)) (anyOver (drop n l)) (sym (anyOver-append (take n l) (drop n l)) ∙ (ap anyOver (take-append-drop n l) ∙ h)) .0
 
 value-plain : (x : Refusal) → zeroWhere (isPlain (numberOf x)) (valueOf x) ≡ true
 unfolding numberOf valueOf
@@ -145,16 +147,37 @@ module _ (f ns ats : List ℕ) where
         let z = done-zeros f (lends [] []) ns ats (replicate listedNotes zeroNote) listedCap c _ _ _
         (reading-left f (lends [] []) ns ats listedNotes listedCap all (listed-short f (length ns) (length ats) q) (Done c) e) .noteRecords in
         let l = length-replicate listedNotes zeroNote in
-        (rw l at (z .there), z .long ∙ l)
+        let t = z .there in
+        (omega (arith, l), z .long ∙ l)
 
-  module _ (b : In32 all) where
+  -- in the room of a listing its refusal is one that a listing can say
+  module _ (room₁ : length ns ≡ nodeWidth * listedNodes) (room₂ : length ats ≡ attributeWidth * listedAttributes) where
+    listed-said : SaidBy (all .answer)
+    unfolding numberOf
+    listed-said = go (ltb listedFile (length f)) refl where
+      go : (b : Bool) → ltb listedFile (length f) ≡ b → SaidBy (all .answer)
+      go true q = subst SaidBy (sym (ap (λ (y : Reading). y .answer) (listed-long f (length ns) (length ats) q))) refl
+      go false q =
+          let s = listing-suffices (length f) (ltb-false listedFile (length f) q) in
+          subst SaidBy (sym (ap (λ (y : Reading). y .answer) (listed-short f (length ns) (length ats) q)))
+          (said-by (listedRoom (length ns) (length ats)) f (omega (arith, s .0)) (omega (arith, s .1)) (s .2))
+
+    said-listed : (a : ReadAnswer) → SaidBy a → isListed (numbersOf a .refusal) ≡ true
+    unfolding numbersOf
+    said-listed (Done c) h = refl
+    said-listed (Refused y) h = h
+
+    is-listed : isListed (numbersOf (all .answer) .refusal) ≡ true
+    is-listed = said-listed (all .answer) listed-said
+
+  module _ (room₁ : length ns ≡ nodeWidth * listedNodes) (room₂ : length ats ≡ attributeWidth * listedAttributes) (b : In32 all) where
     x : Relisting
     x = record { cap = listedCap; numbers = numbersOf (all .answer); nodes = all .nodes; attributes = all .attributes; notes = wordsOf (all .notes) }
 
     head-fits : anyOver (headList listedCap (numbersOf (all .answer))) ≡ false
     head-fits =
         let n = numbersOf (all .answer) in
-        head-small (n .refusal) (n .value) listedCap (n .starts) (n .nodes) (n .attributes) (n .notes) (listed-small (n .refusal) (b .listed)) (omega arith) (b .value) (b .counts)
+        head-small (n .refusal) (n .value) listedCap (n .starts) (n .nodes) (n .attributes) (n .notes) (listed-small (n .refusal) (is-listed room₁ room₂)) (omega arith) (b .value) (b .counts)
 
     printable-at :
         (a : ReadAnswer) → all .answer ≡ a →
@@ -162,7 +185,7 @@ module _ (f ns ats : List ℕ) where
     unfolding numbersOf
     printable-at (Refused y) e =
         record {
-          tested = refused-tested y (ap (λ (z : ReadAnswer). isListed (numbersOf z .refusal)) (sym e) ∙ b .listed)
+          tested = refused-tested y (ap (λ (z : ReadAnswer). isListed (numbersOf z .refusal)) (sym e) ∙ is-listed room₁ room₂)
               (ap (λ (z : ReadAnswer). anyOver (headList listedCap (numbersOf z))) (sym e) ∙ head-fits);
           nodes = none-leading nodeWidth (length ns / nodeWidth) (all .nodes);
           attributes = none-leading attributeWidth (length ats / attributeWidth) (all .attributes);

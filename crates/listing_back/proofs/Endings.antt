@@ -512,6 +512,7 @@ pub listed-own : (n : ℕ) → isListed n ≡ true → isOwn n ≡ true → ⊥
 listed-own n l o = go (leb 8 n && leb n 10) refl o where
   gap : 3 < n → (n ≡ 6 → ⊥) → n < 41 → ⊥
   gap a b c = contra (isListed n) l (sym (listed-none n a b c))
+
   go : (t : Bool) → (leb 8 n && leb n 10) ≡ t → (t || (leb 24 n && leb n 26)) ≡ true → ⊥
   go true p q =
       let x = both (leb 8 n) (leb n 10) p in
