@@ -171,7 +171,7 @@ module _ (f ns ats : List ℕ) where
     is-listed = said-listed (all .answer) listed-said
 
   module _ (room₁ : length ns ≡ nodeWidth * listedNodes) (room₂ : length ats ≡ attributeWidth * listedAttributes) (b : In32 all) where
-    x : Relisting
+    abbrev x : Relisting
     x = record { cap = listedCap; numbers = numbersOf (all .answer); nodes = all .nodes; attributes = all .attributes; notes = wordsOf (all .notes) }
 
     head-fits : anyOver (headList listedCap (numbersOf (all .answer))) ≡ false
@@ -215,8 +215,11 @@ module _ (f ns ats : List ℕ) where
 
 -- ---- one answer, zeros
 
+abbrev with-cap : ReadAnswer → ℕ → Relisted
+with-cap a c = record { answer = a; cap = c }
+
 pub relisted-by : (r r′ : Relisted) → r .answer ≡ r′ .answer → r .cap ≡ r′ .cap → r ≡ r′
-relisted-by r r′ p q = cc
+relisted-by r r′ p q = ap (λ (a : ReadAnswer). with-cap a (r .cap)) p ∙ ap (λ (c : ℕ). with-cap (r′ .answer) c) q
 
 fitted-none : (n : ℕ) → fitted [] n ≡ replicate n 0
 unfolding fitted
