@@ -20,7 +20,7 @@ extern "C" {
 
 /* The form of this interface: raised whenever a record, a signature or a number below changes or is added. A library is of this form exactly if
  * axml_abi() == AXML_ABI; one that is of another must not be called. */
-#define AXML_ABI 8u
+#define AXML_ABI 9u
 uint32_t axml_abi(void);
 
 /* The longest file that is read, in bytes: one byte more is refused with AXML_TOO_LARGE. */
@@ -68,6 +68,9 @@ enum axml_refusal {
   AXML_MODE = 16,            /* the mode is none of enum axml_mode: that number (B16) */
   AXML_PAIRS = 20,           /* a pair does not lie in its area, or words remain: the first such pair, or how many whole ones there are (M3) */
   AXML_ANSWERS_FULL = 21,    /* an answer has no place: the places that there are (V15, M3) */
+  AXML_LISTING_MALFORMED = 24, /* a line is none of a listing, or says what it cannot: that line, from 1 (L8) */
+  AXML_LISTING_NUMBER = 25,    /* a line has a number over 4294967295: that line */
+  AXML_LISTING_ORDER = 26,     /* a line is not the one due, or the text ends before it: that line */
   AXML_NOTES_OFF = 27,       /* a reading at a cap of 0, which would keep no note: 0 */
   AXML_ROUND_UP_FULL = 29,   /* a count of a round-up would pass 4294967295: 0 (R6) */
   /* a part of the head is cut, and the value is the file offset at which it should begin (H15) */
@@ -330,6 +333,25 @@ struct axml_add_answer {
  * that was refused, the notes and the length are not looked at. */
 struct axml_add_answer axml_round_up_add(uint32_t *round_up, size_t round_up_words, const uint32_t *notes, size_t note_words, uint32_t refusal,
                                          uint32_t note_count, size_t file_bytes);
+
+/* What a listing says (L9): the answer that was listed, AXML_DONE or one of AXML_TOO_SMALL to AXML_HEADER_SIZE, AXML_MISSING_ROOT, AXML_POOL_GARBAGE to
+ * AXML_POOL_DATA, AXML_MAP_HEADER, AXML_MAP_IDS; or why the text is no listing: AXML_LISTING_MALFORMED to AXML_LISTING_ORDER, or AXML_NODES_FULL to
+ * AXML_NOTES_FULL with the places. Of a cap of 0 the listing says that notes were switched off: there are none in it, and whether the file had any is
+ * unknown. Where the text is no listing, cap is 0 too. */
+struct axml_relisted {
+  uint32_t refusal;
+  uint64_t value;
+  uint32_t starts;
+  uint32_t nodes;
+  uint32_t attributes;
+  uint32_t notes;
+  uint32_t cap;
+};
+
+/* Reads a listing, as axml-list prints it, into the three tables: the same records, zeros behind them; zeros all over where the text is no listing or lists
+ * a refusal. Notes are three words to a place. Each listing that is taken is the only text of what it says. */
+struct axml_relisted axml_read_listing(const uint8_t *text, size_t text_bytes, uint32_t *nodes, size_t node_words, uint32_t *attributes,
+                                       size_t attribute_words, uint32_t *notes, size_t note_words);
 
 /* Whether the UTF-8 text is a name without a colon (N10). */
 bool axml_is_valid_name(const uint8_t *text, size_t text_bytes);

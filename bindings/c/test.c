@@ -410,6 +410,29 @@ static void manies(void) {
   texts_of("a text short", S_BYTES, 1, 19, (struct axml_many_answer){AXML_TEXT_SHORT, 2, 0, 0}, "", strings, 0);
   texts_of("no place for a text", S_BYTES, 1, 5, (struct axml_many_answer){AXML_ANSWERS_FULL, 0, 0, 0}, "", strings, 0);
   texts_of("texts of 8 bytes", 8, 8, 20, (struct axml_many_answer){AXML_POOL_HEADER, 8, 0, 0}, "", strings, 0);
+/* A listing read back: its numbers, and the first word of each table, where 9 stood before. */
+static void relists(const char *what, const char *text, size_t node_words, uint32_t refusal, uint64_t value, uint32_t cap, uint32_t line, uint32_t kind) {
+  uint32_t nodes[AXML_NODE_WORDS], attributes[1] = {9}, notes[2 * AXML_NOTE_WORDS];
+  size_t i;
+  for (i = 0; i < AXML_NODE_WORDS; i++) nodes[i] = 9;
+  for (i = 0; i < 2 * AXML_NOTE_WORDS; i++) notes[i] = 9;
+  struct axml_relisted r = axml_read_listing((const uint8_t *)text, strlen(text), nodes, node_words, attributes, 1, notes, 2 * AXML_NOTE_WORDS);
+  expect(r.refusal == refusal && r.value == value && r.cap == cap, what, "refusal, value and cap");
+  expect(node_words < AXML_NODE_WORDS || nodes[AXML_NODE_WORDS - 1] == line, what, "the node's last word");
+  expect(notes[0] == kind && notes[AXML_NOTE_WORDS] == 0, what, "the notes");
+  expect(attributes[0] == 0, what, "a word that is no record is 0");
+}
+
+static void listings(void) {
+  const char *text = "refusal=0\nvalue=0\ncap=8\nstarts=1\nnodes=1\nattributes=0\nnotes=1\n"
+                     "node=0 name=0 fixed=0 parent=4294967295 first=0 count=0 line=7\nnote=0 kind=3 a=261 b=0\n";
+  relists("a listing", text, AXML_NODE_WORDS, AXML_DONE, 0, 8, 7, 3);
+  relists("a listing, no place", text, AXML_NODE_WORDS - 1, AXML_NODES_FULL, 0, 0, 0, 0);
+  relists("no text", "", AXML_NODE_WORDS, AXML_LISTING_ORDER, 1, 0, 0, 0);
+  relists("a line too many", "refusal=0\nvalue=0\ncap=0\nstarts=0\nnodes=0\nattributes=0\nnotes=0\nnotes=0\n", AXML_NODE_WORDS, AXML_LISTING_ORDER, 8, 0, 0, 0);
+  relists("a number over", "refusal=0\nnodes=4294967296\n", AXML_NODE_WORDS, AXML_LISTING_NUMBER, 2, 0, 0, 0);
+  relists("a leading zero", "refusal=00\n", AXML_NODE_WORDS, AXML_LISTING_MALFORMED, 1, 0, 0, 0);
+  relists("a listed refusal", "refusal=3\nvalue=7\ncap=9\nstarts=0\nnodes=0\nattributes=0\nnotes=0\n", AXML_NODE_WORDS, AXML_HEADER_SIZE, 7, 9, 0, 0);
 }
 
 int main(void) {
@@ -421,6 +444,7 @@ int main(void) {
   values();
   manies();
   many_pairs();
+  listings();
   printf("test: %u checks, %u wrong\n", checks, failures);
   return failures != 0;
 }

@@ -19,6 +19,7 @@
 
 #[cfg(test)]
 mod held;
+mod listing;
 mod note;
 mod pairs;
 mod refusal;
@@ -26,6 +27,7 @@ mod round_up;
 mod sys;
 mod values;
 
+pub use listing::Listing;
 pub use note::{Note, NoteKind};
 pub use refusal::Refusal;
 pub use round_up::{RoundUp, SizeClass};

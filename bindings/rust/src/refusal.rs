@@ -40,6 +40,12 @@ pub enum Refusal {
     Pairs(u64),
     /// An answer has no place, with the places that there are.
     AnswersFull(u64),
+    /// A line is none of a listing, or says what it cannot, with that line, from 1.
+    ListingMalformed(u64),
+    /// A line of a listing has a number over 4,294,967,295, with that line.
+    ListingNumber(u64),
+    /// A line of a listing is not the one due, or the text ends before it, with that line.
+    ListingOrder(u64),
     /// A cap of 0, at which a reading would keep no note.
     NotesOff,
     /// A count of a round-up would pass 4,294,967,295.
@@ -83,6 +89,9 @@ impl Refusal {
             16 => Refusal::Mode(value),
             20 => Refusal::Pairs(value),
             21 => Refusal::AnswersFull(value),
+            24 => Refusal::ListingMalformed(value),
+            25 => Refusal::ListingNumber(value),
+            26 => Refusal::ListingOrder(value),
             27 => Refusal::NotesOff,
             29 => Refusal::RoundUpFull,
             41 => Refusal::PoolGarbage(value),
@@ -115,6 +124,9 @@ impl Refusal {
             Refusal::Mode(_) => 16,
             Refusal::Pairs(_) => 20,
             Refusal::AnswersFull(_) => 21,
+            Refusal::ListingMalformed(_) => 24,
+            Refusal::ListingNumber(_) => 25,
+            Refusal::ListingOrder(_) => 26,
             Refusal::NotesOff => 27,
             Refusal::RoundUpFull => 29,
             Refusal::PoolGarbage(_) => 41,
@@ -134,6 +146,7 @@ impl Refusal {
             Refusal::TooSmall(v) | Refusal::HeaderSize(v) | Refusal::SystemNames(v) | Refusal::NodesFull(v) => v,
             Refusal::AttributesFull(v) | Refusal::NotesFull(v) | Refusal::TextShort(v) | Refusal::Tables(v) => v,
             Refusal::Items(v) | Refusal::NoPlainText(v) | Refusal::Mode(v) | Refusal::AnswersFull(v) => v,
+            Refusal::ListingMalformed(v) | Refusal::ListingNumber(v) | Refusal::ListingOrder(v) => v,
             Refusal::PoolGarbage(v) | Refusal::PoolHeader(v) | Refusal::PoolOffsets(v) | Refusal::PoolStyles(v) | Refusal::PoolData(v) => v,
             Refusal::Pairs(v) | Refusal::MapHeader(v) | Refusal::MapIds(v) | Refusal::Other(_, v) => v,
             Refusal::TooLarge | Refusal::NoElement | Refusal::NothingFound | Refusal::NotesOff | Refusal::RoundUpFull => 0,
@@ -159,6 +172,9 @@ impl Refusal {
             Refusal::Mode(_) => "there is no such mode",
             Refusal::Pairs(_) => "the pairs do not lie in their area",
             Refusal::AnswersFull(_) => "the table of answers is full",
+            Refusal::ListingMalformed(_) => "a line is none of a listing",
+            Refusal::ListingNumber(_) => "a line of the listing has a number over 4294967295",
+            Refusal::ListingOrder(_) => "a line of the listing is not the one due",
             Refusal::NotesOff => "a cap of 0 would keep no notes: ask for 1 or more of each kind",
             Refusal::RoundUpFull => "a count of the round-up is full",
             Refusal::PoolGarbage(_) => "the chunk before the string pool is cut short",
@@ -187,6 +203,7 @@ impl fmt::Display for Refusal {
             Refusal::Pairs(n) => write!(f, " at pair {n}"),
             Refusal::TextShort(n) => write!(f, " ({n} bytes are needed)"),
             Refusal::Tables(n) | Refusal::Mode(n) => write!(f, " ({n})"),
+            Refusal::ListingMalformed(n) | Refusal::ListingNumber(n) | Refusal::ListingOrder(n) => write!(f, ": line {n}"),
             Refusal::PoolGarbage(n) | Refusal::PoolHeader(n) | Refusal::PoolData(n) | Refusal::MapHeader(n) => write!(f, ": byte {n} should be the first of it"),
             Refusal::PoolOffsets(n) | Refusal::PoolStyles(n) | Refusal::MapIds(n) => write!(f, ": byte {n} should be the first of them"),
             Refusal::Other(number, value) => write!(f, " (number {number}, value {value})"),

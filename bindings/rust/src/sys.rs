@@ -5,7 +5,7 @@
 use crate::{Items, SystemNames};
 
 /// The form of the C interface that this file declares: the header's AXML_ABI.
-pub const ABI: u32 = 8;
+pub const ABI: u32 = 9;
 
 /// Bytes of the longest file that is read.
 pub const LONGEST_FILE: usize = 16_777_216;
@@ -148,6 +148,17 @@ pub struct AddAnswer {
     pub value: u64,
 }
 
+#[repr(C)]
+pub struct Relisted {
+    pub refusal: u32,
+    pub value: u64,
+    pub starts: u32,
+    pub nodes: u32,
+    pub attributes: u32,
+    pub notes: u32,
+    pub cap: u32,
+}
+
 type Bytes = *const u8;
 type Words = *const u32;
 type MutWords = *mut u32;
@@ -191,6 +202,9 @@ extern "C" {
     fn axml_round_up_add(
         round_up: MutWords, round_up_words: usize, notes: Words, note_words: usize, refusal: u32, note_count: u32, file_bytes: usize,
     ) -> AddAnswer;
+    fn axml_read_listing(
+        text: Bytes, text_bytes: usize, nodes: MutWords, node_words: usize, attributes: MutWords, attribute_words: usize, notes: MutWords, note_words: usize,
+    ) -> Relisted;
     fn axml_is_valid_name(text: Bytes, text_bytes: usize) -> bool;
     fn axml_complex_to_float(data: u32) -> f64;
 }
@@ -290,6 +304,15 @@ pub fn first_values(
 pub fn round_up_add(round_up: &mut [u32; ROUND_UP_WORDS], notes: &[u32], refusal: u32, note_count: u32, file_bytes: usize) -> AddAnswer {
     same_form();
     unsafe { axml_round_up_add(round_up.as_mut_ptr(), round_up.len(), notes.as_ptr(), notes.len(), refusal, note_count, file_bytes) }
+}
+
+pub fn read_listing(text: &[u8], nodes: &mut [u32], attributes: &mut [u32], notes: &mut [u32]) -> Relisted {
+    same_form();
+    unsafe {
+        axml_read_listing(
+            text.as_ptr(), text.len(), nodes.as_mut_ptr(), nodes.len(), attributes.as_mut_ptr(), attributes.len(), notes.as_mut_ptr(), notes.len(),
+        )
+    }
 }
 
 pub fn is_valid_name(name: &[u8]) -> bool {

@@ -6,3 +6,4 @@ pub mod Placing
 pub mod Month
 pub mod Valued
 pub mod Asked
+pub mod Relists

@@ -9,7 +9,8 @@
 --         6: axml_value_text, axml_value_texts, axml_texts; refusals 14, 15, 21
 --         7: attributes of six words, the namespace index behind the others; axml_read takes a mode, and refusal 16
 --         8: axml_first_values; refusal 20
+--         9: axml_read_listing; refusals 24, 25, 26
 use Prim.Native.Nat.{ℕ}
 
 abbrev pub abi : ℕ
-abi = 8
+abi = 9

@@ -6,4 +6,5 @@ pub mod Abi
 pub mod Adding
 pub mod Values
 pub mod Asking
+pub mod Relisting
 pub mod Inner

@@ -7,6 +7,7 @@ pub mod abi;
 pub mod adding;
 pub mod asking;
 pub mod content;
+pub mod relisting;
 pub mod values;
 
 pub use abi::axml_abi;
@@ -16,6 +17,8 @@ pub use asking::AxmlPairsAnswer;
 pub use asking::axml_first_values;
 pub use content::AxmlContentAnswer;
 pub use content::axml_content;
+pub use relisting::AxmlRelisted;
+pub use relisting::axml_read_listing;
 pub use values::AxmlManyAnswer;
 pub use values::AxmlValueAnswer;
 pub use values::axml_texts;

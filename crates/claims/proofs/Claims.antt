@@ -18,6 +18,8 @@
 -- Readers that break the promise (P5): refuses-all-broken to wrong-kinds-broken, each of every reader of its sort (specs/Readers.antt); meets-some.
 -- The C interface: c-read-unique to c-first-refused-zeros, the same of its words: one answer, insertion, zeros.
 -- The listing's function: list-unique to list-suffices: one answer, zeros, room.
+-- A listing read back (L9): relist-printed, what the listing program prints reads back to its reading; relist-only, the text of what was read is the
+-- only one; relist-unique, relist-refused-zeros, relist-done-zeros: one answer, zeros.
 -- A month (R4 to R8): month-sum, month-order, month-history of any files; month-refused, month-full, month-added of one; month-kinds, month-grid of
 -- readings; month-unique, month-numbers-unique, c-month-unique: one answer.
 -- Value texts (V1 to V16): value-unique to value-done-zeros of one; value-decimal-broken, value-first-broken: versions that cannot meet its promise; decimal-read,
@@ -51,10 +53,13 @@ use Rattle.anomaly.specs.Note.{noteOf}
 use Rattle.anomaly.specs.declared.Note.{Note}
 use Rattle.anomaly.specs.Kept.{ofKind, keptNotes}
 use Rattle.anomaly.proofs.Laws.{keptNotes-of-kind}
-use Rattle.records.specs.Limits.{fileLimit, listedFile}
+use Rattle.records.specs.Limits.{fileLimit, listedFile, listedNodes, listedAttributes}
 use Rattle.listing_text.specs.Printed.{Printed}
-use Rattle.listed.specs.Lists.{listed, Lists}
+use Rattle.listed.specs.Lists.{listed, listedText, Lists}
 use Rattle.listed.specs.Roomy.{Roomy}
+use Rattle.listing_back.specs.Back.{Words, Relisting, fault, found, relisting, relistText, Relists}
+use Rattle.listing_back.specs.declared.Relisted.{Relisted}
+use Rattle.listing_back.proofs.Whole.{relisting-back}
 use Rattle.xml.specs.NCName.{validName}
 use Rattle.head.specs.Ask.{textAnswer, TextReads, contentAnswer}
 use Rattle.head.specs.Head.{openedOf, headLen}
@@ -71,6 +76,7 @@ use Rattle.c_api.specs.declared.AxmlAnswer.{AxmlAnswer}
 use Rattle.c_api.specs.declared.AxmlTextAnswer.{AxmlTextAnswer}
 use Rattle.c_api.specs.declared.AxmlFirstAnswer.{AxmlFirstAnswer}
 use Rattle.claims.specs.InC.{leftInC, withNotesInC, RefusedInC, DoneInC, TextRefusedInC, TextDoneInC, FirstRefusedInC}
+use Rattle.claims.specs.Relisted.{listedWords, saidBy, In32}
 use Rattle.claims.specs.Room.{isFullNumber, HasRoom, nodesFor, attributesFor, placesFor, listingRoom}
 use Rattle.claims.specs.Parts.{isPart}
 use Rattle.claims.specs.Cleared.{ZeroBehind, RefusedZero, DoneZero, TextRefusedZero, TextDoneZero}
@@ -93,6 +99,7 @@ use Rattle.claims.proofs.Broken as broken
 use Rattle.claims.proofs.Modes as modes
 use Rattle.claims.proofs.InC as inC
 use Rattle.claims.proofs.Lists as lists
+use Rattle.claims.proofs.Relisted as relisted
 use mathlib.Core.List.{List·Permᴰ}
 use lib.ListN.{getD, set}
 use Rattle.anomaly.specs.Note.{kindNumber}
@@ -453,6 +460,36 @@ module _ (f ns ats before : List ℕ) where
 -- in the room of a listing no record is without a place, whatever came in
 pub list-suffices : (f : List ℕ) (ns ats room : ℕ) → Roomy ns ats room → HasRoom (listed f ns ats .answer)
 list-suffices = lists.list-suffices
+
+-- ---- a listing read back (L9)
+
+-- what the listing program prints, of a file that is read and of one that is refused alike
+pub relist-printed : (f ns ats : List ℕ) → length ns ≡ nodeWidth * listedNodes → length ats ≡ attributeWidth * listedAttributes → In32 (listed f (length ns) (length ats))
+    → relisting (listedWords (length ns) (length ats)) (listedText f (length ns) (length ats)) ≡ found (saidBy (listed f (length ns) (length ats)))
+relist-printed = relisted.listed-back
+
+-- what is read is what would be printed, so two texts that say the same are one
+pub relist-only : (w : Words) (t t′ : List ℕ) (x : Relisting) → relisting w t ≡ found x → (relistText x ≡ t) × (relisting w t′ ≡ found x → t ≡ t′)
+relist-only w t t′ x e = (relisting-back w t x e, λ e′. sym (relisting-back w t x e) ∙ relisting-back w t′ x e′)
+
+module _ (text ns ats os : List ℕ) where
+  pub relist-unique : (r r′ : Relisted) (ns₁ ns₂ ats₁ ats₂ os₁ os₂ : List ℕ) → Relists text ns ats os r ns₁ ats₁ os₁ → Relists text ns ats os r′ ns₂ ats₂ os₂
+      → (r ≡ r′) × (ns₁ ≡ ns₂) × (ats₁ ≡ ats₂) × (os₁ ≡ os₂)
+  relist-unique r r′ ns₁ ns₂ ats₁ ats₂ os₁ os₂ p q = (
+    relisted.relisted-by r r′ (numbersOf-unique (r .answer) (r′ .answer) (p .answer ∙ sym (q .answer))) (p .capped ∙ sym (q .capped)),
+    p .nodes ∙ sym (q .nodes),
+    p .attributes ∙ sym (q .attributes),
+    p .notes ∙ sym (q .notes),
+  )
+
+  module _ (r : Relisted) (ns′ ats′ os′ : List ℕ) (h : Relists text ns ats os r ns′ ats′ os′) where
+    pub relist-refused-zeros : (n v : ℕ) → relisting (record { nodes = length ns; attributes = length ats; notes = length os }) text ≡ fault n v
+        → (r .cap ≡ 0) × (ns′ ≡ replicate (length ns) 0) × (ats′ ≡ replicate (length ats) 0) × (os′ ≡ replicate (length os) 0)
+    relist-refused-zeros = relisted.relist-refused text ns ats os r ns′ ats′ os′ h
+
+    pub relist-done-zeros : (x : Relisting) → relisting (record { nodes = length ns; attributes = length ats; notes = length os }) text ≡ found x
+        → ZeroBehind 0 (length (x .nodes)) ns ns′ × ZeroBehind 0 (length (x .attributes)) ats ats′ × ZeroBehind 0 (length (x .notes)) os os′
+    relist-done-zeros = relisted.relist-done text ns ats os r ns′ ats′ os′ h
 
 -- ---- readers that break the promise (P5)
 

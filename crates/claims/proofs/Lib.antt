@@ -47,6 +47,7 @@ pub mod InC
 pub mod Lists
 pub mod Merging
 pub mod Modes
+pub mod Relisted
 pub mod Claims
 pub mod Month
 pub mod Many

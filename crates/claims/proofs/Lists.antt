@@ -58,11 +58,11 @@ module _ (text before after : List ℕ) where
 
 -- ---- the tables
 
-listed-long : (f : List ℕ) (n m : ℕ) → ltb listedFile (length f) ≡ true → listed f n m ≡ refuses (listedRoom n m) TooLargeError
+pub listed-long : (f : List ℕ) (n m : ℕ) → ltb listedFile (length f) ≡ true → listed f n m ≡ refuses (listedRoom n m) TooLargeError
 unfolding listed
 listed-long f n m e = rw e
 
-listed-short : (f : List ℕ) (n m : ℕ) → ltb listedFile (length f) ≡ false → listed f n m ≡ reading (listedRoom n m) f (lends [] [])
+pub listed-short : (f : List ℕ) (n m : ℕ) → ltb listedFile (length f) ≡ false → listed f n m ≡ reading (listedRoom n m) f (lends [] [])
 unfolding listed
 listed-short f n m e = rw e
 

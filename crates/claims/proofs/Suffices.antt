@@ -10,7 +10,7 @@ use Prim.Native.Nat.{ℕ, _+_, _-_, _*_, _/_, _≤_, _<_}
 use native.Mathlib.Omega.{arith}
 use mathlib.Core.Path.{_≡_, refl, sym, subst}
 use mathlib.Core.List.{List, [], _∷_}
-use mathlib.Core.Bool.{Bool, false}
+use mathlib.Core.Bool.{Bool, true, false}
 use borrow.Author.Tests.{lt-ltb}
 use lib.ListN.{length, getD, length-drop, length-append, length-set, replicate, length-replicate}
 use lib.Dec.{ltb}
@@ -23,8 +23,9 @@ use Rattle.errors.proofs.Laws.{numbersOf-unique}
 use Rattle.errors.specs.Refusal.{numberOf}
 use Rattle.errors.specs.declared.Refusal.{Refusal}
 use Rattle.errors.specs.declared.ReadAnswer.{ReadAnswer}
+use Rattle.errors.specs.declared.ReadAnswer.the-variants.{Done, Refused}
 use Rattle.records.specs.Limits.{fileLimit, listedFile}
-use Rattle.system_types.specs.Names.{Lent, lends, namesOf}
+use Rattle.system_types.specs.Names.{Lent, lends, namesFrom, namesOf}
 use Rattle.system_types.specs.declared.NamesRead.{NamesRead}
 use Rattle.system_types.specs.declared.NamesRead.the-variants.{Good, Bad}
 use Rattle.head.specs.declared.Opened.{Opened}
@@ -38,6 +39,7 @@ use Rattle.events.specs.Events.{namesIn, fileEvents}
 use Rattle.walk.specs.Settle.{Room, Tables, Out, going, refused, nothingYet}
 use Rattle.records.specs.Words.{nodeWidth, attributeWidth}
 use Rattle.walk.specs.Reading.{reading, readingBy, settledIn, roomIn, zeroNote, Reads}
+use Rattle.listing_back.specs.Back.{isListed}
 use Rattle.claims.specs.Counts.{opensIn, attributesIn, notesIn}
 use Rattle.claims.specs.Room.{isFull, HasRoom, nodesFor, attributesFor, placesFor, listingRoom}
 use Rattle.claims.proofs.PushBy.{InOut, idle-still, Goes, Stops, settle-by}
@@ -99,7 +101,7 @@ goes r = record {
 
 stops : (r : Room) → Stops r (Enough r) Other
 stops r = record {
-  refuses = λ t es x h. h .fine .0;
+  refuses = λ t es x h. h .fine .0 .0;
   nodes = λ t es n f l g h. absurd (let z : ⊥ = omega (arith, h .nodes) in z);
   attributes = λ t es p a g h. absurd (let z : ⊥ = omega (arith, h .attributes) in z);
   notes = λ t es x d g h. absurd (let z : ⊥ = omega (arith, due-length r t x es d, h .notes) in z);
@@ -182,6 +184,62 @@ module _ (r : Room) (f : List ℕ) (lent : Lent) (nodes : nodesFor (length f) �
   unfolding reading
   suffices =
       final-under r (settledIn r f lent (openedOf f)) (firstOf (entryChecks f lent (readingAt (r .cap) (r .mode)))) (settled (openedOf f)) (entry-under f lent (r .cap) (r .mode))
+
+-- ---- what a reading with no names is refused with, where there is room: a listing can say each
+
+abbrev Listed : Refusal → Type 0
+Listed x = isListed (numberOf x) ≡ true
+
+listed-stops : (r : Room) → Stops r (Enough r) Listed
+listed-stops r = record {
+  refuses = λ t es x h. h .fine .0 .1;
+  nodes = λ t es n f l g h. absurd (let z : ⊥ = omega (arith, h .nodes) in z);
+  attributes = λ t es p a g h. absurd (let z : ⊥ = omega (arith, h .attributes) in z);
+  notes = λ t es x d g h. absurd (let z : ⊥ = omega (arith, due-length r t x es d, h .notes) in z);
+}
+
+abbrev pub SaidBy : ReadAnswer → Type 0
+SaidBy (Done c) = Unit {0}
+SaidBy (Refused x) = isListed (numberOf x) ≡ true
+
+abbrev UnderListed : Check → Type 0
+UnderListed passes = Unit {0}
+UnderListed (fails x) = Listed x
+
+length-listed : (f : List ℕ) → UnderListed (lengthCheck f)
+unfolding lengthCheck numberOf
+length-listed f = cond-by UnderListed (ltb fileLimit (length f)) (λ e. refl) (λ e. tt)
+
+entry-listed : (c : Check) → UnderListed c → UnderListed (firstOf (c ∷ passes ∷ []))
+entry-listed passes u = tt
+entry-listed (fails x) u = u
+
+final-listed : (r : Room) (o : Out) (c : Check) → InOut (Enough r []) Listed o → UnderListed c → SaidBy (readingBy r o c .answer)
+final-listed r (going t) passes p q = tt
+final-listed r (refused y) passes p q = p
+final-listed r o (fails y) p q = q
+
+module _ (r : Room) (f : List ℕ) (nodes : nodesFor (length f) ≤ r .nodes) (attributes : attributesFor (length f) ≤ r .attributes)
+    (notes : placesFor (r .cap) ≤ r .notes) where
+  settled-listed : (o : Opened) → InOut (Enough r []) Listed (settledIn r f (lends [] []) o)
+  settled-listed o =
+      let t = tablesIn f (o .head) in
+      let N = namesIn (o .head) t (lends [] []) in
+      let b = bodyIn f (o .head) in
+      let few = file-few N o t b in
+      let l : length b ≡ length f - (8 + headLen (o .head)) = length-drop (8 + headLen (o .head)) f in
+      settle-by (N .repeats) r (Enough r) Listed (goes r) (listed-stops r) nothingYet (fileEvents N o t b) (record {
+        nodes = omega (arith, few .opens);
+        attributes = omega (arith, few .attributes);
+        fine = few .fine;
+        notes = omega (arith, keptNotes-length-le (r .cap) (notesIn (fileEvents N o t b)));
+      })
+
+  pub said-by : SaidBy (reading r f (lends [] []) .answer)
+  unfolding reading namesFrom
+  said-by =
+      final-listed r (settledIn r f (lends [] []) (openedOf f)) (firstOf (entryChecks f (lends [] []))) (settled-listed (openedOf f))
+      (entry-listed (lengthCheck f) (length-listed f))
 
 -- ---- a call
 

@@ -36,6 +36,7 @@ use Rattle.events.specs.declared.Event.the-variants.{Refuse}
 use Rattle.events.specs.Events.{Names, Spot, when}
 use Rattle.events.specs.Events.{fromRoot, foreignNote, chunkYield, cutYield, yieldOf, used, out, next, lastOf, eventsOn, bodyEvents}
 use Rattle.events.specs.Events.{notesOf, afterPool, fileEvents}
+use Rattle.listing_back.specs.Back.{isListed}
 use Rattle.claims.specs.Room.{isFull}
 use Rattle.claims.specs.Counts.{isOpen, isAttribute, opensIn, attributesIn}
 use Rattle.claims.proofs.SufficesStart.{sum-append, Fine, fine-append, Few, few-none, few-note, few-when, few-noted, few-start}
@@ -98,7 +99,7 @@ unfolding numberOf
 last-paid p n = paid-none _ n (few-noted (not (eqb (p .depth) 0)) (UnclosedElements (p .depth)) (fromRoot p) 0 0 (root (eqb (p .starts) 0)))
   where
     root : (b : Bool) → Few (when b (Refuse MissingRoot)) 0 0
-    root true = record { opens = omega arith; attributes = omega arith; fine = (refl, tt) }
+    root true = record { opens = omega arith; attributes = omega arith; fine = ((refl, refl), tt) }
     root false = few-none
 
 module _ (N : Names) where
@@ -129,28 +130,28 @@ notes-few (x ∷ xs) =
 behind-notes : (xs : List ResAnomaly) (es : List Event) (n : ℕ) → Paid es n → Paid (notesOf xs ++ es) n
 behind-notes xs es n h = paid-append (notesOf xs) es 0 n n (paid-none _ 0 (notes-few xs)) h (omega arith)
 
--- a part that is short is no want of a place
-pool-fine : (e : PoolPart) → isFull (poolRefusal e) ≡ false
+-- a part that is short is no want of a place, and a listing can say it
+pool-fine : (e : PoolPart) → (isFull (poolRefusal e) ≡ false) × (isListed (numberOf (poolRefusal e)) ≡ true)
 unfolding numberOf
-pool-fine (Skipped at) = refl
-pool-fine (Header at) = refl
-pool-fine (Offsets at) = refl
-pool-fine (Styles at) = refl
-pool-fine (Data at) = refl
+pool-fine (Skipped at) = (refl, refl)
+pool-fine (Header at) = (refl, refl)
+pool-fine (Offsets at) = (refl, refl)
+pool-fine (Styles at) = (refl, refl)
+pool-fine (Data at) = (refl, refl)
 
-map-fine : (e : MapPart) → isFull (mapRefusal e) ≡ false
+map-fine : (e : MapPart) → (isFull (mapRefusal e) ≡ false) × (isListed (numberOf (mapRefusal e)) ≡ true)
 unfolding numberOf
-map-fine (MapHeader at) = refl
-map-fine (MapIds at) = refl
+map-fine (MapHeader at) = (refl, refl)
+map-fine (MapIds at) = (refl, refl)
 
 module _ (N : Names) (o : Opened) (t b : List ℕ) where
   refusal-few : (e : HeadEnd) → Paid (Refuse (refusalOf e) ∷ []) (length b)
   unfolding numberOf
-  refusal-few Whole = paid-none _ _ (record { opens = omega arith; attributes = omega arith; fine = (refl, tt) })
+  refusal-few Whole = paid-none _ _ (record { opens = omega arith; attributes = omega arith; fine = ((refl, refl), tt) })
   refusal-few (MapShort e) = paid-none _ _ (record { opens = omega arith; attributes = omega arith; fine = (map-fine e, tt) })
   refusal-few (PoolShort e) = paid-none _ _ (record { opens = omega arith; attributes = omega arith; fine = (pool-fine e, tt) })
-  refusal-few (TooSmall n) = paid-none _ _ (record { opens = omega arith; attributes = omega arith; fine = (refl, tt) })
-  refusal-few (HeaderSize n) = paid-none _ _ (record { opens = omega arith; attributes = omega arith; fine = (refl, tt) })
+  refusal-few (TooSmall n) = paid-none _ _ (record { opens = omega arith; attributes = omega arith; fine = ((refl, refl), tt) })
+  refusal-few (HeaderSize n) = paid-none _ _ (record { opens = omega arith; attributes = omega arith; fine = ((refl, refl), tt) })
 
   pool-few : (e : HeadEnd) → Paid (afterPool N o t b e) (length b)
   unfolding bodyEvents

@@ -1,6 +1,6 @@
 -- How many elements and attributes a start makes: docs/FORMAT.md, W13 to W24. For proofs/SufficesBytes.antt.
 --
---   Few            a list of events with at most so many elements and attributes, and no refusal for want of a place
+--   Few            a list of events with at most so many elements and attributes, and no refusal but what a listing can say, which is none for want of a place
 --   few-start      a start that is read whole: one element, its attributes, and at most the leading one
 --   few-gap-cut, few-attributes-cut, few-trailing-cut   a start that is cut makes notes alone
 use Prim.Native.Nat.{ℕ, zero, suc, _+_, _≤_, _<_}
@@ -22,6 +22,8 @@ use Rattle.events.specs.declared.Event.{Event}
 use Rattle.events.specs.declared.Event.the-variants.{Nothing, Open, Attribute, LeftOut, Close, Note, Refuse, Finish}
 use Rattle.events.specs.Events.{Names, isValid, hasOne, when, leading, attributeBy, attributeEvent, attributesOf, fromLead, fromOpen, fromName, fromTrailing}
 use Rattle.events.specs.Events.{fromSize, fromGap}
+use Rattle.errors.specs.Refusal.{numberOf}
+use Rattle.listing_back.specs.Back.{isListed}
 use Rattle.claims.specs.Room.{isFull}
 use Rattle.claims.specs.Counts.{sumOf, isOpen, isAttribute, opensIn, attributesIn}
 
@@ -33,7 +35,7 @@ sum-append w (e ∷ a) b = omega (arith, sum-append w a b)
 
 -- it is no refusal for want of a place
 abbrev pub FineOf : Event → Type 0
-FineOf (Refuse x) = isFull x ≡ false
+FineOf (Refuse x) = (isFull x ≡ false) × (isListed (numberOf x) ≡ true)
 FineOf Nothing = Unit {0}
 FineOf (Open name fixed line) = Unit {0}
 FineOf (Attribute p a) = Unit {0}

@@ -11,3 +11,4 @@ pub mod Parts
 pub mod Month
 pub mod Modes
 pub mod Askers
+pub mod Relisted

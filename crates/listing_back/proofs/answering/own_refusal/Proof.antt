@@ -1,0 +1,42 @@
+-- `listing_back::answering::own_refusal` meets its contract.
+use mathlib.Core.Path.{refl, sym}
+use Rattle.errors.specs.Refusal.{numberOf, valueOf}
+use Rattle.listing_back.proofs.Endings.{own-last}
+use borrow.Author.Needs.{needs}
+use Rattle.listing_back.proofs.answering.own_refusal.Statement.{statement}
+use Rattle.listing_back.proofs.answering.own_refusal.Tie as tie
+
+returns : tie.Need-returns
+unfolding numberOf valueOf
+returns c = record { number = sym (c .if1 .taken); value = refl }
+
+returns-2 : tie.Need-returns-2
+unfolding numberOf valueOf
+returns-2 c = record { number = sym (c .if2 .taken); value = refl }
+
+returns-3 : tie.Need-returns-3
+unfolding numberOf valueOf
+returns-3 c = record { number = sym (c .if3 .taken); value = refl }
+
+returns-4 : tie.Need-returns-4
+unfolding numberOf valueOf
+returns-4 c = record { number = sym (c .if4 .taken); value = refl }
+
+returns-5 : tie.Need-returns-5
+unfolding numberOf valueOf
+returns-5 c = record { number = sym (c .if5 .taken); value = refl }
+
+returns-6 : tie.Need-returns-6
+unfolding numberOf valueOf
+returns-6 c = record { number = own-last _ (c .before .before .before .before .before .pre) (c .before .before .before .before .if1 .left) (c .before .before .before .if2 .left) (c .before .before .if3 .left) (c .before .if4 .left) (c .if5 .left); value = refl }
+
+pub own-refusal-spec : {M : Type 1} → statement M
+own-refusal-spec =
+    tie.close
+    (tie.spec
+    returns
+    returns-2
+    returns-3
+    returns-4
+    returns-5
+    returns-6)
