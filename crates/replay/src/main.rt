@@ -136,9 +136,9 @@ fn replay(data: &[u8], counts: &mut [u32]) {
     }
     let sets = part(data, data, 0);
     let mut names = [0u32; 8400];
-    let mut nodes = [0u32; 256];
-    let mut attributes = [0u32; 256];
-    let mut notes = [0u32; 256];
+    let mut nodes = [0u32; 512];
+    let mut attributes = [0u32; 512];
+    let mut notes = [0u32; 512];
     replay_sets(
         data,
         sets,
