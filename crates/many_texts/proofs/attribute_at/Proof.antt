@@ -52,14 +52,14 @@ mul-t22 c = search needs
 shared-slice-read-t24 : tie.Need-shared-slice-read-t24
 shared-slice-read-t24 c = search needs
 
-add-t26 : tie.Need-add-t26
-add-t26 c = search needs
+add-t25 : tie.Need-add-t25
+add-t25 c = search needs
 
-mul-t27 : tie.Need-mul-t27
-mul-t27 c = search needs
+mul-t26 : tie.Need-mul-t26
+mul-t26 c = search needs
 
-shared-slice-read-t29 : tie.Need-shared-slice-read-t29
-shared-slice-read-t29 c = search needs
+shared-slice-read-t28 : tie.Need-shared-slice-read-t28
+shared-slice-read-t28 c = search needs
 
 returns : tie.Need-returns
 unfolding attributeAt
@@ -85,7 +85,7 @@ attribute-at-spec =
     add-t21
     mul-t22
     shared-slice-read-t24
-    add-t26
-    mul-t27
-    shared-slice-read-t29
+    add-t25
+    mul-t26
+    shared-slice-read-t28
     returns)

@@ -14,14 +14,14 @@ use Rattle.many_texts.proofs.put_values.Tie as tie
 
 abbrev Inv-loop : tie.InvT-loop
 Inv-loop t names area h items item-area attributes out₀ answers₀ count at₀ k₀ out answers at k =
-    (k ≤ count) × (length out₀ ≤ mostCount) × Done (recordValue h t (lends names area) items item-area attributes) (length out₀) (length answers₀) k at out answers
+    ((k ≤ count) × (count ≤ mostCount)) × (length out₀ ≤ mostCount) × Done (recordValue h t (lends names area) items item-area attributes) (length out₀) (length answers₀) k at out answers
 
 abbrev μ-loop : tie.MeasureT-loop
 μ-loop t names area h items item-area attributes out₀ answers₀ count at₀ k₀ out answers at k = count - k
 
 loop-holds : tie.Need-loop-holds Inv-loop μ-loop
 loop-holds c = let a = c .before .before .before .before .before .before .before .before .args in (
-  omega arith,
+  (omega arith, omega arith),
   omega arith,
   done-first (recordValue (a .h) (now (a .t)) (lends (now (a .names)) (now (a .area))) (now (a .items)) (now (a .item-area)) (now (a .attributes)))
       (now (a .out)) (now (a .answers)),
@@ -37,7 +37,9 @@ put-told-requires : tie.Need-put-told-requires Inv-loop μ-loop
 put-told-requires c κs = omega (arith, c .before .before .before .before .before .before .before .loop .inv .2 .wide)
 
 add-k : tie.Need-add-k Inv-loop μ-loop
-add-k c = omega arith
+add-k c =
+    let in-loop = c .before .before .before .before .before .before .before .before .before in
+    omega (arith, in-loop .loop-test .taken, in-loop .before .loop .inv .0)
 
 loop-less : tie.Need-loop-less Inv-loop μ-loop
 loop-less c = omega arith
@@ -47,7 +49,7 @@ loop-again c =
     let a = c .before .before .before .before .before .before .before .before .before .before .before .before .before .before .before .before .before .before .before .args in
     let t = value-turn (a .h) (now (a .t)) (lends (now (a .names)) (now (a .area))) (now (a .items)) (now (a .item-area)) (now (a .attributes))
     (c .before .before .before .before .before .before .before .before .before .before .loop .k) (c .before .before .before .before .before .before .before .attribute-at .ensures) (c .before .before .before .before .before .before .value-at .ensures) in (
-      omega arith,
+      (omega arith, c .before .before .before .before .before .before .before .before .before .before .loop .inv .0 .1),
       c .before .before .before .before .before .before .before .before .before .before .loop .inv .1,
       done-step (c .before .before .before .before .before .before .before .before .before .before .loop .inv .1) (c .before .before .before .before .before .before .before .before .before .before .loop .inv .2) t
           (c .before .before .put-told .ensures _ (t .told)),
