@@ -139,7 +139,7 @@ module _ (h : Head) (t : List ℕ) (lent : Lent) where
     name-map : mergeAll (fromName N₂ s k l) ≡ fromName N₁ s k l
     unfolding fromName
     name-map =
-        let e : Event = Note (InvalidElementName (s .name .0) (hasOne (N₂ .state (s .name .0)))) in
+        let e : Event = Note (InvalidElementName (s .name) (hasOne (N₂ .state (s .name .0)))) in
         merge-parts (when (not (isValid (N₂ .state (s .name .0)))) e) (fromOpen N₂ s k l) (merge-when (not (isValid (N₂ .state (s .name .0)))) e) open-map
 
     trailing-map : (reach : ℕ) → mergeAll (fromTrailing N₂ s reach k l) ≡ fromTrailing N₁ s reach k l
