@@ -21,7 +21,7 @@ use Rattle.errors.specs.declared.ReadAnswer.{ReadAnswer}
 use Rattle.errors.specs.declared.ReadAnswer.the-variants.{Done, Refused}
 use Rattle.errors.specs.declared.ReadCounts.{ReadCounts}
 use Rattle.errors.specs.declared.Numbers.{Numbers}
-use Rattle.records.specs.Words.{nodeWidth, attributeWidth, noteWidth, noteWords}
+use Rattle.records.specs.Words.{nodeWidth, attributeWidth, noteWidth, noteWords, merged}
 use Rattle.records.specs.Limits.{listedFile, listedNodes, listedAttributes, listedNotes, listedCap}
 use Rattle.system_types.specs.Names.{lends}
 use Rattle.walk.specs.Reading.{Reading, zeroNote, reading, refuses}
@@ -144,8 +144,8 @@ module _ (f ns ats : List ℕ) where
         let l : Done c ≡ Refused TooLargeError = sym e ∙ ap (λ (y : Reading). y .answer) (listed-long f (length ns) (length ats) q) in
         let z : _≡_ {A = ℕ} 0 1 = cc in absurd (let y : ⊥ = omega arith in y)
     go false q =
-        let z = done-zeros f (lends [] []) ns ats (replicate listedNotes zeroNote) listedCap c _ _ _
-        (reading-left f (lends [] []) ns ats listedNotes listedCap all (listed-short f (length ns) (length ats) q) (Done c) e) .noteRecords in
+        let z = done-zeros f (lends [] []) ns ats (replicate listedNotes zeroNote) listedCap merged c _ _ _
+        (reading-left f (lends [] []) ns ats listedNotes listedCap merged all (listed-short f (length ns) (length ats) q) (Done c) e) .noteRecords in
         let l = length-replicate listedNotes zeroNote in
         let t = z .there in
         (omega (arith, l), z .long ∙ l)
@@ -160,7 +160,7 @@ module _ (f ns ats : List ℕ) where
       go false q =
           let s = listing-suffices (length f) (ltb-false listedFile (length f) q) in
           subst SaidBy (sym (ap (λ (y : Reading). y .answer) (listed-short f (length ns) (length ats) q)))
-          (said-by (listedRoom (length ns) (length ats)) f (omega (arith, s .0)) (omega (arith, s .1)) (s .2))
+          (said-by (listedRoom (length ns) (length ats)) f (omega (arith, s .0)) (omega (arith, s .1)) (s .2) refl refl)
 
     said-listed : (a : ReadAnswer) → SaidBy a → isListed (numbersOf a .refusal) ≡ true
     unfolding numbersOf

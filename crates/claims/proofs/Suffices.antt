@@ -13,7 +13,7 @@ use mathlib.Core.List.{List, [], _∷_}
 use mathlib.Core.Bool.{Bool, true, false}
 use borrow.Author.Tests.{lt-ltb}
 use lib.ListN.{length, getD, length-drop, length-append, length-set, replicate, length-replicate}
-use lib.Dec.{ltb}
+use lib.Dec.{ltb, eqb}
 use Rattle.anomaly.specs.Note.{kindIndex}
 use Rattle.anomaly.specs.Kept.{counted, keptFrom}
 use Rattle.anomaly.specs.declared.Note.{Note as NoteOf}
@@ -210,9 +210,26 @@ length-listed : (f : List ℕ) → UnderListed (lengthCheck f)
 unfolding lengthCheck numberOf
 length-listed f = cond-by UnderListed (ltb fileLimit (length f)) (λ e. refl) (λ e. tt)
 
-entry-listed : (c : Check) → UnderListed c → UnderListed (firstOf (c ∷ passes ∷ []))
-entry-listed passes u = tt
-entry-listed (fails x) u = u
+abbrev AllListed : List Check → Type 0
+AllListed [] = Unit {0}
+AllListed (c ∷ cs) = UnderListed c × AllListed cs
+
+first-listed : (cs : List Check) → AllListed cs → UnderListed (firstOf cs)
+first-listed [] p = tt
+first-listed (passes ∷ cs) p = first-listed cs (p .1)
+first-listed (fails x ∷ cs) p = p .0
+
+cap-listed : (cap mode : ℕ) → eqb cap 0 ≡ false → UnderListed (capCheck (askers.Reading cap mode))
+cap-listed cap mode e = rw e tt
+
+mode-listed : (cap mode : ℕ) → isMode mode ≡ true → UnderListed (modeCheck (askers.Reading cap mode))
+mode-listed cap mode e = rw e tt
+
+-- a line for each check: no names are lent
+entry-listed : (f : List ℕ) (cap mode : ℕ) → eqb cap 0 ≡ false → isMode mode ≡ true → UnderListed (firstOf (entryChecks f (lends [] []) (readingAt cap mode)))
+unfolding namesFrom
+entry-listed f cap mode some known =
+    first-listed (entryChecks f (lends [] []) (readingAt cap mode)) (length-listed f, (cap-listed cap mode some, (tt, (mode-listed cap mode known, (tt, tt)))))
 
 final-listed : (r : Room) (o : Out) (c : Check) → InOut (Enough r []) Listed o → UnderListed c → SaidBy (readingBy r o c .answer)
 final-listed r (going t) passes p q = tt
@@ -224,7 +241,7 @@ module _ (r : Room) (f : List ℕ) (nodes : nodesFor (length f) ≤ r .nodes) (a
   settled-listed : (o : Opened) → InOut (Enough r []) Listed (settledIn r f (lends [] []) o)
   settled-listed o =
       let t = tablesIn f (o .head) in
-      let N = namesIn (o .head) t (lends [] []) in
+      let N = namesIn (r .mode) (o .head) t (lends [] []) in
       let b = bodyIn f (o .head) in
       let few = file-few N o t b in
       let l : length b ≡ length f - (8 + headLen (o .head)) = length-drop (8 + headLen (o .head)) f in
@@ -235,11 +252,11 @@ module _ (r : Room) (f : List ℕ) (nodes : nodesFor (length f) ≤ r .nodes) (a
         notes = omega (arith, keptNotes-length-le (r .cap) (notesIn (fileEvents N o t b)));
       })
 
-  pub said-by : SaidBy (reading r f (lends [] []) .answer)
-  unfolding reading namesFrom
-  said-by =
-      final-listed r (settledIn r f (lends [] []) (openedOf f)) (firstOf (entryChecks f (lends [] []))) (settled-listed (openedOf f))
-      (entry-listed (lengthCheck f) (length-listed f))
+  pub said-by : eqb (r .cap) 0 ≡ false → isMode (r .mode) ≡ true → SaidBy (reading r f (lends [] []) .answer)
+  unfolding reading
+  said-by some known =
+      final-listed r (settledIn r f (lends [] []) (openedOf f)) (firstOf (entryChecks f (lends [] []) (readingAt (r .cap) (r .mode)))) (settled-listed (openedOf f))
+      (entry-listed f (r .cap) (r .mode) some known)
 
 -- ---- a call
 
