@@ -137,5 +137,5 @@ fn words() {
         };
         assert!(said.starts_with(words), "{said}");
     }
-    assert_eq!((refusals, notes), (19, NoteKind::ALL.len()));
+    assert_eq!((refusals, notes), (22, NoteKind::ALL.len()));
 }
