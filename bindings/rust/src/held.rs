@@ -136,5 +136,5 @@ fn words() {
         };
         assert!(said.starts_with(words), "{said}");
     }
-    assert_eq!((refusals, notes), (19, NoteKind::ALL.len()));
+    assert_eq!((refusals, notes), (20, NoteKind::ALL.len()));
 }
