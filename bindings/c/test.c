@@ -410,6 +410,8 @@ static void manies(void) {
   texts_of("a text short", S_BYTES, 1, 19, (struct axml_many_answer){AXML_TEXT_SHORT, 2, 0, 0}, "", strings, 0);
   texts_of("no place for a text", S_BYTES, 1, 5, (struct axml_many_answer){AXML_ANSWERS_FULL, 0, 0, 0}, "", strings, 0);
   texts_of("texts of 8 bytes", 8, 8, 20, (struct axml_many_answer){AXML_POOL_HEADER, 8, 0, 0}, "", strings, 0);
+}
+
 /* A listing read back: its numbers, and the first word of each table, where 9 stood before. */
 static void relists(const char *what, const char *text, size_t node_words, uint32_t refusal, uint64_t value, uint32_t cap, uint32_t line, uint32_t kind) {
   uint32_t nodes[AXML_NODE_WORDS], attributes[1] = {9}, notes[2 * AXML_NOTE_WORDS];
