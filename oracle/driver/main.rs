@@ -215,7 +215,7 @@ fn answer(file: &[u8], cap: u32, flags: u32, questions: &[(Vec<u8>, Vec<u8>)]) -
     }
     if flags & VALUES != 0 {
         for a in &r.attributes {
-            let [_, prefix, _, kind, data] = a.words;
+            let [_, prefix, _, kind, data, _] = a.words;
             if prefix == 2 || is_plain(kind) || get_attr_value(a.name, &data).is_some() {
                 out.text(a.value.as_bytes());
             } else {
