@@ -3,6 +3,7 @@ pub mod Parts
 pub mod Index
 pub mod Read
 pub mod Plains
+pub mod Wholes
 pub mod Others
 pub mod Marking
 pub mod Laws
