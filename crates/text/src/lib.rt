@@ -19,6 +19,7 @@ use equal::same_part;
 pub use part::content_of;
 pub use part::found_into;
 use part::found_state;
+pub use part::found_whole;
 ghost use mathlib.Core.Path.{_≡_};
 ghost use mathlib.Core.List.{List};
 ghost use mathlib.Core.Bool.{Bool, true};
