@@ -18,6 +18,7 @@ use Rattle.anomaly.specs.declared.ResAnomaly.{ResAnomaly}
 use Rattle.anomaly.specs.declared.ResAnomaly.the-variants.{StringPoolGarbageChunk, StringCountMismatch, StringOffsetsOutOfBounds, NonXmlChunk}
 use Rattle.anomaly.specs.declared.ResAnomaly.the-variants.{XmlNodeHeaderSize, UnknownChunk, AttributeStartShifted, AttributeSizeMismatch}
 use Rattle.anomaly.specs.declared.ResAnomaly.the-variants.{ElementTrailingBytes, InvalidElementName, InvalidAttributeName, TruncatedXml, UnclosedElements}
+use Rattle.anomaly.specs.declared.ResAnomaly.the-variants.{DamagedElementName}
 
 -- ---- places
 
@@ -36,8 +37,9 @@ kindIndex-lt (InvalidElementName name has-text) = omega arith
 kindIndex-lt (InvalidAttributeName name) = omega arith
 kindIndex-lt TruncatedXml = omega arith
 kindIndex-lt (UnclosedElements count) = omega arith
+kindIndex-lt (DamagedElementName name state) = omega arith
 
-counted-length : (counts : List ℕ) (k : ℕ) → length counts ≡ kinds → length (counted counts k) ≡ kinds
+pub counted-length : (counts : List ℕ) (k : ℕ) → length counts ≡ kinds → length (counted counts k) ≡ kinds
 counted-length counts k l = length-set counts k (getD counts k 0 + 1) ∙ l
 
 -- ---- one by one
@@ -63,10 +65,10 @@ unfolding ofKind
 ofKind-other k x xs e = rw e
 
 -- what one anomaly does to the count of a kind: a kept one of that kind adds 1
-counted-same : (counts : List ℕ) (j k : ℕ) → length counts ≡ kinds → j < kinds → j ≡ k → getD (counted counts j) k 0 ≡ getD counts k 0 + 1
+pub counted-same : (counts : List ℕ) (j k : ℕ) → length counts ≡ kinds → j < kinds → j ≡ k → getD (counted counts j) k 0 ≡ getD counts k 0 + 1
 counted-same counts j k len h e = rw (← e) (getD-set-same counts j (getD counts j 0 + 1) 0 (omega arith))
 
-counted-other : (counts : List ℕ) (j k : ℕ) → (j ≡ k → ⊥) → getD (counted counts j) k 0 ≡ getD counts k 0
+pub counted-other : (counts : List ℕ) (j k : ℕ) → (j ≡ k → ⊥) → getD (counted counts j) k 0 ≡ getD counts k 0
 counted-other counts j k h = getD-set-other counts j k (getD counts j 0 + 1) 0 (λ e. h (sym e))
 
 take-more : {A : Type 0} (n m : ℕ) (x : A) (l : List A) → n ≡ m + 1 → take n (x ∷ l) ≡ x ∷ take m l
@@ -221,7 +223,7 @@ keptFrom-total cap counts (x ∷ xs) len h =
         rw (keptFrom-due cap counts x xs d) (omega arith)
     step past kept false d = rw (keptFrom-past cap counts x xs d) past
 
--- thirteen times the cap always suffices
+-- fourteen times the cap always suffices
 pub keptNotes-length-le : (cap : ℕ) (l : List ResAnomaly) → length (keptNotes cap l) ≤ kinds * cap
 unfolding Below
 keptNotes-length-le cap l = omega (arith, keptFrom-total cap none l refl (λ k. omega (arith, none-at kinds k)))

@@ -18,6 +18,7 @@ use Rattle.anomaly.specs.declared.ResAnomaly.{ResAnomaly}
 use Rattle.anomaly.specs.declared.ResAnomaly.the-variants.{StringPoolGarbageChunk, StringCountMismatch, StringOffsetsOutOfBounds, NonXmlChunk}
 use Rattle.anomaly.specs.declared.ResAnomaly.the-variants.{XmlNodeHeaderSize, UnknownChunk, AttributeStartShifted, AttributeSizeMismatch}
 use Rattle.anomaly.specs.declared.ResAnomaly.the-variants.{ElementTrailingBytes, InvalidElementName, InvalidAttributeName, TruncatedXml, UnclosedElements}
+use Rattle.anomaly.specs.declared.ResAnomaly.the-variants.{DamagedElementName}
 use Rattle.anomaly.proofs.Laws.{kindIndex-lt}
 
 abbrev pub isIn : ℕ → List ℕ → Bool
@@ -79,6 +80,7 @@ kindNumbers-at (InvalidElementName name has-text) = refl
 kindNumbers-at (InvalidAttributeName name) = refl
 kindNumbers-at TruncatedXml = refl
 kindNumbers-at (UnclosedElements count) = refl
+kindNumbers-at (DamagedElementName name state) = refl
 
 pub kind-place : (x y : ResAnomaly) → eqb (kindNumber x) (kindNumber y) ≡ eqb (kindIndex x) (kindIndex y)
 kind-place x y = go (eqb (kindNumber x) (kindNumber y)) refl

@@ -14,6 +14,7 @@ use Rattle.anomaly.specs.declared.ResAnomaly.{ResAnomaly}
 use Rattle.anomaly.specs.declared.ResAnomaly.the-variants.{StringPoolGarbageChunk, StringCountMismatch, StringOffsetsOutOfBounds, NonXmlChunk}
 use Rattle.anomaly.specs.declared.ResAnomaly.the-variants.{XmlNodeHeaderSize, UnknownChunk, AttributeStartShifted, AttributeSizeMismatch}
 use Rattle.anomaly.specs.declared.ResAnomaly.the-variants.{ElementTrailingBytes, InvalidElementName, InvalidAttributeName, TruncatedXml, UnclosedElements}
+use Rattle.anomaly.specs.declared.ResAnomaly.the-variants.{DamagedElementName}
 
 abbrev pub made : ℕ → ℕ → ℕ → Note
 made kind a b = record { kind = kind; a = a; b = b }
@@ -32,12 +33,13 @@ noteOf (InvalidElementName name has-text) = made 9 (name .0) has-text
 noteOf (InvalidAttributeName name) = made 10 (name .0) 0
 noteOf TruncatedXml = made 11 0 0
 noteOf (UnclosedElements count) = made 12 count 0
+noteOf (DamagedElementName name state) = made 32 (name .0) state
 
 abbrev pub kindNumber : ResAnomaly → ℕ
 kindNumber x = noteOf x .kind
 
 abbrev pub kinds : ℕ
-kinds = 13
+kinds = 14
 
 unfoldable pub kindIndex : ResAnomaly → ℕ
 kindIndex (StringPoolGarbageChunk chunk-type skipped) = 0
@@ -53,6 +55,7 @@ kindIndex (InvalidElementName name has-text) = 9
 kindIndex (InvalidAttributeName name) = 10
 kindIndex TruncatedXml = 11
 kindIndex (UnclosedElements count) = 12
+kindIndex (DamagedElementName name state) = 13
 
 unfoldable pub kindNumbers : List ℕ
-kindNumbers = 0 ∷ 1 ∷ 2 ∷ 3 ∷ 4 ∷ 5 ∷ 6 ∷ 7 ∷ 8 ∷ 9 ∷ 10 ∷ 11 ∷ 12 ∷ []
+kindNumbers = 0 ∷ 1 ∷ 2 ∷ 3 ∷ 4 ∷ 5 ∷ 6 ∷ 7 ∷ 8 ∷ 9 ∷ 10 ∷ 11 ∷ 12 ∷ 32 ∷ []

@@ -1,6 +1,7 @@
 // What is amiss in a file that is read all the same, and how many notes of each kind are kept.
 //
-// Mirrors anomaly.rs (apk-info 13770539b8): `ResAnomaly`, its thirteen kinds of AXML, `kind_index`, `Anomalies::push`.
+// Mirrors anomaly.rs (apk-info 13770539b8): `ResAnomaly`, its thirteen kinds of AXML, `kind_index`, `Anomalies::push`; the fourteenth kind, a damaged
+// name of an element, is ours.
 // Definitions: specs/Note.antt, specs/Kept.antt.
 // Differs from the Rust: names are string indices; the cap is an argument; the notes go to a lent table, so `Notes` holds how many there are.
 ghost use mathlib.Core.Path.{_≡_};
@@ -33,12 +34,13 @@ pub enum ResAnomaly {
     InvalidAttributeName(StringIndex), // the index of an attribute's name
     TruncatedXml, // the tree ends inside a node
     UnclosedElements(u32), // how deep the end of the walk is
+    DamagedElementName(StringIndex, u32), // the index of an element's name, and the state of its text: 1, 2 or 3
 }
 
 // How many kinds there are.
-pub const KINDS: usize = 13;
+pub const KINDS: usize = 14;
 
-// The place of a kind in the counts, in the order of the Rust's declaration.
+// The place of a kind in the counts, in the order of the Rust's declaration, ours behind them.
 // Ruled out: one place for two kinds, and a place past the last.
 pub fn kind_index(x: ResAnomaly) -> usize
     ensures { λ r. ⌜ r ≡ kindIndex x ⌝ }
@@ -57,6 +59,7 @@ pub fn kind_index(x: ResAnomaly) -> usize
         ResAnomaly::InvalidAttributeName(_) => 10,
         ResAnomaly::TruncatedXml => 11,
         ResAnomaly::UnclosedElements(_) => 12,
+        ResAnomaly::DamagedElementName(_, _) => 13,
     }
 }
 
@@ -85,6 +88,7 @@ pub fn note_of(x: ResAnomaly) -> Note
         ResAnomaly::InvalidAttributeName(name) => made(10, name.0, 0),
         ResAnomaly::TruncatedXml => made(11, 0, 0),
         ResAnomaly::UnclosedElements(count) => made(12, count, 0),
+        ResAnomaly::DamagedElementName(name, state) => made(32, name.0, state),
     }
 }
 

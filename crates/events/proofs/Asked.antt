@@ -13,7 +13,7 @@ use Rattle.xml_elements.specs.Chunk.{strideOf, trailingOf}
 use Rattle.events.specs.declared.Phase.{Phase}
 use Rattle.events.specs.Events.{Names}
 use Rattle.events.specs.Inner.Steps.{stepBy, stepOf}
-use Rattle.events.specs.declared.Phase.the-variants.{AtOffsets, AtName, AtAttribute}
+use Rattle.events.specs.declared.Phase.the-variants.{AtOffsets, AtName, AtNamed, AtAttribute}
 use Rattle.events.specs.declared.Cursor.{Cursor}
 use Rattle.events.specs.Inner.Pending.{Ready, Within}
 use Rattle.events.proofs.Model.{fit-here}
@@ -27,6 +27,9 @@ module _ {t : List ℕ} {lent : Lent} {b : List ℕ} {o : Opened} {c : Cursor} (
 
   pub name-asked : c .phase ≡ AtName → Asks t lent (o .head) × (c .at ≤ fileLimit) × (c .depth ≤ fileLimit) × (c .starts ≤ fileLimit)
   name-asked e = let h = rw e at (w .held) in (asks-of (h .0), omega arith, omega arith, omega arith)
+
+  pub named-asked : c .phase ≡ AtNamed → Asks t lent (o .head) × (c .at ≤ fileLimit) × (c .depth ≤ fileLimit) × (c .starts ≤ fileLimit)
+  named-asked e = let h = rw e at (w .held) in (asks-of (h .0), omega arith, omega arith, omega arith)
 
   pub attribute-asked : c .phase ≡ AtAttribute
       → Asks t lent (o .head) × (c .at + 20 ≤ length b) × (length b ≤ fileLimit) × (0 < c .left)

@@ -8,4 +8,5 @@ pub mod Chunks
 pub mod Steps
 pub mod Local
 mod Asked
+mod Whole
 mod Tests

@@ -11,7 +11,7 @@ use Rattle.xml_elements.specs.declared.Chunk.{Chunk}
 use Rattle.xml_elements.specs.declared.Chunk.the-variants.{Start, End, Other, Last}
 use Rattle.xml_elements.specs.Chunk.{strideOf, attributesAt, startLen, lenOf}
 use Rattle.xml_elements.proofs.Local.{attributeAt-append}
-use Rattle.events.specs.Events.{Names, attributeEvent, attributesOf, fromLead, fromOpen, fromName, fromTrailing, fromSize, fromGap}
+use Rattle.events.specs.Events.{Names, attributeEvent, attributesOf, fromLead, fromOpen, fromNamed, fromName, fromTrailing, fromSize, fromGap}
 use Rattle.events.specs.Events.{Spot, chunkYield}
 
 module _ (N : Names) where
@@ -37,7 +37,7 @@ module _ (N : Names) where
 
   pub fromGap-append : (s : XmlStartElement) (reach k : ℕ) (c m : List ℕ) → startLen s ≤ length c
       → fromGap N s reach k (c ++ m) ≡ fromGap N s reach k c
-  unfolding fromGap fromSize fromTrailing fromName fromOpen
+  unfolding fromGap fromSize fromTrailing fromName fromNamed fromOpen
   fromGap-append s reach k c m h = rw (fromLead-append s k c m h)
 
   -- THE LAW: a whole XML chunk within c makes the same whatever follows c

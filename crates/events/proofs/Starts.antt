@@ -1,5 +1,5 @@
 -- Steps of a start that was begun: each makes the first of what is pending. No contract cites this file.
--- In order: gap, size, trailing bytes, name; the element, behind which come the leading attribute and the attributes (`pending-opened`).
+-- In order: gap, size, trailing bytes, the state of the name, the name; the element, behind which come the leading attribute and the attributes (`pending-opened`).
 use Prim.Native.Nat.{ℕ, zero, suc, _+_, _-_, _*_, _≤_, _<_}
 use native.Mathlib.Omega.{arith}
 use mathlib.Core.Path.{_≡_, refl, sym, _∙_}
@@ -9,7 +9,7 @@ use borrow.Author.Tests.{eqb-true, eqb-false, ltb-true, eq-eqb, ne-eqb}
 use lib.ListN.{length, drop}
 use lib.Seq.{drop-drop}
 use lib.Dec.{ltb, eqb}
-use Rattle.anomaly.specs.declared.ResAnomaly.the-variants.{AttributeStartShifted, AttributeSizeMismatch, ElementTrailingBytes, InvalidElementName}
+use Rattle.anomaly.specs.declared.ResAnomaly.the-variants.{AttributeStartShifted, AttributeSizeMismatch, ElementTrailingBytes, InvalidElementName, DamagedElementName}
 use Rattle.text.specs.declared.NameState.{NameState}
 use Rattle.text.specs.declared.NameState.the-variants.{NoText, Invalid, Valid}
 use Rattle.head.specs.declared.Opened.{Opened}
@@ -19,12 +19,12 @@ use Rattle.xml_elements.proofs.Laws.{cond-by}
 use Rattle.events.specs.declared.Event.{Event}
 use Rattle.events.specs.declared.Event.the-variants.{Open, Note}
 use Rattle.events.specs.declared.Phase.{Phase}
-use Rattle.events.specs.declared.Phase.the-variants.{AtGap, AtSize, AtTrailing, AtShort, AtName, AtOpen, AtLead, AtAttribute}
+use Rattle.events.specs.declared.Phase.the-variants.{AtGap, AtSize, AtTrailing, AtShort, AtName, AtNamed, AtOpen, AtLead, AtAttribute}
 use Rattle.events.specs.declared.Cursor.{Cursor}
 use Rattle.events.specs.Events.{Names, when, leading, attributeEvent, attributesOf, started, eventsOn}
-use Rattle.events.specs.Events.{fromGap, fromSize, fromTrailing, fromName, fromOpen, fromLead}
+use Rattle.events.specs.Events.{fromGap, fromSize, fromTrailing, fromName, fromNamed, fromOpen, fromLead}
 use Rattle.events.specs.Inner.Steps.{toPhase, leftNext, behindOf, openedBy, movedBy, afterOpen}
-use Rattle.events.specs.Inner.Steps.{toStep, noteIf, gapStep, sizeStep, trailingStep, openStep, nameStep}
+use Rattle.events.specs.Inner.Steps.{toStep, noteIf, gapStep, sizeStep, trailingStep, openStep, namedStep, nameStep}
 use Rattle.events.specs.Inner.Pending.{There, Held, Within, spotOf, behind, pendBy, pending, rank, steps, the}
 use Rattle.events.proofs.Model.{the-if, the-attribute, Goes, goes, goes-if, goes-attribute, attributesOf-step, fit-next, fit-same, fit-here}
 use Rattle.events.proofs.Here.{Here, SteppedBy, made, stays}
@@ -95,13 +95,13 @@ module _ (N : Names) (o : Opened) (t b : List ℕ) where
     -- the element is out: what follows it is pending
     after-open : (p : Phase) → Here o b c p → PoolThere (o .end) → There (length b) c
         → (pending N o t b (afterOpen c) ≡ fromLead N (c .start) (c .starts) (drop (c .at) b) ++ behind N b c) × Within o b (afterOpen c) ×
-        (steps b (afterOpen c) < 20 * (length b - c .at) + 7)
+        (steps b (afterOpen c) < 20 * (length b - c .at) + 6)
     unfolding pending fromLead
     after-open p w q h = go (eqb (c .starts) 0) refl
       where
         go : (x : Bool) → eqb (c .starts) 0 ≡ x
             → (pending N o t b (cond x (toPhase c AtLead) (openedBy c)) ≡ fromLead N (c .start) (c .starts) (drop (c .at) b) ++ behind N b c) ×
-            Within o b (cond x (toPhase c AtLead) (openedBy c)) × (steps b (cond x (toPhase c AtLead) (openedBy c)) < 20 * (length b - c .at) + 7)
+            Within o b (cond x (toPhase c AtLead) (openedBy c)) × (steps b (cond x (toPhase c AtLead) (openedBy c)) < 20 * (length b - c .at) + 6)
         go true e =
             let z : c .starts ≡ 0 = eqb-true _ _ e in
             (rw z, stays N o t b c p AtLead w (q, z, h), omega arith)
@@ -118,16 +118,30 @@ module _ (N : Names) (o : Opened) (t b : List ℕ) where
         let a = after-open AtOpen w (w .held .0) (w .held .1) in
         made N o t b c AtOpen _ (goes refl) (rw (a .0)) (a .1) (a .2)
 
-    pub name-step : Here o b c AtName → SteppedBy N o t b c AtName (nameStep c (N .state (c .start .name .0)))
-    unfolding pending fromName fromOpen
-    name-step w = go (N .state (c .start .name .0)) refl
+    pub named-step : Here o b c AtNamed → SteppedBy N o t b c AtNamed (namedStep c (N .state (c .start .name .0)))
+    unfolding pending fromNamed fromOpen
+    named-step w = go (N .state (c .start .name .0)) refl
       where
-        go : (s : NameState) → N .state (c .start .name .0) ≡ s → SteppedBy N o t b c AtName (nameStep c s)
+        go : (s : NameState) → N .state (c .start .name .0) ≡ s → SteppedBy N o t b c AtNamed (namedStep c s)
         go Valid e =
-            let a = after-open AtName w (w .held .0) (w .held .1) in
-            made N o t b c AtName _ (goes refl) (rw (e, a .0)) (a .1) (omega (arith, a .2))
-        go Invalid e = made N o t b c AtName _ (goes refl) (rw e) (stays N o t b c AtName AtOpen w (w .held)) (omega arith)
-        go NoText e = made N o t b c AtName _ (goes refl) (rw e) (stays N o t b c AtName AtOpen w (w .held)) (omega arith)
+            let a = after-open AtNamed w (w .held .0) (w .held .1) in
+            made N o t b c AtNamed _ (goes refl) (rw (e, a .0)) (a .1) (omega (arith, a .2))
+        go Invalid e = made N o t b c AtNamed _ (goes refl) (rw e) (stays N o t b c AtNamed AtOpen w (w .held)) (omega arith)
+        go NoText e = made N o t b c AtNamed _ (goes refl) (rw e) (stays N o t b c AtNamed AtOpen w (w .held)) (omega arith)
+
+    -- a whole name goes on at once, as behind note 32
+    pub name-step : Here o b c AtName → SteppedBy N o t b c AtName (nameStep c (N .damage (c .start .name .0)) (N .state (c .start .name .0)))
+    unfolding pending fromName
+    name-step w = go (eqb (N .damage (c .start .name .0)) 0) refl
+      where
+        on : SteppedBy N o t b c AtNamed (namedStep c (N .state (c .start .name .0)))
+        on = named-step (record { short = w .short; inside = w .inside; deep = w .deep; few = w .few; held = w .held })
+
+        go : (x : Bool) → eqb (N .damage (c .start .name .0)) 0 ≡ x
+            → SteppedBy N o t b c AtName
+            (cond x (namedStep c (N .state (c .start .name .0))) (toStep c (Note (DamagedElementName (c .start .name) (N .damage (c .start .name .0)))) AtNamed))
+        go true e = record { same = rw e (on .same); within = on .within; less = λ g. omega (arith, on .less g); over = λ f. rw e (on .over f) }
+        go false e = made N o t b c AtName _ (goes refl) (rw e) (stays N o t b c AtName AtNamed w (w .held)) (omega arith)
 
     -- ---- notes 6, 7, 8
 

@@ -9,14 +9,14 @@ use Rattle.records.specs.Limits.{fileLimit}
 use Rattle.head.specs.declared.Opened.{Opened}
 use Rattle.events.specs.declared.Phase.{Phase}
 use Rattle.events.specs.declared.Phase.the-variants.{AtGarbage, AtCount, AtOffsets, AtRefuse, AtChunk, AtGap, AtSize, AtTrailing}
-use Rattle.events.specs.declared.Phase.the-variants.{AtShort, AtName, AtOpen, AtLead, AtAttribute, AtLast, AtRoot, Over}
+use Rattle.events.specs.declared.Phase.the-variants.{AtShort, AtName, AtNamed, AtOpen, AtLead, AtAttribute, AtLast, AtRoot, Over}
 use Rattle.events.specs.declared.Cursor.{Cursor}
 use Rattle.events.specs.Events.{Names, fileEvents}
 use Rattle.events.specs.Inner.Steps.{firstCursor, stepBy, stepOf}
 use Rattle.events.specs.Inner.Pending.{Within, Stepped, pending, steps}
 use Rattle.events.proofs.Here.{Here, SteppedBy}
 use Rattle.events.proofs.Heads.{garbage-step, count-step, offsets-step, refuse-step, short-step, last-step, root-step, over-step}
-use Rattle.events.proofs.Starts.{gap-step, size-step, trailing-step, name-step, open-step, lead-step, attribute-step}
+use Rattle.events.proofs.Starts.{gap-step, size-step, trailing-step, name-step, named-step, open-step, lead-step, attribute-step}
 use Rattle.events.proofs.Chunks.{chunk-step}
 
 module _ (N : Names) (o : Opened) (t b : List ℕ) (c : Cursor) where
@@ -31,6 +31,7 @@ module _ (N : Names) (o : Opened) (t b : List ℕ) (c : Cursor) where
   by-phase AtTrailing w = trailing-step N o t b c w
   by-phase AtShort w = short-step N o t b c w
   by-phase AtName w = name-step N o t b c w
+  by-phase AtNamed w = named-step N o t b c w
   by-phase AtOpen w = open-step N o t b c w
   by-phase AtLead w = lead-step N o t b c w
   by-phase AtAttribute w = attribute-step N o t b c w

@@ -2,7 +2,7 @@
 --
 --   prefixIn        the prefix that the text of a namespace gives, by the mode of the reading
 --   attributeEvent  what an attribute makes: its record, note 10, or that it is left out for want of a text
---   startEvents     what a start makes, as far as it is there: notes 6, 7, 8, then note 9, the element, the leading attribute, its attributes; or note 11
+--   startEvents     what a start makes, as far as it is there: notes 6, 7, 8, then notes 32 and 9, the element, the leading attribute, its attributes; or note 11
 --   yieldOf         what a turn makes; nextOf with what state the walk goes on: the sort of the chunk before, depth, starts
 --   bodyEvents      what the body makes, note 12 and the refusal of a body without a start at its end
 --   fileEvents      the head's notes and refusals, then the body's events
@@ -20,11 +20,12 @@ use Rattle.errors.specs.declared.Refusal.the-variants.{MissingRoot}
 use Rattle.anomaly.specs.declared.ResAnomaly.{ResAnomaly}
 use Rattle.anomaly.specs.declared.ResAnomaly.the-variants.{NonXmlChunk, XmlNodeHeaderSize, UnknownChunk, TruncatedXml, UnclosedElements}
 use Rattle.anomaly.specs.declared.ResAnomaly.the-variants.{AttributeStartShifted, AttributeSizeMismatch, ElementTrailingBytes}
-use Rattle.anomaly.specs.declared.ResAnomaly.the-variants.{InvalidElementName, InvalidAttributeName}
+use Rattle.anomaly.specs.declared.ResAnomaly.the-variants.{InvalidElementName, InvalidAttributeName, DamagedElementName}
 use Rattle.records.specs.Words.{apart, ownPrefix}
 use Rattle.records.specs.Repeats.{Rule, byPrefix}
 use Rattle.system_types.specs.Names.{Lent}
-use Rattle.text.specs.Content.{Content, contentOf, hasText, stateIn, sameName, isAndroid}
+use Rattle.utf.specs.Text.{stateNumber}
+use Rattle.text.specs.Content.{Content, contentOf, damageIn, hasText, stateIn, sameName, isAndroid}
 use Rattle.text.specs.declared.Head.{Head}
 use Rattle.text.specs.declared.NameState.{NameState}
 use Rattle.text.specs.declared.NameState.the-variants.{NoText, Invalid, Valid}
@@ -46,10 +47,11 @@ use Rattle.events.specs.declared.Event.the-variants.{Open, Attribute, Le
 
 -- ---- names
 
--- what an index stands for: no text, a text that is no valid name, or a valid name; the prefix that a namespace index gives; and when an
--- attribute repeats another
+-- what an index stands for: no text, a text that is no valid name, or a valid name; the state of its text, 0 where that is whole or there is none;
+-- the prefix that a namespace index gives; and when an attribute repeats another
 pub record Names : Type 0 where
   pub state : ℕ → NameState
+  pub damage : ℕ → ℕ
   pub prefixOf : ℕ → ℕ
   pub repeats : Rule
 
@@ -61,6 +63,7 @@ prefixIn mode c = cond (hasText c) (cond (eqb mode apart) (cond (isAndroid c) 1 
 abbrev pub namesIn : ℕ → Head → List ℕ → Lent → Names
 namesIn mode h t lent = record {
   state = λ i. stateIn (contentOf h t lent i);
+  damage = λ i. stateNumber (damageIn (contentOf h t lent i));
   prefixOf = λ i. prefixIn mode (contentOf h t lent i);
   repeats = byPrefix (sameName h t lent);
 }
@@ -115,9 +118,13 @@ fromLead N s k l = when (eqb k 0) leading ++ attributesOf N (s .«attribute_coun
 unfoldable pub fromOpen : Names → XmlStartElement → ℕ → List ℕ → List Event
 fromOpen N s k l = Open (s .name) (fixedOf (N .state (s .name .0))) (s .line) ∷ fromLead N s k l
 
+unfoldable pub fromNamed : Names → XmlStartElement → ℕ → List ℕ → List Event
+fromNamed N s k l =
+    when (not (isValid (N .state (s .name .0)))) (Note (InvalidElementName (s .name) (hasOne (N .state (s .name .0))))) ++ fromOpen N s k l
+
 unfoldable pub fromName : Names → XmlStartElement → ℕ → List ℕ → List Event
 fromName N s k l =
-    when (not (isValid (N .state (s .name .0)))) (Note (InvalidElementName (s .name) (hasOne (N .state (s .name .0))))) ++ fromOpen N s k l
+    when (not (eqb (N .damage (s .name .0)) 0)) (Note (DamagedElementName (s .name) (N .damage (s .name .0)))) ++ fromNamed N s k l
 
 unfoldable pub fromTrailing : Names → XmlStartElement → ℕ → ℕ → List ℕ → List Event
 fromTrailing N s reach k l = when (not (eqb (trailingOf s) 0)) (Note (ElementTrailingBytes (trailingOf s))) ++ cond (eqb reach 3) (fromName N s k l) cutShort

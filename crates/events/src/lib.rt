@@ -26,6 +26,7 @@ use moves::over_step;
 use naming::attribute_step;
 use naming::lead_step;
 use naming::name_step;
+use naming::named_step;
 use naming::open_step;
 use notes::count_step;
 use notes::gap_step;
@@ -67,6 +68,7 @@ pub enum Phase {
     AtTrailing,
     AtShort,
     AtName,
+    AtNamed,
     AtOpen,
     AtLead,
     AtAttribute,
@@ -150,6 +152,7 @@ pub fn step_at(
         Phase::AtTrailing => trailing_step(c),
         Phase::AtShort => short_step(c),
         Phase::AtName => name_step(t, names, area, h, c),
+        Phase::AtNamed => named_step(t, names, area, h, c),
         Phase::AtOpen => open_step(c, 1),
         Phase::AtLead => lead_step(c),
         Phase::AtAttribute => attribute_step(t, names, area, h, mode, b, c),

@@ -6,13 +6,14 @@ ghost use Prim.Native.Nat.{_+_, _≤_, _<_};
 ghost use lib.ListN.{length, drop};
 ghost use Rattle.records.specs.Limits.{fileLimit};
 ghost use Rattle.records.specs.Words.{ownPrefix};
-ghost use Rattle.text.specs.Content.{contentOf, stateIn, isAndroid};
+ghost use Rattle.utf.specs.Text.{stateNumber};
+ghost use Rattle.text.specs.Content.{contentOf, damageIn, stateIn, isAndroid};
 ghost use Rattle.text.specs.Inner.Found.{Asks};
 ghost use Rattle.events.specs.Events.{namesIn, leading, attributeBy, attributeEvent};
-ghost use Rattle.events.specs.Inner.Steps.{openedBy, movedBy, openStep, nameStep, toStep};
+ghost use Rattle.events.specs.Inner.Steps.{openedBy, movedBy, openStep, namedStep, nameStep, toStep};
 ghost use Rattle.events.specs.declared.Event.the-variants.{Note, Attribute};
-ghost use Rattle.events.specs.declared.Phase.the-variants.{AtOpen};
-ghost use Rattle.anomaly.specs.declared.ResAnomaly.the-variants.{InvalidElementName, InvalidAttributeName};
+ghost use Rattle.events.specs.declared.Phase.the-variants.{AtNamed, AtOpen};
+ghost use Rattle.anomaly.specs.declared.ResAnomaly.the-variants.{InvalidElementName, InvalidAttributeName, DamagedElementName};
 ghost use Rattle.system_types.specs.Names.{lends};
 use crate::Cursor;
 use crate::Event;
@@ -28,9 +29,13 @@ use records::APART;
 use records::OWN_PREFIX;
 use text::Head;
 use text::NameState;
+use text::find;
+use text::found_whole;
 use text::has_text;
 use text::is_android;
+use text::is_found;
 use text::name_state;
+use text::state_of_found;
 use xml_elements::XmlAttributeElement;
 use xml_elements::attribute_at;
 
@@ -63,9 +68,46 @@ fn invalid_step(c: Cursor, text: u32) -> Step
     )
 }
 
+// Note 32 comes before all that is said of the name: `state` is that of its text.
+fn damaged_step(c: Cursor, state: u32) -> Step
+    ensures { λ r. ⌜ r ≡ toStep c (Note (DamagedElementName (c .start .name) state)) AtNamed ⌝ }
+{
+    let s = c.start;
+    let name = s.name;
+    to_step(
+        c,
+        Event::Note(ResAnomaly::DamagedElementName(name, state)),
+        Phase::AtNamed,
+    )
+}
+
+// A name that is valid and whole, as all are in most files, is looked at once. Of any other the state is asked: where its text is whole, it is no
+// valid name.
 pub fn name_step(t: &[u8], names: &[u32], area: &[u8], h: Head, c: Cursor) -> Step
     requires { ⌜ Asks (now t) (lends (now names) (now area)) h × (c .at ≤ fileLimit) × (c .depth ≤ fileLimit) × (c .starts ≤ fileLimit) ⌝ }
-    ensures { λ r. ⌜ r ≡ nameStep c (stateIn (contentOf h (now (t .entry)) (lends (now (names .entry)) (now (area .entry))) (c .start .name .0))) ⌝ }
+    ensures { λ r. ⌜ r ≡ nameStep c (stateNumber (damageIn (contentOf h (now (t .entry)) (lends (now (names .entry)) (now (area .entry))) (c .start .name .0))))
+        (stateIn (contentOf h (now (t .entry)) (lends (now (names .entry)) (now (area .entry))) (c .start .name .0))) ⌝ }
+{
+    let s = c.start;
+    let name = s.name;
+    let f = find(t, names, area, h, name);
+    if found_whole(t, area, h.wide, f) {
+        return open_step(c, 0);
+    }
+    let state = state_of_found(t, area, h.wide, f);
+    if state != 0 {
+        return damaged_step(c, state);
+    }
+    if is_found(f) {
+        return invalid_step(c, 1);
+    }
+    invalid_step(c, 0)
+}
+
+// Behind note 32.
+pub fn named_step(t: &[u8], names: &[u32], area: &[u8], h: Head, c: Cursor) -> Step
+    requires { ⌜ Asks (now t) (lends (now names) (now area)) h × (c .at ≤ fileLimit) × (c .depth ≤ fileLimit) × (c .starts ≤ fileLimit) ⌝ }
+    ensures { λ r. ⌜ r ≡ namedStep c (stateIn (contentOf h (now (t .entry)) (lends (now (names .entry)) (now (area .entry))) (c .start .name .0))) ⌝ }
 {
     let s = c.start;
     let name = s.name;

@@ -3,6 +3,8 @@ pub mod Parts
 pub mod Index
 pub mod Read
 pub mod Plains
+pub mod Wholes
+pub mod Named
 pub mod Others
 pub mod Marking
 pub mod Laws

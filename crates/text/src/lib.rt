@@ -3,11 +3,15 @@
 // Mirrors structs/res_string_pool.rs (apk-info 13770539b8): `get`, `get_with_resources`, `contains_with_resources`.
 // A text is never copied: the code answers where it lies (`Found`). Definitions: specs/Content.antt, specs/Inner/Found.antt.
 pub mod apart;
+pub mod damage;
 pub mod equal;
 pub mod part;
 
 pub use apart::marks_of;
 use apart::told_apart;
+pub use damage::replaced_of_found;
+pub use damage::state_of_found;
+pub use damage::state_of_name;
 pub use equal::is_plain_found;
 pub use equal::same_found;
 pub use equal::same_found_known;
@@ -15,6 +19,7 @@ use equal::same_part;
 pub use part::content_of;
 pub use part::found_into;
 use part::found_state;
+pub use part::found_whole;
 ghost use mathlib.Core.Path.{_≡_};
 ghost use mathlib.Core.List.{List};
 ghost use mathlib.Core.Bool.{Bool, true};

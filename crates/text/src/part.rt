@@ -10,9 +10,10 @@ ghost use Prim.Native.Nat.{_≤_};
 ghost use lib.ListN.{length};
 ghost use Rattle.records.specs.Limits.{fileLimit};
 ghost use Rattle.text.specs.Content.{rawOf, textIn, validBy, stateIn};
-ghost use Rattle.text.specs.Inner.Found.{partOf, Inside, Wrote};
+ghost use Rattle.text.specs.Inner.Found.{partOf, wholeName, Inside, Wrote};
 use utf::text_into;
 use xml::valid_name;
+use xml::whole_name;
 
 // The content bytes of what was found, a part of one of two lent slices: never a copy. It is empty for no text, and for a string that
 // is cut or outside.
@@ -63,5 +64,19 @@ pub fn found_into(t: &[u8], area: &[u8], wide: bool, f: Found, out: &mut [u8]) -
         Found::Cut => 0,
         Found::System(at, n) => text_into(false, &area[at..at + n], out),
         Found::Pool(at, n) => text_into(wide, &t[at..at + n], out),
+    }
+}
+
+// Whether there is a text that is a valid name and whole.
+// Ruled out: true of FF in a UTF-8 pool, whose text is a valid name, and false of a system name in a UTF-16 pool.
+pub fn found_whole(t: &[u8], area: &[u8], wide: bool, f: Found) -> bool
+    requires { ⌜ Inside (now t) (now area) f ⌝ }
+    ensures { λ r. ⌜ r ≡ wholeName (partOf wide (now (t .entry)) (now (area .entry)) f) ⌝ }
+{
+    match f {
+        Found::Nothing => false,
+        Found::Cut => false,
+        Found::System(at, n) => whole_name(false, &area[at..at + n]),
+        Found::Pool(at, n) => whole_name(wide, &t[at..at + n]),
     }
 }

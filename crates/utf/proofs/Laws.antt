@@ -20,6 +20,7 @@ use Rattle.utf.specs.Text.{
   stepsAfter,
   stepsOf,
   bytesOf,
+  valuesOf,
   allSound,
   badCount,
   isSound,
@@ -100,14 +101,21 @@ textOf-sound wide s b = go (refused wide s)
     go true = refl
     go false = sound-bytes (stepsOf wide s) (scalars-after wide 0 s b)
 
+values-back : (ts : List Step) → Scalars ts → valuesOf (stepsOf false (bytesOf ts)) ≡ valuesOf ts
+unfolding bytesOf valuesOf stepsAfter
+values-back [] none = refl
+values-back (t ∷ ts) (more k r) = rw (stepsOf-encode (valueOf t) (bytesOf ts) k) (ap (λ (l : List ℕ). valueOf t ∷ l) (values-back ts r))
+
+-- the values of a text that is not refused are those of its bytes
+pub textOf-values : (wide : Bool) (s : List ℕ) → ((i : ℕ) → getD s i 0 < 256) → refused wide s ≡ false
+    → valuesOf (stepsOf false (textOf wide s)) ≡ valuesOf (stepsOf wide s)
+unfolding textOf
+textOf-values wide s b e = rw e (values-back (stepsOf wide s) (scalars-after wide 0 s b))
+
 pub textOf-back : (wide : Bool) (s : List ℕ) → ((i : ℕ) → getD s i 0 < 256) → textOf false (textOf wide s) ≡ textOf wide s
 textOf-back wide s b = textOf-whole (textOf wide s) (textOf-sound wide s b)
 
 -- ---- equal texts: the same values are the same bytes, and the other way round
-
-unfoldable pub valuesOf : List Step → List ℕ
-valuesOf [] = []
-valuesOf (t ∷ ts) = valueOf t ∷ valuesOf ts
 
 cons-some : (t : Step) (ts : List Step) → 0 < length (encode (valueOf t) ++ bytesOf ts)
 cons-some t ts = omega (arith, length-append (encode (valueOf t)) (bytesOf ts), encode-length-lt (valueOf t))

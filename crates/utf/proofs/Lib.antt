@@ -12,7 +12,9 @@ pub mod Turns
 pub mod Filled
 pub mod Places
 pub mod Laws
+pub mod BadSteps
 pub mod Units
+pub mod States
 pub mod PlainLaws
 pub mod Ascii
 pub mod Blocks

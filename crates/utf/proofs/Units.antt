@@ -11,8 +11,8 @@ use lib.ListN.{length, getD, drop}
 use Rattle.utf.specs.declared.Step.{Step}
 use Rattle.utf.specs.declared.Step.the-variants.{Scalar, Bad}
 use Rattle.utf.specs.Utf8.{inside}
-use Rattle.utf.specs.Utf16.{unit, pairOf, step16}
-use Rattle.utf.specs.Text.{valueOf, widthOf, soundOf, stepsAfter, stepsOf, bytesOf, allSound, isSound, refused, textOf, eqBytes}
+use Rattle.utf.specs.Utf16.{unit, pairOf, step16, spellPair, spell16, spellAll}
+use Rattle.utf.specs.Text.{valueOf, widthOf, soundOf, stepsAfter, stepsOf, bytesOf, valuesOf, allSound, isSound, refused, textOf, eqBytes}
 use Rattle.utf.specs.Inner.Told.{Took, Ran, Halted}
 use Rattle.utf.proofs.Tables.{both-true}
 use Rattle.utf.proofs.Scalars.{inside-ends}
@@ -20,7 +20,7 @@ use Rattle.utf.proofs.Steps.{stepOf-is}
 use Rattle.utf.proofs.Equal.{eqBytes-true, eqBytes-refl, eqBytes-not, eqBytes-false}
 use Rattle.utf.proofs.Places.{step16-at}
 use Rattle.utf.proofs.Turns.{took-ascii, turn-sound, stops, goes, textOf-refused, textOf-kept}
-use Rattle.utf.proofs.Laws.{valuesOf, bytesOf-values}
+use Rattle.utf.proofs.Laws.{bytesOf-values}
 
 -- ---- a unit that is no surrogate
 
@@ -87,16 +87,6 @@ pub halted-end : (wide : Bool) (s : List ℕ) (at end i : ℕ) → Ran wide s at
 halted-end wide s at end i r h = record { ran = r; halts = λ l. absurd (let z : ⊥ = omega arith in z) }
 
 -- ---- the spelling of a value: a unit, or a pair of them, the low byte first
-
-pub spellPair : ℕ → ℕ → List ℕ
-spellPair u w = u % 256 ∷ u / 256 ∷ w % 256 ∷ w / 256 ∷ []
-
-pub spell16 : ℕ → List ℕ
-spell16 v = cond (ltb v 0x10000) (v % 256 ∷ v / 256 ∷ []) (spellPair (0xd800 + (v - 0x10000) / 1024) (0xdc00 + (v - 0x10000) % 1024))
-
-pub spellAll : List ℕ → List ℕ
-spellAll [] = []
-spellAll (v ∷ vs) = spell16 v ++ spellAll vs
 
 spell-unit : (a b : ℕ) → a < 256 → b < 256 → spell16 (a + b * 256) ≡ a ∷ b ∷ []
 unfolding spell16

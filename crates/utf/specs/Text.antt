@@ -4,7 +4,7 @@
 --   bytesOf    the steps' values as UTF-8; each bad step, a maximal subpart, is one U+FFFD
 --   isSound    no step is bad
 --   refused    UTF-16 with a step that is bad, an unpaired surrogate: it is the empty text
---   textOf     the text as UTF-8: `bytesOf` of the steps, and nothing where it is refused
+--   textOf     the text as UTF-8: `bytesOf` of the steps, and nothing where it is refused; utf16Of a text in UTF-8 as UTF-16
 --   putText    a lent buffer with a text put at its front, and the rest of it as it was; all of it as it was where the text does not fit
 --   damageOf   `whole`; `replaced n` by n times U+FFFD, n not 0 (UTF-8 only); `unpaired` (UTF-16 only). `cut` is for those who have no bytes to
 --              read, because the string is cut or lies outside its pool
@@ -15,7 +15,7 @@ use mathlib.Core.List.{List, [], _∷_, _++_}
 use lib.Dec.{eqb, leb}
 use lib.ListN.{length, drop}
 use Rattle.utf.specs.Utf8.{encode, step8}
-use Rattle.utf.specs.Utf16.{step16}
+use Rattle.utf.specs.Utf16.{spellAll, step16}
 use Rattle.utf.specs.declared.Step.{Step}
 use Rattle.utf.specs.declared.Step.the-variants.{Scalar, Bad, End}
 
@@ -57,6 +57,11 @@ unfolding encode
 bytesOf [] = []
 bytesOf (t ∷ ts) = encode (valueOf t) ++ bytesOf ts
 
+-- the scalar values that the steps stand for
+unfoldable pub valuesOf : List Step → List ℕ
+valuesOf [] = []
+valuesOf (t ∷ ts) = valueOf t ∷ valuesOf ts
+
 unfoldable pub allSound : List Step → Bool
 allSound [] = true
 allSound (t ∷ ts) = soundOf t && allSound ts
@@ -76,6 +81,10 @@ refused wide s = wide && not (isSound wide s)
 unfoldable pub textOf : Bool → List ℕ → List ℕ
 textOf wide s = cond (refused wide s) [] (bytesOf (stepsOf wide s))
 
+-- a text in UTF-8 as UTF-16
+abbrev pub utf16Of : List ℕ → List ℕ
+utf16Of text = spellAll (valuesOf (stepsOf false text))
+
 unfoldable pub putText : List ℕ → List ℕ → List ℕ
 putText text out = cond (leb (length text) (length out)) (text ++ drop (length text) out) out
 
@@ -88,6 +97,19 @@ pub data Damage : Type 0 where
 unfoldable pub damageOf : Bool → List ℕ → Damage
 unfolding allSound badCount
 damageOf wide s = cond (isSound wide s) whole (cond wide unpaired (replaced (badCount (stepsOf wide s))))
+
+-- the number of a state (docs/FORMAT.md): 0 whole, 1 replaced characters, 2 bad UTF-16, 3 cut or outside; and how many characters were replaced
+abbrev pub stateNumber : Damage → ℕ
+stateNumber whole = 0
+stateNumber (replaced n) = 1
+stateNumber unpaired = 2
+stateNumber cut = 3
+
+abbrev pub replacedCount : Damage → ℕ
+replacedCount whole = 0
+replacedCount (replaced n) = n
+replacedCount unpaired = 0
+replacedCount cut = 0
 
 unfoldable pub eqBytes : List ℕ → List ℕ → Bool
 eqBytes [] [] = true

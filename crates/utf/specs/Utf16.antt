@@ -4,9 +4,10 @@
 --   pairOf     a unit and the one after it: a high surrogate and a low one are one scalar value of 4 bytes; a surrogate that is not in such a
 --              pair is bad; any other unit is its own value, of 2 bytes
 --   step16     the step at the front; a byte alone at the end is bad, `End` of no bytes
-use Prim.Native.Nat.{ℕ, _+_, _-_, _*_}
+--   spell16    a scalar value in UTF-16: its own unit, and from 10000 hexadecimal on a high surrogate and a low one; spellAll values one by one
+use Prim.Native.Nat.{ℕ, _+_, _-_, _*_, _/_, _%_}
 use mathlib.Core.Bool.{cond}
-use mathlib.Core.List.{List}
+use mathlib.Core.List.{List, [], _∷_, _++_}
 use lib.Dec.{ltb}
 use lib.ListN.{length, getD}
 use Rattle.utf.specs.Utf8.{inside}
@@ -24,3 +25,17 @@ pairOf u w =
 unfoldable pub step16 : List ℕ → Step
 unfolding pairOf unit
 step16 s = cond (ltb 1 (length s)) (pairOf (unit s 0) (unit s 2)) (cond (ltb 0 (length s)) (Bad 1) End)
+
+-- ---- from the value to its bytes
+
+unfoldable pub spellPair : ℕ → ℕ → List ℕ
+spellPair u w = u % 256 ∷ u / 256 ∷ w % 256 ∷ w / 256 ∷ []
+
+unfoldable pub spell16 : ℕ → List ℕ
+unfolding spellPair
+spell16 v = cond (ltb v 0x10000) (v % 256 ∷ v / 256 ∷ []) (spellPair (0xd800 + (v - 0x10000) / 1024) (0xdc00 + (v - 0x10000) % 1024))
+
+unfoldable pub spellAll : List ℕ → List ℕ
+unfolding spell16
+spellAll [] = []
+spellAll (v ∷ vs) = spell16 v ++ spellAll vs

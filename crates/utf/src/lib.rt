@@ -2,11 +2,14 @@
 //
 // Mirrors what the Rust takes from std: String::from_utf8_lossy, char::decode_utf16 (any error is the empty text), and `==` of two texts.
 // Definitions: specs/Text.antt over specs/Utf8.antt and specs/Utf16.antt. `wide` is UTF-16, and otherwise the bytes are UTF-8.
+pub mod damage;
 pub mod same;
 pub mod span;
 pub mod utf16;
 pub mod utf8;
 
+pub use damage::replaced_of;
+pub use damage::state_of;
 pub use same::is_plain;
 pub use same::same_known;
 pub use same::same_text;

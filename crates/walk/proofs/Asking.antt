@@ -20,7 +20,7 @@ use Rattle.events.specs.declared.Cursor.{Cursor}
 use Rattle.events.specs.declared.Step.{Step}
 use Rattle.events.specs.declared.Phase.{Phase}
 use Rattle.events.specs.declared.Phase.the-variants.{AtGarbage, AtCount, AtOffsets, AtRefuse, AtChunk, AtGap, AtSize, AtTrailing}
-use Rattle.events.specs.declared.Phase.the-variants.{AtShort, AtName, AtOpen, AtLead, AtAttribute, AtLast, AtRoot, Over}
+use Rattle.events.specs.declared.Phase.the-variants.{AtShort, AtName, AtNamed, AtOpen, AtLead, AtAttribute, AtLast, AtRoot, Over}
 use Rattle.events.specs.declared.Event.{Event}
 use Rattle.events.specs.declared.Event.the-variants.{Nothing, Open, Attribute, LeftOut, Close, Note, Refuse, Finish}
 use Rattle.events.specs.Events.{Names, namesIn}
@@ -66,6 +66,7 @@ attribute-pool N o t b c p a AtSize h e = h .0
 attribute-pool N o t b c p a AtTrailing h e = h .0
 attribute-pool N o t b c p a AtShort h e = absurd (note-not _ p a e)
 attribute-pool N o t b c p a AtName h e = h .0
+attribute-pool N o t b c p a AtNamed h e = h .0
 attribute-pool N o t b c p a AtOpen h e = h .0
 attribute-pool N o t b c p a AtLead h e = h .0
 attribute-pool N o t b c p a AtAttribute h e = h .0

@@ -1,19 +1,19 @@
 -- One turn of the loop over a name, and where it starts and ends.
 use mathlib.Core.Path.{_≡_, refl, sym, ap, _∙_}
-use mathlib.Core.Bool.{Bool, true, false, not, _&&_, cond}
+use mathlib.Core.Bool.{Bool, true, false, not, _&&_, cond, true≢false}
 use mathlib.Core.List.{List}
 use Prim.Native.Nat.{ℕ, _+_, _*_, _/_, _≤_, _<_}
 use native.Mathlib.Omega.{arith}
 use borrow.Author.Tests.{eq-eqb, ne-eqb, eqb-true}
 use lib.Dec.{eqb}
 use lib.ListN.{length, getD, drop}
-use Rattle.utf.specs.Text.{stepOf, valueOf, widthOf, soundOf, stepsOf, allSound}
+use Rattle.utf.specs.Text.{stepOf, valueOf, widthOf, soundOf, stepsOf, allSound, isSound}
 use Rattle.utf.specs.Inner.Told.{Took}
 use Rattle.utf.proofs.Steps.{stepOf-is, stepsOf-next, stepsOf-end}
-use Rattle.utf.proofs.Turns.{took-ascii, stops, goes}
+use Rattle.utf.proofs.Turns.{took-ascii, turn-sound, end-sound, stops, goes}
 use Rattle.utf.proofs.Units.{took-unit}
 use Rattle.xml.specs.NCName.{isStart, isChar, sortOf, classOf, allChar, nameOf, validName}
-use Rattle.xml.specs.Inner.Told.{sortBy, sortAt, begins, charsIn, Told, Passed, Reached}
+use Rattle.xml.specs.Inner.Told.{sortBy, sortAt, begins, charsIn, Told, Passed, Sound, Reached}
 use Rattle.xml.proofs.Ranges.{sortOf-start, sortOf-char, classOf-ascii, ascii-of-class}
 
 -- ---- what is told of a step
@@ -110,6 +110,15 @@ pub passed-ascii : (s : List ℕ) (at i sort : ℕ) → Passed false s at i → 
     → Passed false s at (i + 1)
 passed-ascii s at i sort p h e n m = passed-more false s at i sort 1 p h (told-ascii s i sort h e m) n
 
+pub sound-none : (s : List ℕ) (at : ℕ) → Sound false s at at
+sound-none s at = record { kept = refl }
+
+pub sound-ascii : (s : List ℕ) (at i sort : ℕ) → Sound false s at i → i < length s → sort ≡ classOf (getD s i 0) → (sort ≡ 3 → ⊥)
+    → Sound false s at (i + 1)
+sound-ascii s at i sort p h e m =
+    let a : getD s i 0 < 128 = ascii-of-class (getD s i 0) (λ f. m (e ∙ f)) in
+    record { kept = sym (goes _ _ true (turn-sound false s i (getD s i 0) 1 true h (took-ascii false s i refl h a)) refl) ∙ p .kept }
+
 -- a unit that is no surrogate, and a char of a name
 pub passed-char : (s : List ℕ) (at i : ℕ) → Passed true s at i → i + 1 < length s → ((k : ℕ) → getD s k 0 < 256) → (getD s (i + 1) 0 / 8 ≡ 27 → ⊥)
     → (sortOf (getD s i 0 + getD s (i + 1) 0 * 256) ≡ 0 → ⊥) → Passed true s at (i + 2)
@@ -150,3 +159,40 @@ end-char wide s at h = rw (stepsOf-end wide s at h) (end-by wide)
 pub validName-none : (wide : Bool) (s : List ℕ) → length s ≡ 0 → validName wide s ≡ false
 unfolding validName nameOf allSound
 validName-none wide s e = rw (stepsOf-end wide s 0 (omega arith)) (none-by wide)
+
+-- ---- a name that is whole
+
+-- one that begins well, and was passed to its end as ASCII
+pub whole-passed : (s : List ℕ) (to : ℕ) → 0 < length s → ((i : ℕ) → getD s i 0 < 256) → begins false s ≡ true → Passed false s 0 to → Sound false s 0 to
+    → length s ≤ to → (validName false s ≡ true) × (isSound false s ≡ true)
+whole-passed s to h b e p q f =
+    let chars : charsIn false s ≡ true = sym (p .rest) ∙ end-char false s to f in
+    (goes _ _ (begins false s) (validName-begins false s h b) e ∙ chars, sym (q .kept) ∙ end-sound false s to f)
+
+wide-by : (x n : Bool) → cond (true && not x) false n ≡ (cond (true && not x) false n && x)
+wide-by true true = refl
+wide-by true false = refl
+wide-by false n = refl
+
+-- a name in UTF-16 is sound, since the text is else refused
+pub valid-wide : (s : List ℕ) → validName true s ≡ (validName true s && isSound true s)
+unfolding validName
+valid-wide s = wide-by (isSound true s) (nameOf (stepsOf true s))
+
+-- what was told of either encoding
+pub whole-wide : (wide : Bool) (s : List ℕ) (r : Bool) → wide ≡ true → r ≡ validName true s → r ≡ (validName wide s && isSound wide s)
+whole-wide true s r w e = e ∙ valid-wide s
+whole-wide false s r w e = absurd (true≢false (sym w))
+
+pub whole-narrow : (wide : Bool) (s : List ℕ) (r : Bool) → wide ≡ false → r ≡ (validName false s && isSound false s) → r ≡ (validName wide s && isSound wide s)
+whole-narrow true s r w e = absurd (true≢false w)
+whole-narrow false s r w e = e
+
+pub both : (x y : Bool) → x ≡ true → y ≡ true → true ≡ (x && y)
+both x y e f = rw (e, f)
+
+pub not-first : (x y : Bool) → x ≡ false → false ≡ (x && y)
+not-first x y e = rw e
+
+pub then-second : (x y r : Bool) → x ≡ true → r ≡ y → r ≡ (x && y)
+then-second x y r e f = rw e f

@@ -10,7 +10,9 @@ ghost use mathlib.Core.Path.{_≡_};
 ghost use mathlib.Core.Bool.{true, false};
 ghost use Prim.Native.Nat.{_≤_, _<_};
 ghost use lib.ListN.{length};
-ghost use Rattle.xml.specs.Inner.Told.{IsTable, begins, Told, Passed, Reached};
+ghost use Rattle.utf.specs.Text.{isSound};
+ghost use Rattle.xml.specs.NCName.{validName};
+ghost use Rattle.xml.specs.Inner.Told.{IsTable, begins, Told, Passed, Sound, Reached};
 
 // The sort of what stands there, and how many bytes it takes.
 pub struct Char {
@@ -114,10 +116,10 @@ pub fn begins_well(classes: &[u8], wide: bool, s: &[u8]) -> bool
 
 // ---- a run of chars that need no decoding
 
-// Bytes of ASCII in UTF-8.
+// Bytes of ASCII in UTF-8, which are sound.
 fn narrow_run(classes: &[u8], s: &[u8], at: usize, to: usize) -> usize
     requires { ⌜ IsTable (now classes) × (to ≤ length (now s)) ⌝ }
-    ensures { λ r. ⌜ Passed false (now (s .entry)) at r ⌝ }
+    ensures { λ r. ⌜ Passed false (now (s .entry)) at r × Sound false (now (s .entry)) at r ⌝ }
 {
     let mut i = at;
     while i < to {
@@ -199,4 +201,23 @@ pub fn chars_run(classes: &[u8], wide: bool, s: &[u8], at: usize, to: usize) -> 
         i = seen_run(classes, wide, s, i + u.width, to);
     }
     i
+}
+
+// ---- a name of ASCII
+
+// Whether a UTF-8 text that is not empty is a name of ASCII alone, in which nothing was replaced: one pass, and nothing beyond the first char is
+// decoded. False tells nothing.
+// Ruled out: true of `1a`, which begins with no start; true of FF, which is decoded.
+pub fn is_ascii_name(classes: &[u8], s: &[u8]) -> bool
+    requires { ⌜ IsTable (now classes) × (0 < length (now s)) ⌝ }
+    ensures { λ r. ⌜ (r ≡ true → (validName false (now (s .entry)) ≡ true) × (isSound false (now (s .entry)) ≡ true)) ⌝ }
+{
+    if !narrow_begins(classes, s) {
+        return false;
+    }
+    let end = narrow_run(classes, s, 0, s.len());
+    if end < s.len() {
+        return false;
+    }
+    true
 }

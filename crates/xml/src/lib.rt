@@ -10,9 +10,12 @@ pub mod chars;
 use blocks::stretch_at;
 use chars::begins_well;
 use chars::chars_run;
+use chars::is_ascii_name;
+use utf::is_sound;
 ghost use mathlib.Core.Path.{_≡_};
-ghost use mathlib.Core.Bool.{false};
+ghost use mathlib.Core.Bool.{false, _&&_};
 ghost use Rattle.utf.specs.Utf8.{inside};
+ghost use Rattle.utf.specs.Text.{isSound};
 ghost use Rattle.xml.specs.NCName.{inRanges, isStart, isChar, sortOf, classOf, validName};
 ghost use Rattle.xml.specs.Inner.Told.{IsTable};
 
@@ -145,6 +148,27 @@ pub fn valid_name(wide: bool, s: &[u8]) -> bool
         }
     }
     true
+}
+
+// Whether the text is an NCName in which nothing was replaced. A name of ASCII is seen to be sound as it is passed, and a name in UTF-16 is sound,
+// so that only a name in UTF-8 with a char beyond ASCII is passed over again.
+// Ruled out: true of FF in UTF-8, whose U+FFFD is a start; false of EF BF BD, a U+FFFD of the text's own.
+pub fn whole_name(wide: bool, s: &[u8]) -> bool
+    ensures { λ r. ⌜ r ≡ (validName wide (now (s .entry)) && isSound wide (now (s .entry))) ⌝ }
+{
+    if wide {
+        return valid_name(true, s);
+    }
+    if s.len() == 0 {
+        return false;
+    }
+    if is_ascii_name(&CLASSES, s) {
+        return true;
+    }
+    if !valid_name(false, s) {
+        return false;
+    }
+    is_sound(false, s)
 }
 
 // Whether the UTF-8 text is an NCName.

@@ -82,6 +82,12 @@ enum-known-x-12 c = search needs
 made-requires-13 : tie.Need-made-requires-13
 made-requires-13 c κs = search needs
 
+enum-known-x-13 : tie.Need-enum-known-x-13
+enum-known-x-13 c = search needs
+
+made-requires-14 : tie.Need-made-requires-14
+made-requires-14 c κs = search needs
+
 returns : tie.Need-returns
 unfolding noteOf
 returns c = rw (c .before .before .x .given .1) (c .made .ensures)
@@ -134,6 +140,10 @@ returns-13 : tie.Need-returns-13
 unfolding noteOf
 returns-13 c = rw (c .before .before .x12 .given .1) (c .made13 .ensures)
 
+returns-14 : tie.Need-returns-14
+unfolding noteOf
+returns-14 c = rw (c .before .before .x13 .given .1) (c .made14 .ensures)
+
 pub note-of-spec : {M : Type 1} → statement M
 note-of-spec =
     tie.close
@@ -164,6 +174,8 @@ note-of-spec =
     made-requires-12
     enum-known-x-12
     made-requires-13
+    enum-known-x-13
+    made-requires-14
     returns
     returns-2
     returns-3
@@ -176,4 +188,5 @@ note-of-spec =
     returns-10
     returns-11
     returns-12
-    returns-13)
+    returns-13
+    returns-14)

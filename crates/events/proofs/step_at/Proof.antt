@@ -1,5 +1,5 @@
 -- `events::step_at` meets its contract: each arm is the step of its phase. What the steps ask: proofs/Asked.antt.
-use Rattle.events.proofs.Asked.{offsets-asked, name-asked, attribute-asked, stepOf-at}
+use Rattle.events.proofs.Asked.{offsets-asked, name-asked, named-asked, attribute-asked, stepOf-at}
 use borrow.Author.Needs.{needs}
 use mathlib.Core.Path.{_∙_}
 use Rattle.events.proofs.step_at.Statement.{statement}
@@ -72,37 +72,45 @@ name-step-requires c κs =
 enum-told-11 : tie.Need-enum-told-11
 enum-told-11 c = search needs
 
-open-step-requires : tie.Need-open-step-requires
-open-step-requires c κs = search needs
+named-step-requires : tie.Need-named-step-requires
+named-step-requires c κs =
+    let start = c .before .before .before .before .before .before .before in
+    named-asked (start .pre .0) (start .pre .1) (c .enum-told11 .given .1)
 
 enum-told-12 : tie.Need-enum-told-12
 enum-told-12 c = search needs
 
-lead-step-requires : tie.Need-lead-step-requires
-lead-step-requires c κs = search needs
+open-step-requires : tie.Need-open-step-requires
+open-step-requires c κs = search needs
 
 enum-told-13 : tie.Need-enum-told-13
 enum-told-13 c = search needs
 
-attribute-step-requires : tie.Need-attribute-step-requires
-attribute-step-requires c κs =
-    let start = c .before .before .before .before .before .before .before in
-    attribute-asked (start .pre .0) (start .pre .1) (c .enum-told13 .given .1)
+lead-step-requires : tie.Need-lead-step-requires
+lead-step-requires c κs = search needs
 
 enum-told-14 : tie.Need-enum-told-14
 enum-told-14 c = search needs
 
-last-step-requires : tie.Need-last-step-requires
-last-step-requires c κs = search needs
+attribute-step-requires : tie.Need-attribute-step-requires
+attribute-step-requires c κs =
+    let start = c .before .before .before .before .before .before .before in
+    attribute-asked (start .pre .0) (start .pre .1) (c .enum-told14 .given .1)
 
 enum-told-15 : tie.Need-enum-told-15
 enum-told-15 c = search needs
 
-root-step-requires : tie.Need-root-step-requires
-root-step-requires c κs = search needs
+last-step-requires : tie.Need-last-step-requires
+last-step-requires c κs = search needs
 
 enum-told-16 : tie.Need-enum-told-16
 enum-told-16 c = search needs
+
+root-step-requires : tie.Need-root-step-requires
+root-step-requires c κs = search needs
+
+enum-told-17 : tie.Need-enum-told-17
+enum-told-17 c = search needs
 
 over-step-requires : tie.Need-over-step-requires
 over-step-requires c κs = search needs
@@ -138,22 +146,25 @@ returns-10 : tie.Need-returns-10
 returns-10 c = c .name-step .ensures ∙ stepOf-at _ _ _ _ _ (c .before .enum-told10 .given .1)
 
 returns-11 : tie.Need-returns-11
-returns-11 c = c .open-step .ensures ∙ stepOf-at _ _ _ _ _ (c .before .enum-told11 .given .1)
+returns-11 c = c .named-step .ensures ∙ stepOf-at _ _ _ _ _ (c .before .enum-told11 .given .1)
 
 returns-12 : tie.Need-returns-12
-returns-12 c = c .lead-step .ensures ∙ stepOf-at _ _ _ _ _ (c .before .enum-told12 .given .1)
+returns-12 c = c .open-step .ensures ∙ stepOf-at _ _ _ _ _ (c .before .enum-told12 .given .1)
 
 returns-13 : tie.Need-returns-13
-returns-13 c = c .attribute-step .ensures ∙ stepOf-at _ _ _ _ _ (c .before .enum-told13 .given .1)
+returns-13 c = c .lead-step .ensures ∙ stepOf-at _ _ _ _ _ (c .before .enum-told13 .given .1)
 
 returns-14 : tie.Need-returns-14
-returns-14 c = c .last-step .ensures ∙ stepOf-at _ _ _ _ _ (c .before .enum-told14 .given .1)
+returns-14 c = c .attribute-step .ensures ∙ stepOf-at _ _ _ _ _ (c .before .enum-told14 .given .1)
 
 returns-15 : tie.Need-returns-15
-returns-15 c = c .root-step .ensures ∙ stepOf-at _ _ _ _ _ (c .before .enum-told15 .given .1)
+returns-15 c = c .last-step .ensures ∙ stepOf-at _ _ _ _ _ (c .before .enum-told15 .given .1)
 
 returns-16 : tie.Need-returns-16
-returns-16 c = c .over-step .ensures ∙ stepOf-at _ _ _ _ _ (c .before .enum-told16 .given .1)
+returns-16 c = c .root-step .ensures ∙ stepOf-at _ _ _ _ _ (c .before .enum-told16 .given .1)
+
+returns-17 : tie.Need-returns-17
+returns-17 c = c .over-step .ensures ∙ stepOf-at _ _ _ _ _ (c .before .enum-told17 .given .1)
 
 pub step-at-spec : {M : Type 1} → statement M
 step-at-spec =
@@ -180,16 +191,18 @@ step-at-spec =
     enum-told-10
     name-step-requires
     enum-told-11
-    open-step-requires
+    named-step-requires
     enum-told-12
-    lead-step-requires
+    open-step-requires
     enum-told-13
-    attribute-step-requires
+    lead-step-requires
     enum-told-14
-    last-step-requires
+    attribute-step-requires
     enum-told-15
-    root-step-requires
+    last-step-requires
     enum-told-16
+    root-step-requires
+    enum-told-17
     over-step-requires
     returns
     returns-2
@@ -206,4 +219,5 @@ step-at-spec =
     returns-13
     returns-14
     returns-15
-    returns-16)
+    returns-16
+    returns-17)

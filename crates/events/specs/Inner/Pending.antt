@@ -27,10 +27,10 @@ use Rattle.events.specs.declared.Event.{Event}
 use Rattle.events.specs.declared.Event.the-variants.{Nothing, Open, Attribute, LeftOut, Close, Note, Refuse, Finish}
 use Rattle.events.specs.declared.Phase.{Phase}
 use Rattle.events.specs.declared.Phase.the-variants.{AtGarbage, AtCount, AtOffsets, AtRefuse, AtChunk, AtGap, AtSize, AtTrailing}
-use Rattle.events.specs.declared.Phase.the-variants.{AtShort, AtName, AtOpen, AtLead, AtAttribute, AtLast, AtRoot, Over}
+use Rattle.events.specs.declared.Phase.the-variants.{AtShort, AtName, AtNamed, AtOpen, AtLead, AtAttribute, AtLast, AtRoot, Over}
 use Rattle.events.specs.declared.Cursor.{Cursor}
 use Rattle.events.specs.declared.Step.{Step}
-use Rattle.events.specs.Events.{Names, attributesOf, cutShort, fromGap, fromSize, fromTrailing, fromName, fromLead}
+use Rattle.events.specs.Events.{Names, attributesOf, cutShort, fromGap, fromSize, fromTrailing, fromName, fromNamed, fromLead}
 use Rattle.events.specs.Events.{Spot, started, fromRoot, lastOf, eventsOn, bodyEvents, notesOf, afterPool, fileEvents}
 use Rattle.events.specs.Inner.Steps.{stepOf}
 
@@ -62,6 +62,7 @@ Held e n c AtSize = PoolThere e × Begun n c
 Held e n c AtTrailing = PoolThere e × Begun n c
 Held e n c AtShort = Unit {0}
 Held e n c AtName = PoolThere e × There n c
+Held e n c AtNamed = PoolThere e × There n c
 Held e n c AtOpen = PoolThere e × There n c
 Held e n c AtLead = PoolThere e × (c .starts ≡ 0) × There n c
 Held e n c AtAttribute = PoolThere e × (0 < c .left) × (c .at + c .left * strideOf (c .start) + trailingOf (c .start) ≤ n)
@@ -108,6 +109,7 @@ pendBy N o t b c AtSize = fromSize N (c .start) (c .reach) (c .starts) (drop (c 
 pendBy N o t b c AtTrailing = fromTrailing N (c .start) (c .reach) (c .starts) (drop (c .at) b) ++ behind N b c
 pendBy N o t b c AtShort = cutShort ++ lastOf (spotOf c)
 pendBy N o t b c AtName = fromName N (c .start) (c .starts) (drop (c .at) b) ++ behind N b c
+pendBy N o t b c AtNamed = fromNamed N (c .start) (c .starts) (drop (c .at) b) ++ behind N b c
 pendBy N o t b c AtOpen = Open (c .start .name) 1 (c .start .line) ∷ (fromLead N (c .start) (c .starts) (drop (c .at) b) ++ behind N b c)
 pendBy N o t b c AtLead = fromLead N (c .start) 0 (drop (c .at) b) ++ behind N b c
 pendBy N o t b c AtAttribute =
@@ -132,8 +134,9 @@ rank AtGap = 11
 rank AtSize = 10
 rank AtTrailing = 9
 rank AtName = 8
-rank AtOpen = 7
-rank AtLead = 6
+rank AtNamed = 7
+rank AtOpen = 6
+rank AtLead = 5
 rank AtShort = 4
 rank AtLast = 3
 rank AtRoot = 2

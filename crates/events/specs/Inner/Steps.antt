@@ -16,7 +16,7 @@ use Rattle.chunk.specs.Inner.Run.{skipRun}
 use Rattle.errors.specs.declared.Refusal.the-variants.{MissingRoot}
 use Rattle.anomaly.specs.declared.ResAnomaly.the-variants.{StringPoolGarbageChunk, StringCountMismatch, StringOffsetsOutOfBounds, UnknownChunk, TruncatedXml}
 use Rattle.anomaly.specs.declared.ResAnomaly.the-variants.{AttributeStartShifted, AttributeSizeMismatch, ElementTrailingBytes}
-use Rattle.anomaly.specs.declared.ResAnomaly.the-variants.{InvalidElementName, UnclosedElements}
+use Rattle.anomaly.specs.declared.ResAnomaly.the-variants.{InvalidElementName, UnclosedElements, DamagedElementName}
 use Rattle.text.specs.declared.NameState.{NameState}
 use Rattle.text.specs.declared.NameState.the-variants.{NoText, Invalid, Valid}
 use Rattle.head.specs.declared.HeadEnd.{HeadEnd}
@@ -35,7 +35,7 @@ use Rattle.events.specs.declared.Event.{Event}
 use Rattle.events.specs.declared.Event.the-variants.{Nothing, Open, Attribute, Close, Note, Refuse, Finish}
 use Rattle.events.specs.declared.Phase.{Phase}
 use Rattle.events.specs.declared.Phase.the-variants.{AtGarbage, AtCount, AtOffsets, AtRefuse, AtChunk, AtGap, AtSize, AtTrailing}
-use Rattle.events.specs.declared.Phase.the-variants.{AtShort, AtName, AtOpen, AtLead, AtAttribute, AtLast, AtRoot, Over}
+use Rattle.events.specs.declared.Phase.the-variants.{AtShort, AtName, AtNamed, AtOpen, AtLead, AtAttribute, AtLast, AtRoot, Over}
 use Rattle.events.specs.declared.Cursor.{Cursor}
 use Rattle.events.specs.declared.Step.{Step}
 use Rattle.events.specs.Events.{Names, leading, foreignNote, attributeEvent}
@@ -189,10 +189,14 @@ abbrev pub openStep : Cursor → ℕ → Step
 openStep c fixed = record { event = Open (c .start .name) fixed (c .start .line); cur = afterOpen c }
 
 -- a name that is not valid makes its note first
-abbrev pub nameStep : Cursor → NameState → Step
-nameStep c Valid = openStep c 0
-nameStep c Invalid = toStep c (Note (InvalidElementName (c .start .name) 1)) AtOpen
-nameStep c NoText = toStep c (Note (InvalidElementName (c .start .name) 0)) AtOpen
+abbrev pub namedStep : Cursor → NameState → Step
+namedStep c Valid = openStep c 0
+namedStep c Invalid = toStep c (Note (InvalidElementName (c .start .name) 1)) AtOpen
+namedStep c NoText = toStep c (Note (InvalidElementName (c .start .name) 0)) AtOpen
+
+-- before it a name whose text is not whole, d being its state; one that is whole costs no step of its own
+abbrev pub nameStep : Cursor → ℕ → NameState → Step
+nameStep c d s = cond (eqb d 0) (namedStep c s) (toStep c (Note (DamagedElementName (c .start .name) d)) AtNamed)
 
 abbrev pub lastStep : Cursor → Step
 lastStep c = toStep c (noteIf (not (eqb (c .depth) 0)) (Note (UnclosedElements (c .depth)))) AtRoot
@@ -211,7 +215,8 @@ stepBy N o t b c AtGap = gapStep c
 stepBy N o t b c AtSize = sizeStep c
 stepBy N o t b c AtTrailing = trailingStep c
 stepBy N o t b c AtShort = toStep c (Note TruncatedXml) AtLast
-stepBy N o t b c AtName = nameStep c (N .state (c .start .name .0))
+stepBy N o t b c AtName = nameStep c (N .damage (c .start .name .0)) (N .state (c .start .name .0))
+stepBy N o t b c AtNamed = namedStep c (N .state (c .start .name .0))
 stepBy N o t b c AtOpen = openStep c 1
 stepBy N o t b c AtLead = record { event = leading; cur = openedBy c }
 stepBy N o t b c AtAttribute = record { event = attributeEvent N (drop (c .at) b); cur = movedBy c }

@@ -3,6 +3,7 @@
 --   Fits     the head's places lie in t
 --   Asks     what every question of an index asks: a head that fits, and names that keep their rule
 --   partOf   what a place stands for; Inside that its part lies in what was lent
+--   wholeName  a text that is a valid name and whole: what most names of a file are
 --   Finds    what the answer of `find` tells: it stands for the content of the index
 --   Wrote    a text at the front of a lent buffer that holds it, its length, and behind it what stood there
 --
@@ -10,17 +11,18 @@
 use Prim.Native.Nat.{ℕ, _+_, _*_, _≤_}
 use mathlib.Core.Path.{_≡_}
 use mathlib.Core.List.{List}
-use mathlib.Core.Bool.{Bool, true, false}
+use mathlib.Core.Bool.{Bool, true, false, _&&_}
 use lib.ListN.{length, take, drop}
+use lib.Dec.{eqb}
 use Rattle.records.specs.Limits.{fileLimit}
-use Rattle.utf.specs.Text.{putText}
+use Rattle.utf.specs.Text.{stateNumber, putText}
 use Rattle.utf.specs.Plain.{isAscii}
 use Rattle.system_types.specs.Names.{Lent, namesOf}
 use Rattle.system_types.specs.declared.NamesRead.the-variants.{Good}
 use Rattle.text.specs.declared.Head.{Head}
 use Rattle.text.specs.declared.Found.{Found}
 use Rattle.text.specs.declared.Found.the-variants.{Nothing, Cut, System, Pool}
-use Rattle.text.specs.Content.{Content, none, cut, some, contentOf}
+use Rattle.text.specs.Content.{Content, none, cut, some, contentOf, damageIn, isName}
 
 -- the head's places lie in t, whose length a file keeps to
 pub record Fits (t : List ℕ) (h : Head) : Type 0 where
@@ -38,6 +40,9 @@ partOf w t area Nothing = none
 partOf w t area Cut = cut
 partOf w t area (System at n) = some false (take n (drop at area))
 partOf w t area (Pool at n) = some w (take n (drop at t))
+
+abbrev pub wholeName : Content → Bool
+wholeName c = isName c && eqb (stateNumber (damageIn c)) 0
 
 -- a part lies in what was lent, and a system name is ASCII
 abbrev pub Inside : List ℕ → List ℕ → Found → Type 0

@@ -6,6 +6,7 @@
 --   charsIn    what is left of a name, from a place on: each value is a char, and nothing is refused
 --   Told       the step at a place inside: what it is in a name, and how far it goes
 --   Passed     what lies between two places is chars of a name
+--   Sound      what lies between two places is sound
 --   Reached    the same, and where the second place lies before `to`, what is left from there on is no part of a name
 --   Ahead      what lies before `from` is chars of a name; `to` is a place inside or the end, behind `at`
 use mathlib.Core.Path.{_≡_}
@@ -15,7 +16,7 @@ use mathlib.Core.List.{List}
 use lib.Dec.{eqb}
 use lib.ListN.{length, getD, drop}
 use Rattle.utf.specs.declared.Step.{Step}
-use Rattle.utf.specs.Text.{stepOf, valueOf, widthOf, soundOf, stepsOf, refused}
+use Rattle.utf.specs.Text.{stepOf, valueOf, widthOf, soundOf, stepsOf, isSound, refused}
 use Rattle.xml.specs.NCName.{sortOf, classOf, allChar}
 
 pub record IsTable (t : List ℕ) : Type 0 where
@@ -43,6 +44,9 @@ pub record Told (wide : Bool) (s : List ℕ) (at sort width : ℕ) : Type 0 wher
 pub record Passed (wide : Bool) (s : List ℕ) (at to : ℕ) : Type 0 where
   pub later : at ≤ to
   pub rest : charsIn wide (drop to s) ≡ charsIn wide (drop at s)
+
+pub record Sound (wide : Bool) (s : List ℕ) (at to : ℕ) : Type 0 where
+  pub kept : isSound wide (drop to s) ≡ isSound wide (drop at s)
 
 pub record Reached (wide : Bool) (s : List ℕ) (at to r : ℕ) : Type 0 where
   pub passed : Passed wide s at r

@@ -1,22 +1,22 @@
--- `xml::chars::narrow_run` meets its contract. Invariant: what was passed is chars (`Passed`). Measure: the bytes left before `to`.
-use Prim.Native.Nat.{_-_}
+-- `xml::chars::narrow_run` meets its contract. Invariant: what was passed is chars, and sound (`Passed`, `Sound`). Measure: the bytes left before `to`.
+use Prim.Native.Nat.{_-_, _<_}
 use mathlib.Core.Bool.{false}
 use native.Mathlib.Omega.{arith}
-use lib.ListN.{getD}
+use lib.ListN.{length, getD}
 use denote.Ref.{now}
-use Rattle.xml.specs.Inner.Told.{Passed}
-use Rattle.xml.proofs.Names.{passed-none, passed-ascii}
+use Rattle.xml.specs.Inner.Told.{Passed, Sound}
+use Rattle.xml.proofs.Names.{passed-none, passed-ascii, sound-none, sound-ascii}
 use Rattle.xml.proofs.chars.narrow_run.Statement.{statement}
 use Rattle.xml.proofs.chars.narrow_run.Tie as tie
 
 abbrev Inv-loop : tie.InvT-loop
-Inv-loop classes s at to i₀ i = Passed false s at i
+Inv-loop classes s at to i₀ i = Passed false s at i × Sound false s at i
 
 abbrev μ-loop : tie.MeasureT-loop
 μ-loop classes s at to i₀ i = to - i
 
 loop-holds : tie.Need-loop-holds Inv-loop μ-loop
-loop-holds c = passed-none _ _ _
+loop-holds c = (passed-none _ _ _, sound-none _ _)
 
 shared-slice-read-b : tie.Need-shared-slice-read-b Inv-loop μ-loop
 shared-slice-read-b c = omega arith
@@ -48,7 +48,10 @@ loop-again c =
     let b = getD (now (start .args .s)) (q .loop .i) 0 in
     let class = start .pre .0 .right b (omega (arith, c .before .before .before .shared-slice-known .given (q .loop .i))) in
     let test = c .before .before .before .before .loop-test .taken in
-    passed-ascii _ _ _ _ (q .loop .inv) (omega (arith, test, start .pre .1)) class (c .before .if1 .left) (c .if2 .left)
+    let inside : q .loop .i < length (now (start .args .s)) = omega (arith, test, start .pre .1) in (
+      passed-ascii _ _ _ _ (q .loop .inv .0) inside class (c .before .if1 .left) (c .if2 .left),
+      sound-ascii _ _ _ _ (q .loop .inv .1) inside class (c .if2 .left),
+    )
 
 returns-3 : tie.Need-returns-3 Inv-loop μ-loop
 returns-3 c = c .before .loop .inv

@@ -19,7 +19,7 @@ narrow-run-requires : tie.Need-narrow-run-requires
 narrow-run-requires c κs = search needs
 
 returns-2 : tie.Need-returns-2
-returns-2 c = rw (c .before .if1 .left) (c .narrow-run .ensures)
+returns-2 c = rw (c .before .if1 .left) (c .narrow-run .ensures .0)
 
 pub seen-run-spec : {M : Type 1} → statement M
 seen-run-spec = tie.close (tie.spec wide-run-requires far-run-requires returns narrow-run-requires returns-2)

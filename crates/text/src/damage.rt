@@ -1,0 +1,63 @@
+// How the text of an index was damaged: the number of its state, and how many characters were replaced.
+//
+// Mirrors nothing of the Rust, which does not tell a damaged text from a whole one. Definitions: specs/Content.antt (`damageIn`).
+use super::Found;
+use super::Head;
+use super::find;
+ghost use mathlib.Core.Path.{_≡_};
+ghost use Prim.Native.Nat.{_≤_};
+ghost use lib.ListN.{length};
+ghost use Rattle.records.specs.Limits.{fileLimit};
+ghost use Rattle.utf.specs.Text.{damageOf, stateNumber, replacedCount};
+ghost use Rattle.system_types.specs.Names.{lends};
+ghost use Rattle.text.specs.Content.{contentOf, damageIn};
+ghost use Rattle.text.specs.Inner.Found.{partOf, Inside, Asks};
+use common::StringIndex;
+use utf::replaced_of;
+use utf::state_of;
+
+// The state of the text that was found: 0 whole, 1 replaced characters, 2 bad UTF-16, 3 cut or outside; 0 where there is none. A system
+// name is ASCII, by the rule of the lent names, and is not looked at.
+// Ruled out: 2 for a string of UTF-16 that is cut, and 0 for a string that is cut, since its text is empty.
+pub fn state_of_found(t: &[u8], area: &[u8], wide: bool, f: Found) -> u32
+    requires { ⌜ Inside (now t) (now area) f ⌝ }
+    ensures { λ r. ⌜ r ≡ stateNumber (damageIn (partOf wide (now (t .entry)) (now (area .entry)) f)) ⌝ }
+{
+    match f {
+        Found::Nothing => 0,
+        Found::Cut => 3,
+        Found::System(_, _) => 0,
+        Found::Pool(at, n) => state_of(wide, &t[at..at + n]),
+    }
+}
+
+fn replaced_in_part(wide: bool, s: &[u8]) -> u32
+    requires { ⌜ length (now s) ≤ fileLimit ⌝ }
+    ensures { λ r. ⌜ r ≡ replacedCount (damageOf wide (now (s .entry))) ⌝ }
+{
+    replaced_of(wide, s) as u32
+}
+
+// How many characters of the text that was found were replaced.
+// Ruled out: a U+FFFD of the file's own counted, and any count but 0 for UTF-16.
+pub fn replaced_of_found(t: &[u8], area: &[u8], wide: bool, f: Found) -> u32
+    requires { ⌜ Inside (now t) (now area) f × (length (now t) ≤ fileLimit) ⌝ }
+    ensures { λ r. ⌜ r ≡ replacedCount (damageIn (partOf wide (now (t .entry)) (now (area .entry)) f)) ⌝ }
+{
+    match f {
+        Found::Nothing => 0,
+        Found::Cut => 0,
+        Found::System(_, _) => 0,
+        Found::Pool(at, n) => replaced_in_part(wide, &t[at..at + n]),
+    }
+}
+
+// The state of the text of an index; 0 where there is none.
+// Ruled out: the state of the pool's string where the map's entry has a system name, and 3 for an index without text.
+pub fn state_of_name(t: &[u8], names: &[u32], area: &[u8], h: Head, index: StringIndex) -> u32
+    requires { ⌜ Asks (now t) (lends (now names) (now area)) h ⌝ }
+    ensures { λ r. ⌜ r ≡ stateNumber (damageIn (contentOf h (now (t .entry)) (lends (now (names .entry)) (now (area .entry))) (index .0))) ⌝ }
+{
+    let f = find(t, names, area, h, index);
+    state_of_found(t, area, h.wide, f)
+}
