@@ -2,6 +2,7 @@
 pub mod Model
 pub mod Runs
 pub mod Here
+pub mod Remembering
 pub mod Heads
 pub mod Starts
 pub mod Chunks

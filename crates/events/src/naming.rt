@@ -10,6 +10,7 @@ ghost use Rattle.text.specs.Content.{contentOf, stateIn, isAndroid};
 ghost use Rattle.text.specs.Inner.Found.{Asks};
 ghost use Rattle.events.specs.Events.{namesIn, leading, attributeBy, attributeEvent};
 ghost use Rattle.events.specs.Inner.Steps.{openedBy, movedBy, openStep, nameStep, toStep};
+ghost use Rattle.events.specs.Inner.Remembered.{Remembers};
 ghost use Rattle.events.specs.declared.Event.the-variants.{Note, Attribute};
 ghost use Rattle.events.specs.declared.Phase.the-variants.{AtOpen};
 ghost use Rattle.anomaly.specs.declared.ResAnomaly.the-variants.{InvalidElementName, InvalidAttributeName};
@@ -18,6 +19,7 @@ use crate::Cursor;
 use crate::Event;
 use crate::Phase;
 use crate::Step;
+use crate::memory::known_state;
 use crate::moves::after_open;
 use crate::moves::moved_by;
 use crate::moves::opened_by;
@@ -30,7 +32,6 @@ use text::Head;
 use text::NameState;
 use text::has_text;
 use text::is_android;
-use text::name_state;
 use xml_elements::XmlAttributeElement;
 use xml_elements::attribute_at;
 
@@ -63,13 +64,22 @@ fn invalid_step(c: Cursor, text: u32) -> Step
     )
 }
 
-pub fn name_step(t: &[u8], names: &[u32], area: &[u8], h: Head, c: Cursor) -> Step
-    requires { ⌜ Asks (now t) (lends (now names) (now area)) h × (c .at ≤ fileLimit) × (c .depth ≤ fileLimit) × (c .starts ≤ fileLimit) ⌝ }
-    ensures { λ r. ⌜ r ≡ nameStep c (stateIn (contentOf h (now (t .entry)) (lends (now (names .entry)) (now (area .entry))) (c .start .name .0))) ⌝ }
+pub fn name_step(
+    t: &[u8],
+    names: &[u32],
+    area: &[u8],
+    h: Head,
+    c: Cursor,
+    memory: &mut [u64],
+) -> Step
+    requires { ⌜ (Asks (now t) (lends (now names) (now area)) h × (c .at ≤ fileLimit) × (c .depth ≤ fileLimit) × (c .starts ≤ fileLimit))
+        × Remembers h (now t) (lends (now names) (now area)) (now memory) ⌝ }
+    ensures { λ r. ⌜ (r ≡ nameStep c (stateIn (contentOf h (now (t .entry)) (lends (now (names .entry)) (now (area .entry))) (c .start .name .0))))
+        × Remembers h (now (t .entry)) (lends (now (names .entry)) (now (area .entry))) (now (memory .exit)) ⌝ }
 {
     let s = c.start;
     let name = s.name;
-    let state = name_state(t, names, area, h, name);
+    let state = known_state(t, names, area, h, name, memory);
     match state {
         NameState::NoText => invalid_step(c, 0),
         NameState::Invalid => invalid_step(c, 1),
@@ -154,13 +164,15 @@ fn attribute_event(
     h: Head,
     mode: u32,
     a: XmlAttributeElement,
+    memory: &mut [u64],
 ) -> Event
-    requires { ⌜ Asks (now t) (lends (now names) (now area)) h ⌝ }
-    ensures { λ r. ⌜ r ≡ attributeBy (namesIn mode h (now (t .entry)) (lends (now (names .entry)) (now (area .entry)))) a
-        (namesIn mode h (now (t .entry)) (lends (now (names .entry)) (now (area .entry))) .state (a .name .0)) ⌝ }
+    requires { ⌜ Asks (now t) (lends (now names) (now area)) h × Remembers h (now t) (lends (now names) (now area)) (now memory) ⌝ }
+    ensures { λ r. ⌜ (r ≡ attributeBy (namesIn mode h (now (t .entry)) (lends (now (names .entry)) (now (area .entry)))) a
+        (namesIn mode h (now (t .entry)) (lends (now (names .entry)) (now (area .entry))) .state (a .name .0)))
+        × Remembers h (now (t .entry)) (lends (now (names .entry)) (now (area .entry))) (now (memory .exit)) ⌝ }
 {
     let name = a.name;
-    let state = name_state(t, names, area, h, name);
+    let state = known_state(t, names, area, h, name, memory);
     match state {
         NameState::NoText => Event::LeftOut(name),
         NameState::Invalid => invalid_attribute(name),
@@ -176,18 +188,20 @@ pub fn attribute_step(
     mode: u32,
     b: &[u8],
     c: Cursor,
+    memory: &mut [u64],
 ) -> Step
-    requires { ⌜ Asks (now t) (lends (now names) (now area)) h × (c .at + 20 ≤ length (now b)) × (length (now b) ≤ fileLimit) × (0 < c .left) ⌝ }
-    ensures { λ r. ⌜ r ≡ record {
+    requires { ⌜ (Asks (now t) (lends (now names) (now area)) h × (c .at + 20 ≤ length (now b)) × (length (now b) ≤ fileLimit) × (0 < c .left))
+        × Remembers h (now t) (lends (now names) (now area)) (now memory) ⌝ }
+    ensures { λ r. ⌜ (r ≡ record {
       event = attributeEvent (namesIn mode h (now (t .entry)) (lends (now (names .entry)) (now (area .entry)))) (drop (c .at) (now (b .entry)));
       cur = movedBy c;
-    } ⌝ }
+    }) × Remembers h (now (t .entry)) (lends (now (names .entry)) (now (area .entry))) (now (memory .exit)) ⌝ }
 {
     let at = c.at;
     let l = &b[at..];
     let a = attribute_at(l);
     Step {
-        event: attribute_event(t, names, area, h, mode, a),
+        event: attribute_event(t, names, area, h, mode, a, memory),
         cur: moved_by(c),
     }
 }
