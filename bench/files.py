@@ -119,6 +119,59 @@ def long_names(letter):
     return whole((pool16(texts), start(0), one * 20, end(0)))
 
 
+def length8(n):
+    return struct.pack(">H", 0x8000 | n) if n > 0x7F else bytes((n,))
+
+
+def pool_of(texts, utf8):
+    """A pool of texts of any length that its encoding holds: in UTF-8 32,767 bytes at most."""
+    if not utf8:
+        return pool16(texts)
+    data, offsets = [], [0]
+    for t in texts:
+        raw = t.encode()
+        data.append(length8(len(t)) + length8(len(raw)) + raw + b"\0")
+        offsets.append(offsets[-1] + len(data[-1]))
+    return pool(b"".join(data) + bytes(-offsets[-1] % 4), offsets[:-1], True)
+
+
+def long_texts(count, units, letter):
+    """So many names of about so many units each; they differ in their last units alone."""
+    return [letter * (units - 4) + f"{i:04x}" for i in range(count)]
+
+
+def in_turns(size, count, utf8=False, letter="a", tags=False, each=1, bad=False, step=1):
+    """So many long names, half the file, used in turns by the rest: as attributes, so many to an element, or as elements' own names.
+    bad: no name is valid, for its last unit. step: the indices that are used are so far apart, and between them stand names of one letter."""
+    units = min(size // 2 // count // (1 if utf8 else 2), 32_760 if utf8 else LIMIT)
+    texts = [t + "!" if bad else t for t in long_texts(count, units, letter)]
+    spread = [texts[i // step] if i % step == 0 else "a" for i in range((count - 1) * step + 1)]
+    spread.append("a")
+    short, head = len(spread) - 1, pool_of(spread, utf8)
+    made, at, room = [], 0, size - len(whole((head, start(short), end(short))))
+    while True:
+        if tags:
+            part = start(at % count * step) + end(short)
+            at += 1
+        else:
+            part = start(short, [(NONE, (at + k) % count * step, 16, k) for k in range(each)]) + end(short)
+            at += each
+        room -= len(part)
+        if room < 0:
+            return whole((head, start(short), b"".join(made), end(short)))
+        made.append(part)
+
+
+def overlapping(size):
+    """One long text whose letters are lengths too, half the file, and strings that begin at each of its first letters: each is half of it."""
+    letters = struct.pack("<HH", 0x8000 | size // 8 >> 16, 0x5000)
+    data = letters * (size // 8)
+    count = size // 32
+    head = pool(data, [4 * i for i in range(count)], False)
+    room = size - len(whole((head, start(0), end(0))))
+    return whole((head, start(0), b"".join(start(i % count) + end(0) for i in range(room // 60)), end(0)))
+
+
 def offsets():
     data = b"\1\1a\0"
     return whole((pool(data, [0] * 4_000_000, True), start(3_999_999), end(0)))

@@ -3,13 +3,15 @@
 // Mirrors axml.rs (apk-info 13770539b8): `get_xml_tree`, without its stack. Each step makes one event, or none, and hands the cursor on.
 // Answers: `Step`. Definitions: specs/Events.antt (what a file makes), specs/Inner/Steps.antt and specs/Inner/Pending.antt (how the code goes).
 // That the steps make what the file makes, one by one and to the end, is the law `stepped` (proofs/Steps.antt).
-// In moves.rt: where the cursor goes; in notes.rt: notes that a test lets pass; in turns.rt: a chunk; in naming.rt: elements and attributes.
+// In moves.rt: where the cursor goes; in notes.rt: notes that a test lets pass; in turns.rt: a chunk; in naming.rt: elements and attributes;
+// in memory.rt: names that were looked at.
 ghost use mathlib.Core.Path.{_≡_};
 ghost use Prim.Native.Nat.{_+_, _≤_, _<_};
 ghost use Rattle.system_types.specs.Names.{lends};
 ghost use Rattle.events.specs.Events.{namesIn};
 ghost use Rattle.events.specs.Inner.Steps.{firstCursor, stepOf};
 ghost use Rattle.events.specs.Inner.Pending.{Ready, Within};
+ghost use Rattle.events.specs.Inner.Remembered.{Remembers};
 use anomaly::ResAnomaly;
 use common::StringIndex;
 use errors::Refusal;
@@ -17,6 +19,7 @@ use head::Opened;
 use xml_elements::XmlAttributeElement;
 use xml_elements::XmlStartElement;
 
+pub mod memory;
 mod moves;
 mod naming;
 mod notes;
@@ -125,7 +128,7 @@ pub fn first_cursor() -> Cursor
 }
 
 // One step of a file whose head is o: t is the bytes behind its header, b its body, names and area the lent system names, `mode` the
-// reading's.
+// reading's, `memory` what is known of its names.
 // Ruled out: a second note for a stretch of foreign chunks of one sort, and an end whose 8 bytes are cut that closes nothing.
 pub fn step_at(
     t: &[u8],
@@ -135,9 +138,12 @@ pub fn step_at(
     o: Opened,
     b: &[u8],
     c: Cursor,
+    memory: &mut [u64],
 ) -> Step
-    requires { ⌜ Ready (now t) (lends (now names) (now area)) o × Within o (now b) c ⌝ }
-    ensures { λ r. ⌜ r ≡ stepOf (namesIn mode (o .head) (now (t .entry)) (lends (now (names .entry)) (now (area .entry)))) o (now (t .entry)) (now (b .entry)) c ⌝ }
+    requires { ⌜ Ready (now t) (lends (now names) (now area)) o × Within o (now b) c
+        × Remembers (o .head) (now t) (lends (now names) (now area)) (now memory) ⌝ }
+    ensures { λ r. ⌜ (r ≡ stepOf (namesIn mode (o .head) (now (t .entry)) (lends (now (names .entry)) (now (area .entry)))) o (now (t .entry)) (now (b .entry)) c)
+        × Remembers (o .head) (now (t .entry)) (lends (now (names .entry)) (now (area .entry))) (now (memory .exit)) ⌝ }
 {
     let h = o.head;
     let phase = c.phase;
@@ -151,11 +157,11 @@ pub fn step_at(
         Phase::AtSize => size_step(c),
         Phase::AtTrailing => trailing_step(c),
         Phase::AtShort => short_step(c),
-        Phase::AtName => name_step(t, names, area, h, c),
-        Phase::AtNamed => named_step(t, names, area, h, c),
+        Phase::AtName => name_step(t, names, area, h, c, memory),
+        Phase::AtNamed => named_step(t, names, area, h, c, memory),
         Phase::AtOpen => open_step(c, 1),
         Phase::AtLead => lead_step(c),
-        Phase::AtAttribute => attribute_step(t, names, area, h, mode, b, c),
+        Phase::AtAttribute => attribute_step(t, names, area, h, mode, b, c, memory),
         Phase::AtLast => last_step(c),
         Phase::AtRoot => root_step(c),
         Phase::Over => over_step(c),

@@ -11,6 +11,7 @@ ghost use Rattle.text.specs.Content.{contentOf, damageIn, stateIn, isAndroid};
 ghost use Rattle.text.specs.Inner.Found.{Asks};
 ghost use Rattle.events.specs.Events.{namesIn, leading, attributeBy, attributeEvent};
 ghost use Rattle.events.specs.Inner.Steps.{openedBy, movedBy, openStep, namedStep, nameStep, toStep};
+ghost use Rattle.events.specs.Inner.Remembered.{lookStep, Remembers};
 ghost use Rattle.events.specs.declared.Event.the-variants.{Note, Attribute};
 ghost use Rattle.events.specs.declared.Phase.the-variants.{AtNamed, AtOpen};
 ghost use Rattle.anomaly.specs.declared.ResAnomaly.the-variants.{InvalidElementName, InvalidAttributeName, DamagedElementName};
@@ -19,6 +20,8 @@ use crate::Cursor;
 use crate::Event;
 use crate::Phase;
 use crate::Step;
+use crate::memory::known_look;
+use crate::memory::known_state;
 use crate::moves::after_open;
 use crate::moves::moved_by;
 use crate::moves::opened_by;
@@ -29,13 +32,8 @@ use records::APART;
 use records::OWN_PREFIX;
 use text::Head;
 use text::NameState;
-use text::find;
-use text::found_whole;
 use text::has_text;
 use text::is_android;
-use text::is_found;
-use text::name_state;
-use text::state_of_found;
 use xml_elements::XmlAttributeElement;
 use xml_elements::attribute_at;
 
@@ -81,37 +79,61 @@ fn damaged_step(c: Cursor, state: u32) -> Step
     )
 }
 
-// A name that is valid and whole, as all are in most files, is looked at once. Of any other the state is asked: where its text is whole, it is no
-// valid name.
-pub fn name_step(t: &[u8], names: &[u32], area: &[u8], h: Head, c: Cursor) -> Step
-    requires { ⌜ Asks (now t) (lends (now names) (now area)) h × (c .at ≤ fileLimit) × (c .depth ≤ fileLimit) × (c .starts ≤ fileLimit) ⌝ }
-    ensures { λ r. ⌜ r ≡ nameStep c (stateNumber (damageIn (contentOf h (now (t .entry)) (lends (now (names .entry)) (now (area .entry))) (c .start .name .0))))
-        (stateIn (contentOf h (now (t .entry)) (lends (now (names .entry)) (now (area .entry))) (c .start .name .0))) ⌝ }
+// The step at a name, by what a look at it tells (specs/Inner/Remembered.antt, `lookBy`): most are valid and whole.
+// Ruled out: note 32 for a whole text that is no valid name, and note 9 before it for a damaged one.
+fn look_step(c: Cursor, look: u32) -> Step
+    requires { ⌜ (c .at ≤ fileLimit) × (c .depth ≤ fileLimit) × (c .starts ≤ fileLimit) ⌝ }
+    ensures { λ r. ⌜ r ≡ lookStep c look ⌝ }
+{
+    if look == 1 {
+        return open_step(c, 0);
+    }
+    if look == 8 {
+        return invalid_step(c, 0);
+    }
+    if look < 2 {
+        return invalid_step(c, 1);
+    }
+    damaged_step(c, look / 2)
+}
+
+pub fn name_step(
+    t: &[u8],
+    names: &[u32],
+    area: &[u8],
+    h: Head,
+    c: Cursor,
+    memory: &mut [u64],
+) -> Step
+    requires { ⌜ (Asks (now t) (lends (now names) (now area)) h × (c .at ≤ fileLimit) × (c .depth ≤ fileLimit) × (c .starts ≤ fileLimit))
+        × Remembers h (now t) (lends (now names) (now area)) (now memory) ⌝ }
+    ensures { λ r. ⌜ (r ≡ nameStep c (stateNumber (damageIn (contentOf h (now (t .entry)) (lends (now (names .entry)) (now (area .entry))) (c .start .name .0))))
+        (stateIn (contentOf h (now (t .entry)) (lends (now (names .entry)) (now (area .entry))) (c .start .name .0))))
+        × Remembers h (now (t .entry)) (lends (now (names .entry)) (now (area .entry))) (now (memory .exit)) ⌝ }
 {
     let s = c.start;
     let name = s.name;
-    let f = find(t, names, area, h, name);
-    if found_whole(t, area, h.wide, f) {
-        return open_step(c, 0);
-    }
-    let state = state_of_found(t, area, h.wide, f);
-    if state != 0 {
-        return damaged_step(c, state);
-    }
-    if is_found(f) {
-        return invalid_step(c, 1);
-    }
-    invalid_step(c, 0)
+    let look = known_look(t, names, area, h, name, memory);
+    look_step(c, look)
 }
 
 // Behind note 32.
-pub fn named_step(t: &[u8], names: &[u32], area: &[u8], h: Head, c: Cursor) -> Step
-    requires { ⌜ Asks (now t) (lends (now names) (now area)) h × (c .at ≤ fileLimit) × (c .depth ≤ fileLimit) × (c .starts ≤ fileLimit) ⌝ }
-    ensures { λ r. ⌜ r ≡ namedStep c (stateIn (contentOf h (now (t .entry)) (lends (now (names .entry)) (now (area .entry))) (c .start .name .0))) ⌝ }
+pub fn named_step(
+    t: &[u8],
+    names: &[u32],
+    area: &[u8],
+    h: Head,
+    c: Cursor,
+    memory: &mut [u64],
+) -> Step
+    requires { ⌜ (Asks (now t) (lends (now names) (now area)) h × (c .at ≤ fileLimit) × (c .depth ≤ fileLimit) × (c .starts ≤ fileLimit))
+        × Remembers h (now t) (lends (now names) (now area)) (now memory) ⌝ }
+    ensures { λ r. ⌜ (r ≡ namedStep c (stateIn (contentOf h (now (t .entry)) (lends (now (names .entry)) (now (area .entry))) (c .start .name .0))))
+        × Remembers h (now (t .entry)) (lends (now (names .entry)) (now (area .entry))) (now (memory .exit)) ⌝ }
 {
     let s = c.start;
     let name = s.name;
-    let state = name_state(t, names, area, h, name);
+    let state = known_state(t, names, area, h, name, memory);
     match state {
         NameState::NoText => invalid_step(c, 0),
         NameState::Invalid => invalid_step(c, 1),
@@ -196,13 +218,15 @@ fn attribute_event(
     h: Head,
     mode: u32,
     a: XmlAttributeElement,
+    memory: &mut [u64],
 ) -> Event
-    requires { ⌜ Asks (now t) (lends (now names) (now area)) h ⌝ }
-    ensures { λ r. ⌜ r ≡ attributeBy (namesIn mode h (now (t .entry)) (lends (now (names .entry)) (now (area .entry)))) a
-        (namesIn mode h (now (t .entry)) (lends (now (names .entry)) (now (area .entry))) .state (a .name .0)) ⌝ }
+    requires { ⌜ Asks (now t) (lends (now names) (now area)) h × Remembers h (now t) (lends (now names) (now area)) (now memory) ⌝ }
+    ensures { λ r. ⌜ (r ≡ attributeBy (namesIn mode h (now (t .entry)) (lends (now (names .entry)) (now (area .entry)))) a
+        (namesIn mode h (now (t .entry)) (lends (now (names .entry)) (now (area .entry))) .state (a .name .0)))
+        × Remembers h (now (t .entry)) (lends (now (names .entry)) (now (area .entry))) (now (memory .exit)) ⌝ }
 {
     let name = a.name;
-    let state = name_state(t, names, area, h, name);
+    let state = known_state(t, names, area, h, name, memory);
     match state {
         NameState::NoText => Event::LeftOut(name),
         NameState::Invalid => invalid_attribute(name),
@@ -218,18 +242,20 @@ pub fn attribute_step(
     mode: u32,
     b: &[u8],
     c: Cursor,
+    memory: &mut [u64],
 ) -> Step
-    requires { ⌜ Asks (now t) (lends (now names) (now area)) h × (c .at + 20 ≤ length (now b)) × (length (now b) ≤ fileLimit) × (0 < c .left) ⌝ }
-    ensures { λ r. ⌜ r ≡ record {
+    requires { ⌜ (Asks (now t) (lends (now names) (now area)) h × (c .at + 20 ≤ length (now b)) × (length (now b) ≤ fileLimit) × (0 < c .left))
+        × Remembers h (now t) (lends (now names) (now area)) (now memory) ⌝ }
+    ensures { λ r. ⌜ (r ≡ record {
       event = attributeEvent (namesIn mode h (now (t .entry)) (lends (now (names .entry)) (now (area .entry)))) (drop (c .at) (now (b .entry)));
       cur = movedBy c;
-    } ⌝ }
+    }) × Remembers h (now (t .entry)) (lends (now (names .entry)) (now (area .entry))) (now (memory .exit)) ⌝ }
 {
     let at = c.at;
     let l = &b[at..];
     let a = attribute_at(l);
     Step {
-        event: attribute_event(t, names, area, h, mode, a),
+        event: attribute_event(t, names, area, h, mode, a, memory),
         cur: moved_by(c),
     }
 }

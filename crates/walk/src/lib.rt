@@ -24,6 +24,7 @@ use errors::ReadAnswer;
 use errors::Refusal;
 use events::Cursor;
 use events::first_cursor;
+use events::memory::MEMORY;
 use head::Asker;
 use head::Entered;
 use head::HeadEnd;
@@ -146,7 +147,8 @@ fn started(st: State, opened: Opened) -> State
     }
 }
 
-// Reads on behind the head, to the next note that is kept or to the answer.
+// Reads on behind the head, to the next note that is kept or to the answer. What is known of names begins anew at each call, so that it is of
+// this file alone.
 fn read_on(
     file: &[u8],
     names: &[u32],
@@ -161,6 +163,7 @@ fn read_on(
 {
     let opened = st.opened;
     let notes = st.notes;
+    let mut memory = [0u64; MEMORY];
     let mut cur = st.cur;
     let mut tree = st.tree;
     loop {
@@ -172,6 +175,7 @@ fn read_on(
             opened,
             nodes,
             attributes,
+            &mut memory,
             cur,
             tree,
         );

@@ -7,6 +7,8 @@ ghost use Rattle.system_types.specs.Names.{lends};
 ghost use Rattle.text.specs.Content.{sameName};
 ghost use Rattle.text.specs.Inner.Found.{Asks};
 ghost use Rattle.events.specs.declared.Event.the-variants.{Open, Attribute, Close};
+ghost use Rattle.head.specs.Head.{tablesIn};
+ghost use Rattle.events.specs.Inner.Remembered.{Remembers};
 ghost use Rattle.walk.specs.Inner.Tree.{Fit, Places, NotEnd, AsksFor};
 ghost use Rattle.walk.specs.Inner.Run.{Running, RanOn, RunningIn, RanIn};
 use crate::tree::Put;
@@ -140,7 +142,7 @@ pub fn place(
 }
 
 // Puts events away until a note falls due, something is refused, or nothing is left. t is the bytes that texts are read from, b the
-// body, `mode` that of the reading.
+// body, `mode` that of the reading, `memory` what is known of its names.
 // Ruled out: a note passed over, and a stop before the end with none due.
 pub fn run(
     t: &[u8],
@@ -151,17 +153,20 @@ pub fn run(
     b: &[u8],
     nodes: &mut [u32],
     attributes: &mut [u32],
+    memory: &mut [u64],
     c: Cursor,
     tree: Tree,
 ) -> Halt
-    requires { ⌜ Running (now t) (lends (now names) (now area)) (now b) o (now nodes) (now attributes) c tree ⌝ }
+    requires { ⌜ Running (now t) (lends (now names) (now area)) (now b) o (now nodes) (now attributes) c tree
+        × Remembers (o .head) (now t) (lends (now names) (now area)) (now memory) ⌝ }
     ensures { λ r. ⌜ RanOn mode (now (t .entry)) (lends (now (names .entry)) (now (area .entry))) (now (b .entry)) o (now (nodes .entry)) (now (attributes .entry)) c tree r
-        (now (nodes .exit)) (now (attributes .exit)) ⌝ }
+        (now (nodes .exit)) (now (attributes .exit))
+        × Remembers (o .head) (now (t .entry)) (lends (now (names .entry)) (now (area .entry))) (now (memory .exit)) ⌝ }
 {
     let mut cur = c;
     let mut grown = tree;
     loop {
-        let s = step_at(t, names, area, mode, o, b, cur);
+        let s = step_at(t, names, area, mode, o, b, cur, memory);
         let e = s.event;
         let next = s.cur;
         let p = place(t, names, area, o.head, nodes, attributes, grown, e);
@@ -205,14 +210,29 @@ pub fn run_in(
     o: Opened,
     nodes: &mut [u32],
     attributes: &mut [u32],
+    memory: &mut [u64],
     c: Cursor,
     tree: Tree,
 ) -> Halt
-    requires { ⌜ RunningIn (now file) (lends (now names) (now area)) o (now nodes) (now attributes) c tree ⌝ }
+    requires { ⌜ RunningIn (now file) (lends (now names) (now area)) o (now nodes) (now attributes) c tree
+        × Remembers (o .head) (tablesIn (now file) (o .head)) (lends (now names) (now area)) (now memory) ⌝ }
     ensures { λ r. ⌜ RanIn mode (now (file .entry)) (lends (now (names .entry)) (now (area .entry))) o (now (nodes .entry)) (now (attributes .entry)) c tree r
-        (now (nodes .exit)) (now (attributes .exit)) ⌝ }
+        (now (nodes .exit)) (now (attributes .exit))
+        × Remembers (o .head) (tablesIn (now (file .entry)) (o .head)) (lends (now (names .entry)) (now (area .entry))) (now (memory .exit)) ⌝ }
 {
     let t = tables_of(file, o.head);
     let b = body_of(file, o.head);
-    run(t, names, area, mode, o, b, nodes, attributes, c, tree)
+    run(
+        t,
+        names,
+        area,
+        mode,
+        o,
+        b,
+        nodes,
+        attributes,
+        memory,
+        c,
+        tree,
+    )
 }

@@ -1,6 +1,6 @@
 -- `walk::read_on` meets its contract: each way out of its loop keeps the outcome of the whole reading.
--- Invariant: the outcome is that of the reading from here. Measure: the cursor's steps. The mathematics of a turn: proofs/Advancing.antt, Quiet.antt,
--- Finishing.antt.
+-- Invariant: the outcome is that of the reading from here, and what is known of names holds: at first nothing is. Measure: the cursor's steps.
+-- The mathematics of a turn: proofs/Advancing.antt, Quiet.antt, Finishing.antt.
 use native.Mathlib.Omega.{arith}
 use mathlib.Core.Path.{_≡_, refl, sym, _∙_}
 use borrow.Author.Needs.{needs}
@@ -8,8 +8,10 @@ use borrow.Author.Tests.{ltb-true, ltb-false}
 use lib.ListN.{length}
 use Rattle.anomaly.proofs.Laws.{kindIndex-lt}
 use Rattle.system_types.specs.Names.{lends}
-use Rattle.head.specs.Head.{bodyIn}
+use Rattle.head.specs.Head.{tablesIn, bodyIn}
 use Rattle.events.specs.Inner.Pending.{steps}
+use Rattle.events.specs.Inner.Remembered.{Remembers}
+use Rattle.events.proofs.Remembering.{remembers-none}
 use Rattle.walk.specs.Inner.Outcome.{Good}
 use Rattle.walk.proofs.Advancing.{ReadHead, read-first, read-full, due-less, due-within, read-past, read-due}
 use Rattle.walk.proofs.Quiet.{read-passed}
@@ -18,22 +20,29 @@ use Rattle.walk.proofs.read_on.Statement.{statement}
 use Rattle.walk.proofs.read_on.Tie as tie
 
 abbrev Inv-loop : tie.InvT-loop
-Inv-loop file names area nodes₀ attributes₀ st opened notes cur₀ tree₀ nodes attributes cur tree =
+Inv-loop file names area nodes₀ attributes₀ st opened notes memory₀ cur₀ tree₀ nodes attributes memory cur tree =
     (length nodes ≡ length nodes₀) × (length attributes ≡ length attributes₀) ×
-    ((g : Good file (lends names area) nodes₀ attributes₀ st) → ReadHead file (lends names area) nodes₀ attributes₀ st g nodes attributes cur tree)
+    ((g : Good file (lends names area) nodes₀ attributes₀ st) → ReadHead file (lends names area) nodes₀ attributes₀ st g nodes attributes cur tree) ×
+    Remembers (st .opened .head) (tablesIn file (st .opened .head)) (lends names area) memory
 
 abbrev μ-loop : tie.MeasureT-loop
-μ-loop file names area nodes₀ attributes₀ st opened notes cur₀ tree₀ nodes attributes cur tree = steps (bodyIn file (st .opened .head)) cur
+μ-loop file names area nodes₀ attributes₀ st opened notes memory₀ cur₀ tree₀ nodes attributes memory cur tree = steps (bodyIn file (st .opened .head)) cur
 
 loop-holds : tie.Need-loop-holds Inv-loop μ-loop
 loop-holds c =
     let at-start = c .before .before .before .before .before .before .before .before .before in
-    (refl, refl, λ g. read-first _ _ _ _ _ g (at-start .pre .1))
+    let a = at-start .args in
+    let head = a .st .opened .head in
+    (refl, refl, (λ g. read-first _ _ _ _ _ g (at-start .pre .1)), remembers-none head (tablesIn (a .file .now) head) (lends (a .names .now) (a .area .now)) 1024 refl refl)
+
+slice-aggregate-run-in : tie.Need-slice-aggregate-run-in Inv-loop μ-loop
+slice-aggregate-run-in c = search needs
 
 run-in-requires : tie.Need-run-in-requires Inv-loop μ-loop
 run-in-requires c κs =
-    let at-start = c .before .before .before .before .before .before .before .before .before .before .before .before in
-    c .before .before .loop .inv .2 (at-start .pre .0) .now
+    let at-start = c .before .before .before .before .before .before .before .before .before .before .before .before .before in
+    let l = c .before .before .before .loop in
+    (l .inv .2 (at-start .pre .0) .now, l .inv .3)
 
 enum-known-stop : tie.Need-enum-known-stop Inv-loop μ-loop
 enum-known-stop c = search needs
@@ -44,21 +53,21 @@ refuse-requires c κs = search needs
 same-length : tie.Need-same-length Inv-loop μ-loop
 same-length c =
     let at-refuse = c .before .before .before .before in
-    let at-run-in = at-refuse .before .before .before .before .before .before .before .before .before .before .before .before in
-    at-refuse .refuse .kept .0 ∙ at-run-in .run-in .kept .1 .1 .1 .1 .1 .0 ∙ at-run-in .before .before .before .loop .inv .0
+    let at-run-in = at-refuse .before .before .before .before .before .before .before .before .before .before .before .before .before in
+    at-refuse .refuse .kept .0 ∙ at-run-in .run-in .kept .1 .1 .1 .1 .1 .0 ∙ at-run-in .before .before .before .before .loop .inv .0
 
 same-length-2 : tie.Need-same-length-2 Inv-loop μ-loop
 same-length-2 c =
     let at-refuse = c .before .before .before .before in
-    let at-run-in = at-refuse .before .before .before .before .before .before .before .before .before .before .before .before in
-    at-refuse .refuse .kept .1 .0 ∙ at-run-in .run-in .kept .1 .1 .1 .1 .1 .1 .0 ∙ at-run-in .before .before .before .loop .inv .1
+    let at-run-in = at-refuse .before .before .before .before .before .before .before .before .before .before .before .before .before in
+    at-refuse .refuse .kept .1 .0 ∙ at-run-in .run-in .kept .1 .1 .1 .1 .1 .1 .0 ∙ at-run-in .before .before .before .before .loop .inv .1
 
 returns : tie.Need-returns Inv-loop μ-loop
 returns c =
     let at-refuse = c .before .before .before .before in
     let at-stop = at-refuse .before .before .before .before in
-    let at-run-in = at-stop .before .before .before .before .before .before .before .before in
-    let at-loop = at-run-in .before .before .before in
+    let at-run-in = at-stop .before .before .before .before .before .before .before .before .before in
+    let at-loop = at-run-in .before .before .before .before in
     let at-start = at-loop .before .before .before .before .before .before .before .before .before .before in
     let a = at-start .args in
     let l = at-loop .loop in
@@ -68,7 +77,7 @@ returns c =
     λ g.
     read-full (a .file .now) (lends (a .names .now) (a .area .now)) (a .nodes .now) (a .attributes .now) (a .st) g (l .nodes) (l .attributes) (l .cur)
     (l .tree) (l .inv .2 g)
-    (q .result) (q .last .1 .1 .1 .1 .1 .0) (q .last .1 .1 .1 .1 .1 .1 .0) (q .kept .1 .1 .1 .1 .1 .0) (q .kept .1 .1 .1 .1 .1 .1 .0) (q .ensures)
+    (q .result) (q .last .1 .1 .1 .1 .1 .0) (q .last .1 .1 .1 .1 .1 .1 .0) (q .kept .1 .1 .1 .1 .1 .0) (q .kept .1 .1 .1 .1 .1 .1 .0) (q .ensures .0)
     (s .0 .0) (s .1) (r .result) (r .last .0) (r .last .1 .0) (r .ensures)
 
 enum-told : tie.Need-enum-told Inv-loop μ-loop
@@ -76,8 +85,8 @@ enum-told c = search needs
 
 finish-requires : tie.Need-finish-requires Inv-loop μ-loop
 finish-requires c κs =
-    let at-run-in = c .before .before .before .before .before .before .before .before .before .before in
-    let at-loop = at-run-in .before .before .before in
+    let at-run-in = c .before .before .before .before .before .before .before .before .before .before .before in
+    let at-loop = at-run-in .before .before .before .before in
     let at-start = at-loop .before .before .before .before .before .before .before .before .before .before in
     let a = at-start .args in
     let l = at-loop .loop in
@@ -85,27 +94,27 @@ finish-requires c κs =
     let g = at-start .pre .0 in
     read-keepable (a .file .now) (lends (a .names .now) (a .area .now)) (a .nodes .now) (a .attributes .now) (a .st) g (l .nodes) (l .attributes) (l .cur)
     (l .tree) (l .inv .2 g)
-    (q .result) (q .last .1 .1 .1 .1 .1 .0) (q .last .1 .1 .1 .1 .1 .1 .0) (q .kept .1 .1 .1 .1 .1 .0) (q .kept .1 .1 .1 .1 .1 .1 .0) (q .ensures)
+    (q .result) (q .last .1 .1 .1 .1 .1 .0) (q .last .1 .1 .1 .1 .1 .1 .0) (q .kept .1 .1 .1 .1 .1 .0) (q .kept .1 .1 .1 .1 .1 .1 .0) (q .ensures .0)
     (c .before .before .enum-told .given .1)
 
 same-length-3 : tie.Need-same-length-3 Inv-loop μ-loop
 same-length-3 c =
     let at-finish = c .before .before .before .before in
-    let at-run-in = at-finish .before .before .before .before .before .before .before .before .before .before .before in
-    at-finish .finish .kept .0 ∙ at-run-in .run-in .kept .1 .1 .1 .1 .1 .0 ∙ at-run-in .before .before .before .loop .inv .0
+    let at-run-in = at-finish .before .before .before .before .before .before .before .before .before .before .before .before in
+    at-finish .finish .kept .0 ∙ at-run-in .run-in .kept .1 .1 .1 .1 .1 .0 ∙ at-run-in .before .before .before .before .loop .inv .0
 
 same-length-4 : tie.Need-same-length-4 Inv-loop μ-loop
 same-length-4 c =
     let at-finish = c .before .before .before .before in
-    let at-run-in = at-finish .before .before .before .before .before .before .before .before .before .before .before in
-    at-finish .finish .kept .1 .0 ∙ at-run-in .run-in .kept .1 .1 .1 .1 .1 .1 .0 ∙ at-run-in .before .before .before .loop .inv .1
+    let at-run-in = at-finish .before .before .before .before .before .before .before .before .before .before .before .before in
+    at-finish .finish .kept .1 .0 ∙ at-run-in .run-in .kept .1 .1 .1 .1 .1 .1 .0 ∙ at-run-in .before .before .before .before .loop .inv .1
 
 returns-2 : tie.Need-returns-2 Inv-loop μ-loop
 returns-2 c =
     let at-finish = c .before .before .before .before in
     let at-enum-told = at-finish .before .before .before in
-    let at-run-in = at-enum-told .before .before .before .before .before .before .before .before in
-    let at-loop = at-run-in .before .before .before in
+    let at-run-in = at-enum-told .before .before .before .before .before .before .before .before .before in
+    let at-loop = at-run-in .before .before .before .before in
     let at-start = at-loop .before .before .before .before .before .before .before .before .before .before in
     let a = at-start .args in
     let l = at-loop .loop in
@@ -114,7 +123,7 @@ returns-2 c =
     λ g.
     read-done (a .file .now) (lends (a .names .now) (a .area .now)) (a .nodes .now) (a .attributes .now) (a .st) g (l .nodes) (l .attributes) (l .cur)
     (l .tree) (l .inv .2 g)
-    (q .result) (q .last .1 .1 .1 .1 .1 .0) (q .last .1 .1 .1 .1 .1 .1 .0) (q .kept .1 .1 .1 .1 .1 .0) (q .kept .1 .1 .1 .1 .1 .1 .0) (q .ensures)
+    (q .result) (q .last .1 .1 .1 .1 .1 .0) (q .last .1 .1 .1 .1 .1 .1 .0) (q .kept .1 .1 .1 .1 .1 .0) (q .kept .1 .1 .1 .1 .1 .1 .0) (q .ensures .0)
     (at-enum-told .enum-told .given .1) (r .result) (r .last .0) (r .last .1 .0) (r .ensures)
 
 enum-known-stop-2 : tie.Need-enum-known-stop-2 Inv-loop μ-loop
@@ -135,14 +144,14 @@ note-due-requires c κs =
 same-length-5 : tie.Need-same-length-5 Inv-loop μ-loop
 same-length-5 c =
     let at-note-due = c .before .before .before .before in
-    let at-run-in = at-note-due .before .before .before .before .before .before .before .before .before .before .before .before .before .before .before in
-    at-note-due .note-due .kept .0 ∙ at-run-in .run-in .kept .1 .1 .1 .1 .1 .0 ∙ at-run-in .before .before .before .loop .inv .0
+    let at-run-in = at-note-due .before .before .before .before .before .before .before .before .before .before .before .before .before .before .before .before in
+    at-note-due .note-due .kept .0 ∙ at-run-in .run-in .kept .1 .1 .1 .1 .1 .0 ∙ at-run-in .before .before .before .before .loop .inv .0
 
 same-length-6 : tie.Need-same-length-6 Inv-loop μ-loop
 same-length-6 c =
     let at-note-due = c .before .before .before .before in
-    let at-run-in = at-note-due .before .before .before .before .before .before .before .before .before .before .before .before .before .before .before in
-    at-note-due .note-due .kept .1 .0 ∙ at-run-in .run-in .kept .1 .1 .1 .1 .1 .1 .0 ∙ at-run-in .before .before .before .loop .inv .1
+    let at-run-in = at-note-due .before .before .before .before .before .before .before .before .before .before .before .before .before .before .before .before in
+    at-note-due .note-due .kept .1 .0 ∙ at-run-in .run-in .kept .1 .1 .1 .1 .1 .1 .0 ∙ at-run-in .before .before .before .before .loop .inv .1
 
 returns-3 : tie.Need-returns-3 Inv-loop μ-loop
 returns-3 c =
@@ -151,8 +160,8 @@ returns-3 c =
     let at-is-due = at-if1 .before in
     let at-kind-index = at-is-due .before in
     let at-stop2 = at-kind-index .before .before in
-    let at-run-in = at-stop2 .before .before .before .before .before .before .before .before in
-    let at-loop = at-run-in .before .before .before in
+    let at-run-in = at-stop2 .before .before .before .before .before .before .before .before .before in
+    let at-loop = at-run-in .before .before .before .before in
     let at-start = at-loop .before .before .before .before .before .before .before .before .before .before in
     let a = at-start .args in
     let l = at-loop .loop in
@@ -163,14 +172,14 @@ returns-3 c =
     λ g.
     read-due (a .file .now) (lends (a .names .now) (a .area .now)) (a .nodes .now) (a .attributes .now) (a .st) g (l .nodes) (l .attributes) (l .cur) (l .tree)
     (l .inv .2 g)
-    (q .result) (q .last .1 .1 .1 .1 .1 .0) (q .last .1 .1 .1 .1 .1 .1 .0) (q .kept .1 .1 .1 .1 .1 .0) (q .kept .1 .1 .1 .1 .1 .1 .0) (q .ensures)
+    (q .result) (q .last .1 .1 .1 .1 .1 .0) (q .last .1 .1 .1 .1 .1 .1 .0) (q .kept .1 .1 .1 .1 .1 .0) (q .kept .1 .1 .1 .1 .1 .1 .0) (q .ensures .0)
     (s .0 .0) (s .1) under (r .result) (r .last .0) (r .last .1 .0) (r .ensures)
 
 pass-in-requires : tie.Need-pass-in-requires Inv-loop μ-loop
 pass-in-requires c κs =
     let at-stop2 = c .before .before .before .before in
-    let at-run-in = at-stop2 .before .before .before .before .before .before .before .before in
-    let at-loop = at-run-in .before .before .before in
+    let at-run-in = at-stop2 .before .before .before .before .before .before .before .before .before in
+    let at-loop = at-run-in .before .before .before .before in
     let at-start = at-loop .before .before .before .before .before .before .before .before .before .before in
     let a = at-start .args in
     let l = at-loop .loop in
@@ -178,14 +187,14 @@ pass-in-requires c κs =
     let g = at-start .pre .0 in
     due-within (a .file .now) (lends (a .names .now) (a .area .now)) (a .nodes .now) (a .attributes .now) (a .st) g (l .nodes) (l .attributes) (l .cur) (l .tree)
     (l .inv .2 g)
-    (q .result) (q .last .1 .1 .1 .1 .1 .0) (q .last .1 .1 .1 .1 .1 .1 .0) (q .kept .1 .1 .1 .1 .1 .0) (q .kept .1 .1 .1 .1 .1 .1 .0) (q .ensures)
+    (q .result) (q .last .1 .1 .1 .1 .1 .0) (q .last .1 .1 .1 .1 .1 .1 .0) (q .kept .1 .1 .1 .1 .1 .0) (q .kept .1 .1 .1 .1 .1 .1 .0) (q .ensures .0)
     (at-stop2 .stop2 .given .0 .0) (at-stop2 .stop2 .given .1)
 
 loop-less : tie.Need-loop-less Inv-loop μ-loop
 loop-less c =
     let at-stop2 = c .before .before .before .before .before in
-    let at-run-in = at-stop2 .before .before .before .before .before .before .before .before in
-    let at-loop = at-run-in .before .before .before in
+    let at-run-in = at-stop2 .before .before .before .before .before .before .before .before .before in
+    let at-loop = at-run-in .before .before .before .before in
     let at-start = at-loop .before .before .before .before .before .before .before .before .before .before in
     let a = at-start .args in
     let l = at-loop .loop in
@@ -193,15 +202,15 @@ loop-less c =
     let g = at-start .pre .0 in
     let less = due-less (a .file .now) (lends (a .names .now) (a .area .now)) (a .nodes .now) (a .attributes .now) (a .st) g (l .nodes) (l .attributes) (l .cur)
     (l .tree) (l .inv .2 g)
-    (q .result) (q .last .1 .1 .1 .1 .1 .0) (q .last .1 .1 .1 .1 .1 .1 .0) (q .kept .1 .1 .1 .1 .1 .0) (q .kept .1 .1 .1 .1 .1 .1 .0) (q .ensures)
+    (q .result) (q .last .1 .1 .1 .1 .1 .0) (q .last .1 .1 .1 .1 .1 .1 .0) (q .kept .1 .1 .1 .1 .1 .0) (q .kept .1 .1 .1 .1 .1 .1 .0) (q .ensures .0)
     (at-stop2 .stop2 .given .0 .0) (at-stop2 .stop2 .given .1) in
     omega (arith, less, c .pass-in .ensures .low)
 
 loop-again : tie.Need-loop-again Inv-loop μ-loop
 loop-again c =
     let at-stop2 = c .before .before .before .before .before in
-    let at-run-in = at-stop2 .before .before .before .before .before .before .before .before in
-    let at-loop = at-run-in .before .before .before in
+    let at-run-in = at-stop2 .before .before .before .before .before .before .before .before .before in
+    let at-loop = at-run-in .before .before .before .before in
     let at-start = at-loop .before .before .before .before .before .before .before .before .before .before in
     let a = at-start .args in
     let l = at-loop .loop in
@@ -216,8 +225,9 @@ loop-again c =
           (q .last .1 .1 .1 .1 .1 .1 .0) (q .result .cur) (q .result .tree)
           (read-past (a .file .now) (lends (a .names .now) (a .area .now)) (a .nodes .now) (a .attributes .now) (a .st) g (l .nodes) (l .attributes) (l .cur)
           (l .tree) (l .inv .2 g)
-          (q .result) (q .last .1 .1 .1 .1 .1 .0) (q .last .1 .1 .1 .1 .1 .1 .0) (q .kept .1 .1 .1 .1 .1 .0) (q .kept .1 .1 .1 .1 .1 .1 .0) (q .ensures)
+          (q .result) (q .last .1 .1 .1 .1 .1 .0) (q .last .1 .1 .1 .1 .1 .1 .0) (q .kept .1 .1 .1 .1 .1 .0) (q .kept .1 .1 .1 .1 .1 .1 .0) (q .ensures .0)
           (s .0 .0) (s .1) past) (p .result) (p .ensures),
+      q .ensures .1,
     )
 
 pub read-on-spec : {M : Type 1} → statement M
@@ -227,6 +237,7 @@ read-on-spec =
     Inv-loop
     μ-loop
     loop-holds
+    slice-aggregate-run-in
     run-in-requires
     enum-known-stop
     refuse-requires

@@ -19,16 +19,24 @@ attribute-at-requires : tie.Need-attribute-at-requires
 attribute-at-requires c κs = search needs
 
 attribute-event-requires : tie.Need-attribute-event-requires
-attribute-event-requires c κs = search needs
+attribute-event-requires c κs =
+    let start = c .before .before .before .before .before .before .before .before in
+    (start .pre .0 .0, start .pre .1)
 
 moved-by-requires : tie.Need-moved-by-requires
 moved-by-requires c κs = search needs
 
+same-length : tie.Need-same-length
+same-length c = search needs
+
 returns : tie.Need-returns
 unfolding attributeEvent
 returns c =
-    let a = c .before .before .before .before .before .before .before .before .args in
-    rw (c .moved-by .ensures, c .before .attribute-event .ensures, c .before .before .attribute-at .ensures, rest (a .b .now) (a .c .at))
+    let event = c .before .before .before in
+    let a = c .before .before .before .before .before .before .before .before .before .before .before .before .args in (
+      rw (c .moved-by .ensures, event .attribute-event .ensures .0, event .before .before .attribute-at .ensures, rest (a .b .now) (a .c .at)),
+      event .attribute-event .ensures .1,
+    )
 
 pub attribute-step-spec : {M : Type 1} → statement M
 attribute-step-spec =
@@ -40,4 +48,5 @@ attribute-step-spec =
     attribute-at-requires
     attribute-event-requires
     moved-by-requires
+    same-length
     returns)

@@ -1,0 +1,56 @@
+-- What is remembered of indices while a file is read: what a look at the text of an index tells of a name. Not part of what a reader must believe.
+--
+--   lookBy      state of the text and sort of name as one number: 8 for no text, else twice the state, and 1 more for a valid name. So 1 is a valid name
+--               whose text is whole, as most are
+--   lookOf      that number of what an index stands for
+--   stateBy     the sort of name that a look tells
+--   lookStep    the step at an element's name, by a look at it
+--   markOf      what is kept of an index and a look: 16 times the index and one more, and the look; 0 says nothing
+--   Remembers   1,024 such marks: an index whose mark stands anywhere has the look that it says
+use Prim.Native.Nat.{ℕ, _+_, _*_, _/_, _%_}
+use mathlib.Core.Path.{_≡_}
+use mathlib.Core.List.{List}
+use mathlib.Core.Bool.{cond}
+use lib.ListN.{length, getD}
+use lib.Dec.{eqb, ltb}
+use Rattle.utf.specs.Text.{stateNumber}
+use Rattle.system_types.specs.Names.{Lent}
+use Rattle.text.specs.Content.{Content, contentOf, damageIn, stateIn}
+use Rattle.text.specs.declared.Head.{Head}
+use Rattle.text.specs.declared.NameState.{NameState}
+use Rattle.text.specs.declared.NameState.the-variants.{NoText, Invalid, Valid}
+use Rattle.anomaly.specs.declared.ResAnomaly.the-variants.{InvalidElementName, DamagedElementName}
+use Rattle.events.specs.declared.Event.the-variants.{Note}
+use Rattle.events.specs.declared.Phase.the-variants.{AtNamed, AtOpen}
+use Rattle.events.specs.declared.Cursor.{Cursor}
+use Rattle.events.specs.declared.Step.{Step}
+use Rattle.events.specs.Inner.Steps.{toStep, openStep}
+
+abbrev pub lookBy : ℕ → NameState → ℕ
+lookBy d NoText = 8
+lookBy d Invalid = 2 * d
+lookBy d Valid = 2 * d + 1
+
+abbrev pub lookOf : Content → ℕ
+lookOf k = lookBy (stateNumber (damageIn k)) (stateIn k)
+
+abbrev pub stateBy : ℕ → NameState
+stateBy n = cond (eqb n 8) NoText (cond (eqb (n % 2) 1) Valid Invalid)
+
+abbrev pub lookStep : Cursor → ℕ → Step
+lookStep c n =
+    cond (eqb n 1) (openStep c 0)
+    (cond (eqb n 8) (toStep c (Note (InvalidElementName (c .start .name) 0)) AtOpen)
+    (cond (ltb n 2) (toStep c (Note (InvalidElementName (c .start .name) 1)) AtOpen)
+    (toStep c (Note (DamagedElementName (c .start .name) (n / 2))) AtNamed)))
+
+abbrev pub markOf : ℕ → ℕ → ℕ
+markOf i look = 16 * (i + 1) + look
+
+-- how many are kept
+abbrev pub places : ℕ
+places = 1024
+
+pub record Remembers (h : Head) (t : List ℕ) (lent : Lent) (memory : List ℕ) : Type 0 where
+  pub room : length memory ≡ places
+  pub tells : (j i : ℕ) → getD memory j 0 / 16 ≡ i + 1 → getD memory j 0 % 16 ≡ lookOf (contentOf h t lent i)
