@@ -2,6 +2,9 @@
 
   ordinary(size)   elements as an application's manifest has them, with several attributes each, closed, up to so many bytes
   HOSTILE          name, function: files that make a reader work
+  LONG             name, function: files of long names, each used often
+  LONG_16          the same, of 16 MiB
+  SLOW             name, function: files that are slow still
   REPEATING        name, function, whether names are lent: elements whose attributes repeat
   real()           (name, bytes): manifests that aapt makes of oracle/real.py's texts, the framework's own, and the longest of its other files.
                    Manifests have UTF-16 pools, whatever aapt is told; the other files have UTF-8 ones.
@@ -211,6 +214,26 @@ HOSTILE = (("2,000,000 foreign chunks in a run", foreign, 11),
            ("8,192 attributes, UTF-16", lambda: many_attributes(8192, wide=True), 3),
            ("8,192 attributes, the first 100 letters the same", lambda: many_attributes(8192, "a" * 100), 3),
            ("65,535 attributes of different names", lambda: many_attributes(65_535), 0))
+
+LONG = (("one long name in one element", lambda: in_turns(1_500_000, 1, each=30_000)),
+        ("one long name, once in each element", lambda: in_turns(1_000_000, 1)),
+        *((f"{n:,} long names in turns", lambda n=n: in_turns(1_000_000, n)) for n in (2, 17, 257, 1025, 4097)),
+        *((f"{n:,} long names in turns, UTF-8", lambda n=n: in_turns(1_000_000, n, True)) for n in (1, 17, 257, 1025, 4097)),
+        ("17 long Cyrillic names in turns", lambda: in_turns(1_000_000, 17, letter="\u0436")),
+        ("one long element name", lambda: in_turns(400_000, 1, tags=True)),
+        ("17 long element names in turns", lambda: in_turns(1_000_000, 17, tags=True)),
+        ("one long name that is not valid", lambda: in_turns(1_000_000, 1, bad=True)))
+
+LONG_16 = (("one long name in elements of 65,535", lambda: in_turns(LIMIT, 1, each=65_535)),
+           ("one long name, once in each element", lambda: in_turns(LIMIT, 1)),
+           *((f"{n:,} long names in turns", lambda n=n: in_turns(LIMIT, n)) for n in (17, 257, 1025, 4097)),
+           *((f"{n:,} long names in turns, UTF-8", lambda n=n: in_turns(LIMIT, n, True)) for n in (257, 1025, 4097)),
+           ("17 long element names in turns", lambda: in_turns(LIMIT, 17, tags=True)),
+           ("17 long names that are not valid", lambda: in_turns(LIMIT, 17, bad=True)))
+
+# Left slow, and so in no bar: two names whose indices are 1,024 apart, and strings that lie in each other (docs/DECISIONS.md, 33).
+SLOW = (("two long names 1,024 indices apart", lambda: in_turns(1_000_000, 2, step=1024)),
+        ("strings that lie in each other", lambda: overlapping(1_000_000)))
 
 # Texts of oracle/real.py whose manifests have from 2 to 400 KB.
 MANIFESTS = (46, 1, 5, 19, 2, 25)

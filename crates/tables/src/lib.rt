@@ -4,19 +4,21 @@
 // Definitions: records/specs/Repeats.antt. Differs from the Rust: names are compared where they lie, by text, and nothing is copied.
 ghost use mathlib.Core.Path.{_≡_};
 ghost use mathlib.Core.List.{_++_};
+ghost use mathlib.Core.Bool.{true};
 ghost use Prim.Native.Nat.{ℕ, _-_, _≤_, _<_};
 ghost use lib.ListN.{length, take, replicate, set};
 ghost use Rattle.records.specs.Words.{attributeWords};
 ghost use Rattle.records.specs.Repeats.{byPrefix, sameSpace, isRepeat};
 ghost use Rattle.system_types.specs.Names.{lends};
-ghost use Rattle.text.specs.Content.{sameName};
-ghost use Rattle.text.specs.Inner.Found.{Asks};
+ghost use Rattle.text.specs.Content.{contentOf, isName, plainIn, sameName};
+ghost use Rattle.text.specs.Inner.Found.{Asks, Inside, partOf};
 use common::StringIndex;
 use records::ATTRIBUTE_NAME;
 use records::ATTRIBUTE_NAMESPACE;
 use records::ATTRIBUTE_PREFIX;
 use records::ATTRIBUTE_WORDS;
 use records::OWN_PREFIX;
+use text::Found;
 use text::Head;
 use text::find;
 use text::is_plain_found;
@@ -71,8 +73,24 @@ fn same_space(
     same_index(t, names, area, h, old, new)
 }
 
+// The prefix of the leading attribute, the one whose name nothing is known of.
+const LEADING_PREFIX: u32 = 2;
+
+// Whether no other bytes in the same encoding have the name that was found. Under any prefix but that of the leading attribute it is valid, and
+// a valid name in UTF-16 is sound and not empty, so that it is not passed over.
+// Ruled out: yes for a name of UTF-8 that is valid and not ASCII, and yes for the leading attribute's where its text is refused.
+fn is_plain_name(t: &[u8], area: &[u8], wide: bool, prefix: u32, f: Found) -> bool
+    requires { ⌜ Inside (now t) (now area) f × ((prefix ≡ 2 → ⊥) → isName (partOf wide (now t) (now area) f) ≡ true) ⌝ }
+    ensures { λ r. ⌜ r ≡ plainIn (partOf wide (now (t .entry)) (now (area .entry)) f) ⌝ }
+{
+    if wide & (prefix != LEADING_PREFIX) {
+        return true;
+    }
+    is_plain_found(t, area, wide, f)
+}
+
 // Whether an attribute of this prefix, name and namespace, whatever its other words, repeats one of these (W23). The name's own text is
-// found once, and looked at once: where it is plain, bytes are compared, and its marks tell most names apart before they are looked up.
+// found once, and looked at once, or not at all (`is_plain_name`): where it is plain, bytes are compared, and its marks tell most names apart before they are looked up.
 // Ruled out: yes for the same index under another prefix, and no for another index whose text is the same.
 pub fn has(
     t: &[u8],
@@ -84,7 +102,8 @@ pub fn has(
     name: StringIndex,
     ns: StringIndex,
 ) -> bool
-    requires { ⌜ Asks (now t) (lends (now names) (now area)) h ⌝ }
+    requires { ⌜ Asks (now t) (lends (now names) (now area)) h
+        × ((prefix ≡ 2 → ⊥) → isName (contentOf h (now t) (lends (now names) (now area)) (name .0)) ≡ true) ⌝ }
     ensures { λ r. ⌜ ((owner kind «data» : ℕ) → r ≡ isRepeat (byPrefix (sameName h (now (t .entry)) (lends (now (names .entry)) (now (area .entry)))))
         (attributeWords owner prefix (name .0) kind «data» (ns .0)) (now (words .entry))) ⌝ }
 {
@@ -92,7 +111,7 @@ pub fn has(
         return false;
     }
     let wanted = find(t, names, area, h, name);
-    let plain = is_plain_found(t, area, h.wide, wanted);
+    let plain = is_plain_name(t, area, h.wide, prefix, wanted);
     let marks = marks_of(t, names, area, h, plain, wanted);
     let mut i = 0;
     while ATTRIBUTE_WORDS <= words.len() - i {

@@ -1,10 +1,12 @@
--- What is known to be plain, by where it was found; the Android namespace is (`known-android`), and its own text (`isText-android`).
+-- What is known to be plain, by where it was found; the Android namespace is (`known-android`), and its own text (`isText-android`), and so in UTF-16.
 use Prim.Native.Nat.{ℕ, _+_, _-_}
 use mathlib.Core.Path.{_≡_, refl, sym, ap, _∙_}
-use mathlib.Core.List.{List}
-use mathlib.Core.Bool.{Bool, true, false, true≢false}
+use mathlib.Core.List.{List, [], _∷_}
+use mathlib.Core.Bool.{Bool, true, false, not, true≢false}
 use lib.ListN.{take, drop}
-use Rattle.utf.specs.Text.{textOf}
+use Rattle.utf.specs.Utf8.{encode}
+use Rattle.utf.specs.Utf16.{step16}
+use Rattle.utf.specs.Text.{stepsAfter, bytesOf, allSound, textOf, eqBytes}
 use Rattle.utf.specs.Plain.{isAscii, isPlain, Known}
 use Rattle.text.specs.declared.Found.{Found}
 use Rattle.text.specs.declared.Found.the-variants.{System, Pool}
@@ -26,6 +28,24 @@ android-ascii = refl
 
 pub known-android : Known true (isPlain false androidUri)
 known-android = record { holds = λ _. android-ascii }
+
+-- the same in UTF-16
+abbrev androidWide : List ℕ
+androidWide =
+    104 ∷ 0 ∷ 116 ∷ 0 ∷ 116 ∷ 0 ∷ 112 ∷ 0 ∷ 58 ∷ 0 ∷ 47 ∷ 0 ∷ 47 ∷ 0 ∷ 115 ∷ 0 ∷ 99 ∷ 0 ∷ 104 ∷ 0 ∷ 101 ∷ 0 ∷ 109 ∷ 0 ∷ 97 ∷ 0 ∷ 115 ∷ 0 ∷ 46 ∷
+    0 ∷ 97 ∷ 0 ∷ 110 ∷ 0 ∷ 100 ∷ 0 ∷ 114 ∷ 0 ∷ 111 ∷ 0 ∷ 105 ∷ 0 ∷ 100 ∷ 0 ∷ 46 ∷ 0 ∷ 99 ∷ 0 ∷ 111 ∷ 0 ∷ 109 ∷ 0 ∷ 47 ∷ 0 ∷ 97 ∷ 0 ∷ 112 ∷ 0 ∷
+    107 ∷ 0 ∷ 47 ∷ 0 ∷ 114 ∷ 0 ∷ 101 ∷ 0 ∷ 115 ∷ 0 ∷ 47 ∷ 0 ∷ 97 ∷ 0 ∷ 110 ∷ 0 ∷ 100 ∷ 0 ∷ 114 ∷ 0 ∷ 111 ∷ 0 ∷ 105 ∷ 0 ∷ 100 ∷ 0 ∷ []
+
+android-text : textOf true androidWide ≡ androidUri
+unfolding textOf stepsAfter bytesOf allSound step16 encode
+android-text = refl
+
+pub known-android-wide : Known true (isPlain true androidWide)
+unfolding eqBytes
+known-android-wide = record { holds = λ _. ap (λ (s : List ℕ). not (eqBytes [] s)) android-text }
+
+pub isText-android-wide : {a b : Content} {r : Bool} → r ≡ isText a (textOf true androidWide) → a ≡ b → r ≡ isAndroid b
+isText-android-wide {a} e f = e ∙ ap (isText a) android-text ∙ ap isAndroid f
 
 pub isText-android : {a b : Content} {r : Bool} → r ≡ isText a (textOf false androidUri) → a ≡ b → r ≡ isAndroid b
 isText-android {a} e f = e ∙ ap (isText a) (textOf-system androidUri android-ascii) ∙ ap isAndroid f

@@ -55,6 +55,10 @@ pub struct Head {
 // The Android namespace.
 pub const ANDROID_URI: [u8; 42] = *b"http://schemas.android.com/apk/res/android";
 
+// The same in UTF-16.
+const ANDROID_WIDE: [u8; 84] =
+    *b"h\0t\0t\0p\0:\0/\0/\0s\0c\0h\0e\0m\0a\0s\0.\0a\0n\0d\0r\0o\0i\0d\0.\0c\0o\0m\0/\0a\0p\0k\0/\0r\0e\0s\0/\0a\0n\0d\0r\0o\0i\0d\0";
+
 // Where the text of an index lies.
 pub enum Found {
     // no text
@@ -276,12 +280,16 @@ pub fn is_index_text(
     same_part(t, area, h.wide, false, false, bytes, f)
 }
 
-// Whether an index has a text and it is the Android namespace, which is plain, so that bytes of its encoding decide.
+// Whether an index has a text and it is the Android namespace, which is plain in either encoding, so that a string of the pool is told by its
+// length and its bytes, however long it is.
 // Ruled out: yes for a text that begins with it, and no for its UTF-16 or for a system name.
 pub fn is_android(t: &[u8], names: &[u32], area: &[u8], h: Head, index: StringIndex) -> bool
     requires { ⌜ Asks (now t) (lends (now names) (now area)) h ⌝ }
     ensures { λ r. ⌜ r ≡ isAndroid (contentOf h (now (t .entry)) (lends (now (names .entry)) (now (area .entry))) (index .0)) ⌝ }
 {
     let f = find(t, names, area, h, index);
+    if h.wide {
+        return same_part(t, area, h.wide, true, true, &ANDROID_WIDE, f);
+    }
     same_part(t, area, h.wide, true, false, &ANDROID_URI, f)
 }

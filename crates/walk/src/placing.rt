@@ -5,7 +5,6 @@
 ghost use Rattle.records.specs.Repeats.{Rule, byPrefix};
 ghost use Rattle.system_types.specs.Names.{lends};
 ghost use Rattle.text.specs.Content.{sameName};
-ghost use Rattle.text.specs.Inner.Found.{Asks};
 ghost use Rattle.events.specs.declared.Event.the-variants.{Open, Attribute, Close};
 ghost use Rattle.head.specs.Head.{tablesIn};
 ghost use Rattle.events.specs.Inner.Remembered.{Remembers};
@@ -92,7 +91,7 @@ fn keep_place(
     prefix: u32,
     a: XmlAttributeElement,
 ) -> Placed
-    requires { ⌜ Asks (now t) (lends (now names) (now area)) h × Fit (now nodes) (now attributes) tree ⌝ }
+    requires { ⌜ AsksFor (Attribute prefix a) (now t) (lends (now names) (now area)) h × Fit (now nodes) (now attributes) tree ⌝ }
     ensures { λ r. ⌜ Places (byPrefix (sameName h (now (t .entry)) (lends (now (names .entry)) (now (area .entry))))) r
         (now (nodes .entry)) (now (attributes .entry)) tree (Attribute prefix a) (now (nodes .exit)) (now (attributes .exit)) ⌝ }
 {

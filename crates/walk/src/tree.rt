@@ -13,8 +13,8 @@ ghost use Rattle.records.specs.Words.{nodeWidth, nodeParent};
 ghost use Rattle.records.specs.Repeats.{byPrefix};
 ghost use Rattle.system_types.specs.Names.{lends};
 ghost use Rattle.text.specs.Content.{sameName};
-ghost use Rattle.text.specs.Inner.Found.{Asks};
-ghost use Rattle.walk.specs.Inner.Tree.{parentOf, openedTree, closedTree, keptTree, openedWords, keptNodes, keptAttributes, Fit, Keeps};
+ghost use Rattle.events.specs.declared.Event.the-variants.{Attribute};
+ghost use Rattle.walk.specs.Inner.Tree.{parentOf, openedTree, closedTree, keptTree, openedWords, keptNodes, keptAttributes, Fit, Keeps, AsksFor};
 use common::StringIndex;
 use records::ATTRIBUTE_WORDS;
 use records::NO_PARENT;
@@ -181,7 +181,7 @@ pub fn keep(
     prefix: u32,
     a: XmlAttributeElement,
 ) -> Put
-    requires { ⌜ Asks (now t) (lends (now names) (now area)) h × Fit (now nodes) (now attributes) tree ⌝ }
+    requires { ⌜ AsksFor (Attribute prefix a) (now t) (lends (now names) (now area)) h × Fit (now nodes) (now attributes) tree ⌝ }
     ensures { λ r. ⌜ Keeps (byPrefix (sameName h (now (t .entry)) (lends (now (names .entry)) (now (area .entry))))) r tree prefix a
         (now (nodes .entry)) (now (attributes .entry)) (now (nodes .exit)) (now (attributes .exit)) ⌝ }
 {

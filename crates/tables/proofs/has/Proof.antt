@@ -2,7 +2,7 @@
 -- the prefix asks for it.
 -- Invariant: no record before i is one, whichever index the wanted text was found for; what is known of it. Measure: the words left.
 use Prim.Native.Nat.{ℕ, _-_, _≤_}
-use mathlib.Core.Path.{_≡_, refl, sym, _∙_}
+use mathlib.Core.Path.{_≡_, refl, sym, _∙_, ap}
 use mathlib.Core.Logic.{⊎-elim}
 use native.Mathlib.Nat.{sub-zero}
 use native.Mathlib.Omega.{arith}
@@ -12,7 +12,7 @@ use Rattle.utf.specs.Plain.{Known}
 use Rattle.records.specs.Words.{attributeWords}
 use Rattle.records.specs.Repeats.{byPrefix, isRepeat}
 use Rattle.system_types.specs.Names.{lends}
-use Rattle.text.specs.Content.{plainIn, sameName}
+use Rattle.text.specs.Content.{isName, plainIn, sameName}
 use Rattle.text.specs.Inner.Found.{partOf, Finds}
 use Rattle.text.proofs.Plains.{known-of}
 use Rattle.tables.proofs.Keys.{repeat-end, repeat-found, repeat-prefix, repeat-name, repeat-space, same-found}
@@ -38,24 +38,31 @@ returns c =
 find-requires : tie.Need-find-requires Inv-loop μ-loop
 find-requires c κs = search needs
 
-is-plain-found-requires : tie.Need-is-plain-found-requires Inv-loop μ-loop
-is-plain-found-requires c κs = search needs
+is-plain-name-requires : tie.Need-is-plain-name-requires Inv-loop μ-loop
+is-plain-name-requires c κs =
+    let start = c .before .before .before .before .before .before in
+    let wanted = c .find .ensures in
+    (wanted .inside, λ n. ap isName (wanted .same) ∙ start .pre .1 n)
 
 marks-of-requires : tie.Need-marks-of-requires Inv-loop μ-loop
 marks-of-requires c κs =
-    (c .before .before .before .before .before .before .before .pre .fits, c .before .find .ensures .inside, known-of (c .is-plain-found .ensures))
+    (c .before .before .before .before .before .before .before .pre .0 .fits, c .before .find .ensures .inside, known-of (c .is-plain-name .ensures))
 
 loop-holds : tie.Need-loop-holds Inv-loop μ-loop
-loop-holds c = (search needs, known-of (c .before .is-plain-found .ensures), λ _ _ _ _ _. refl)
+loop-holds c = (search needs, known-of (c .before .is-plain-name .ensures), λ _ _ _ _ _. refl)
 
 sub-loop : tie.Need-sub-loop Inv-loop μ-loop
 sub-loop c = search needs
 
 add-if2 : tie.Need-add-if2 Inv-loop μ-loop
-add-if2 c = search needs
+add-if2 c =
+    let start = c .before .before .before .before .before .before .before .before .before .before in
+    omega (arith, c .before .loop .inv .0, start .good .1 .1 .1 .1 .0)
 
 mul-if2 : tie.Need-mul-if2 Inv-loop μ-loop
-mul-if2 c = search needs
+mul-if2 c =
+    let start = c .before .before .before .before .before .before .before .before .before .before in
+    omega (arith, c .before .loop .inv .0, start .good .1 .1 .1 .1 .0)
 
 shared-slice-read-if2 : tie.Need-shared-slice-read-if2 Inv-loop μ-loop
 shared-slice-read-if2 c = search needs
@@ -79,7 +86,7 @@ same-as-known-requires : tie.Need-same-as-known-requires Inv-loop μ-loop
 same-as-known-requires c κs =
     let at-loop = c .before .before .before .before in
     let start = at-loop .before .before .before .before .before .before .before .before .before in
-    (start .pre, at-loop .before .before .before .find .ensures, at-loop .loop .inv .1, at-loop .before .marks-of .ensures)
+    (start .pre .0, at-loop .before .before .before .find .ensures, at-loop .loop .inv .1, at-loop .before .marks-of .ensures)
 
 add-t27 : tie.Need-add-t27 Inv-loop μ-loop
 add-t27 c =
@@ -95,7 +102,7 @@ shared-slice-read-t30 : tie.Need-shared-slice-read-t30 Inv-loop μ-loop
 shared-slice-read-t30 c = search needs
 
 same-space-requires : tie.Need-same-space-requires Inv-loop μ-loop
-same-space-requires c κs = search needs
+same-space-requires c κs = c .before .before .before .before .before .before .before .before .before .before .before .before .before .before .before .before .pre .0
 
 returns-2 : tie.Need-returns-2 Inv-loop μ-loop
 returns-2 c =
@@ -168,7 +175,7 @@ has-spec =
     μ-loop
     returns
     find-requires
-    is-plain-found-requires
+    is-plain-name-requires
     marks-of-requires
     loop-holds
     sub-loop

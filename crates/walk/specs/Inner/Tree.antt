@@ -5,7 +5,7 @@
 --   Tied         the numbers tell the tables: the open elements are the list o, linked by the parent words
 --   Keeps        what `keep` does with an attribute: it Repeats one, Lacks a place, or `keep` Stores it
 --   Places       what `place` does with an event: it is PutAway, one push of specs/Settle.antt; or it is refused, or Passes to the caller
---   AsksFor      an attribute asks for texts; no other event does
+--   AsksFor      an attribute asks for texts, and its name is valid but for the leading one's; no other event asks
 use Prim.Native.Nat.{ℕ, _+_, _-_, _*_, _≤_, _<_}
 use mathlib.Core.Path.{_≡_}
 use mathlib.Core.List.{List, [], _∷_, _++_}
@@ -13,6 +13,7 @@ use mathlib.Core.Bool.{Bool, true, false, cond}
 use lib.ListN.{length, take, drop, set, getD}
 use lib.Dec.{eqb}
 use Rattle.anomaly.specs.declared.Note.{Note as NoteOf}
+use Rattle.text.specs.Content.{contentOf, isName}
 use Rattle.text.specs.Inner.Found.{Asks}
 use Rattle.text.specs.declared.Head.{Head}
 use Rattle.xml_elements.specs.declared.XmlAttributeElement.{XmlAttributeElement}
@@ -164,7 +165,7 @@ NotEnd (Due x) e = Unit {0}
 NotEnd Finished e = Unit {0}
 
 abbrev pub AsksFor : Event → List ℕ → Lent → Head → Type 0
-AsksFor (Attribute p a) t lent h = Asks t lent h
+AsksFor (Attribute p a) t lent h = Asks t lent h × ((p ≡ 2 → ⊥) → isName (contentOf h t lent (a .name .0)) ≡ true)
 AsksFor Nothing t lent h = Unit {0}
 AsksFor (Open n x l) t lent h = Unit {0}
 AsksFor (LeftOut n) t lent h = Unit {0}

@@ -9,7 +9,7 @@ use Rattle.walk.proofs.placing.keep_place.Statement.{statement}
 use Rattle.walk.proofs.placing.keep_place.Tie as tie
 
 keep-requires : tie.Need-keep-requires
-keep-requires c κs = search needs
+keep-requires c κs = c .before .before .before .before .before .before .before .pre
 
 enum-told : tie.Need-enum-told
 enum-told c = search needs

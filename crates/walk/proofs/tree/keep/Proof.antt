@@ -30,7 +30,7 @@ part-has-end : tie.Need-part-has-end
 part-has-end c = search needs
 
 has-requires : tie.Need-has-requires
-has-requires c κs = search needs
+has-requires c κs = c .before .before .before .before .before .before .before .before .before .before .before .before .pre .0
 
 same-length : tie.Need-same-length
 same-length c = search needs
