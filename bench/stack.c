@@ -74,7 +74,7 @@ int main(int argc, char **argv)
         file = realloc(file, (1 << 24) + 1);
         bytes = fread(file, 1, (1 << 24) + 1, f);
         fclose(f);
-        words[0] = AXML_NODE_WORDS * (bytes / 36 + 1), words[1] = AXML_ATTRIBUTE_WORDS * (bytes / 20 + 2), words[2] = 3 * 13 * 16;
+        words[0] = AXML_NODE_WORDS * (bytes / 36 + 1), words[1] = AXML_ATTRIBUTE_WORDS * (bytes / 20 + 2), words[2] = 3 * AXML_NOTE_PLACES(16u);
         for (int k = 0; k < 3; k++) table[k] = realloc(table[k], 4 * words[k]);
         for (int k = 0; k < 4; k++) {
             size_t n = used(calls[k]) - base;

@@ -38,7 +38,7 @@ uint32_t axml_abi(void);
 #define AXML_PAIR_ANSWER_WORDS 4u
 
 /* Kinds of notes: enum axml_note_kind. */
-#define AXML_NOTE_KINDS 13u
+#define AXML_NOTE_KINDS 14u
 
 /* Places that suffice for every file of so many bytes, and for every file at that cap: with them no reading is refused with AXML_NODES_FULL,
  * AXML_ATTRIBUTES_FULL or AXML_NOTES_FULL. An element takes at least 36 bytes and an attribute 20; one attribute leads, which takes none. */
@@ -97,7 +97,8 @@ enum axml_note_kind {
   AXML_INVALID_ELEMENT_NAME = 9,          /* a: name index, b: 1 if it has a text */
   AXML_INVALID_ATTRIBUTE_NAME = 10,       /* a: name index */
   AXML_TRUNCATED_XML = 11,                /* a: 0 */
-  AXML_UNCLOSED_ELEMENTS = 12             /* a: depth */
+  AXML_UNCLOSED_ELEMENTS = 12,            /* a: depth */
+  AXML_DAMAGED_ELEMENT_NAME = 32          /* a: name index, b: the state of its text, 1 replaced characters, 2 bad UTF-16, 3 cut or outside */
 };
 
 /* How a reading tells the namespace of an attribute (B16). */

@@ -38,7 +38,7 @@ def main(program, seed, count):
                 if ours != theirs:
                     print(f"{what} differs, names {k}, cap {cap}: {f.hex()}\nrules: {ours}\nRust:  {theirs}")
                     sys.exit(1)
-            same("reading", model.coarse(right), a.reading() if cap else model.OFF)
+            same("reading", model.as_rust(right), a.reading() if cap else model.OFF)
             refused[right[0]] = refused.get(right[0], 0) + 1
             if a.texts:
                 head = model.Head(f, names, lambda *_: None, set(), "")
@@ -56,8 +56,9 @@ def main(program, seed, count):
             room = [rust.NODE * due[0] + 3, rust.ATTRIBUTE * due[1] + 3, due[2] + 1]
             t = r.randrange(3)
             room[t] = r.randrange(room[t] + 1)
-            same(f"reading with room {room}", model.coarse(model.read(f, names, cap, room, trusted=True)), cases.told_answer(a, cap, room))
-            rooms += 1
+            if not model.damaged(right):  # what a note 32 needs of the room the Rust does not tell
+                same(f"reading with room {room}", model.coarse(model.read(f, names, cap, room, trusted=True)), cases.told_answer(a, cap, room))
+                rooms += 1
     print(f"seed {seed}: {count} files agree; refusals {dict(sorted(refused.items()))}; texts {told}, first values found {firsts}, short rooms {rooms}")
 
 

@@ -8,6 +8,7 @@
                                            the text questions of two files of cases, and those of every system name, for crates/text_cases
   python3 cases.py pack-replay READS QUESTIONS OUT
                                            the other cases of two files, and broken names, for crates/replay
+  python3 cases.py again OUT               what pack-replay wrote, its readings answered anew by model.py, which are the Rust's but for notes 32
 
 PROGRAM is build's OUT_DIR/axml-oracle. The same program and this folder give the same bytes.
 
@@ -405,7 +406,8 @@ def make_reads(program, path):
             room = rust.NODE * due[0] + r.randrange(12), rust.ATTRIBUTE * due[1] + r.randrange(12), due[2] + r.randrange(3)
         answer = told_answer(a, cap, room)
         right, told = look(f, k, cap, room)
-        assert model.coarse(right) == answer, f.hex()
+        # what a note 32 needs of the room the Rust does not tell
+        assert model.coarse(right) == answer or model.damaged(model.read(f, NAMES[k], cap, trusted=True)), f.hex()
         for x in told:
             counted[x] = counted.get(x, 0) + 1
         cases.append(read_case(k, cap, 1, room, f, right))
@@ -417,7 +419,7 @@ def make_reads(program, path):
     for f, k, cap, mode, room in asked:
         if room is None:
             all_ = model.read(f, NAMES[k], cap, trusted=True, mode=mode)
-            room = rust.NODE * (len(all_[3]) + all_[2]) + 3, rust.ATTRIBUTE * (len(all_[4]) + 40), 104
+            room = rust.NODE * (len(all_[3]) + all_[2]) + 3, rust.ATTRIBUTE * (len(all_[4]) + 40), 112
         right, told = look(f, k, cap, room, mode=mode)
         for x in told:
             counted[x] = counted.get(x, 0) + 1
@@ -650,15 +652,52 @@ def replay_cases(reads, questions):
 
 
 def read_row(names, lent, mode, f, answer, tables):
-    """With no names, a cap of 8, the first mode and 104 places the answer is the same where no more than 8 notes of a kind were kept, and 10 is not the answer."""
+    """With no names, a cap of 8, the first mode and 112 places the answer is the same where no more than 8 notes of a kind were kept, and 10 is not the answer."""
     kinds = tables[2][::3]
     listed = not names.words and mode == 1 and lent[0] >= 8 and answer[0] != 10 and all(kinds.count(x) <= 8 for x in kinds)
     return names, 2, [*lent, int(listed), *answer], [f, *(words(*t) for t in tables)], [mode]
 
 
-def pack_replay(reads, questions, path):
+def packed_cases(path):
+    """The cases that pack-replay wrote, readings answered anew by the model: where a note 32 has no part in them, the stored answer must be the same."""
+    with open(path, "rb") as f:
+        b = f.read()
+
+    def part(at):
+        begin, n = struct.unpack_from("<2I", b, at)
+        return b[begin:begin + n]
+
+    def unpacked(w):
+        return list(struct.unpack(f"<{len(w) // 4}I", w))
+
+    at, n = struct.unpack_from("<2I", b, 0)
+    for entry in range(at, at + n, 24):
+        names = model.Names(unpacked(part(entry)), part(entry + 8))
+        first, size = struct.unpack_from("<2I", b, entry + 16)
+        for row in range(first, first + size, 84):
+            w = unpacked(b[row:row + 84])
+            if w[0] == 2:
+                f, (cap, *room), mode = part(row + 48), w[1:5], w[20]
+                stored = tuple(w[6:9]), *(part(row + 56 + 8 * k) for k in range(3))
+                answer = model.read(f, names, cap, room, mode=mode)
+                if answer[0] == 10 and w[6] != 10:  # the room of a reading that had just enough
+                    room[2] += sum(n[0] == 32 for n in model.read(f, names, cap, mode=mode)[5])
+                    answer = model.read(f, names, cap, room, mode=mode)
+                tables = [[x for record in t for x in record] for t in answer[3:]]
+                if not model.damaged(model.read(f, names, cap, mode=mode)):
+                    assert stored == (tuple(answer[:3]), *(words(*t) for t in tables)), f.hex()
+                yield read_row(names, [cap, *room], mode, f, [*answer[:3], *map(len, answer[3:])], tables)
+            elif w[0] == 4:
+                yield names, 4, w[1:8], [part(row + 32 + 8 * k) for k in range(5)]
+            elif w[0] == 5:
+                yield names, 5, w[1:2], [part(row + 8)]
+            else:
+                yield names, 6, w[1:4], []
+
+
+def pack_replay(path, packed):
     sets, parts, many = {}, Parts(8), {}
-    for names, kind, w, held, *behind in replay_cases(reads, questions):
+    for names, kind, w, held, *behind in packed:
         row = words(kind, *w, *(x for b in held for x in parts.place(b)), *(x for b in behind for x in b))
         sets.setdefault((tuple(names.words), names.area), []).append(row + bytes(84 - len(row)))
         many[kind] = many.get(kind, 0) + 1
@@ -801,4 +840,8 @@ if __name__ == "__main__":
     if what == "check":
         check(sys.argv[2])
     else:
-        {"texts": make_texts, "reads": make_reads, "questions": make_questions, "pack": pack, "pack-replay": pack_replay}[what](*sys.argv[2:])
+        {
+            "texts": make_texts, "reads": make_reads, "questions": make_questions, "pack": pack,
+            "pack-replay": lambda reads, questions, path: pack_replay(path, replay_cases(reads, questions)),
+            "again": lambda path: pack_replay(path, list(packed_cases(path))),
+        }[what](*sys.argv[2:])

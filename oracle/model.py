@@ -68,6 +68,8 @@ WRONG = {
     "depth_below_zero": "W25", "depth_is_open": "W25", "first_element_popped": "W26", "end_by_name": "W26", "end_closes_two": "W26",
     "note_12_never": "W27", "note_12_counts_open": "W27", "note_12_only_if_whole": "W27", "no_start_is_empty": "W28",
     "finished_children_kept": "W29", "nothing_dropped": "W29", "starts_are_nodes": "B15", "dropped_notes_too": "W29", "dropped_attributes_counted": "W29",
+    "note_32_after_9": "B3", "note_32_for_no_text": "W30", "note_32_for_cut_start": "W30", "note_32_once": "W30", "note_32_tells_how_many": "W30",
+    "note_32_for_attributes": "W30", "own_replacement_is_damage": "W30", "bad_utf16_before_cut": "W30", "hidden_string_is_damage": "W30", "note_32_in_cap_of_9": "B13",
     "node_before_note_9": "B3", "past_cap_due": "B4", "repeat_due": "B4", "dropped_need_no_room": "B5", "places_rounded_up": "B6",
     "nodes_of_five_words": "B6", "attributes_of_five_words": "B6", "ns_0_without_text": "B11", "ns_of_last": "B11", "lead_ns_none": "B11",
     "own_is_android": "W22", "android_by_front": "W22", "own_0_if_empty": "W22", "own_merged_by_name": "W23", "own_by_index": "W23",
@@ -118,6 +120,15 @@ def coarse(answer):
     return (answer[0] // 10, 0, *answer[2:]) if answer[0] in PARTS.values() else answer
 
 
+def as_rust(answer):
+    """A reading as the Rust tells it, which has no note 32."""
+    return (*coarse(answer)[:5], [n for n in answer[5] if n[0] != 32])
+
+
+def damaged(answer):
+    return any(n[0] == 32 for n in answer[5])
+
+
 class Stop(Exception):
     pass
 
@@ -139,6 +150,12 @@ def lossy(content, w):
     if w == "replaced_dropped":
         return content.decode("utf-8", "ignore").encode()
     return content.decode("utf-8", "replace").encode()
+
+
+def replaced(content, w=""):
+    """How many U+FFFD the text has that the content has not."""
+    many = content.decode("utf-8", "replace").count("\ufffd")
+    return many if w == "own_replacement_is_damage" else many - content.decode("utf-8", "ignore").count("\ufffd")
 
 
 def _only_surrogates(content):
@@ -479,6 +496,26 @@ class Head:
                 t = re.sub("[\U00010000-\U0010ffff]", "\ufffd\ufffd", t)
         return t.encode()
 
+    def state(self, i):
+        """The state of a text, 0 whole, 1 replaced characters, 2 bad UTF-16, 3 cut or outside, and how many were replaced (T11)."""
+        w = self.w
+        if self.system(i) is not None and w != "hidden_string_is_damage":
+            return 0, 0
+        if i >= len(self.offsets):
+            return 0, 0
+        place = self.split(i)
+        if place is None:
+            return (2 if w == "bad_utf16_before_cut" and not self.utf8 else 3), 0
+        content = self.file[place[0]:place[1]]
+        if not self.utf8:
+            try:
+                content.decode("utf-16-le")
+            except UnicodeDecodeError:
+                return 2, 0
+            return 0, 0
+        many = replaced(content, w)
+        return int(many > 0), many
+
     def content(self, i):
         place = self.system(i)
         if place is not None:
@@ -526,17 +563,17 @@ class Walk:
         node = 5 if w == "nodes_of_five_words" else NODE
         attribute = 5 if w == "attributes_of_five_words" else ATTRIBUTE
         self.node_places, self.attribute_places, self.note_places = (room[0] + up * (node - 1)) // node, (room[1] + up * (attribute - 1)) // attribute, room[2]
-        self.counts = [0] * 13
+        self.counts = dict.fromkeys([*range(13), 32], 0)
         self.notes, self.nodes, self.attributes = [], [], []
         self.starts, self.depth, self.open = 0, 0, []
-        self.seen_10 = set()
+        self.seen_10, self.seen_32 = set(), set()
         self.head = Head(file, names, self.note, hits, w)
         self.walk(self.head.file)
 
     def note(self, kind, a=0, b=0):
         w, hits = self.w, self.hits
         hits.add(f"note-{kind}")
-        count = len(self.notes) if w == "cap_over_all_kinds" else self.counts[kind]
+        count = len(self.notes) if w == "cap_over_all_kinds" else self.counts[9 if w == "note_32_in_cap_of_9" and kind == 32 else kind]
         if count >= self.cap:
             hits.add("B13")
             if w == "past_cap_due" and len(self.notes) >= self.note_places:
@@ -548,7 +585,7 @@ class Walk:
         if len(self.notes) >= self.note_places:
             hits.add("B1-10")
             raise Refused(10, len(self.notes) + 1 if w == "value_10_is_used" else self.note_places)
-        self.counts[kind] += 1
+        self.counts[9 if w == "note_32_in_cap_of_9" and kind == 32 else kind] += 1
         self.notes.append((kind, a, b))
 
     def node(self, record):
@@ -685,7 +722,7 @@ class Walk:
 
     def start(self, f, at, n, size):
         w, hits = self.w, self.hits
-        notes_before, counts_before = len(self.notes), list(self.counts)
+        notes_before, counts_before = len(self.notes), dict(self.counts)
         begin = at
 
         def short(part):
@@ -698,6 +735,9 @@ class Walk:
                 t = self.head.text(index)
                 if t is None or not valid(t, w, hits):
                     self.note(9, index, int(t is not None))
+            if w == "note_32_for_cut_start" and part != "fixed":
+                index = u32(f, begin + 4)[0]
+                self.damage(index, self.head.text(index))
             if w != "cut_start_silent":
                 self.note(11)
             if w == "cut_start_kept" and part != "fixed":
@@ -786,6 +826,8 @@ class Walk:
             parent = me - 1
         first = len(self.attributes)
         bad = t is None or not valid(t, w, hits)
+        if w != "note_32_after_9":
+            self.damage(index, t)
         if bad and not (w == "invalid_kept_by_name" and t):
             fixed = 1
             hits.add("W20-text" if t else "W20-empty" if t is not None else "W20-none")
@@ -796,6 +838,8 @@ class Walk:
                 self.room_for_node()
             if w != "invalid_element_silent":
                 self.note(9, index, 1 if w == "note_9_b_always_1" else 0 if w == "note_9_b_always_0" else int(t is not None))
+        if w == "note_32_after_9":
+            self.damage(index, t)
         self.starts += 1
         line = 0 if fixed and w == "line_only_if_valid" else u32(f, begin - (4 if w == "comment_for_line" else 8))[0]
         self.node([0 if fixed and w == "fixed_index_zero" else index, fixed, parent, first, 0, line])
@@ -823,6 +867,19 @@ class Walk:
         self.open.append(me)
         self.depth += 1
 
+    def damage(self, index, t):
+        """Note 32: the text of a name is not whole (W30)."""
+        w = self.w
+        if t is None:
+            if w == "note_32_for_no_text":
+                self.note(32, index, 3)
+            return
+        state, many = self.head.state(index)
+        if state and not (w == "note_32_once" and index in self.seen_32):
+            self.hits.add(f"W30-{state}")
+            self.note(32, index, many if w == "note_32_tells_how_many" and state == 1 else state)
+        self.seen_32.add(index)
+
     def room_for_node(self):
         if len(self.nodes) >= self.node_places:
             raise Refused(8, self.node_places)
@@ -838,6 +895,8 @@ class Walk:
             if w == "no_text_noted":
                 self.note(10, index)
             return
+        if w == "note_32_for_attributes":
+            self.damage(index, t)
         if not valid(t, w, hits):
             hits.add("W21-again" if index in self.seen_10 else "W21-invalid")
             if not (w == "note_10_once" and index in self.seen_10):

@@ -86,7 +86,7 @@ pub struct Tables {
 impl Tables {
     /// Room for whatever a file of so many bytes holds: an element is 36 bytes or more, an attribute 20, and the first element has one more.
     pub fn of(bytes: usize) -> Tables {
-        Tables { nodes: vec![0; NODE_WORDS * (bytes / 36 + 1)], attributes: vec![0; ATTRIBUTE_WORDS * (bytes / 20 + 1)], notes: vec![0; 3 * 13 * CAP] }
+        Tables { nodes: vec![0; NODE_WORDS * (bytes / 36 + 1)], attributes: vec![0; ATTRIBUTE_WORDS * (bytes / 20 + 1)], notes: vec![0; 3 * 14 * CAP] }
     }
 
     pub fn read(&mut self, file: &[u8], names: &Names) -> Answer {

@@ -108,6 +108,20 @@ static void readings(void) {
   const struct expected nameless = {
       "element name 1", {0, 0, 1, 1, 1, 1}, {1, 1, AXML_NO_PARENT, 0, 1, 1}, {LEADING}, {AXML_INVALID_ELEMENT_NAME, 1, 0}};
   reads(file, S_BYTES, &nameless);
+  /* the name's one byte, at 42, replaced; its two lengths too long, at 40 and 41, so that it is cut and empty; the same in UTF-16, cut as well */
+  memcpy(file, S, S_BYTES);
+  file[42] = 0xff;
+  const struct expected replaced = {"name ff", {0, 0, 1, 1, 1, 1}, {ROOT}, {LEADING}, {AXML_DAMAGED_ELEMENT_NAME, 0, 1}};
+  reads(file, S_BYTES, &replaced);
+  memcpy(file, S, S_BYTES);
+  file[41] = 3;
+  const struct expected outside = {"name cut", {0, 0, 1, 1, 1, 2}, {0, 1, AXML_NO_PARENT, 0, 1, 1}, {LEADING},
+                                   {AXML_DAMAGED_ELEMENT_NAME, 0, 3, AXML_INVALID_ELEMENT_NAME, 0, 1}};
+  reads(file, S_BYTES, &outside);
+  const struct expected unnoted = {"no place for note 32", {AXML_NOTES_FULL, 0, 0, 0, 0, 0}, {0}, {0}, {0}};
+  reads_in(file, S_BYTES, no_words, 0, 5, TABLE, 2, 8, AXML_MODE_MERGED, &unnoted);
+  file[25] = 0;
+  reads(file, S_BYTES, &outside);
   /* the line is the start's as it stands, not its comment's number nor the end's line */
   memcpy(file, S, S_BYTES);
   memset(file + S_START + 8, 0xff, 4);

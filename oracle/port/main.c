@@ -13,7 +13,7 @@
 #include <string.h>
 #include "axml.h"
 
-enum { TEXTS = 1, NAMES = 2, VALUES = 4, ROOMS = 16, APART = 32, NONE = 0xffffffff };
+enum { TEXTS = 1, NAMES = 2, VALUES = 4, ROOMS = 16, APART = 32, DAMAGES = 64, NONE = 0xffffffff };
 
 static void fail(const char *why)
 {
@@ -254,6 +254,15 @@ static void put_firsts(bytes file, names s, const uint32_t *nodes, size_t node_w
     free(area);
 }
 
+/* the notes of a kind that the Rust has, at the front; how many there are */
+static uint32_t without_damages(uint32_t *notes, uint32_t count)
+{
+    uint32_t k, kept = 0;
+    for (k = 0; k < count; k++)
+        if (notes[3 * (size_t)k] != AXML_DAMAGED_ELEMENT_NAME) memmove(notes + 3 * (size_t)kept++, notes + 3 * (size_t)k, 12);
+    return kept;
+}
+
 static void answer(uint32_t flags, uint32_t cap, names s, names items, uint32_t asked)
 {
     size_t rooms[3], k;
@@ -263,7 +272,7 @@ static void answer(uint32_t flags, uint32_t cap, names s, names items, uint32_t 
     if (!(flags & ROOMS)) {
         rooms[0] = AXML_NODE_WORDS * (file.n / 36 + 1);
         rooms[1] = AXML_ATTRIBUTE_WORDS * (file.n / 20 + 2);
-        rooms[2] = 13 * (size_t)cap;
+        rooms[2] = AXML_NOTE_PLACES((size_t)cap);
         if (rooms[2] > file.n) rooms[2] = file.n; /* a note comes of at least a byte */
     }
     uint32_t *nodes = patterned(rooms[0]), *attributes = patterned(rooms[1]), *notes = patterned(3 * rooms[2]);
@@ -272,6 +281,7 @@ static void answer(uint32_t flags, uint32_t cap, names s, names items, uint32_t 
     zeros_behind(nodes, AXML_NODE_WORDS * (size_t)a.nodes, rooms[0]);
     zeros_behind(attributes, AXML_ATTRIBUTE_WORDS * (size_t)a.attributes, rooms[1]);
     zeros_behind(notes, 3 * (size_t)a.notes, 3 * rooms[2]);
+    if (!(flags & DAMAGES)) a.notes = without_damages(notes, a.notes);
     used = 0;
     /* which part of the head is cut, and where, the Rust does not say: its numbers are the tens of ours */
     int part = a.refusal >= AXML_POOL_GARBAGE && a.refusal <= AXML_MAP_IDS;

@@ -87,7 +87,7 @@ fn kinds() {
     let all = header.split("enum axml_note_kind {").nth(1).unwrap().split("};").next().unwrap();
     assert_eq!(all.matches(" = ").count(), NoteKind::ALL.len());
     assert_eq!((sys::KINDS, number(&header, "AXML_NOTE_KINDS")), (NoteKind::ALL.len(), NoteKind::ALL.len() as u64));
-    for (n, kind) in NoteKind::ALL.iter().enumerate() {
+    for (n, kind) in (0..13).chain([32]).zip(NoteKind::ALL) {
         let mut name = String::from("AXML");
         for c in format!("{kind:?}").chars() {
             if c.is_uppercase() {
@@ -95,11 +95,11 @@ fn kinds() {
             }
             name.push(c.to_ascii_uppercase());
         }
-        assert_eq!(number(&header, &name), n as u64, "{name}");
-        assert_eq!(kind.number(), n as u32);
-        assert_eq!(NoteKind::from_number(n as u32), Some(*kind));
+        assert_eq!(number(&header, &name), n.into(), "{name}");
+        assert_eq!(kind.number(), n);
+        assert_eq!(NoteKind::from_number(n), Some(kind));
     }
-    assert_eq!(NoteKind::from_number(13), None);
+    assert_eq!([13, 31, 33].map(NoteKind::from_number), [None; 3]);
 }
 
 #[test]

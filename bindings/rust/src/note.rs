@@ -33,11 +33,13 @@ pub enum NoteKind {
     TruncatedXml = 11,
     /// Elements are not closed. a: how many.
     UnclosedElements = 12,
+    /// The name of an element is damaged. a: its string index, b: how: 1 characters were replaced, 2 bad UTF-16, 3 cut or outside its pool.
+    DamagedElementName = 32,
 }
 
 impl NoteKind {
-    /// All kinds, in the order of their numbers.
-    pub const ALL: [NoteKind; 13] = [
+    /// All kinds, in the order of their numbers, which have gaps.
+    pub const ALL: [NoteKind; 14] = [
         NoteKind::StringPoolGarbageChunk,
         NoteKind::StringCountMismatch,
         NoteKind::StringOffsetsOutOfBounds,
@@ -51,11 +53,12 @@ impl NoteKind {
         NoteKind::InvalidAttributeName,
         NoteKind::TruncatedXml,
         NoteKind::UnclosedElements,
+        NoteKind::DamagedElementName,
     ];
 
     /// The kind of a number; none where there is no such kind.
     pub fn from_number(number: u32) -> Option<NoteKind> {
-        NoteKind::ALL.get(number as usize).copied()
+        NoteKind::ALL.into_iter().find(|k| k.number() == number)
     }
 
     /// Its number.
@@ -79,6 +82,7 @@ impl NoteKind {
             NoteKind::InvalidAttributeName => "an attribute has an invalid name and was dropped",
             NoteKind::TruncatedXml => "the file is cut in the middle of a chunk",
             NoteKind::UnclosedElements => "elements are not closed",
+            NoteKind::DamagedElementName => "the name of an element is damaged",
         }
     }
 }
@@ -108,7 +112,17 @@ impl fmt::Display for Note {
             NoteKind::AttributeSizeMismatch => write!(f, " ({a} bytes each, not 20)"),
             NoteKind::InvalidElementName if b == 0 => write!(f, " (string {a}, which has no text)"),
             NoteKind::InvalidElementName | NoteKind::InvalidAttributeName => write!(f, " (string {a})"),
+            NoteKind::DamagedElementName => write!(f, " (string {a}, {})", damage_words(b)),
             NoteKind::TruncatedXml => Ok(()),
         }
+    }
+}
+
+/// What the state of a text that is not whole is called.
+fn damage_words(state: u32) -> &'static str {
+    match state {
+        1 => "of which characters could not be read",
+        2 => "which is bad UTF-16",
+        _ => "which is cut or lies outside its pool",
     }
 }

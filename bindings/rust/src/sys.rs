@@ -10,7 +10,7 @@ pub const ABI: u32 = 9;
 /// Bytes of the longest file that is read.
 pub const LONGEST_FILE: usize = 16_777_216;
 /// Kinds of notes.
-pub const KINDS: usize = 13;
+pub const KINDS: usize = 14;
 
 /// Words of a node, and the place of each.
 pub const NODE_WORDS: usize = 6;

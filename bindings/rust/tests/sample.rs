@@ -62,6 +62,19 @@ fn parents_and_unclosed_elements() {
 }
 
 #[test]
+fn a_damaged_name_is_noted() {
+    let mut s = file(&[START, END, FOREIGN]);
+    s[42] = 0xff; // the one byte of the name
+    let m = Manifest::read(&s).unwrap();
+    assert_eq!(notes(&m), [(NoteKind::DamagedElementName, 0, 1), (NoteKind::NonXmlChunk, 0x105, 0)]);
+    assert_eq!(m.root().name(), "\u{fffd}");
+    assert_eq!(m.notes().next().unwrap().to_string(), "the name of an element is damaged (string 0, of which characters could not be read)");
+    s[41] = 3; // its length: the string is cut, and its text is empty
+    let m = Manifest::read(&s).unwrap();
+    assert_eq!(notes(&m)[..2], [(NoteKind::DamagedElementName, 0, 3), (NoteKind::InvalidElementName, 0, 1)]);
+}
+
+#[test]
 fn the_line_is_the_starts_as_it_stands() {
     let mut s = file(&[START, END]);
     s[HEAD.len() + 8..HEAD.len() + 12].fill(0xff); // its line
