@@ -2,7 +2,7 @@
 -- In order: notes as words, what a listing can say, what the program prints reads back, also from call to call, zeros.
 use Prim.Native.Nat.{ℕ, zero, suc, _+_, _-_, _*_, _/_, _≤_, _<_}
 use native.Mathlib.Omega.{arith}
-use native.Mathlib.Nat.{mul-zero, sub-zero, mul-le-mul-left, mul-div-le}
+use native.Mathlib.Nat.{mul-zero, sub-zero}
 use mathlib.Core.Path.{_≡_, refl, sym, _∙_, ap, subst}
 use mathlib.Core.List.{List, [], _∷_, _++_, append-nil}
 use mathlib.Core.Bool.{Bool, true, false, cond, not, _&&_}
@@ -43,7 +43,7 @@ use Rattle.listing_back.proofs.Lines.{anyOver-first, anyOver-others}
 use Rattle.listing_back.proofs.Strays.{listed-over}
 use Rattle.listing_back.proofs.Steps.{anyOver-cons, no-over}
 use Rattle.listing_back.proofs.Heads.{headList, Tested}
-use Rattle.listing_back.proofs.Whole.{Leading, Printable, Filled, Said, relisting-trimmed, relisting-said}
+use Rattle.listing_back.proofs.Whole.{Leading, Printable, filled-le, relisting-trimmed, relisting-said}
 use Rattle.claims.specs.Cleared.{ZeroBehind, DoneZero}
 use Rattle.claims.specs.Readers.{allBelow}
 use Rattle.claims.specs.Relisted.{listedWords, saidBy}
@@ -346,13 +346,6 @@ module _ (text ns ats os : List ℕ) (r : Relisted) (ns′ ats′ os′ : List �
     (rw e at (h .attributes)) ∙ fitted-none (length ats),
     (rw e at (h .notes)) ∙ fitted-none (length os),
   )
-
-  filled-le : (width n len : ℕ) (w : List ℕ) → Filled width n (len / width) w → length w ≤ len
-  filled-le width n len w f =
-      let a = f .many in
-      let b : width * n ≤ width * (len / width) = mul-le-mul-left width (f .room) in
-      let c = mul-div-le len width in
-      omega arith
 
   pub relist-done :
       (x : Relisting) → relisting (record { nodes = length ns; attributes = length ats; notes = length os }) text ≡ found x →

@@ -5,7 +5,7 @@ use mathlib.Core.Path.{_≡_, refl, sym, ap, subst, _∙_}
 use mathlib.Core.Bool.{Bool, true, false}
 use mathlib.Core.List.{List, [], _∷_, _++_}
 use native.Mathlib.Omega.{arith}
-use native.Mathlib.Nat.{le-refl, mul-le-mul-left, mul-div-le}
+use native.Mathlib.Nat.{le-refl}
 use native.Mathlib.Numerals.{add-one}
 use borrow.Author.Tests.{lt-leb, le-leb, lt-ltb, le-ltb}
 use lib.Dec.{leb, ltb}
@@ -27,7 +27,7 @@ use Rattle.listing_back.specs.Back.{isListed, Words, Relisting, Found, fault, f
 use Rattle.listing_back.specs.Inner.Whole.{isOwn}
 use Rattle.listing_back.specs.declared.Relisted.{Relisted}
 use Rattle.listing_back.proofs.Holding.{contra}
-use Rattle.listing_back.proofs.Whole.{Filled, Leading, Printable, trimmed, relisting-trimmed, relisting-said, relisting-back}
+use Rattle.listing_back.proofs.Whole.{Filled, filled-le, Leading, Printable, trimmed, relisting-trimmed, relisting-said, relisting-back}
 use Rattle.listing_back.proofs.Endings.{relisting-own, own-never, listed-own}
 use Rattle.relist.specs.Inner.Judged.{noteIn, notesFrom, verdictOf, IsListing, Judges}
 use Rattle.relist.specs.declared.Verdict.{Verdict}
@@ -118,13 +118,6 @@ text-of cap n ns ats os m e =
     ap (λ (x : List Line). linesText (headLines cap n ++ (nodeLines 0 (n .nodes) ns ++ (attributeLines 0 (n .attributes) ats ++ x)))) (notes-lines 0 (n .notes) m os e)
 
 -- ---- tables with zeros behind their records
-
-filled-le : (width n len : ℕ) (w : List ℕ) → Filled width n (len / width) w → length w ≤ len
-filled-le width n len w f =
-    let a = f .many in
-    let b : width * n ≤ width * (len / width) = mul-le-mul-left width (f .room) in
-    let c = mul-div-le len width in
-    omega arith
 
 fitted-long : (w : List ℕ) (len : ℕ) → length w ≤ len → fitted w len ≡ w ++ replicate (len - length w) 0
 unfolding fitted
