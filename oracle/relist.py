@@ -1,11 +1,13 @@
 #!/usr/bin/env python3
-"""relist.py LIBRARY [--count N] [--seed S]: listings, most of them damaged, read by the library's axml_read_listing and by a plain model.
+"""relist.py LIBRARY [--count N] [--seed S] [--program COMMAND --runs N]: listings, most of them damaged, read by the library's axml_read_listing and by a plain model.
 
 The model goes by lines and regular expressions, where the proved reader goes by bytes: docs/FORMAT.md, L7 to L9. LIBRARY is libaxml.so as
 tools/library writes it. Every number of the answer and every word of the three tables is compared, with garbage in the tables before. What is
-taken is printed again from its words and compared with the text. Says what it did, and ends with 1 where they disagree.
+taken is printed again from its words and compared with the text. With --program the first N listings go through the program behind axml-relist too (COMMAND
+is how target/bin/relist is started here): it prints the listing again, or the number and the value of its fault. Says what it did, and ends
+with 1 where they disagree.
 """
-import argparse, collections, ctypes, random, re, sys
+import argparse, collections, ctypes, random, re, shlex, subprocess, sys
 
 OVER = 4294967295
 N = r'(0|[1-9][0-9]*)'
@@ -118,6 +120,16 @@ def agrees(library, text, words):
     return same and shown(head, [t[:len(s)] for t, s in zip(tables, said)]) == text, 0
 
 
+def printed(command, text):
+    """Whether the program prints what the model says: the listing again, or the fault."""
+    try:
+        model(text, [1000000] * 3)
+        due = text
+    except Fault as f:
+        due = b'fault=%d value=%d\n' % f.args
+    return subprocess.run(command, input=text, stdout=subprocess.PIPE).stdout == due
+
+
 # ---- listings, and what becomes of them
 
 def number(r):
@@ -184,24 +196,29 @@ def main():
     p.add_argument('library')
     p.add_argument('--count', type=int, default=100000)
     p.add_argument('--seed', type=int, default=1)
+    p.add_argument('--program', default='')
+    p.add_argument('--runs', type=int, default=10000)
     a = p.parse_args()
     library = ctypes.CDLL(a.library)
     library.axml_read_listing.restype = Relisted
     r = random.Random(a.seed)
-    seen, wrong = collections.Counter(), 0
+    seen, wrong, runs = collections.Counter(), 0, 0
     for n in range(a.count):
         text = made(r)
         for _ in range(r.choice([0, 1, 1, 1, 2, 3])):
             text = mutated(r, text)
         words = [r.choice([24, 24, 24, 18, 12, 6, 5, 0, 25]), r.choice([24, 24, 24, 20, 10, 5, 4, 0]), r.choice([12, 12, 6, 3, 2, 0])]
         same, number_said = agrees(library, text, words)
+        if a.program and n < a.runs:
+            runs += 1
+            same = same and printed(shlex.split(a.program), text)
         seen[number_said] += 1
         if not same:
             wrong += 1
             if wrong <= 5:
                 print('relist: disagreement', words, text, file=sys.stderr)
     said = ', '.join('%d %s' % (c, 'taken and printed back' if k == 0 else 'refused with %d' % k) for k, c in sorted(seen.items()))
-    print('relist: seed %d, %d listings (%s): %d disagreements' % (a.seed, a.count, said, wrong))
+    print('relist: seed %d, %d listings (%s), %d of them through the program: %d disagreements' % (a.seed, a.count, said, runs, wrong))
     return wrong != 0
 
 

@@ -18,8 +18,8 @@
 -- Readers that break the promise (P5): refuses-all-broken to wrong-kinds-broken, each of every reader of its sort (specs/Readers.antt); meets-some.
 -- The C interface: c-read-unique to c-first-refused-zeros, the same of its words: one answer, insertion, zeros.
 -- The listing's function: list-unique to list-suffices: one answer, zeros, room.
--- A listing read back (L9): relist-printed, what the listing program prints reads back to its reading; relist-only, the text of what was read is the
--- only one; relist-unique, relist-refused-zeros, relist-done-zeros: one answer, zeros.
+-- A listing read back (L9): relist-printed, what the listing program prints reads back to its reading; relist-calls, the same of two calls; relist-only,
+-- the text of what was read is the only one; relist-unique, relist-refused-zeros, relist-done-zeros: one answer, zeros.
 -- A month (R4 to R8): month-sum, month-order, month-history of any files; month-refused, month-full, month-added of one; month-kinds, month-grid of
 -- readings; month-unique, month-numbers-unique, c-month-unique: one answer.
 -- Value texts (V1 to V16): value-unique to value-done-zeros of one; value-decimal-broken, value-first-broken: versions that cannot meet its promise; decimal-read,
@@ -53,7 +53,7 @@ use Rattle.anomaly.specs.Note.{noteOf}
 use Rattle.anomaly.specs.declared.Note.{Note}
 use Rattle.anomaly.specs.Kept.{ofKind, keptNotes}
 use Rattle.anomaly.proofs.Laws.{keptNotes-of-kind}
-use Rattle.records.specs.Limits.{fileLimit, listedFile, listedNodes, listedAttributes}
+use Rattle.records.specs.Limits.{fileLimit, listedFile, listedNodes, listedAttributes, listedNotes, listedCap}
 use Rattle.listing_text.specs.Printed.{Printed}
 use Rattle.listed.specs.Lists.{listed, listedText, Lists}
 use Rattle.listed.specs.Roomy.{Roomy}
@@ -70,20 +70,20 @@ use Rattle.walk.specs.Settle.{Room}
 use Rattle.walk.specs.Reading.{reading, roomIn, zeroNote, Reads}
 use Rattle.claims.specs.Insertion.{ForeignChunk, noteFor, stretchNotes, placesIn, insertedFile, placeNotes, AllOf, BeginsOther, withNotes, left}
 use Rattle.claims.specs.Counts.{opensIn, notesIn}
-use Rattle.c_api.specs.Words.{ReadsWords}
+use Rattle.c_api.specs.Words.{wordsOf, ReadsWords}
 use Rattle.c_api.specs.Answers.{firstAnswerOf, AsksText}
 use Rattle.c_api.specs.declared.AxmlAnswer.{AxmlAnswer}
 use Rattle.c_api.specs.declared.AxmlTextAnswer.{AxmlTextAnswer}
 use Rattle.c_api.specs.declared.AxmlFirstAnswer.{AxmlFirstAnswer}
 use Rattle.claims.specs.InC.{leftInC, withNotesInC, RefusedInC, DoneInC, TextRefusedInC, TextDoneInC, FirstRefusedInC}
-use Rattle.claims.specs.Relisted.{listedWords, saidBy, In32}
+use Rattle.claims.specs.Relisted.{listedWords, saidBy}
 use Rattle.claims.specs.Room.{isFullNumber, HasRoom, nodesFor, attributesFor, placesFor, listingRoom}
 use Rattle.claims.specs.Parts.{isPart}
 use Rattle.claims.specs.Cleared.{ZeroBehind, RefusedZero, DoneZero, TextRefusedZero, TextDoneZero}
 use Rattle.claims.specs.Shape.{Structured, ofKind as ofNumber}
 use Rattle.claims.specs.Lost.{marksIn, startNames, NothingLost}
 use Rattle.claims.specs.Modes.{Merges}
-use Rattle.claims.specs.Readers.{Call, Reader, Meets, eventsOf, kindsOf, RefusesAll, Constant, ConstantOnRead, StopsAtStart}
+use Rattle.claims.specs.Readers.{allBelow, Call, Reader, Meets, eventsOf, kindsOf, RefusesAll, Constant, ConstantOnRead, StopsAtStart}
 use Rattle.claims.specs.Readers.{LeavesNodes, LeavesAttributes, LeavesNotes, ClearsNodes, ClearsAttributes, ClearsNotes}
 use Rattle.claims.proofs.Longer.{insertedFile-none}
 use Rattle.claims.proofs.Foreign.{foreign-of, foreign-bytes, stretch-one, placeNotes-room}
@@ -463,10 +463,20 @@ list-suffices = lists.list-suffices
 
 -- ---- a listing read back (L9)
 
--- what the listing program prints, of a file that is read and of one that is refused alike
-pub relist-printed : (f ns ats : List ℕ) → length ns ≡ nodeWidth * listedNodes → length ats ≡ attributeWidth * listedAttributes → In32 (listed f (length ns) (length ats))
+-- What the listing program prints, of a file that is read and of one that is refused alike: of every list of bytes, whatever its length. Nothing is asked of
+-- the numbers of the reading: that 32 bits hold each follows from the bytes (proofs/Small.antt).
+pub relist-printed : (f ns ats : List ℕ) → allBelow 256 f ≡ true → length ns ≡ nodeWidth * listedNodes → length ats ≡ attributeWidth * listedAttributes
     → relisting (listedWords (length ns) (length ats)) (listedText f (length ns) (length ats)) ≡ found (saidBy (listed f (length ns) (length ats)))
 relist-printed = relisted.listed-back
+
+-- The same of any two calls, of the listing's function in a listing's room and of `read_listing` with what it printed, whatever stood in the tables of either:
+-- the answer of the reading, the cap of a listing, and every word of nodes and attributes as the first call left it; notes are the reading's.
+pub relist-calls : (f ns ats before : List ℕ) → allBelow 256 f ≡ true → Roomy (length ns) (length ats) (length before) → (a : TextAnswer) (ns₁ ats₁ after : List ℕ)
+    → Lists f ns ats before a ns₁ ats₁ after → (ns₂ ats₂ os : List ℕ) → length ns₂ ≡ length ns → length ats₂ ≡ length ats → length os ≡ noteWidth * listedNotes
+    → (r : Relisted) (ns₃ ats₃ os₃ : List ℕ) → Relists (take (textNumbersOf a .length) after) ns₂ ats₂ os r ns₃ ats₃ os₃
+    → (r .answer ≡ listed f (length ns) (length ats) .answer) × (r .cap ≡ listedCap) × (ns₃ ≡ ns₁) × (ats₃ ≡ ats₁)
+    × (os₃ ≡ wordsOf (listed f (length ns) (length ats) .notes))
+relist-calls = relisted.calls-back
 
 -- what is read is what would be printed, so two texts that say the same are one
 pub relist-only : (w : Words) (t t′ : List ℕ) (x : Relisting) → relisting w t ≡ found x → (relistText x ≡ t) × (relisting w t′ ≡ found x → t ≡ t′)

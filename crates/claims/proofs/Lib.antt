@@ -47,6 +47,8 @@ pub mod InC
 pub mod Lists
 pub mod Merging
 pub mod Modes
+pub mod SmallBytes
+pub mod Small
 pub mod Relisted
 pub mod Claims
 pub mod Month

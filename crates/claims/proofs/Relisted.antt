@@ -1,17 +1,18 @@
 -- The claims of a listing read back: docs/FORMAT.md, L9. No contract cites this file.
--- In order: notes as words, what a listing can say, what the program prints reads back, zeros.
+-- In order: notes as words, what a listing can say, what the program prints reads back, also from call to call, zeros.
 use Prim.Native.Nat.{ℕ, zero, suc, _+_, _-_, _*_, _/_, _≤_, _<_}
 use native.Mathlib.Omega.{arith}
-use native.Mathlib.Nat.{mul-zero, sub-zero, mul-le-mul-left, mul-div-le}
+use native.Mathlib.Nat.{mul-zero, sub-zero}
 use mathlib.Core.Path.{_≡_, refl, sym, _∙_, ap, subst}
-use mathlib.Core.List.{List, [], _∷_, _++_}
+use mathlib.Core.List.{List, [], _∷_, _++_, append-nil}
 use mathlib.Core.Bool.{Bool, true, false, cond, not, _&&_}
 use borrow.Author.Tests.{le-ltb, le-leb, ltb-true, ltb-false}
-use lib.ListN.{length, take, drop, replicate, length-replicate, take-append-drop}
+use lib.ListN.{length, take, replicate, length-replicate, length-take, take-append-drop}
+use lib.Seq.{take-append-seam}
 use lib.Dec.{ltb, leb, eqb}
 use Rattle.anomaly.specs.declared.Note.{Note}
 use Rattle.digits.specs.Written.{fitted}
-use Rattle.errors.specs.Refusal.{numberOf, valueOf, numbersOf}
+use Rattle.errors.specs.Refusal.{numberOf, valueOf, numbersOf, textNumbersOf}
 use Rattle.errors.specs.declared.Refusal.{Refusal}
 use Rattle.errors.specs.declared.Refusal.the-variants.{TooSmallError, TooLargeError, HeaderSizeError, MissingRoot, SystemNamesError, NodesFull, AttributesFull}
 use Rattle.errors.specs.declared.Refusal.the-variants.{NotesFull, TextShort, NothingFound, TablesError, ItemsError, NoPlainText, ModeError, PairsError, AnswersFull}
@@ -21,28 +22,36 @@ use Rattle.errors.specs.declared.ReadAnswer.{ReadAnswer}
 use Rattle.errors.specs.declared.ReadAnswer.the-variants.{Done, Refused}
 use Rattle.errors.specs.declared.ReadCounts.{ReadCounts}
 use Rattle.errors.specs.declared.Numbers.{Numbers}
+use Rattle.errors.specs.declared.TextAnswer.{TextAnswer}
+use Rattle.errors.specs.declared.TextAnswer.the-variants as textIs
+use Rattle.errors.proofs.Laws.{numbersOf-unique}
 use Rattle.records.specs.Words.{nodeWidth, attributeWidth, noteWidth, noteWords, merged}
 use Rattle.records.specs.Limits.{listedFile, listedNodes, listedAttributes, listedNotes, listedCap}
 use Rattle.system_types.specs.Names.{lends}
 use Rattle.walk.specs.Reading.{Reading, zeroNote, reading, refuses}
 use Rattle.listing_text.specs.Listing.{Line, linesText, headLines, nodeLines, attributeLines, recordLines, noteLines, listing, listingText}
-use Rattle.listed.specs.Lists.{listedRoom, listed, listedText}
+use Rattle.walk.specs.Inner.Outcome.{cleared}
+use Rattle.listed.specs.Lists.{listedRoom, listed, listedText, Lists}
+use Rattle.listed.specs.Roomy.{Roomy}
+use Rattle.listed.proofs.Fits.{lists-text, lists-answer, lists-le}
 use Rattle.c_api.specs.Words.{wordsOf}
-use Rattle.c_api.proofs.Noting.{length-words}
+use Rattle.c_api.proofs.Noting.{length-words, words-cleared}
 use Rattle.listing_back.specs.Due.{anyOver}
-use Rattle.listing_back.specs.Back.{isListed, isPlain, zeroWhere, Words, Relisting, fault, found, relisting, noteWordsLine, relistText, relistedIn, Relists}
+use Rattle.listing_back.specs.Back.{isListed, isPlain, zeroWhere, Words, Relisting, fault, found, told, relisting, noteWordsLine, relistText, relistedIn, Relists}
 use Rattle.listing_back.specs.declared.Relisted.{Relisted}
-use Rattle.listing_back.proofs.Lines.{anyOver-first, anyOver-others, neither}
+use Rattle.listing_back.proofs.Lines.{anyOver-first, anyOver-others}
 use Rattle.listing_back.proofs.Strays.{listed-over}
-use Rattle.listing_back.proofs.Steps.{anyOver-cons, anyOver-append, no-over}
+use Rattle.listing_back.proofs.Steps.{anyOver-cons, no-over}
 use Rattle.listing_back.proofs.Heads.{headList, Tested}
-use Rattle.listing_back.proofs.Whole.{Leading, Printable, Filled, Said, relisting-trimmed, relisting-said}
+use Rattle.listing_back.proofs.Whole.{Leading, Printable, filled-le, relisting-trimmed, relisting-said}
 use Rattle.claims.specs.Cleared.{ZeroBehind, DoneZero}
-use Rattle.claims.specs.Relisted.{listedWords, saidBy, In32}
+use Rattle.claims.specs.Readers.{allBelow}
+use Rattle.claims.specs.Relisted.{listedWords, saidBy}
 use Rattle.claims.proofs.Calls.{reading-left}
-use Rattle.claims.proofs.Lists.{listed-long, listed-short, read-zeros}
+use Rattle.claims.proofs.Lists.{listed-long, listed-short, unread-zeros, read-zeros}
+use Rattle.claims.proofs.Small.{In32, over-take, listed-in32}
 use Rattle.claims.proofs.Suffices.{SaidBy, said-by, listing-suffices}
-use Rattle.claims.proofs.Zeros.{behind, done-zeros}
+use Rattle.claims.proofs.Zeros.{behind, refused-zeros, done-zeros}
 
 -- ---- notes as words
 
@@ -61,10 +70,6 @@ listing-words most n ns ats os =
     ap (λ (x : List Line). linesText (headLines most n ++ (nodeLines 0 (n .nodes) ns ++ (attributeLines 0 (n .attributes) ats ++ x)))) (noteLines-words 0 (n .notes) os)
 
 -- ---- what a listing can say
-
-anyOver-take : (n : ℕ) (l : List ℕ) → anyOver l ≡ false → anyOver (take n l) ≡ false
-anyOver-take n l h =
-    neither (anyOver (take n l)) (anyOver (drop n l)) (sym (anyOver-append (take n l) (drop n l)) ∙ (ap anyOver (take-append-drop n l) ∙ h)) .0
 
 value-plain : (x : Refusal) → zeroWhere (isPlain (numberOf x)) (valueOf x) ≡ true
 unfolding numberOf valueOf
@@ -131,24 +136,47 @@ refused-tested x l o =
 none-leading : (width places : ℕ) (w : List ℕ) → Leading width 0 places w
 none-leading width places w = record { many = rw (mul-zero width) (omega arith); small = rw (mul-zero width) no-over; room = omega arith }
 
+-- zeros alone are zeros behind nothing
+none-behind : {A : Type 0} (z : A) (l l′ : List A) → l′ ≡ replicate (length l) z → ZeroBehind z 0 l l′
+none-behind z l l′ e = behind z 0 (length l) [] l l′ refl refl (omega arith) (e ∙ ap (λ (n : ℕ). replicate n z) (sym (sub-zero (length l))))
+
 module _ (f ns ats : List ℕ) where
   abbrev all : Reading
   all = listed f (length ns) (length ats)
 
-  -- the notes of a success lie within their places
-  read-notes : (c : ReadCounts) → all .answer ≡ Done c → (c .notes ≤ listedNotes) × (length (all .notes) ≡ listedNotes)
+  -- behind the notes of a success stand zeros, and a refusal leaves nothing else
+  read-notes : (c : ReadCounts) → all .answer ≡ Done c → ZeroBehind zeroNote (c .notes) (replicate listedNotes zeroNote) (all .notes)
   unfolding numbersOf
   read-notes c e = go (ltb listedFile (length f)) refl where
-    go : (b : Bool) → ltb listedFile (length f) ≡ b → (c .notes ≤ listedNotes) × (length (all .notes) ≡ listedNotes)
+    go : (b : Bool) → ltb listedFile (length f) ≡ b → ZeroBehind zeroNote (c .notes) (replicate listedNotes zeroNote) (all .notes)
     go true q =
         let l : Done c ≡ Refused TooLargeError = sym e ∙ ap (λ (y : Reading). y .answer) (listed-long f (length ns) (length ats) q) in
         let z : _≡_ {A = ℕ} 0 1 = cc in absurd (let y : ⊥ = omega arith in y)
     go false q =
-        let z = done-zeros f (lends [] []) ns ats (replicate listedNotes zeroNote) listedCap merged c _ _ _
-        (reading-left f (lends [] []) ns ats listedNotes listedCap merged all (listed-short f (length ns) (length ats) q) (Done c) e) .noteRecords in
-        let l = length-replicate listedNotes zeroNote in
-        let t = z .there in
-        (omega (arith, l), z .long ∙ l)
+        done-zeros f (lends [] []) ns ats (replicate listedNotes zeroNote) listedCap merged c _ _ _
+        (reading-left f (lends [] []) ns ats listedNotes listedCap merged all (listed-short f (length ns) (length ats) q) (Done c) e) .noteRecords
+
+  unread-notes : (x : Refusal) → all .answer ≡ Refused x → all .notes ≡ replicate (length (replicate listedNotes zeroNote)) zeroNote
+  unread-notes x e = go (ltb listedFile (length f)) refl where
+    go : (b : Bool) → ltb listedFile (length f) ≡ b → all .notes ≡ replicate (length (replicate listedNotes zeroNote)) zeroNote
+    go true q =
+        ap (λ (y : Reading). y .notes) (listed-long f (length ns) (length ats) q) ∙
+        ap (λ (n : ℕ). replicate n zeroNote) (sym (length-replicate listedNotes zeroNote))
+    go false q =
+        refused-zeros f (lends [] []) ns ats (replicate listedNotes zeroNote) listedCap merged x _ _ _
+        (reading-left f (lends [] []) ns ats listedNotes listedCap merged all (listed-short f (length ns) (length ats) q) (Refused x) e) .noteRecords
+
+  record Behind (n : Numbers) : Type 0 where
+    nodes : ZeroBehind 0 (nodeWidth * n .nodes) ns (all .nodes)
+    attributes : ZeroBehind 0 (attributeWidth * n .attributes) ats (all .attributes)
+    notes : ZeroBehind zeroNote (n .notes) (replicate listedNotes zeroNote) (all .notes)
+
+  all-behind : (a : ReadAnswer) → all .answer ≡ a → Behind (numbersOf a)
+  unfolding numbersOf
+  all-behind (Done c) e = let z = read-zeros f ns ats c e in record { nodes = z .0; attributes = z .1; notes = read-notes c e }
+  all-behind (Refused x) e =
+      let z = unread-zeros f ns ats x e in
+      record { nodes = none-behind 0 ns _ (z .0); attributes = none-behind 0 ats _ (z .1); notes = none-behind zeroNote _ _ (unread-notes x e) }
 
   -- in the room of a listing its refusal is one that a listing can say
   module _ (room₁ : length ns ≡ nodeWidth * listedNodes) (room₂ : length ats ≡ attributeWidth * listedAttributes) where
@@ -170,7 +198,10 @@ module _ (f ns ats : List ℕ) where
     is-listed : isListed (numbersOf (all .answer) .refusal) ≡ true
     is-listed = said-listed (all .answer) listed-said
 
-  module _ (room₁ : length ns ≡ nodeWidth * listedNodes) (room₂ : length ats ≡ attributeWidth * listedAttributes) (b : In32 all) where
+  module _ (bytes : allBelow 256 f ≡ true) (room₁ : length ns ≡ nodeWidth * listedNodes) (room₂ : length ats ≡ attributeWidth * listedAttributes) where
+    b : In32 all
+    b = listed-in32 f (length ns) (length ats) bytes (omega (arith, room₁)) (omega (arith, room₂))
+
     abbrev x : Relisting
     x = record { cap = listedCap; numbers = numbersOf (all .answer); nodes = all .nodes; attributes = all .attributes; notes = wordsOf (all .notes) }
 
@@ -195,23 +226,99 @@ module _ (f ns ats : List ℕ) where
         let z = read-zeros f ns ats c e in
         let m = read-notes c e in
         let l = length-words (all .notes) in
+        let o = length-replicate listedNotes zeroNote in
         let n1 = z .0 .there in
         let n2 = z .0 .long in
         let a1 = z .1 .there in
         let a2 = z .1 .long in
-        let m1 = m .0 in
-        let m2 = m .1 in
+        let m1 = m .there in
+        let m2 = m .long in
         record {
           tested = done-tested c (ap (λ (z : ReadAnswer). anyOver (headList listedCap (numbersOf z))) (sym e) ∙ head-fits);
-          nodes = record { many = omega arith; small = anyOver-take (nodeWidth * c .nodes) (all .nodes) (b .nodes); room = omega arith };
-          attributes = record { many = omega arith; small = anyOver-take (attributeWidth * c .attributes) (all .attributes) (b .attributes); room = omega arith };
-          notes = record { many = omega arith; small = anyOver-take (noteWidth * c .notes) (wordsOf (all .notes)) (b .notes); room = omega arith };
+          nodes = record { many = omega arith; small = over-take (nodeWidth * c .nodes) (all .nodes) (b .nodes); room = omega arith };
+          attributes = record { many = omega arith; small = over-take (attributeWidth * c .attributes) (all .attributes) (b .attributes); room = omega arith };
+          notes = record { many = omega arith; small = over-take (noteWidth * c .notes) (wordsOf (all .notes)) (b .notes); room = omega arith };
         }
 
     pub listed-back : relisting (listedWords (length ns) (length ats)) (listedText f (length ns) (length ats)) ≡ found (saidBy all)
     listed-back =
         ap (relisting (listedWords (length ns) (length ats))) (listing-words listedCap (numbersOf (all .answer)) (all .nodes) (all .attributes) (all .notes)) ∙
         relisting-trimmed (listedWords (length ns) (length ats)) x (printable-at (all .answer) refl)
+
+-- ---- from call to call
+
+-- a list with zeros behind its front is that front over as many places
+fitted-front : (k n : ℕ) (l : List ℕ) → length l ≡ n → k ≤ n → take k l ++ replicate (n - k) 0 ≡ l → fitted (take k l) n ≡ l
+unfolding fitted
+fitted-front k n l e h q = let m : length (take k l) ≡ k = omega (arith, length-take k l, e, h) in rw (m, le-leb k n h) q
+
+words-front : (k : ℕ) (before after : List ℕ) → ZeroBehind 0 k before after → fitted (take k after) (length before) ≡ after
+words-front k before after z =
+    fitted-front k (length before) after (z .long) (z .there) (ap (λ (x : List ℕ). take k after ++ x) (sym (z .zeros)) ∙ take-append-drop k after)
+
+notes-front :
+    (k : ℕ) (before after : List Note) → ZeroBehind zeroNote k before after → fitted (take (noteWidth * k) (wordsOf after)) (noteWidth * length before) ≡ wordsOf after
+notes-front k before after z =
+    let w = wordsOf after in
+    let same : cleared after k (length after) ≡ after =
+    ap (λ (x : List Note). take k after ++ x) (ap (λ (n : ℕ). replicate (n - k) zeroNote) (z .long) ∙ sym (z .zeros)) ∙ take-append-drop k after in
+    let l : length w ≡ noteWidth * length before = length-words after ∙ ap (λ (n : ℕ). noteWidth * n) (z .long) in
+    fitted-front (noteWidth * k) (noteWidth * length before) w l (omega (arith, z .there))
+    (ap (λ (n : ℕ). take (noteWidth * k) w ++ replicate (n - noteWidth * k) 0) (sym l) ∙
+    (words-cleared after [] w k (noteWidth * k) (omega (arith, z .there, z .long)) refl (sym (append-nil w)) ∙
+    (ap (λ (x : List Note). wordsOf x ++ []) same ∙ append-nil w)))
+
+fitted-text : (t : List ℕ) (n : ℕ) → length t ≤ n → fitted t n ≡ t ++ replicate (n - length t) 0
+unfolding fitted
+fitted-text t n h = rw (le-leb (length t) n h)
+
+same-words : {n m o n′ m′ o′ : ℕ} → n ≡ n′ → m ≡ m′ → o ≡ o′ →
+    _≡_ {A = Words} (record { nodes = n; attributes = m; notes = o }) (record { nodes = n′; attributes = m′; notes = o′ })
+same-words p q r = rw (p, q, r)
+
+module _
+    (f ns ats before : List ℕ) (bytes : allBelow 256 f ≡ true) (room : Roomy (length ns) (length ats) (length before)) (a : TextAnswer) (ns₁ ats₁ after : List ℕ)
+    (first : Lists f ns ats before a ns₁ ats₁ after) where
+  -- the bytes that the first call printed
+  printed-text : take (textNumbersOf a .length) after ≡ listedText f (length ns) (length ats)
+  unfolding textNumbersOf
+  printed-text =
+      let t = listedText f (length ns) (length ats) in
+      let e : a ≡ textIs.Text (length t) = lists-answer f ns ats before ns₁ ats₁ after room a first in
+      let h : length t ≤ length before =
+      lists-le f ns ats before ns₁ ats₁ after room (length t) (lists-text f ns ats before ns₁ ats₁ after a (length t) e first) in
+      ap (λ (x : TextAnswer). take (textNumbersOf x .length) after) e ∙
+      (ap (take (length t)) (first .printed .out ∙ fitted-text t (length before) h) ∙ take-append-seam t (replicate (length before - length t) 0))
+
+  module _
+      (ns₂ ats₂ os : List ℕ) (l₁ : length ns₂ ≡ length ns) (l₂ : length ats₂ ≡ length ats) (l₃ : length os ≡ noteWidth * listedNotes) (r : Relisted)
+      (ns₃ ats₃ os₃ : List ℕ) (second : Relists (take (textNumbersOf a .length) after) ns₂ ats₂ os r ns₃ ats₃ os₃) where
+    abbrev read : Reading
+    read = listed f (length ns) (length ats)
+
+    said : relistedIn (take (textNumbersOf a .length) after) ns₂ ats₂ os ≡ saidBy read
+    said =
+        ap (λ (x : List ℕ). relistedIn x ns₂ ats₂ os) printed-text ∙
+        (ap (λ (w : Words). told (relisting w (listedText f (length ns) (length ats)))) (same-words l₁ l₂ l₃) ∙
+        ap told (listed-back f ns ats bytes (room .nodes) (room .attributes)))
+
+    fitted-said : (pick : Relisting → List ℕ) (n m : ℕ) → n ≡ m → fitted (pick (relistedIn (take (textNumbersOf a .length) after) ns₂ ats₂ os)) n ≡ fitted (pick (saidBy read)) m
+    fitted-said pick n m e = ap (λ (x : Relisting). fitted (pick x) n) said ∙ ap (fitted (pick (saidBy read))) e
+
+    pub calls-back :
+        (r .answer ≡ read .answer) × (r .cap ≡ listedCap) × (ns₃ ≡ ns₁) × (ats₃ ≡ ats₁) × (os₃ ≡ wordsOf (read .notes))
+    calls-back =
+        let n = numbersOf (read .answer) in
+        let z = all-behind f ns ats (read .answer) refl in
+        let places : noteWidth * listedNotes ≡ noteWidth * length (replicate listedNotes zeroNote) = ap (λ (k : ℕ). noteWidth * k) (sym (length-replicate listedNotes zeroNote)) in (
+          numbersOf-unique (r .answer) (read .answer) (second .answer ∙ ap (λ (x : Relisting). x .numbers) said),
+          second .capped ∙ ap (λ (x : Relisting). x .cap) said,
+          second .nodes ∙ (fitted-said (λ x. x .nodes) (length ns₂) (length ns) l₁ ∙ (words-front (nodeWidth * n .nodes) ns (read .nodes) (z .nodes) ∙ sym (first .nodes))),
+          second .attributes ∙ (fitted-said (λ x. x .attributes) (length ats₂) (length ats) l₂ ∙
+              (words-front (attributeWidth * n .attributes) ats (read .attributes) (z .attributes) ∙ sym (first .attributes))),
+          second .notes ∙ (fitted-said (λ x. x .notes) (length os) (noteWidth * length (replicate listedNotes zeroNote)) (l₃ ∙ places) ∙
+              notes-front (n .notes) (replicate listedNotes zeroNote) (read .notes) (z .notes)),
+        )
 
 -- ---- one answer, zeros
 
@@ -239,13 +346,6 @@ module _ (text ns ats os : List ℕ) (r : Relisted) (ns′ ats′ os′ : List �
     (rw e at (h .attributes)) ∙ fitted-none (length ats),
     (rw e at (h .notes)) ∙ fitted-none (length os),
   )
-
-  filled-le : (width n len : ℕ) (w : List ℕ) → Filled width n (len / width) w → length w ≤ len
-  filled-le width n len w f =
-      let a = f .many in
-      let b : width * n ≤ width * (len / width) = mul-le-mul-left width (f .room) in
-      let c = mul-div-le len width in
-      omega arith
 
   pub relist-done :
       (x : Relisting) → relisting (record { nodes = length ns; attributes = length ats; notes = length os }) text ≡ found x →

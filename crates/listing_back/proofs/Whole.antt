@@ -10,6 +10,7 @@ use mathlib.Core.Path.{_≡_, refl, sym, ap, subst, _∙_}
 use mathlib.Core.Bool.{Bool, true, false}
 use mathlib.Core.List.{List, [], _∷_, _++_, append-assoc, append-nil}
 use native.Mathlib.Omega.{arith}
+use native.Mathlib.Nat.{mul-le-mul-left, mul-div-le}
 use lib.ListN.{length, take}
 use lib.Seq.{take-all}
 use Rattle.errors.specs.declared.Numbers.{Numbers}
@@ -32,6 +33,14 @@ pub record Filled (width n places : ℕ) (w : List ℕ) : Type 0 where
   pub many : length w ≡ width * n
   pub small : anyOver w ≡ false
   pub room : n ≤ places
+
+-- so a table with these places takes its words
+pub filled-le : (width n len : ℕ) (w : List ℕ) → Filled width n (len / width) w → length w ≤ len
+filled-le width n len w f =
+    let a = f .many in
+    let b : width * n ≤ width * (len / width) = mul-le-mul-left width (f .room) in
+    let c = mul-div-le len width in
+    omega arith
 
 pub record Listable (w : Words) (x : Relisting) : Type 0 where
   pub tested : Tested (headList (x .cap) (x .numbers))

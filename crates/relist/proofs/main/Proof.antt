@@ -3,6 +3,7 @@ use mathlib.Core.Path.{sym}
 use Prim.Native.Nat.{ℕ, _+_}
 use lib.ListN.{length-replicate}
 use Rattle.listing_text.specs.Size.{listedBytes}
+use Rattle.relist.proofs.Judging.{as-long}
 use borrow.Author.Needs.{needs}
 use Rattle.relist.proofs.main.Statement.{statement}
 use Rattle.relist.proofs.main.Tie as tie
@@ -19,8 +20,11 @@ slice-aggregate-run-3 c = search needs
 slice-aggregate-run-4 : tie.Need-slice-aggregate-run-4
 slice-aggregate-run-4 c = search needs
 
+slice-aggregate-run-5 : tie.Need-slice-aggregate-run-5
+slice-aggregate-run-5 c = sym (length-replicate {A = ℕ} (listedBytes + 1) 0)
+
 run-requires : tie.Need-run-requires
-run-requires c κs = search needs
+run-requires c κs = (search needs, length-replicate {A = ℕ} (listedBytes + 1) 0, as-long (listedBytes + 1))
 
 returns : tie.Need-returns
 returns c = search needs
@@ -33,5 +37,6 @@ main-spec =
     slice-aggregate-run-2
     slice-aggregate-run-3
     slice-aggregate-run-4
+    slice-aggregate-run-5
     run-requires
     returns)

@@ -1,4 +1,4 @@
--- `relist::run` is safe: what came in lies within its room.
+-- `relist::run` is safe: what came in lies within its room, and so within the buffer.
 use mathlib.Core.Path.{sym}
 use native.Mathlib.Omega.{arith}
 use lib.Seq.{length-take-le}
@@ -28,7 +28,7 @@ slice-aggregate-relist : tie.Need-slice-aggregate-relist
 slice-aggregate-relist c = sym (length-take-le _ _ (omega arith))
 
 relist-requires : tie.Need-relist-requires
-relist-requires c κs = search needs
+relist-requires c κs = (c .before .before .before .before .before .before .before .before .before .before .before .before .before .before .before .pre .0, search needs)
 
 slice-aggregate-write-all : tie.Need-slice-aggregate-write-all
 slice-aggregate-write-all c = search needs
@@ -48,11 +48,11 @@ same-length-4 c = search needs
 same-length-5 : tie.Need-same-length-5
 same-length-5 c = search needs
 
-returns-2 : tie.Need-returns-2
-returns-2 c = search needs
-
 same-length-6 : tie.Need-same-length-6
 same-length-6 c = search needs
+
+returns-2 : tie.Need-returns-2
+returns-2 c = search needs
 
 same-length-7 : tie.Need-same-length-7
 same-length-7 c = search needs
@@ -62,6 +62,12 @@ same-length-8 c = search needs
 
 same-length-9 : tie.Need-same-length-9
 same-length-9 c = search needs
+
+same-length-10 : tie.Need-same-length-10
+same-length-10 c = search needs
+
+same-length-11 : tie.Need-same-length-11
+same-length-11 c = search needs
 
 returns-3 : tie.Need-returns-3
 returns-3 c = search needs
@@ -84,9 +90,11 @@ run-spec =
     same-length-3
     same-length-4
     same-length-5
-    returns-2
     same-length-6
+    returns-2
     same-length-7
     same-length-8
     same-length-9
+    same-length-10
+    same-length-11
     returns-3)
