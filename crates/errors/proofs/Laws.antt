@@ -5,7 +5,8 @@ use native.Mathlib.Omega.{arith}
 use mathlib.Core.Path.{_≡_, refl, sym, _∙_, ap}
 use mathlib.Core.Bool.{Bool, true, false, cond}
 use lib.Dec.{eqb}
-use Rattle.errors.specs.Refusal.{numberOf, valueOf, numbersOf, textNumbersOf, firstNumbersOf, valueNumbersOf, manyNumbersOf, pairNumbersOf}
+use Rattle.errors.specs.Refusal.{numberOf, valueOf, numbersOf, stateOf, replacedOf, textNumbersOf, linesNumbersOf}
+use Rattle.errors.specs.Refusal.{firstNumbersOf, valueNumbersOf, manyNumbersOf, pairNumbersOf}
 use Rattle.errors.specs.declared.Refusal.{Refusal}
 use Rattle.errors.specs.declared.Refusal.the-variants.{TooSmallError, TooLargeError, HeaderSizeError}
 use Rattle.errors.specs.declared.Refusal.the-variants.{MissingRoot, SystemNamesError, NodesFull}
@@ -16,19 +17,24 @@ use Rattle.errors.specs.declared.Refusal.the-variants.{RoundUpFull}
 use Rattle.errors.specs.declared.Refusal.the-variants.{StringPoolGarbage, StringPoolHeader, StringPoolOffsets, StringPoolStyles}
 use Rattle.errors.specs.declared.Refusal.the-variants.{StringPoolData, ResourceMapHeader, ResourceMapIds}
 use Rattle.errors.specs.declared.Numbers.{Numbers}
+use Rattle.errors.specs.declared.TextState.{TextState}
+use Rattle.errors.specs.declared.TextState.the-variants.{Whole, Replaced, Unpaired, Cut}
 use Rattle.errors.specs.declared.TextNumbers.{TextNumbers}
+use Rattle.errors.specs.declared.LinesNumbers.{LinesNumbers}
 use Rattle.errors.specs.declared.FirstNumbers.{FirstNumbers}
 use Rattle.errors.specs.declared.ValueNumbers.{ValueNumbers}
 use Rattle.errors.specs.declared.ManyNumbers.{ManyNumbers}
 use Rattle.errors.specs.declared.PairNumbers.{PairNumbers}
 use Rattle.errors.specs.declared.ReadAnswer as read
 use Rattle.errors.specs.declared.TextAnswer as text
+use Rattle.errors.specs.declared.LinesAnswer as lines
 use Rattle.errors.specs.declared.FirstAnswer as first
 use Rattle.errors.specs.declared.ValueAnswer as value′
 use Rattle.errors.specs.declared.ManyTexts as many
 use Rattle.errors.specs.declared.ManyAnswer as pairs
 use Rattle.errors.specs.declared.ReadAnswer.the-variants as readIs
 use Rattle.errors.specs.declared.TextAnswer.the-variants as textIs
+use Rattle.errors.specs.declared.LinesAnswer.the-variants as linesIs
 use Rattle.errors.specs.declared.FirstAnswer.the-variants as firstIs
 use Rattle.errors.specs.declared.ValueAnswer.the-variants as valueIs
 use Rattle.errors.specs.declared.ManyTexts.the-variants as manyIs
@@ -191,16 +197,40 @@ numbersOf-unique = unique numbersOf answerOf answerOf-back
 
 -- ---- a text
 
+-- the state of this number and count
+stateBy : ℕ → ℕ → TextState
+stateBy k n = cond (eqb k 0) Whole (cond (eqb k 1) (Replaced n) (cond (eqb k 2) Unpaired Cut))
+
+stateBy-back : (s : TextState) → stateBy (stateOf s) (replacedOf s) ≡ s
+unfolding stateBy
+stateBy-back Whole = refl
+stateBy-back (Replaced n) = refl
+stateBy-back Unpaired = refl
+stateBy-back Cut = refl
+
 textOf : TextNumbers → text.TextAnswer
-textOf n = cond (eqb (n .refusal) 0) (textIs.Text (n .length)) (textIs.Refused (refusalOf (n .refusal) (n .value)))
+textOf n = cond (eqb (n .refusal) 0) (textIs.Text (n .length) (stateBy (n .state) (n .replaced))) (textIs.Refused (refusalOf (n .refusal) (n .value)))
 
 textOf-back : (a : text.TextAnswer) → textOf (textNumbersOf a) ≡ a
 unfolding textOf textNumbersOf
-textOf-back (textIs.Text n) = refl
+textOf-back (textIs.Text n s) = ap (textIs.Text n) (stateBy-back s)
 textOf-back (textIs.Refused r) = rw (numberOf-some r) (ap textIs.Refused (refusalOf-back r))
 
 pub textNumbersOf-unique : (a b : text.TextAnswer) → textNumbersOf a ≡ textNumbersOf b → a ≡ b
 textNumbersOf-unique = unique textNumbersOf textOf textOf-back
+
+-- ---- what was printed
+
+linesOf : LinesNumbers → lines.LinesAnswer
+linesOf n = cond (eqb (n .refusal) 0) (linesIs.Text (n .length)) (linesIs.Refused (refusalOf (n .refusal) (n .value)))
+
+linesOf-back : (a : lines.LinesAnswer) → linesOf (linesNumbersOf a) ≡ a
+unfolding linesOf linesNumbersOf
+linesOf-back (linesIs.Text n) = refl
+linesOf-back (linesIs.Refused r) = rw (numberOf-some r) (ap linesIs.Refused (refusalOf-back r))
+
+pub linesNumbersOf-unique : (a b : lines.LinesAnswer) → linesNumbersOf a ≡ linesNumbersOf b → a ≡ b
+linesNumbersOf-unique = unique linesNumbersOf linesOf linesOf-back
 
 -- ---- a first value
 
@@ -220,11 +250,13 @@ firstNumbersOf-unique = unique firstNumbersOf firstOf firstOf-back
 -- ---- a value text
 
 valueTextOf : ValueNumbers → value′.ValueAnswer
-valueTextOf n = cond (eqb (n .refusal) 0) (valueIs.Value (n .length) (n .uncovered)) (valueIs.Refused (refusalOf (n .refusal) (n .value)))
+valueTextOf n =
+    cond (eqb (n .refusal) 0) (valueIs.Value (n .length) (n .uncovered) (stateBy (n .state) (n .replaced)))
+    (valueIs.Refused (refusalOf (n .refusal) (n .value)))
 
 valueTextOf-back : (a : value′.ValueAnswer) → valueTextOf (valueNumbersOf a) ≡ a
 unfolding valueTextOf valueNumbersOf
-valueTextOf-back (valueIs.Value n u) = refl
+valueTextOf-back (valueIs.Value n u s) = ap (valueIs.Value n u) (stateBy-back s)
 valueTextOf-back (valueIs.Refused r) = rw (numberOf-some r) (ap valueIs.Refused (refusalOf-back r))
 
 pub valueNumbersOf-unique : (a b : value′.ValueAnswer) → valueNumbersOf a ≡ valueNumbersOf b → a ≡ b

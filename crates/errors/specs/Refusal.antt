@@ -3,9 +3,11 @@
 --   numberOf         the number of a refusal: 1 to 3, 6 to 16, 20, 21, 24 to 29; of a part of pool or map that is short, 41 to 45, 51, 52 (4 and 5 are none)
 --   valueOf          the value of a refusal; 0 where it has none; of a part that is short, the file offset at which it should begin
 --   numbersOf        the numbers of a reading's answer: refusal 0 and value 0 with the counts, or a refusal and its value with every count 0
---   textNumbersOf    the same of a text question; its count is the length of the text
+--   stateOf          the number of a text's state: 0 whole, 1 replaced characters, 2 bad UTF-16, 3 cut or outside; replacedOf how many were replaced
+--   textNumbersOf    the same of a text question: the length of the text, its state, and how many characters were replaced
+--   linesNumbersOf   the same of what was printed: its length
 --   firstNumbersOf   the same of a first-value question; its reference is 1 or 0
---   valueNumbersOf   the same of a value text: the length, and how many set bits no name covers
+--   valueNumbersOf   the same of a value text: the length, how many set bits no name covers, state and count as of a text question
 --   manyNumbersOf    the same of many texts at once: how many, and the bytes of all of them
 --   pairNumbersOf    the same of many pairs at once: how many
 --
@@ -22,19 +24,24 @@ use Rattle.errors.specs.declared.Refusal.the-variants.{RoundUpFull}
 use Rattle.errors.specs.declared.Refusal.the-variants.{StringPoolGarbage, StringPoolHeader, StringPoolOffsets, StringPoolStyles}
 use Rattle.errors.specs.declared.Refusal.the-variants.{StringPoolData, ResourceMapHeader, ResourceMapIds}
 use Rattle.errors.specs.declared.Numbers.{Numbers}
+use Rattle.errors.specs.declared.TextState.{TextState}
+use Rattle.errors.specs.declared.TextState.the-variants.{Whole, Replaced, Unpaired, Cut}
 use Rattle.errors.specs.declared.TextNumbers.{TextNumbers}
+use Rattle.errors.specs.declared.LinesNumbers.{LinesNumbers}
 use Rattle.errors.specs.declared.FirstNumbers.{FirstNumbers}
 use Rattle.errors.specs.declared.ValueNumbers.{ValueNumbers}
 use Rattle.errors.specs.declared.ManyNumbers.{ManyNumbers}
 use Rattle.errors.specs.declared.PairNumbers.{PairNumbers}
 use Rattle.errors.specs.declared.ReadAnswer as read
 use Rattle.errors.specs.declared.TextAnswer as text
+use Rattle.errors.specs.declared.LinesAnswer as lines
 use Rattle.errors.specs.declared.FirstAnswer as first
 use Rattle.errors.specs.declared.ValueAnswer as value′
 use Rattle.errors.specs.declared.ManyTexts as many
 use Rattle.errors.specs.declared.ManyAnswer as pairs
 use Rattle.errors.specs.declared.ReadAnswer.the-variants as readIs
 use Rattle.errors.specs.declared.TextAnswer.the-variants as textIs
+use Rattle.errors.specs.declared.LinesAnswer.the-variants as linesIs
 use Rattle.errors.specs.declared.FirstAnswer.the-variants as firstIs
 use Rattle.errors.specs.declared.ValueAnswer.the-variants as valueIs
 use Rattle.errors.specs.declared.ManyTexts.the-variants as manyIs
@@ -108,9 +115,25 @@ numbersOf (readIs.Done c) =
 numbersOf (readIs.Refused r) =
     record { refusal = numberOf r; value = valueOf r; starts = 0; nodes = 0; attributes = 0; notes = 0 }
 
+abbrev pub stateOf : TextState → ℕ
+stateOf Whole = 0
+stateOf (Replaced n) = 1
+stateOf Unpaired = 2
+stateOf Cut = 3
+
+abbrev pub replacedOf : TextState → ℕ
+replacedOf Whole = 0
+replacedOf (Replaced n) = n
+replacedOf Unpaired = 0
+replacedOf Cut = 0
+
 unfoldable pub textNumbersOf : text.TextAnswer → TextNumbers
-textNumbersOf (textIs.Text n) = record { refusal = 0; value = 0; length = n }
-textNumbersOf (textIs.Refused r) = record { refusal = numberOf r; value = valueOf r; length = 0 }
+textNumbersOf (textIs.Text n s) = record { refusal = 0; value = 0; length = n; state = stateOf s; replaced = replacedOf s }
+textNumbersOf (textIs.Refused r) = record { refusal = numberOf r; value = valueOf r; length = 0; state = 0; replaced = 0 }
+
+unfoldable pub linesNumbersOf : lines.LinesAnswer → LinesNumbers
+linesNumbersOf (linesIs.Text n) = record { refusal = 0; value = 0; length = n }
+linesNumbersOf (linesIs.Refused r) = record { refusal = numberOf r; value = valueOf r; length = 0 }
 
 unfoldable pub firstNumbersOf : first.FirstAnswer → FirstNumbers
 firstNumbersOf (firstIs.Found kind «data» reference) =
@@ -118,8 +141,9 @@ firstNumbersOf (firstIs.Found kind «data» reference) =
 firstNumbersOf (firstIs.Refused r) = record { refusal = numberOf r; value = valueOf r; kind = 0; «data» = 0; reference = 0 }
 
 unfoldable pub valueNumbersOf : value′.ValueAnswer → ValueNumbers
-valueNumbersOf (valueIs.Value n u) = record { refusal = 0; value = 0; length = n; uncovered = u }
-valueNumbersOf (valueIs.Refused r) = record { refusal = numberOf r; value = valueOf r; length = 0; uncovered = 0 }
+valueNumbersOf (valueIs.Value n u s) =
+    record { refusal = 0; value = 0; length = n; uncovered = u; state = stateOf s; replaced = replacedOf s }
+valueNumbersOf (valueIs.Refused r) = record { refusal = numberOf r; value = valueOf r; length = 0; uncovered = 0; state = 0; replaced = 0 }
 
 unfoldable pub manyNumbersOf : many.ManyTexts → ManyNumbers
 manyNumbersOf (manyIs.Answered n s) = record { refusal = 0; value = 0; count = n; length = s }

@@ -6,7 +6,8 @@
 // of a question without an answer. Definitions: specs/Refusal.antt.
 ghost use mathlib.Core.Path.{_≡_};
 ghost use mathlib.Core.Bool.{cond};
-ghost use Rattle.errors.specs.Refusal.{numberOf, valueOf, numbersOf, textNumbersOf, firstNumbersOf, valueNumbersOf, manyNumbersOf, pairNumbersOf};
+ghost use Rattle.errors.specs.Refusal.{numberOf, valueOf, numbersOf, stateOf, replacedOf, textNumbersOf, linesNumbersOf};
+ghost use Rattle.errors.specs.Refusal.{firstNumbersOf, valueNumbersOf, manyNumbersOf, pairNumbersOf};
 
 // One case for each number of a refusal.
 pub enum Refusal {
@@ -56,8 +57,22 @@ pub enum ReadAnswer {
     Refused(Refusal),
 }
 
-// The length of the text, or why there is none.
+// What became of a text. Where it is not whole, the file does not have the characters that the text has.
+pub enum TextState {
+    Whole, // 0
+    Replaced(u32), // 1, with how many U+FFFD were put in
+    Unpaired, // 2: UTF-16 with a surrogate that stands alone, an empty text
+    Cut, // 3: the string is cut or lies outside its pool, an empty text
+}
+
+// The length and the state of the text, or why there is none.
 pub enum TextAnswer {
+    Text { length: usize, state: TextState },
+    Refused(Refusal),
+}
+
+// The length of what was printed, or why nothing was.
+pub enum LinesAnswer {
     Text(usize),
     Refused(Refusal),
 }
@@ -72,9 +87,13 @@ pub enum FirstAnswer {
     Refused(Refusal),
 }
 
-// The length of a value's text and how many set bits of a flag no name covers, or why there is no text.
+// The length of a value's text, how many set bits of a flag no name covers, and the text's state, or why there is no text.
 pub enum ValueAnswer {
-    Value { length: usize, uncovered: u32 },
+    Value {
+        length: usize,
+        uncovered: u32,
+        state: TextState,
+    },
     Refused(Refusal),
 }
 
@@ -99,6 +118,15 @@ pub struct TextNumbers {
     pub refusal: u32,
     pub value: u64,
     pub length: u64,
+    pub state: u32,
+    pub replaced: u32,
+}
+
+// The numbers of a `LinesAnswer`.
+pub struct LinesNumbers {
+    pub refusal: u32,
+    pub value: u64,
+    pub length: u64,
 }
 
 // The numbers of a `FirstAnswer`.
@@ -116,6 +144,8 @@ pub struct ValueNumbers {
     pub value: u64,
     pub length: u64,
     pub uncovered: u32,
+    pub state: u32,
+    pub replaced: u32,
 }
 
 // The numbers of a `ManyTexts`.
@@ -224,17 +254,63 @@ pub fn read_numbers(a: ReadAnswer) -> Numbers
     }
 }
 
-// The numbers of a text question's answer. Ruled out: the bytes needed as the length of a refused answer, and the length as the value.
+// The number of a text's state. Ruled out: one number for two states, and any number but 0 for a whole text.
+pub fn state_number(s: TextState) -> u32
+    ensures { λ r. ⌜ r ≡ stateOf s ⌝ }
+{
+    match s {
+        TextState::Whole => 0,
+        TextState::Replaced(_) => 1,
+        TextState::Unpaired => 2,
+        TextState::Cut => 3,
+    }
+}
+
+// How many characters of a text were replaced. Ruled out: any count but 0 where no U+FFFD was put in, and 1 for every damaged text.
+pub fn replaced_number(s: TextState) -> u32
+    ensures { λ r. ⌜ r ≡ replacedOf s ⌝ }
+{
+    match s {
+        TextState::Whole => 0,
+        TextState::Replaced(n) => n,
+        TextState::Unpaired => 0,
+        TextState::Cut => 0,
+    }
+}
+
+// The numbers of a text question's answer. Ruled out: the bytes needed as the length of a refused answer, and a state beside a refusal.
 pub fn text_numbers(a: TextAnswer) -> TextNumbers
     ensures { λ r. ⌜ r ≡ textNumbersOf a ⌝ }
 {
     match a {
-        TextAnswer::Text(n) => TextNumbers {
+        TextAnswer::Text { length, state } => TextNumbers {
+            refusal: 0,
+            value: 0,
+            length: length as u64,
+            state: state_number(state),
+            replaced: replaced_number(state),
+        },
+        TextAnswer::Refused(e) => TextNumbers {
+            refusal: refusal_number(e),
+            value: refusal_value(e),
+            length: 0,
+            state: 0,
+            replaced: 0,
+        },
+    }
+}
+
+// The numbers of what was printed. Ruled out: the bytes needed as the length of a refused answer, and the length as the value.
+pub fn lines_numbers(a: LinesAnswer) -> LinesNumbers
+    ensures { λ r. ⌜ r ≡ linesNumbersOf a ⌝ }
+{
+    match a {
+        LinesAnswer::Text(n) => LinesNumbers {
             refusal: 0,
             value: 0,
             length: n as u64,
         },
-        TextAnswer::Refused(e) => TextNumbers {
+        LinesAnswer::Refused(e) => LinesNumbers {
             refusal: refusal_number(e),
             value: refusal_value(e),
             length: 0,
@@ -275,22 +351,30 @@ pub fn first_numbers(a: FirstAnswer) -> FirstNumbers
     }
 }
 
-// The numbers of a value text's answer. Ruled out: the bytes needed as the length of a refused answer, and bits beside a refusal.
+// The numbers of a value text's answer. Ruled out: the bytes needed as the length of a refused answer, and bits or a state beside a refusal.
 pub fn value_numbers(a: ValueAnswer) -> ValueNumbers
     ensures { λ r. ⌜ r ≡ valueNumbersOf a ⌝ }
 {
     match a {
-        ValueAnswer::Value { length, uncovered } => ValueNumbers {
+        ValueAnswer::Value {
+            length,
+            uncovered,
+            state,
+        } => ValueNumbers {
             refusal: 0,
             value: 0,
             length: length as u64,
             uncovered: uncovered,
+            state: state_number(state),
+            replaced: replaced_number(state),
         },
         ValueAnswer::Refused(e) => ValueNumbers {
             refusal: refusal_number(e),
             value: refusal_value(e),
             length: 0,
             uncovered: 0,
+            state: 0,
+            replaced: 0,
         },
     }
 }

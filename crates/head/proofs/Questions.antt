@@ -10,22 +10,25 @@ use mathlib.Core.Bool.{Bool, true, false}
 use borrow.Author.Tests.{le-leb, lt-leb}
 use lib.ListN.{length, take, replicate}
 use lib.Dec.{leb}
+use Rattle.utf.specs.Text.{Damage, whole, replaced, unpaired, cut as cutText, stateNumber, replacedCount}
 use Rattle.utf.proofs.Filled.{putText-whole, putText-length}
 use Rattle.errors.specs.Refusal.{textNumbersOf}
 use Rattle.errors.specs.declared.Refusal.{Refusal}
 use Rattle.errors.specs.declared.Refusal.the-variants.{NothingFound, TextShort}
+use Rattle.errors.specs.declared.TextState.{TextState}
+use Rattle.errors.specs.declared.TextState.the-variants as stateIs
 use Rattle.errors.specs.declared.TextAnswer.{TextAnswer}
 use Rattle.errors.specs.declared.TextAnswer.the-variants.{Text, Refused}
 use Rattle.system_types.specs.Names.{Lent}
 use Rattle.text.specs.declared.Head.{Head}
 use Rattle.text.specs.declared.Found.{Found}
 use Rattle.text.specs.declared.Found.the-variants.{Nothing, Cut, System, Pool}
-use Rattle.text.specs.Content.{Content, none, contentOf, textIn, rawOf}
+use Rattle.text.specs.Content.{Content, none, contentOf, textIn, damageIn, rawOf}
 use Rattle.text.specs.Inner.Found.{partOf, isFound, Asks, Wrote}
 use Rattle.head.specs.Head.{openedOf, tablesIn, isWhole, refusalOf, PoolThere}
 use Rattle.head.specs.Entry.{question, Check, passes, fails, firstOf, entryChecks}
 use Rattle.head.specs.Inner.Entered.{enteredOf}
-use Rattle.head.specs.Ask.{headRead, openBy, openOf, fitted, textBy, textAnswer}
+use Rattle.head.specs.Ask.{headRead, openBy, openOf, stateTold, fitted, textBy, textAnswer}
 use Rattle.head.specs.Ask.{textBuffer, contentAnswer, Gives, TextReads}
 use Rattle.head.specs.declared.HeadEnd.{HeadEnd}
 use Rattle.head.specs.declared.HeadEnd.the-variants.{Whole, TooSmall, HeaderSize, PoolShort, MapShort}
@@ -92,6 +95,32 @@ module _ (f : List ℕ) (lent : Lent) {h : Head} (open′ : openOf f lent ≡ Op
 
 -- ---- the text question
 
+-- the state by its number
+module _ {k : ℕ} where
+  pub told-whole : (d : Damage) → k ≡ stateNumber d → k ≡ 0 → stateIs.Whole ≡ stateTold d
+  told-whole whole e f = refl
+  told-whole (replaced n) e f = absurd (let z : ⊥ = omega (arith, e, f) in z)
+  told-whole unpaired e f = absurd (let z : ⊥ = omega (arith, e, f) in z)
+  told-whole cutText e f = absurd (let z : ⊥ = omega (arith, e, f) in z)
+
+  pub told-replaced : (d : Damage) {m : ℕ} → k ≡ stateNumber d → k ≡ 1 → m ≡ replacedCount d → stateIs.Replaced m ≡ stateTold d
+  told-replaced whole e f g = absurd (let z : ⊥ = omega (arith, e, f) in z)
+  told-replaced (replaced n) e f g = ap stateIs.Replaced g
+  told-replaced unpaired e f g = absurd (let z : ⊥ = omega (arith, e, f) in z)
+  told-replaced cutText e f g = absurd (let z : ⊥ = omega (arith, e, f) in z)
+
+  pub told-unpaired : (d : Damage) → k ≡ stateNumber d → k ≡ 2 → stateIs.Unpaired ≡ stateTold d
+  told-unpaired whole e f = absurd (let z : ⊥ = omega (arith, e, f) in z)
+  told-unpaired (replaced n) e f = absurd (let z : ⊥ = omega (arith, e, f) in z)
+  told-unpaired unpaired e f = refl
+  told-unpaired cutText e f = absurd (let z : ⊥ = omega (arith, e, f) in z)
+
+  pub told-cut : (d : Damage) → k ≡ stateNumber d → (k ≡ 0 → ⊥) → (k ≡ 1 → ⊥) → (k ≡ 2 → ⊥) → stateIs.Cut ≡ stateTold d
+  told-cut whole e f g h = absurd (f e)
+  told-cut (replaced n) e f g h = absurd (g e)
+  told-cut unpaired e f g h = absurd (h e)
+  told-cut cutText e f g h = refl
+
 -- with n the length of the text, and out the buffer that it was written to if it fits
 module _ (text before after out : List ℕ) (n : ℕ) (w : Wrote text before out n) where
   as-long : length out ≡ length before
@@ -99,22 +128,25 @@ module _ (text before after out : List ℕ) (n : ℕ) (w : Wrote text before out
 
   -- longer than the buffer
   pub gives-short
-      : length out < n
+      : (state : TextState)
+      → length out < n
       → after ≡ replicate (length out - 0) 0
-      → Gives (length before) text (fitted (length before) text) (Refused (TextShort n)) after
-  gives-short p z =
+      → Gives (length before) text (fitted (length before) text state) (Refused (TextShort n)) after
+  gives-short state p z =
       let m : length out - 0 ≡ length before = omega (arith, as-long) in
       let q : leb (length text) (length before) ≡ false = lt-leb (length text) (length before) (omega (arith, as-long, w .count)) in
       rw (q, w .count) (record { same = refl; out = z ∙ ap (λ (k : ℕ). replicate k 0) m })
 
   pub gives-text
-      : n ≤ length out
+      : (state : TextState) {told : TextState}
+      → n ≤ length out
       → after ≡ take n out ++ replicate (length out - n) 0
-      → Gives (length before) text (fitted (length before) text) (Text n) after
-  gives-text p z =
+      → told ≡ state
+      → Gives (length before) text (fitted (length before) text state) (Text n told) after
+  gives-text state p z e =
       let l : length text ≤ length before = omega (arith, as-long, w .count) in
       let q : leb (length text) (length before) ≡ true = le-leb (length text) (length before) l in
-      rw (q, w .count)
+      rw (q, w .count, e)
       (record { same = refl; out = zero-behind text before out after n l (w .count) (w .bytes ∙ putText-whole text before l) z })
 
 partOf-none : (w : Bool) (t area : List ℕ) (f : Found) → isFound f ≡ false → partOf w t area f ≡ none
@@ -126,7 +158,7 @@ partOf-none w t area (Pool at n) e = let z : _≡_ {A = ℕ} 0 1 = cc in absurd 
 textBy-found
     : (n : ℕ) (w : Bool) (t area : List ℕ) (f : Found)
     → isFound f ≡ true
-    → textBy n (partOf w t area f) ≡ fitted n (textIn (partOf w t area f))
+    → textBy n (partOf w t area f) ≡ fitted n (textIn (partOf w t area f)) (stateTold (damageIn (partOf w t area f)))
 textBy-found n w t area Nothing e = let z : _≡_ {A = ℕ} 0 1 = cc in absurd (let y : ⊥ = omega arith in y)
 textBy-found n w t area Cut e = refl
 textBy-found n w t area (System at k) e = refl
@@ -138,7 +170,7 @@ module _ (n : ℕ) (w : Bool) (t area : List ℕ) (f : Found) {c : Content} (e :
 
   pub gives-found
       : isFound f ≡ true
-      → Gives n (textIn (partOf w t area f)) (fitted n (textIn (partOf w t area f))) r after
+      → Gives n (textIn (partOf w t area f)) (fitted n (textIn (partOf w t area f)) (stateTold (damageIn (partOf w t area f)))) r after
       → Gives n (textIn c) (textBy n c) r after
   gives-found p g = rw (← e, textBy-found n w t area f p) g
 

@@ -11,13 +11,14 @@ use lib.Dec.{leb}
 use Rattle.errors.specs.Refusal.{numberOf}
 use Rattle.errors.specs.declared.Refusal.{Refusal}
 use Rattle.errors.specs.declared.Refusal.the-variants.{TextShort}
+use Rattle.errors.specs.declared.TextState.{TextState}
 use Rattle.errors.specs.declared.TextAnswer.{TextAnswer}
 use Rattle.errors.specs.declared.TextAnswer.the-variants.{Text, Refused}
 use Rattle.errors.proofs.Laws.{textNumbersOf-unique}
 use Rattle.system_types.specs.Names.{Lent}
-use Rattle.text.specs.Content.{Content, none, cut, some, contentOf, textIn, rawOf}
+use Rattle.text.specs.Content.{Content, none, cut, some, contentOf, textIn, damageIn, rawOf}
 use Rattle.head.specs.Head.{tablesIn}
-use Rattle.head.specs.Ask.{openOf, askedBy, fitted, textBy, textAnswerBy, textAnswer, contentAnswer, TextReads}
+use Rattle.head.specs.Ask.{openOf, askedBy, stateTold, fitted, textBy, textAnswerBy, textAnswer, contentAnswer, TextReads}
 use Rattle.head.specs.declared.OpenRead.{OpenRead}
 use Rattle.head.specs.declared.OpenRead.the-variants.{Open, Closed}
 
@@ -33,18 +34,18 @@ text-unique f lent before i {r} {r′} a b = (textNumbersOf-unique r r′ (a .an
 -- ---- the content question
 
 -- the refusal of a text that is there is 11
-fitted-short : (n : ℕ) (text : List ℕ) (why : Refusal) → fitted n text ≡ Refused why → numberOf why ≡ 11
+fitted-short : (n : ℕ) (text : List ℕ) (state : TextState) (why : Refusal) → fitted n text state ≡ Refused why → numberOf why ≡ 11
 unfolding numberOf
-fitted-short n text why e = go (leb (length text) n) e
+fitted-short n text state why e = go (leb (length text) n) e
   where
-    go : (b : Bool) → cond b (Text (length text)) (Refused (TextShort (length text))) ≡ Refused why → numberOf why ≡ 11
+    go : (b : Bool) → cond b (Text (length text) state) (Refused (TextShort (length text))) ≡ Refused why → numberOf why ≡ 11
     go true q = let z : _≡_ {A = ℕ} 0 1 = cc in absurd (let y : ⊥ = omega arith in y)
     go false q = let w : why ≡ TextShort (length text) = cc in rw w
 
 textBy-refused : (n : ℕ) (c : Content) (why : Refusal) → textBy n c ≡ Refused why → (numberOf why ≡ 11 → ⊥) → rawOf c ≡ []
 textBy-refused n none why e not-11 = refl
 textBy-refused n cut why e not-11 = refl
-textBy-refused n (some w s) why e not-11 = absurd (not-11 (fitted-short n (textIn (some w s)) why e))
+textBy-refused n (some w s) why e not-11 = absurd (not-11 (fitted-short n (textIn (some w s)) (stateTold (damageIn (some w s))) why e))
 
 pub content-refused
     : (f : List ℕ) (lent : Lent) (n i : ℕ) (why : Refusal)

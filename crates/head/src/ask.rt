@@ -1,7 +1,7 @@
 // The text question and the content question: head and lent names are checked again at each call.
 //
 // Mirrors structs/res_string_pool.rs (apk-info 13770539b8), `get_with_resources`, for a caller who holds the file alone.
-// Answers: `TextAnswer`, the length of the text or a refusal. Definitions: specs/Ask.antt.
+// Answers: `TextAnswer`, the length and the state of the text or a refusal. Definitions: specs/Ask.antt.
 use super::Asker;
 use super::Entered;
 use super::OpenRead;
@@ -17,18 +17,21 @@ ghost use lib.ListN.{length, take, replicate};
 ghost use Rattle.records.specs.Limits.{fileLimit};
 ghost use Rattle.errors.specs.declared.TextAnswer.the-variants.{Refused};
 ghost use Rattle.system_types.specs.Names.{lends};
-ghost use Rattle.text.specs.Content.{contentOf, rawOf, textIn};
+ghost use Rattle.text.specs.Content.{contentOf, rawOf, textIn, damageIn};
 ghost use Rattle.text.specs.Inner.Found.{partOf, Inside, isFound, Asks};
-ghost use Rattle.head.specs.Ask.{headRead, openOf, fitted, textBy, contentAnswer, Gives, TextReads};
+ghost use Rattle.head.specs.Ask.{headRead, openOf, stateTold, fitted, textBy, contentAnswer, Gives, TextReads};
 use common::StringIndex;
 use errors::Refusal;
 use errors::TextAnswer;
+use errors::TextState;
 use text::Found;
 use text::Head;
 use text::content_of;
 use text::find;
 use text::found_into;
 use text::is_found;
+use text::replaced_of_found;
+use text::state_of_found;
 
 // ---- what refuses before an index is looked at
 
@@ -81,11 +84,31 @@ fn refuse(out: &mut [u8], why: Refusal) -> TextAnswer
     TextAnswer::Refused(why)
 }
 
+// What became of the text that was found. Only one with characters that were replaced is looked at again, to count them.
+// Ruled out: `Whole` for a string that is cut, and one character replaced for every damaged text.
+pub fn found_told(t: &[u8], area: &[u8], wide: bool, f: Found) -> TextState
+    requires { ⌜ Inside (now t) (now area) f × (length (now t) ≤ fileLimit) ⌝ }
+    ensures { λ r. ⌜ r ≡ stateTold (damageIn (partOf wide (now (t .entry)) (now (area .entry)) f)) ⌝ }
+{
+    let state = state_of_found(t, area, wide, f);
+    if state == 0 {
+        return TextState::Whole;
+    }
+    if state == 1 {
+        return TextState::Replaced(replaced_of_found(t, area, wide, f));
+    }
+    if state == 2 {
+        return TextState::Unpaired;
+    }
+    TextState::Cut
+}
+
 // The text of what was found, if the buffer holds it whole.
 fn write_found(t: &[u8], area: &[u8], wide: bool, f: Found, out: &mut [u8]) -> TextAnswer
     requires { ⌜ Inside (now t) (now area) f × (length (now t) ≤ fileLimit) ⌝ }
     ensures { λ r. ⌜ Gives (length (now (out .entry))) (textIn (partOf wide (now (t .entry)) (now (area .entry)) f))
-        (fitted (length (now (out .entry))) (textIn (partOf wide (now (t .entry)) (now (area .entry)) f))) r (now (out .exit)) ⌝ }
+        (fitted (length (now (out .entry))) (textIn (partOf wide (now (t .entry)) (now (area .entry)) f))
+        (stateTold (damageIn (partOf wide (now (t .entry)) (now (area .entry)) f)))) r (now (out .exit)) ⌝ }
 {
     let n = found_into(t, area, wide, f, out);
     if out.len() < n {
@@ -93,7 +116,8 @@ fn write_found(t: &[u8], area: &[u8], wide: bool, f: Found, out: &mut [u8]) -> T
         return TextAnswer::Refused(Refusal::TextShort(n));
     }
     zero_from(out, n);
-    TextAnswer::Text(n)
+    let state = found_told(t, area, wide, f);
+    TextAnswer::Text { length: n, state }
 }
 
 fn text_in(
@@ -117,7 +141,7 @@ fn text_in(
 
 // The text of a string index, in `out`: its UTF-8 and zeros behind it; on a refusal zeros alone. Head and names are checked again at
 // each call, and the answer tells the first that is amiss: 2, 7, 1, 3, 4, 5, then 12 (no text) and 11 (with the bytes needed).
-// Ruled out: the front of a text that does not fit, and 12 for an empty text.
+// Ruled out: the front of a text that does not fit, 12 for an empty text, and a damaged text answered as a whole one.
 pub fn text(
     file: &[u8],
     names: &[u32],

@@ -6,6 +6,7 @@
 pub mod ask;
 
 pub use ask::content;
+pub use ask::found_told;
 pub use ask::open_file;
 pub use ask::text;
 ghost use mathlib.Core.Path.{_≡_};

@@ -16,9 +16,9 @@ use Rattle.anomaly.specs.Note.{kindIndex}
 use Rattle.errors.specs.Refusal.{numbersOf}
 use Rattle.errors.specs.declared.Refusal.{Refusal}
 use Rattle.errors.specs.declared.Refusal.the-variants.{AttributesFull, NotesFull, TooLargeError}
-use Rattle.errors.specs.declared.TextAnswer.{TextAnswer}
-use Rattle.errors.specs.declared.TextAnswer.the-variants.{Text, Refused}
-use Rattle.errors.proofs.Laws.{textNumbersOf-unique}
+use Rattle.errors.specs.declared.LinesAnswer.{LinesAnswer}
+use Rattle.errors.specs.declared.LinesAnswer.the-variants.{Text, Refused}
+use Rattle.errors.proofs.Laws.{linesNumbersOf-unique}
 use Rattle.head.specs.Entry.{readingAt, Check, passes, fails, firstOf, entryChecks}
 use Rattle.head.specs.Head.{openedOf}
 use Rattle.xml_elements.proofs.Laws.{cond-by}
@@ -143,7 +143,7 @@ listedText-fits f ns ats h i =
 -- ---- so that the answer is a text
 
 module _ (f ns ats before ns′ ats′ after : List ℕ) where
-  pub lists-text : (r : TextAnswer) (n : ℕ) → r ≡ Text n → Lists f ns ats before r ns′ ats′ after → Lists f ns ats before (Text n) ns′ ats′ after
+  pub lists-text : (r : LinesAnswer) (n : ℕ) → r ≡ Text n → Lists f ns ats before r ns′ ats′ after → Lists f ns ats before (Text n) ns′ ats′ after
   lists-text r n e h = rw e at h
 
   module _ (room : Roomy (length ns) (length ats) (length before)) where
@@ -152,13 +152,13 @@ module _ (f ns ats before ns′ ats′ after : List ℕ) where
         let h = listedText-fits f (length ns) (length ats) (omega (arith, room .nodes)) (omega (arith, room .attributes)) in
         omega (arith, h, room .out)
 
-    pub lists-answer : (r : TextAnswer) → Lists f ns ats before r ns′ ats′ after → r ≡ Text (length (listedText f (length ns) (length ats)))
+    pub lists-answer : (r : LinesAnswer) → Lists f ns ats before r ns′ ats′ after → r ≡ Text (length (listedText f (length ns) (length ats)))
     unfolding listingAnswer
     lists-answer r h =
-        textNumbersOf-unique r (Text (length (listedText f (length ns) (length ats))))
+        linesNumbersOf-unique r (Text (length (listedText f (length ns) (length ats))))
         (h .printed .answer ∙ rw (le-leb (length (listedText f (length ns) (length ats))) (length before) fits))
 
-    pub lists-never : (r : TextAnswer) (x : Refusal) → r ≡ Refused x → Lists f ns ats before r ns′ ats′ after → ⊥
+    pub lists-never : (r : LinesAnswer) (x : Refusal) → r ≡ Refused x → Lists f ns ats before r ns′ ats′ after → ⊥
     lists-never r x e h =
         let q : Refused x ≡ Text (length (listedText f (length ns) (length ats))) = sym e ∙ lists-answer r h in
         let z : _≡_ {A = ℕ} 1 0 = cc in

@@ -11,7 +11,7 @@ use Rattle.errors.specs.declared.Numbers.{Numbers}
 use Rattle.errors.specs.declared.ReadAnswer.{ReadAnswer}
 use Rattle.errors.specs.declared.ReadAnswer.the-variants.{Refused}
 use Rattle.errors.specs.declared.Refusal.the-variants.{TooLargeError}
-use Rattle.errors.specs.declared.TextAnswer.{TextAnswer}
+use Rattle.errors.specs.declared.LinesAnswer.{LinesAnswer}
 use Rattle.records.specs.Limits.{listedFile, listedNotes, listedCap}
 use Rattle.records.specs.Words.{merged}
 use Rattle.system_types.specs.Names.{lends}
@@ -27,7 +27,7 @@ refused-same :
 unfolding numbersOf listingText listing recordLines noteLines
 refused-same n ns ats ns′ ats′ os os′ e = rw e
 
-module _ (f ns ats before after ns′ ats′ : List ℕ) (n : Numbers) (r : TextAnswer) where
+module _ (f ns ats before after ns′ ats′ : List ℕ) (n : Numbers) (r : LinesAnswer) where
   pub lists-large :
       (os : List Note) → listedFile < length f → ns′ ≡ replicate (length ns) 0 → ats′ ≡ replicate (length ats) 0 →
       n ≡ numbersOf (Refused TooLargeError) → Printed (listingText listedCap n ns′ ats′ os) before r after → Lists f ns ats before r ns′ ats′ after
@@ -54,7 +54,7 @@ unfolding listed
 listed-large f a b h = rw (lt-ltb listedFile (length f) h)
 
 pub lists-longer :
-    (f more ns ats before : List ℕ) (r : TextAnswer) (ns′ ats′ after : List ℕ) → listedFile < length f → Lists f ns ats before r ns′ ats′ after →
+    (f more ns ats before : List ℕ) (r : LinesAnswer) (ns′ ats′ after : List ℕ) → listedFile < length f → Lists f ns ats before r ns′ ats′ after →
     Lists (f ++ more) ns ats before r ns′ ats′ after
 lists-longer f more ns ats before r ns′ ats′ after h p =
     let l : listedFile < length (f ++ more) = rw (length-append f more) (omega arith) in

@@ -14,7 +14,7 @@ use lib.ListN.{length}
 use lib.Dec.{ltb}
 use Rattle.errors.specs.Refusal.{numbersOf}
 use Rattle.errors.specs.declared.Refusal.the-variants.{TooLargeError}
-use Rattle.errors.specs.declared.TextAnswer.{TextAnswer}
+use Rattle.errors.specs.declared.LinesAnswer.{LinesAnswer}
 use Rattle.records.specs.Limits.{listedFile, listedNotes, listedCap}
 use Rattle.records.specs.Words.{merged}
 use Rattle.system_types.specs.Names.{lends}
@@ -36,7 +36,7 @@ textIn g = listingText listedCap (numbersOf (g .answer)) (g .nodes) (g .attribut
 abbrev pub listedText : List ℕ → ℕ → ℕ → List ℕ
 listedText f ns ats = textIn (listed f ns ats)
 
-pub record Lists (f ns ats before : List ℕ) (r : TextAnswer) (ns′ ats′ after : List ℕ) : Type 0 where
+pub record Lists (f ns ats before : List ℕ) (r : LinesAnswer) (ns′ ats′ after : List ℕ) : Type 0 where
   pub printed : Printed (listedText f (length ns) (length ats)) before r after
   pub nodes : ns′ ≡ listed f (length ns) (length ats) .nodes
   pub attributes : ats′ ≡ listed f (length ns) (length ats) .attributes

@@ -3,9 +3,9 @@
 // Mirrors nothing of the Rust's. docs/FORMAT.md, L1 to L4. Definitions: specs/Lists.antt.
 // `axml::read_listed` reads and `listing_text::listing_into` prints; the limit, the cap and the rooms are those of crate `records`.
 use anomaly::Note;
+use errors::LinesAnswer;
 use errors::ReadAnswer;
 use errors::Refusal;
-use errors::TextAnswer;
 ghost use Rattle.listed.specs.Lists.{Lists};
 use records::LISTED_CAP;
 use records::LISTED_FILE;
@@ -19,7 +19,7 @@ pub fn list_into(
     nodes: &mut [u32],
     attributes: &mut [u32],
     out: &mut [u8],
-) -> TextAnswer
+) -> LinesAnswer
     ensures { λ r. ⌜ Lists (now (file .entry)) (now (nodes .entry)) (now (attributes .entry)) (now (out .entry)) r
         (now (nodes .exit)) (now (attributes .exit)) (now (out .exit)) ⌝ }
 {

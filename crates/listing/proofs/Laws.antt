@@ -4,7 +4,7 @@ use mathlib.Core.List.{List, _++_}
 use Prim.Native.Nat.{ℕ, _≤_, _<_}
 use native.Mathlib.Nat.{le-refl}
 use lib.ListN.{length, take, replicate, length-replicate}
-use Rattle.errors.specs.declared.TextAnswer.the-variants.{Text}
+use Rattle.errors.specs.declared.LinesAnswer.the-variants.{Text}
 use Rattle.records.specs.Limits.{listedFile}
 use Rattle.listed.specs.Lists.{Lists}
 use Rattle.listed.proofs.Lists.{lists-longer}

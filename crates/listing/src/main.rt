@@ -3,7 +3,7 @@
 // The program only moves bytes: what it lists is `listed::list_into`'s promise, and `list_input` says so of what came in. More than the limit is
 // refused with 2 and not read to its end. A read that fails prints nothing on standard output and a line on standard error, so that a part of a
 // file is never listed as if it were the whole; a write that fails says so too, for what was written then is a part of the listing.
-use errors::TextAnswer;
+use errors::LinesAnswer;
 use libc::STDERR_FILENO;
 use libc::STDIN_FILENO;
 use libc::STDOUT_FILENO;
@@ -11,7 +11,7 @@ use listing_text::LISTED_BYTES;
 ghost use Prim.Native.Nat.{_≤_, _<_};
 ghost use lib.ListN.{length};
 ghost use Rattle.records.specs.Limits.{listedFile};
-ghost use Rattle.errors.specs.declared.TextAnswer.the-variants.{Text};
+ghost use Rattle.errors.specs.declared.LinesAnswer.the-variants.{Text};
 ghost use Rattle.listed.specs.Lists.{Lists};
 ghost use Rattle.listed.specs.Roomy.{Roomy};
 ghost use Rattle.listing.specs.Inner.Input.{Within, Runs};
@@ -56,8 +56,8 @@ fn list_whole(file: &[u8], nodes: &mut [u32], attributes: &mut [u32], out: &mut 
 {
     let answer = listed::list_into(file, nodes, attributes, out);
     match answer {
-        TextAnswer::Text(length) => length,
-        TextAnswer::Refused(_) => 0, // never: the buffer takes every listing
+        LinesAnswer::Text(length) => length,
+        LinesAnswer::Refused(_) => 0, // never: the buffer takes every listing
     }
 }
 

@@ -8,7 +8,7 @@ use borrow.Rule.Slice.PartMut.{putMid, midOf}
 use lib.ListN.{length, replicate}
 use Rattle.anomaly.specs.declared.Note.{Note}
 use Rattle.errors.specs.declared.Numbers.{Numbers}
-use Rattle.errors.specs.declared.TextAnswer.the-variants.{Text, Refused}
+use Rattle.errors.specs.declared.LinesAnswer.the-variants.{Text, Refused}
 use Rattle.errors.specs.declared.Refusal.the-variants.{TextShort}
 use Rattle.listing_text.specs.Listing.{Line, linesText, headLines, nodeLines, attributeLines, noteLines, listing, listingText}
 use Rattle.listing_text.specs.Printed.{Printed, listingAnswer}

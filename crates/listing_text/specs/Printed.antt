@@ -11,14 +11,14 @@ use mathlib.Core.Bool.{cond}
 use lib.ListN.{length}
 use lib.Dec.{leb}
 use Rattle.digits.specs.Written.{fitted}
-use Rattle.errors.specs.Refusal.{textNumbersOf}
-use Rattle.errors.specs.declared.TextAnswer.{TextAnswer}
-use Rattle.errors.specs.declared.TextAnswer.the-variants.{Text, Refused}
+use Rattle.errors.specs.Refusal.{linesNumbersOf}
+use Rattle.errors.specs.declared.LinesAnswer.{LinesAnswer}
+use Rattle.errors.specs.declared.LinesAnswer.the-variants.{Text, Refused}
 use Rattle.errors.specs.declared.Refusal.the-variants.{TextShort}
 
-unfoldable pub listingAnswer : List ℕ → ℕ → TextAnswer
+unfoldable pub listingAnswer : List ℕ → ℕ → LinesAnswer
 listingAnswer text room = cond (leb (length text) room) (Text (length text)) (Refused (TextShort (length text)))
 
-pub record Printed (text before : List ℕ) (r : TextAnswer) (after : List ℕ) : Type 0 where
-  pub answer : textNumbersOf r ≡ textNumbersOf (listingAnswer text (length before))
+pub record Printed (text before : List ℕ) (r : LinesAnswer) (after : List ℕ) : Type 0 where
+  pub answer : linesNumbersOf r ≡ linesNumbersOf (listingAnswer text (length before))
   pub out : after ≡ fitted text (length before)

@@ -8,9 +8,9 @@ mod fields;
 
 use anomaly::Note;
 use digits::zero;
+use errors::LinesAnswer;
 use errors::Numbers;
 use errors::Refusal;
-use errors::TextAnswer;
 use fields::put_field;
 use fields::put_three;
 use records::ATTRIBUTE_DATA;
@@ -261,14 +261,14 @@ pub fn listing_into(
     attributes: &[u32],
     notes: [Note; LISTED_NOTES],
     out: &mut [u8],
-) -> TextAnswer
+) -> LinesAnswer
     ensures { λ r. ⌜ Printed (listingText cap n (now (nodes .entry)) (now (attributes .entry)) notes) (now (out .entry)) r (now (out .exit)) ⌝ }
 {
     let end = put_listing(out, cap, n, nodes, attributes, notes);
     if out.len() < end {
         zero(out);
-        return TextAnswer::Refused(Refusal::TextShort(end));
+        return LinesAnswer::Refused(Refusal::TextShort(end));
     }
     zero(&mut out[end..]);
-    TextAnswer::Text(end)
+    LinesAnswer::Text(end)
 }

@@ -10,21 +10,22 @@ use borrow.Author.Tests.{eqb-true, eqb-false, ltb-true, ltb-false}
 use lib.ListN.{length, take, drop, getD, replicate}
 use lib.Seq.{drop-append-seam, drop-at, take-append-seam, take-at, getD-take, getD-drop}
 use lib.Dec.{eqb, ltb, leb}
-use Rattle.errors.specs.Refusal.{numberOf, textNumbersOf, valueNumbersOf, manyNumbersOf}
+use Rattle.errors.specs.Refusal.{stateOf, replacedOf, numberOf, textNumbersOf, valueNumbersOf, manyNumbersOf}
 use Rattle.errors.specs.declared.Refusal.{Refusal}
 use Rattle.errors.specs.declared.Refusal.the-variants.{TextShort, TablesError, AnswersFull}
 use Rattle.errors.specs.declared.ManyTexts.{ManyTexts}
 use Rattle.errors.specs.declared.ManyTexts.the-variants.{Answered, Refused}
+use Rattle.errors.specs.declared.TextState.{TextState}
 use Rattle.errors.specs.declared.TextAnswer.the-variants.{Text as Text′, Refused as TextRefused}
 use Rattle.errors.specs.declared.ValueAnswer.the-variants.{Value as Value′, Refused as Refused′}
 use Rattle.errors.proofs.Laws.{manyNumbersOf-unique}
 use Rattle.digits.specs.Written.{fitted}
 use Rattle.records.specs.Words.{attributeWidth}
-use Rattle.many_texts.specs.Words.{answerWidth, answerRefusal, answerStart, answerLength, answerUncovered, answerWords}
+use Rattle.many_texts.specs.Words.{answerWidth, answerRefusal, answerStart, answerLength, answerUncovered, answerState, answerReplaced, answerWords}
 use Rattle.system_types.specs.Names.{Lent}
-use Rattle.text.specs.Content.{Content, none, cut, some, contentOf, textIn}
+use Rattle.text.specs.Content.{Content, none, cut, some, contentOf, textIn, damageIn}
 use Rattle.head.specs.Head.{tablesIn}
-use Rattle.head.specs.Ask.{openOf, fitted as fits, textBy, askedBy as contentBy, textAnswerBy, textAnswer, bufferBy as buffered, textBuffer}
+use Rattle.head.specs.Ask.{openOf, stateTold, fitted as fits, textBy, askedBy as contentBy, textAnswerBy, textAnswer, bufferBy as buffered, textBuffer}
 use Rattle.head.specs.declared.OpenRead.{OpenRead}
 use Rattle.head.specs.declared.OpenRead.the-variants.{Open, Closed}
 use Rattle.value_text.specs.Value.{Value, noName, noText, shows, shown, valueOf, valueOpen}
@@ -162,27 +163,31 @@ module _ (start i : ℕ) (out table : List ℕ) where
   part-none :
       (number : ℕ) (buffer : List ℕ) →
       take answerWidth (drop (answerWidth * i) table) ≡ answerWords number 0 0 0 0 0 →
-      IsPart number 0 0 buffer i out table
+      IsPart number 0 0 0 0 buffer i out table
   part-none number buffer e =
       record {
         number = word-at i answerRefusal (answerWords number 0 0 0 0 0) table e (omega arith);
         long = word-at i answerLength (answerWords number 0 0 0 0 0) table e (omega arith);
         bits = word-at i answerUncovered (answerWords number 0 0 0 0 0) table e (omega arith);
+        damage = word-at i answerState (answerWords number 0 0 0 0 0) table e (omega arith);
+        count = word-at i answerReplaced (answerWords number 0 0 0 0 0) table e (omega arith);
         text = refl;
       }
 
   -- one with a text, which stands in a buffer too
   part-some :
-      (u : ℕ) (s zs : List ℕ) →
-      PartAt (shows s u) start i out table →
-      IsPart 0 (length s) u (s ++ zs) i out table
-  part-some u s zs p =
+      (u : ℕ) (d : TextState) (s zs : List ℕ) →
+      PartAt (shows s u d) start i out table →
+      IsPart 0 (length s) u (stateOf d) (replacedOf d) (s ++ zs) i out table
+  part-some u d s zs p =
       let e = p .words in
-      let w = answerWords 0 start (length s) u 0 0 in
+      let w = answerWords 0 start (length s) u (stateOf d) (replacedOf d) in
       record {
         number = word-at i answerRefusal w table e (omega arith);
         long = word-at i answerLength w table e (omega arith);
         bits = word-at i answerUncovered w table e (omega arith);
+        damage = word-at i answerState w table e (omega arith);
+        count = word-at i answerReplaced w table e (omega arith);
         text =
             ap (λ (k : ℕ). take (length s) (drop k out)) (word-at i answerStart w table e (omega arith)) ∙ p .text ∙ sym (take-append-seam s zs);
       }
@@ -192,49 +197,56 @@ module _ (start i : ℕ) (out table : List ℕ) where
       PartAt v start i out table →
       (valueNumbersOf (answerBy room kind v) .refusal ≡ 11 → ⊥) →
       IsPart (valueNumbersOf (answerBy room kind v) .refusal) (valueNumbersOf (answerBy room kind v) .length)
-      (valueNumbersOf (answerBy room kind v) .uncovered) (bufferBy room v) i out table
+      (valueNumbersOf (answerBy room kind v) .uncovered) (valueNumbersOf (answerBy room kind v) .state)
+      (valueNumbersOf (answerBy room kind v) .replaced) (bufferBy room v) i out table
   unfolding valueNumbersOf numberOf fitted
   part-is noName room kind p c = part-none 12 (replicate room 0) (p .words)
   part-is noText room kind p c = part-none 15 (replicate room 0) (p .words)
-  part-is (shows s u) room kind p c = go (leb (length s) room) c
+  part-is (shows s u d) room kind p c = go (leb (length s) room) c
     where
       go :
           (b : Bool) →
-          (valueNumbersOf (cond b (Value′ (length s) u) (Refused′ (TextShort (length s)))) .refusal ≡ 11 → ⊥) →
-          IsPart (valueNumbersOf (cond b (Value′ (length s) u) (Refused′ (TextShort (length s)))) .refusal)
-          (valueNumbersOf (cond b (Value′ (length s) u) (Refused′ (TextShort (length s)))) .length)
-          (valueNumbersOf (cond b (Value′ (length s) u) (Refused′ (TextShort (length s)))) .uncovered)
+          (valueNumbersOf (cond b (Value′ (length s) u d) (Refused′ (TextShort (length s)))) .refusal ≡ 11 → ⊥) →
+          IsPart (valueNumbersOf (cond b (Value′ (length s) u d) (Refused′ (TextShort (length s)))) .refusal)
+          (valueNumbersOf (cond b (Value′ (length s) u d) (Refused′ (TextShort (length s)))) .length)
+          (valueNumbersOf (cond b (Value′ (length s) u d) (Refused′ (TextShort (length s)))) .uncovered)
+          (valueNumbersOf (cond b (Value′ (length s) u d) (Refused′ (TextShort (length s)))) .state)
+          (valueNumbersOf (cond b (Value′ (length s) u d) (Refused′ (TextShort (length s)))) .replaced)
           (cond b (s ++ replicate (room - length s) 0) (replicate room 0)) i out table
-      go true d = part-some u s (replicate (room - length s) 0) p
-      go false d = absurd (d refl)
+      go true n = part-some u d s (replicate (room - length s) 0) p
+      go false n = absurd (n refl)
 
   -- the same of a string index
   text-fits :
-      (room : ℕ) (s : List ℕ) →
-      PartAt (shows s 0) start i out table →
-      (textNumbersOf (fits room s) .refusal ≡ 11 → ⊥) →
-      IsPart (textNumbersOf (fits room s) .refusal) (textNumbersOf (fits room s) .length) 0 (buffered room s (fits room s)) i out table
+      (room : ℕ) (s : List ℕ) (t : TextState) →
+      PartAt (shows s 0 t) start i out table →
+      (textNumbersOf (fits room s t) .refusal ≡ 11 → ⊥) →
+      IsPart (textNumbersOf (fits room s t) .refusal) (textNumbersOf (fits room s t) .length) 0
+      (textNumbersOf (fits room s t) .state) (textNumbersOf (fits room s t) .replaced) (buffered room s (fits room s t)) i out table
   unfolding textNumbersOf numberOf
-  text-fits room s p c = go (leb (length s) room) c
+  text-fits room s t p c = go (leb (length s) room) c
     where
       go :
           (b : Bool) →
-          (textNumbersOf (cond b (Text′ (length s)) (TextRefused (TextShort (length s)))) .refusal ≡ 11 → ⊥) →
-          IsPart (textNumbersOf (cond b (Text′ (length s)) (TextRefused (TextShort (length s)))) .refusal)
-          (textNumbersOf (cond b (Text′ (length s)) (TextRefused (TextShort (length s)))) .length) 0
-          (buffered room s (cond b (Text′ (length s)) (TextRefused (TextShort (length s))))) i out table
-      go true d = part-some 0 s (replicate (room - length s) 0) p
+          (textNumbersOf (cond b (Text′ (length s) t) (TextRefused (TextShort (length s)))) .refusal ≡ 11 → ⊥) →
+          IsPart (textNumbersOf (cond b (Text′ (length s) t) (TextRefused (TextShort (length s)))) .refusal)
+          (textNumbersOf (cond b (Text′ (length s) t) (TextRefused (TextShort (length s)))) .length) 0
+          (textNumbersOf (cond b (Text′ (length s) t) (TextRefused (TextShort (length s)))) .state)
+          (textNumbersOf (cond b (Text′ (length s) t) (TextRefused (TextShort (length s)))) .replaced)
+          (buffered room s (cond b (Text′ (length s) t) (TextRefused (TextShort (length s))))) i out table
+      go true d = part-some 0 t s (replicate (room - length s) 0) p
       go false d = absurd (d refl)
 
   text-is :
       (c : Content) (room : ℕ) →
       PartAt (valueIn c) start i out table →
       (textNumbersOf (textBy room c) .refusal ≡ 11 → ⊥) →
-      IsPart (textNumbersOf (textBy room c) .refusal) (textNumbersOf (textBy room c) .length) 0 (buffered room (textIn c) (textBy room c)) i out table
+      IsPart (textNumbersOf (textBy room c) .refusal) (textNumbersOf (textBy room c) .length) 0
+      (textNumbersOf (textBy room c) .state) (textNumbersOf (textBy room c) .replaced) (buffered room (textIn c) (textBy room c)) i out table
   unfolding textNumbersOf numberOf
   text-is none room p c = part-none 12 (replicate room 0) (p .words)
-  text-is cut room p c = text-fits room (textIn cut) p c
-  text-is (some w s) room p c = text-fits room (textIn (some w s)) p c
+  text-is cut room p c = text-fits room (textIn cut) (stateTold (damageIn cut)) p c
+  text-is (some w s) room p c = text-fits room (textIn (some w s)) (stateTold (damageIn (some w s))) p c
 
 -- ---- of the two promises
 
@@ -296,7 +308,9 @@ module _ (f : List ℕ) (lent : Lent) (items area ats out₀ table₀ : List ℕ
         (valueNumbersOf (answerIn f lent items area room (attributeAt ats i) o) .refusal ≡ 11 → ⊥) →
         IsPart (valueNumbersOf (answerIn f lent items area room (attributeAt ats i) o) .refusal)
         (valueNumbersOf (answerIn f lent items area room (attributeAt ats i) o) .length)
-        (valueNumbersOf (answerIn f lent items area room (attributeAt ats i) o) .uncovered) (bufferIn f lent items area room (attributeAt ats i) o) i out
+        (valueNumbersOf (answerIn f lent items area room (attributeAt ats i) o) .uncovered)
+        (valueNumbersOf (answerIn f lent items area room (attributeAt ats i) o) .state)
+        (valueNumbersOf (answerIn f lent items area room (attributeAt ats i) o) .replaced) (bufferIn f lent items area room (attributeAt ats i) o) i out
         table
     values-by (Closed r) i start room c p d = absurd (c r refl)
     values-by (Open h) i start room c p d =
@@ -309,6 +323,8 @@ module _ (f : List ℕ) (lent : Lent) (items area ats out₀ table₀ : List ℕ
         IsPart (valueNumbersOf (valueAnswer f lent items area room (attributeAt ats i)) .refusal)
         (valueNumbersOf (valueAnswer f lent items area room (attributeAt ats i)) .length)
         (valueNumbersOf (valueAnswer f lent items area room (attributeAt ats i)) .uncovered)
+        (valueNumbersOf (valueAnswer f lent items area room (attributeAt ats i)) .state)
+        (valueNumbersOf (valueAnswer f lent items area room (attributeAt ats i)) .replaced)
         (valueBuffer f lent items area room (attributeAt ats i)) i out table
     unfolding valueAnswer valueBuffer valuesAnswer
     values-single i room h d =
@@ -367,6 +383,8 @@ module _ (f : List ℕ) (lent : Lent) (indices out₀ table₀ out table : List 
         (textNumbersOf (textAnswerBy room (contentBy f lent (getD indices i 0) o) o) .refusal ≡ 11 → ⊥) →
         IsPart (textNumbersOf (textAnswerBy room (contentBy f lent (getD indices i 0) o) o) .refusal)
         (textNumbersOf (textAnswerBy room (contentBy f lent (getD indices i 0) o) o) .length) 0
+        (textNumbersOf (textAnswerBy room (contentBy f lent (getD indices i 0) o) o) .state)
+        (textNumbersOf (textAnswerBy room (contentBy f lent (getD indices i 0) o) o) .replaced)
         (buffered room (textIn (contentBy f lent (getD indices i 0) o)) (textAnswerBy room (contentBy f lent (getD indices i 0) o) o)) i out table
     texts-by (Closed r) i start room c p d = absurd (c r refl)
     texts-by (Open h) i start room c p d = text-is start i out table (contentOf h (tablesIn f h) lent (getD indices i 0)) room p d
@@ -376,6 +394,7 @@ module _ (f : List ℕ) (lent : Lent) (indices out₀ table₀ out table : List 
         i < k →
         (textNumbersOf (textAnswer f lent room (getD indices i 0)) .refusal ≡ 11 → ⊥) →
         IsPart (textNumbersOf (textAnswer f lent room (getD indices i 0)) .refusal) (textNumbersOf (textAnswer f lent room (getD indices i 0)) .length) 0
+        (textNumbersOf (textAnswer f lent room (getD indices i 0)) .state) (textNumbersOf (textAnswer f lent room (getD indices i 0)) .replaced)
         (textBuffer f lent room (getD indices i 0)) i out table
     unfolding textAnswer textBuffer textsAnswer
     texts-single i room h d =

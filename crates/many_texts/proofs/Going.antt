@@ -24,14 +24,16 @@ use Rattle.system_types.specs.Names.{Lent}
 use Rattle.text.specs.declared.Head.{Head}
 use Rattle.text.specs.declared.Found.{Found}
 use Rattle.text.specs.declared.Found.the-variants.{Nothing, Cut, System, Pool}
-use Rattle.text.specs.Content.{Content, textIn}
+use Rattle.text.specs.Content.{Content, textIn, damageIn}
 use Rattle.text.specs.Inner.Found.{Wrote as Put, partOf, isFound}
 use Rattle.head.specs.Head.{tablesIn}
-use Rattle.head.specs.Ask.{openOf, askedBy as contentBy}
+use Rattle.head.specs.Ask.{openOf, stateTold, askedBy as contentBy}
 use Rattle.head.specs.declared.OpenRead.{OpenRead}
 use Rattle.head.specs.declared.OpenRead.the-variants.{Open, Closed}
 use Rattle.value_text.specs.declared.Attribute.{Attribute}
 use Rattle.value_text.specs.declared.Told.{Told}
+use Rattle.errors.specs.Refusal.{stateOf, replacedOf}
+use Rattle.errors.specs.declared.TextState.{TextState}
 use Rattle.value_text.specs.declared.Told.the-variants.{Shown, NoName, NoText}
 use Rattle.value_text.specs.Value.{Value, noName, noText, shows, shown, valueOf, valueOpen}
 use Rattle.value_text.specs.Inner.Leads.{Tells, toldOf}
@@ -84,11 +86,13 @@ module _ {c : Content} {out : List ℕ} (w : Bool) (t area : List ℕ) where
       partOf w t area g ≡ c →
       isFound g ≡ true →
       Put (textIn (partOf w t area g)) out after k →
-      Tells (valueIn c) out (Shown k 0) after
-  index-some Nothing e p s = let z : _≡_ {A = ℕ} 0 1 = cc in absurd (let y : ⊥ = omega arith in y)
-  index-some Cut e p s = rw (← e) (tells-text (leads-put s))
-  index-some (System at n) e p s = rw (← e) (tells-text (leads-put s))
-  index-some (Pool at n) e p s = rw (← e) (tells-text (leads-put s))
+      {d : TextState} →
+      d ≡ stateTold (damageIn (partOf w t area g)) →
+      Tells (valueIn c) out (Shown k 0 d) after
+  index-some Nothing e p s q = let z : _≡_ {A = ℕ} 0 1 = cc in absurd (let y : ⊥ = omega arith in y)
+  index-some Cut e p s q = rw (← e, q) (tells-text (leads-put s))
+  index-some (System at n) e p s q = rw (← e, q) (tells-text (leads-put s))
+  index-some (Pool at n) e p s q = rw (← e, q) (tells-text (leads-put s))
 
 -- the value of an attribute that is a record's
 pub value-turn :
@@ -111,7 +115,7 @@ word-by {b} at n h e = e ∙ go (leb n (mostBytes - at)) refl
 pub wordsAt-length : (at : ℕ) (v : Value) → length (wordsAt at v) ≡ answerWidth
 wordsAt-length at noName = refl
 wordsAt-length at noText = refl
-wordsAt-length at (shows s u) = refl
+wordsAt-length at (shows s u d) = refl
 
 pub length-words : (one : ℕ → Value) (n : ℕ) → length (wordsTo one n) ≡ answerWidth * n
 unfolding wordsTo
@@ -138,30 +142,36 @@ put-front i ws before after h e =
 
 -- an answer with a text, and one without
 pub puts-shown :
-    {i u : ℕ} (k at n r : ℕ) (s before after : List ℕ) →
+    {i u state replaced : ℕ} {d : TextState} (k at n r : ℕ) (s before after : List ℕ) →
     answerWidth * k + answerWidth ≤ length before →
     i ≡ answerWidth * k →
     n ≡ length s →
     r ≡ min (at + n) mostCount →
-    after ≡ take i before ++ answerWords 0 at n u 0 0 ++ drop (i + answerWidth) before →
-    Puts k at (shows s u) before r after
-puts-shown {i} {u} k at n r s before after h j c p e =
-    let f = put-front i (answerWords 0 at n u 0 0) before after (omega arith) e in
+    state ≡ stateOf d →
+    replaced ≡ replacedOf d →
+    after ≡ take i before ++ answerWords 0 at n u state replaced ++ drop (i + answerWidth) before →
+    Puts k at (shows s u d) before r after
+puts-shown {i} {u} {state} {replaced} {d} k at n r s before after h j c p x y e =
+    let ws : ℕ → List ℕ = λ m. answerWords 0 at m u (stateOf d) (replacedOf d) in
+    let e′ : after ≡ take i before ++ ws n ++ drop (i + answerWidth) before =
+    e ∙ ap (λ (z : ℕ). take i before ++ answerWords 0 at n u z replaced ++ drop (i + answerWidth) before) x
+    ∙ ap (λ (z : ℕ). take i before ++ answerWords 0 at n u (stateOf d) z ++ drop (i + answerWidth) before) y in
+    let f = put-front i (ws n) before after (omega arith) e′ in
     record {
       place = p ∙ ap (λ (x : ℕ). min (at + x) mostCount) c;
       long = f .0;
       words = λ l.
-          ap (λ (x : ℕ). take (x + answerWidth) after) (sym j) ∙ f .1 ∙ ap (λ (x : ℕ). take x before ++ answerWords 0 at n u 0 0) j
-          ∙ ap (λ (x : ℕ). take (answerWidth * k) before ++ answerWords 0 at x u 0 0) c;
+          ap (λ (x : ℕ). take (x + answerWidth) after) (sym j) ∙ f .1 ∙ ap (λ (x : ℕ). take x before ++ ws n) j
+          ∙ ap (λ (x : ℕ). take (answerWidth * k) before ++ ws x) c;
     }
 
 -- where the place or the length is no word, nothing is put
 pub puts-past :
-    {u : ℕ} (k at n r : ℕ) (s before : List ℕ) →
+    {u : ℕ} {d : TextState} (k at n r : ℕ) (s before : List ℕ) →
     mostBytes < at + n →
     n ≡ length s →
     r ≡ min (at + n) mostCount →
-    Puts k at (shows s u) before r before
+    Puts k at (shows s u d) before r before
 puts-past k at n r s before h c p =
     record {
       place = p ∙ ap (λ (x : ℕ). min (at + x) mostCount) c;
@@ -198,7 +208,7 @@ module _ {k at r : ℕ} {before after : List ℕ} where
       (v : Value) → told ≡ toldOf v → Puts k at v before r after
   puts-no-name e p noName q = p
   puts-no-name e p noText q = let z : _≡_ {A = ℕ} 0 1 = cc in absurd (let y : ⊥ = omega arith in y)
-  puts-no-name e p (shows s u) q = let z : _≡_ {A = ℕ} 0 1 = cc in absurd (let y : ⊥ = omega arith in y)
+  puts-no-name e p (shows s u d) q = let z : _≡_ {A = ℕ} 0 1 = cc in absurd (let y : ⊥ = omega arith in y)
 
   pub puts-no-text :
       {told : Told} →
@@ -207,19 +217,20 @@ module _ {k at r : ℕ} {before after : List ℕ} where
       (v : Value) → told ≡ toldOf v → Puts k at v before r after
   puts-no-text e p noText q = p
   puts-no-text e p noName q = let z : _≡_ {A = ℕ} 0 1 = cc in absurd (let y : ⊥ = omega arith in y)
-  puts-no-text e p (shows s u) q = let z : _≡_ {A = ℕ} 0 1 = cc in absurd (let y : ⊥ = omega arith in y)
+  puts-no-text e p (shows s u d) q = let z : _≡_ {A = ℕ} 0 1 = cc in absurd (let y : ⊥ = omega arith in y)
 
   pub puts-told :
-      {told : Told} {n u : ℕ} →
-      told ≡ Shown n u →
-      ((s : List ℕ) → n ≡ length s → Puts k at (shows s u) before r after) →
+      {told : Told} {n u : ℕ} {d : TextState} →
+      told ≡ Shown n u d →
+      ((s : List ℕ) → n ≡ length s → Puts k at (shows s u d) before r after) →
       (v : Value) → told ≡ toldOf v → Puts k at v before r after
   puts-told e p noName q = let z : _≡_ {A = ℕ} 0 1 = cc in absurd (let y : ⊥ = omega arith in y)
   puts-told e p noText q = let z : _≡_ {A = ℕ} 0 1 = cc in absurd (let y : ⊥ = omega arith in y)
-  puts-told {n = n} {u} e p (shows s w) q =
+  puts-told {n = n} {u} {d} e p (shows s w x) q =
       let c : n ≡ length s = cc in
-      let d : u ≡ w = cc in
-      rw (← d) (p s c)
+      let i : u ≡ w = cc in
+      let j : d ≡ x = cc in
+      rw (← i, ← j) (p s c)
 
 -- ---- one more
 

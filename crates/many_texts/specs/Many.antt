@@ -17,16 +17,16 @@ use mathlib.Core.List.{List, [], _∷_, _++_}
 use mathlib.Core.Bool.{cond}
 use lib.ListN.{length, replicate, getD}
 use lib.Dec.{ltb, leb}
-use Rattle.errors.specs.Refusal.{numberOf, manyNumbersOf}
+use Rattle.errors.specs.Refusal.{numberOf, stateOf, replacedOf, manyNumbersOf}
 use Rattle.errors.specs.declared.Refusal.the-variants.{NothingFound, TextShort, TablesError, NoPlainText, AnswersFull}
 use Rattle.errors.specs.declared.ManyTexts.{ManyTexts}
 use Rattle.errors.specs.declared.ManyTexts.the-variants.{Answered, Refused}
 use Rattle.records.specs.Words.{attributeWidth, attributeOwner, attributePrefix, attributeName, attributeType, attributeData, attributeNamespace}
 use Rattle.many_texts.specs.Words.{answerWidth, answerWords}
 use Rattle.system_types.specs.Names.{Lent}
-use Rattle.text.specs.Content.{Content, none, cut, some, textIn}
+use Rattle.text.specs.Content.{Content, none, cut, some, textIn, damageIn}
 use Rattle.head.specs.Head.{tablesIn}
-use Rattle.head.specs.Ask.{openOf, contentAsked}
+use Rattle.head.specs.Ask.{openOf, contentAsked, stateTold}
 use Rattle.head.specs.declared.OpenRead.{OpenRead}
 use Rattle.head.specs.declared.OpenRead.the-variants.{Open, Closed}
 use Rattle.value_text.specs.declared.Attribute.{Attribute}
@@ -41,11 +41,11 @@ askedBy f lent items area a (Open h) = valueOf h (tablesIn f h) lent items area 
 abbrev pub valueAsked : List ℕ → Lent → List ℕ → List ℕ → Attribute → Value
 valueAsked f lent items area a = askedBy f lent items area a (valueOpen f lent items area)
 
--- no bits are uncovered in the text of an index
+-- no bits are uncovered in the text of an index, and its damage is told
 abbrev pub valueIn : Content → Value
 valueIn none = noName
-valueIn cut = shows (textIn cut) 0
-valueIn (some w s) = shows (textIn (some w s)) 0
+valueIn cut = shows (textIn cut) 0 (stateTold (damageIn cut))
+valueIn (some w s) = shows (textIn (some w s)) 0 (stateTold (damageIn (some w s)))
 
 abbrev pub indexAsked : List ℕ → Lent → ℕ → Value
 indexAsked f lent i = valueIn (contentAsked f lent i)
@@ -67,7 +67,7 @@ attributeAt w k =
 abbrev pub wordsAt : ℕ → Value → List ℕ
 wordsAt start noName = answerWords (numberOf NothingFound) 0 0 0 0 0
 wordsAt start noText = answerWords (numberOf (NoPlainText 0)) 0 0 0 0 0
-wordsAt start (shows s u) = answerWords 0 start (length s) u 0 0
+wordsAt start (shows s u d) = answerWords 0 start (length s) u (stateOf d) (replacedOf d)
 
 unfoldable pub textsTo : (ℕ → Value) → ℕ → List ℕ
 textsTo one zero = []

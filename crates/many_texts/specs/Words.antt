@@ -17,5 +17,11 @@ answerLength = 2
 abbrev pub answerUncovered : ℕ
 answerUncovered = 3
 
+abbrev pub answerState : ℕ
+answerState = 4
+
+abbrev pub answerReplaced : ℕ
+answerReplaced = 5
+
 abbrev pub answerWords : ℕ → ℕ → ℕ → ℕ → ℕ → ℕ → List ℕ
 answerWords refusal start length uncovered state replaced = refusal ∷ start ∷ length ∷ uncovered ∷ state ∷ replaced ∷ []

@@ -26,7 +26,11 @@ use common::StringIndex;
 use digits::zero;
 use errors::ManyTexts;
 use errors::Refusal;
+use errors::TextState;
+use errors::replaced_number;
+use errors::state_number;
 use head::OpenRead;
+use head::found_told;
 use head::open_file;
 use head::tables_of;
 use records::ATTRIBUTE_DATA;
@@ -51,17 +55,26 @@ pub const ANSWER_WORDS: usize = 6;
 
 // ---- the words of an answer
 
-fn put_answer(words: &mut [u32], i: usize, refusal: u32, start: u32, bytes: u32, uncovered: u32)
+fn put_answer(
+    words: &mut [u32],
+    i: usize,
+    refusal: u32,
+    start: u32,
+    bytes: u32,
+    uncovered: u32,
+    state: u32,
+    replaced: u32,
+)
     requires { ⌜ i + answerWidth ≤ length (now words) ⌝ }
     ensures { λ _. ⌜ now (words .exit)
-        ≡ take i (now (words .entry)) ++ answerWords refusal start bytes uncovered 0 0 ++ drop (i + answerWidth) (now (words .entry)) ⌝ }
+        ≡ take i (now (words .entry)) ++ answerWords refusal start bytes uncovered state replaced ++ drop (i + answerWidth) (now (words .entry)) ⌝ }
 {
     words[i + 0] = refusal;
     words[i + 1] = start;
     words[i + 2] = bytes;
     words[i + 3] = uncovered;
-    words[i + 4] = 0;
-    words[i + 5] = 0;
+    words[i + 4] = state;
+    words[i + 5] = replaced;
 }
 
 // The place behind a text of n bytes, as far as it can be counted.
@@ -85,13 +98,29 @@ fn is_word(at: usize, n: usize) -> bool
 }
 
 // An answer with a text of n bytes; nothing where its place is no word, since then there is no room for all of them.
-fn put_shown(answers: &mut [u32], k: usize, at: usize, n: usize, uncovered: u32) -> usize
+fn put_shown(
+    answers: &mut [u32],
+    k: usize,
+    at: usize,
+    n: usize,
+    uncovered: u32,
+    state: TextState,
+) -> usize
     requires { ⌜ answerWidth * k + answerWidth ≤ length (now answers) ⌝ }
-    ensures { λ r. ⌜ ((s : List _) → n ≡ length s → Puts k at (shows s uncovered) (now (answers .entry)) r (now (answers .exit))) ⌝ }
+    ensures { λ r. ⌜ ((s : List _) → n ≡ length s → Puts k at (shows s uncovered state) (now (answers .entry)) r (now (answers .exit))) ⌝ }
 {
     let next = behind(at, n);
     if is_word(at, n) {
-        put_answer(answers, ANSWER_WORDS * k, 0, at as u32, n as u32, uncovered);
+        put_answer(
+            answers,
+            ANSWER_WORDS * k,
+            0,
+            at as u32,
+            n as u32,
+            uncovered,
+            state_number(state),
+            replaced_number(state),
+        );
         return next;
     }
     next
@@ -102,7 +131,7 @@ fn put_none(answers: &mut [u32], k: usize, at: usize, refusal: u32) -> usize
     requires { ⌜ answerWidth * k + answerWidth ≤ length (now answers) ⌝ }
     ensures { λ r. ⌜ ((v : Value) → shown v ≡ [] → wordsAt at v ≡ answerWords refusal 0 0 0 0 0 → Puts k at v (now (answers .entry)) r (now (answers .exit))) ⌝ }
 {
-    put_answer(answers, ANSWER_WORDS * k, refusal, 0, 0, 0);
+    put_answer(answers, ANSWER_WORDS * k, refusal, 0, 0, 0, 0, 0);
     at
 }
 
@@ -112,7 +141,7 @@ fn put_told(answers: &mut [u32], k: usize, at: usize, told: Told) -> usize
     ensures { λ r. ⌜ ((v : Value) → told ≡ toldOf v → Puts k at v (now (answers .entry)) r (now (answers .exit))) ⌝ }
 {
     match told {
-        Told::Shown(n, uncovered) => put_shown(answers, k, at, n, uncovered),
+        Told::Shown(n, uncovered, state) => put_shown(answers, k, at, n, uncovered, state),
         Told::NoName => put_none(answers, k, at, 12),
         Told::NoText => put_none(answers, k, at, 15),
     }
@@ -182,7 +211,8 @@ fn index_into(
         return Told::NoName;
     }
     let n = found_into(t, area, h.wide, f, out);
-    Told::Shown(n, 0)
+    let state = found_told(t, area, h.wide, f);
+    Told::Shown(n, 0, state)
 }
 
 fn index_at(

@@ -11,13 +11,14 @@ use Rattle.field.specs.Le.{u16le, u32le}
 use Rattle.common.specs.Header.{headerOf}
 use Rattle.common.specs.ValueType.{valueTypeOf}
 use Rattle.utf.specs.Utf8.{matched, isWhole, longest, anyWhole, spelt, encode, step8}
-use Rattle.utf.specs.Text.{stepsAfter, bytesOf, allSound, textOf, eqBytes}
+use Rattle.utf.specs.Text.{stepsAfter, bytesOf, allSound, textOf, damageOf, eqBytes}
 use Rattle.utf.specs.Plain.{isAscii}
 use Rattle.res_string_pool.specs.Pool.{countOf, numbered, endOf, poolFrom, behindGarbage, poolOf, offsetOf}
 use Rattle.res_string_pool.specs.Content.{split8, split16}
 use Rattle.resource_map.specs.Map.{idsIn, idsBy, mapOf, idOf}
 use Rattle.system_types.specs.Names.{lends, isGood, namesFrom, nameOf}
 use Rattle.errors.specs.declared.Refusal.the-variants.{NothingFound, TextShort, ItemsError, NoPlainText}
+use Rattle.errors.specs.declared.TextState.the-variants.{Whole, Cut}
 use Rattle.errors.specs.declared.ValueAnswer.{ValueAnswer}
 use Rattle.errors.specs.declared.ValueAnswer.the-variants.{Value as Answered, Refused}
 use Rattle.text.specs.Content.{systemOf, stringAt, stringOf, contentOf}
@@ -29,7 +30,7 @@ use Rattle.items.specs.Items.{itemAt, itemsFrom, isName, isNew, isGood as isGoo
 use Rattle.items.specs.Flags.{taken, leftOf, bitSum, joinedFrom}
 use Rattle.items.specs.Values.{attrText, uncoveredOf}
 use Rattle.value_text.specs.declared.Attribute.{Attribute}
-use Rattle.value_text.specs.Value.{plainBy, namedValue, valueOf, valueOpen, valueAnswer, valueBuffer}
+use Rattle.value_text.specs.Value.{plainBy, plainState, namedValue, valueOf, valueOpen, valueAnswer, valueBuffer}
 
 unfoldable pub head : List ℕ
 head =
@@ -55,20 +56,20 @@ pub data Case : Type 0 where
 unfoldable pub cases : List Case
 cases =
     -- an enum's second item, whatever the prefix and the type: V4
-    asked head enums (asking 0 0 16 6) 3 (Answered 1 0) (121 ∷ 0 ∷ 0 ∷ []) ∷
-    asked head enums (asking 3 0 4 6) 1 (Answered 1 0) (121 ∷ []) ∷
+    asked head enums (asking 0 0 16 6) 3 (Answered 1 0 Whole) (121 ∷ 0 ∷ 0 ∷ []) ∷
+    asked head enums (asking 3 0 4 6) 1 (Answered 1 0 Whole) (121 ∷ []) ∷
     -- an enum without such an item: the number without a sign
-    asked head enums (asking 1 0 16 4294967295) 10 (Answered 10 0) (52 ∷ 50 ∷ 57 ∷ 52 ∷ 57 ∷ 54 ∷ 55 ∷ 50 ∷ 57 ∷ 53 ∷ []) ∷
+    asked head enums (asking 1 0 16 4294967295) 10 (Answered 10 0 Whole) (52 ∷ 50 ∷ 57 ∷ 52 ∷ 57 ∷ 54 ∷ 55 ∷ 50 ∷ 57 ∷ 53 ∷ []) ∷
     -- flags in table order: x takes bit 1, so y is not taken, and one bit is left
-    asked head flags (asking 1 0 17 3) 2 (Answered 1 1) (120 ∷ 0 ∷ []) ∷
+    asked head flags (asking 1 0 17 3) 2 (Answered 1 1 Whole) (120 ∷ 0 ∷ []) ∷
     -- no flag taken: the plain text, and both bits uncovered
-    asked head flags (asking 1 0 17 6) 10 (Answered 10 2) (48 ∷ 120 ∷ 48 ∷ 48 ∷ 48 ∷ 48 ∷ 48 ∷ 48 ∷ 48 ∷ 54 ∷ []) ∷
+    asked head flags (asking 1 0 17 6) 10 (Answered 10 2 Whole) (48 ∷ 120 ∷ 48 ∷ 48 ∷ 48 ∷ 48 ∷ 48 ∷ 48 ∷ 48 ∷ 54 ∷ []) ∷
     -- by the type alone
-    asked head [] (asking 1 0 16 4294967295) 2 (Answered 2 0) (45 ∷ 49 ∷ []) ∷
-    asked head [] (asking 1 0 3 0) 1 (Answered 1 0) (97 ∷ []) ∷
-    asked head [] (asking 1 0 3 9) 0 (Answered 0 0) [] ∷
-    asked head [] (asking 1 0 1 0) 9 (Answered 9 0) (64 ∷ 48 ∷ 48 ∷ 48 ∷ 48 ∷ 48 ∷ 48 ∷ 48 ∷ 48 ∷ []) ∷
-    asked head [] (asking 1 0 18 2) 4 (Answered 4 0) (116 ∷ 114 ∷ 117 ∷ 101 ∷ []) ∷
+    asked head [] (asking 1 0 16 4294967295) 2 (Answered 2 0 Whole) (45 ∷ 49 ∷ []) ∷
+    asked head [] (asking 1 0 3 0) 1 (Answered 1 0 Whole) (97 ∷ []) ∷
+    asked head [] (asking 1 0 3 9) 0 (Answered 0 0 Cut) [] ∷
+    asked head [] (asking 1 0 1 0) 9 (Answered 9 0 Whole) (64 ∷ 48 ∷ 48 ∷ 48 ∷ 48 ∷ 48 ∷ 48 ∷ 48 ∷ 48 ∷ []) ∷
+    asked head [] (asking 1 0 18 2) 4 (Answered 4 0 Whole) (116 ∷ 114 ∷ 117 ∷ 101 ∷ []) ∷
     -- no plain text; a type of more than a byte has none
     asked head [] (asking 1 0 4 0) 2 (Refused (NoPlainText 4)) (0 ∷ 0 ∷ []) ∷
     asked head [] (asking 1 0 259 0) 1 (Refused (NoPlainText 259)) (0 ∷ []) ∷
@@ -97,6 +98,6 @@ pub cases-right : answers cases ≡ results cases
 unfolding cases head area enums flags u16le u32le headerOf valueTypeOf matched isWhole longest anyWhole spelt encode step8 stepsAfter bytesOf
     allSound textOf eqBytes isAscii countOf numbered endOf poolFrom behindGarbage poolOf offsetOf split8 split16 idsIn idsBy mapOf idOf isGood
     namesFrom nameOf systemOf stringAt stringOf contentOf tablesOf openedOf lengthCheck digits signedText hexDigits fitted itemAt itemsFrom
-    isName isNew isGoodItem ruleFrom tableOf namedIn enumOf taken leftOf bitSum joinedFrom attrText uncoveredOf plainBy namedValue valueOf
+    isName isNew isGoodItem ruleFrom tableOf namedIn enumOf taken leftOf bitSum joinedFrom attrText uncoveredOf plainBy plainState damageOf namedValue valueOf
     valueOpen valueAnswer valueBuffer
 cases-right = refl

@@ -13,6 +13,7 @@ use lib.Dec.{leb}
 use Rattle.errors.specs.Refusal.{valueNumbersOf}
 use Rattle.errors.specs.declared.Refusal.{Refusal}
 use Rattle.errors.specs.declared.Refusal.the-variants.{NothingFound, TextShort, NoPlainText}
+use Rattle.errors.specs.declared.TextState.{TextState}
 use Rattle.errors.specs.declared.ValueAnswer.{ValueAnswer}
 use Rattle.errors.specs.declared.ValueAnswer.the-variants.{Value as Answered, Refused}
 use Rattle.errors.proofs.Laws.{valueNumbersOf-unique}
@@ -41,24 +42,24 @@ zeros-of : (n kind : ℕ) (v : Value) (why : Refusal) → answerBy n kind v ≡ 
 unfolding fitted
 zeros-of n kind noName why e = refl
 zeros-of n kind noText why e = refl
-zeros-of n kind (shows s u) why e = go (leb (length s) n) e
+zeros-of n kind (shows s u d) why e = go (leb (length s) n) e
   where
     go :
         (b : Bool) →
-        cond b (Answered (length s) u) (Refused (TextShort (length s))) ≡ Refused why →
+        cond b (Answered (length s) u d) (Refused (TextShort (length s))) ≡ Refused why →
         cond b (s ++ replicate (n - length s) 0) (replicate n 0) ≡ replicate n 0
     go true q = let z : _≡_ {A = ℕ} 0 1 = cc in absurd (let y : ⊥ = omega arith in y)
     go false q = refl
 
-behind-of : (n kind : ℕ) (v : Value) (k u : ℕ) → answerBy n kind v ≡ Answered k u → drop k (bufferBy n v) ≡ replicate (n - k) 0
+behind-of : (n kind : ℕ) (v : Value) (k u : ℕ) (d : TextState) → answerBy n kind v ≡ Answered k u d → drop k (bufferBy n v) ≡ replicate (n - k) 0
 unfolding fitted
-behind-of n kind noName k u e = let z : _≡_ {A = ℕ} 0 1 = cc in absurd (let y : ⊥ = omega arith in y)
-behind-of n kind noText k u e = let z : _≡_ {A = ℕ} 0 1 = cc in absurd (let y : ⊥ = omega arith in y)
-behind-of n kind (shows s w) k u e = go (leb (length s) n) e
+behind-of n kind noName k u d e = let z : _≡_ {A = ℕ} 0 1 = cc in absurd (let y : ⊥ = omega arith in y)
+behind-of n kind noText k u d e = let z : _≡_ {A = ℕ} 0 1 = cc in absurd (let y : ⊥ = omega arith in y)
+behind-of n kind (shows s w x) k u d e = go (leb (length s) n) e
   where
     go :
         (b : Bool) →
-        cond b (Answered (length s) w) (Refused (TextShort (length s))) ≡ Answered k u →
+        cond b (Answered (length s) w x) (Refused (TextShort (length s))) ≡ Answered k u d →
         drop k (cond b (s ++ replicate (n - length s) 0) (replicate n 0)) ≡ replicate (n - k) 0
     go true q = let m : k ≡ length s = cc in rw (m, drop-append-seam)
     go false q = let z : _≡_ {A = ℕ} 0 1 = cc in absurd (let y : ⊥ = omega arith in y)
@@ -78,15 +79,15 @@ module _ (f : List ℕ) (lent : Lent) (items area before after : List ℕ) (a : 
       go (Open h) e = zeros-of (length before) (a .kind) (valueOf h (tablesIn f h) lent items area a) why e
 
   pub value-done-zeros :
-      (k u : ℕ) → ValueReads f lent items area before a (Answered k u) after → drop k after ≡ replicate (length before - k) 0
+      (k u : ℕ) (d : TextState) → ValueReads f lent items area before a (Answered k u d) after → drop k after ≡ replicate (length before - k) 0
   unfolding valueAnswer valueBuffer
-  value-done-zeros k u x =
+  value-done-zeros k u d x =
       ap (drop k) (x .out) ∙
-      go (valueOpen f lent items area) (sym (valueNumbersOf-unique (Answered k u) (valueAnswer f lent items area (length before) a) (x .answer)))
+      go (valueOpen f lent items area) (sym (valueNumbersOf-unique (Answered k u d) (valueAnswer f lent items area (length before) a) (x .answer)))
     where
       go :
           (o : OpenRead) →
-          answerIn f lent items area (length before) a o ≡ Answered k u →
+          answerIn f lent items area (length before) a o ≡ Answered k u d →
           drop k (bufferIn f lent items area (length before) a o) ≡ replicate (length before - k) 0
       go (Closed r) e = let z : _≡_ {A = ℕ} 0 1 = cc in absurd (let y : ⊥ = omega arith in y)
-      go (Open h) e = behind-of (length before) (a .kind) (valueOf h (tablesIn f h) lent items area a) k u e
+      go (Open h) e = behind-of (length before) (a .kind) (valueOf h (tablesIn f h) lent items area a) k u d e

@@ -15,6 +15,8 @@ use lib.Dec.{leb}
 use Rattle.utf.specs.Text.{putText}
 use Rattle.utf.proofs.Filled.{putText-whole, putText-length}
 use Rattle.errors.specs.declared.Refusal.the-variants.{NothingFound, TextShort, NoPlainText}
+use Rattle.errors.specs.declared.TextState.{TextState}
+use Rattle.errors.specs.declared.TextState.the-variants.{Whole}
 use Rattle.errors.specs.declared.ValueAnswer.{ValueAnswer}
 use Rattle.errors.specs.declared.ValueAnswer.the-variants.{Value as Answered, Refused}
 use Rattle.digits.specs.Written.{written, Wrote, fitted}
@@ -34,11 +36,11 @@ use Rattle.items.specs.Values.{Text, nothing, says, isSaid, said, attrText, unc
 use Rattle.items.specs.Inner.Turns.{restFrom, fromItem, FirstNamed, Spoken}
 use Rattle.items.proofs.TurnLaws.{rest-end, partIn-le}
 use Rattle.items.specs.declared.Said.{Said}
-use Rattle.value_text.specs.Value.{Value, noName, noText, shows, shown, orPlain, referenceBy, attributeBy, plainBy, namedValue, answerBy, bufferBy}
+use Rattle.value_text.specs.Value.{Value, noName, noText, shows, shown, orPlain, referenceBy, attributeBy, plainBy, plainState, namedValue, answerBy, bufferBy}
 use Rattle.value_text.specs.declared.Told.{Told}
 use Rattle.value_text.specs.declared.Told.the-variants.{Shown, NoName, NoText}
 use Rattle.value_text.specs.Inner.Leads.{Leads, Tells, Gives, toldOf}
-use Rattle.value_text.specs.Inner.Forms.{formOf, formText, isOther}
+use Rattle.value_text.specs.Inner.Forms.{formOf, formText, formState, isOther}
 
 -- ---- what wrote it
 
@@ -122,6 +124,26 @@ form-said h t lent v ColorArgb4 = refl
 form-said h t lent v ColorRgb4 = refl
 form-said h t lent v (Unknown n) = refl
 
+pub form-state : (h : Head) (t : List ℕ) (v : ℕ) (y : ResourceValueType) → formState h t v (formOf y) ≡ plainState h t v y
+unfolding plainState formOf
+form-state h t v Null = refl
+form-state h t v Reference = refl
+form-state h t v Attribute = refl
+form-state h t v String = refl
+form-state h t v Float = refl
+form-state h t v Dimension = refl
+form-state h t v Fraction = refl
+form-state h t v DynamicReference = refl
+form-state h t v DynamicAttribute = refl
+form-state h t v Dec = refl
+form-state h t v Hex = refl
+form-state h t v Boolean = refl
+form-state h t v ColorArgb8 = refl
+form-state h t v ColorRgb8 = refl
+form-state h t v ColorArgb4 = refl
+form-state h t v ColorRgb4 = refl
+form-state h t v (Unknown n) = refl
+
 pub form-other : (h : Head) (t : List ℕ) (lent : Lent) (v : ℕ) (y : ResourceValueType) → isSaid (plainBy h t lent v y) ≡ not (isOther (formOf y))
 unfolding plainBy formOf
 form-other h t lent v Null = refl
@@ -144,40 +166,41 @@ form-other h t lent v (Unknown n) = refl
 
 -- ---- the answers
 
-pub tells-text : {n u : ℕ} {s l k : List ℕ} → Leads s l n k → Tells (shows s u) l (Shown n u) k
-tells-text {u = u} a = record { told = ap (λ (m : ℕ). Shown m u) (a .count); long = a .long; front = a .front }
+pub tells-text : {n u : ℕ} {d : TextState} {s l k : List ℕ} → Leads s l n k → Tells (shows s u d) l (Shown n u d) k
+tells-text {u = u} {d = d} a = record { told = ap (λ (m : ℕ). Shown m u d) (a .count); long = a .long; front = a .front }
 
 -- a text that is there, and its length
-said-text : (u : ℕ) (a p : Text) → isSaid a ≡ true → orPlain u a p ≡ shows (said a) u
-said-text u nothing p e = let z : _≡_ {A = ℕ} 0 1 = cc in absurd (let y : ⊥ = omega arith in y)
-said-text u (says s) p e = refl
+said-text : (u : ℕ) (d : TextState) (a p : Text) → isSaid a ≡ true → orPlain u d a p ≡ shows (said a) u Whole
+said-text u d nothing p e = let z : _≡_ {A = ℕ} 0 1 = cc in absurd (let y : ⊥ = omega arith in y)
+said-text u d (says s) p e = refl
 
-plain-text : (u : ℕ) (p : Text) → isSaid p ≡ true → orPlain u nothing p ≡ shows (said p) u
-plain-text u nothing e = let z : _≡_ {A = ℕ} 0 1 = cc in absurd (let y : ⊥ = omega arith in y)
-plain-text u (says s) e = refl
+plain-text : (u : ℕ) (d : TextState) (p : Text) → isSaid p ≡ true → orPlain u d nothing p ≡ shows (said p) u d
+plain-text u d nothing e = let z : _≡_ {A = ℕ} 0 1 = cc in absurd (let y : ⊥ = omega arith in y)
+plain-text u d (says s) e = refl
 
-plain-none : (u : ℕ) (p : Text) → isSaid p ≡ false → orPlain u nothing p ≡ noText
-plain-none u nothing e = refl
-plain-none u (says s) e = let z : _≡_ {A = ℕ} 0 1 = cc in absurd (let y : ⊥ = omega arith in y)
+plain-none : (u : ℕ) (d : TextState) (p : Text) → isSaid p ≡ false → orPlain u d nothing p ≡ noText
+plain-none u d nothing e = refl
+plain-none u d (says s) e = let z : _≡_ {A = ℕ} 0 1 = cc in absurd (let y : ⊥ = omega arith in y)
 
 not-said : (a : Text) → isSaid a ≡ false → a ≡ nothing
 not-said nothing e = refl
 not-said (says s) e = let z : _≡_ {A = ℕ} 0 1 = cc in absurd (let y : ⊥ = omega arith in y)
 
 module _ (h : Head) (t : List ℕ) (lent : Lent) (u v : ℕ) (y : ResourceValueType) {l : List ℕ} where
-  pub tells-other : isOther (formOf y) ≡ true → Tells (orPlain u nothing (plainBy h t lent v y)) l NoText l
+  pub tells-other : isOther (formOf y) ≡ true → Tells (orPlain u (plainState h t v y) nothing (plainBy h t lent v y)) l NoText l
   tells-other e =
       let q : isSaid (plainBy h t lent v y) ≡ false = form-other h t lent v y ∙ ap not e in
-      rw (plain-none u (plainBy h t lent v y) q) (record { told = refl; long = refl; front = λ p. refl })
+      rw (plain-none u (plainState h t v y) (plainBy h t lent v y) q) (record { told = refl; long = refl; front = λ p. refl })
 
   pub tells-plain :
-      {n : ℕ} {k : List ℕ} →
+      {n : ℕ} {d : TextState} {k : List ℕ} →
       isOther (formOf y) ≡ false →
       Leads (formText h t lent v (formOf y)) l n k →
-      Tells (orPlain u nothing (plainBy h t lent v y)) l (Shown n u) k
-  tells-plain e a =
+      d ≡ formState h t v (formOf y) →
+      Tells (orPlain u (plainState h t v y) nothing (plainBy h t lent v y)) l (Shown n u d) k
+  tells-plain e a b =
       let q : isSaid (plainBy h t lent v y) ≡ true = form-other h t lent v y ∙ ap not e in
-      rw (plain-text u (plainBy h t lent v y) q) (tells-text (leads-same (sym (form-said h t lent v y)) a))
+      rw (plain-text u (plainState h t v y) (plainBy h t lent v y) q, b, form-state h t v y) (tells-text (leads-same (sym (form-said h t lent v y)) a))
 
 -- the same of a buffer that held something else before
 pub tells-behind : {v : Value} {l m k : List ℕ} {r : Told} → length m ≡ length l → Tells v m r k → Tells v l r k
@@ -191,7 +214,7 @@ module _ (h : Head) (t : List ℕ) (lent : Lent) (items area name : List ℕ) (k
   pub named-none :
       {l k : List ℕ} {r : Told} →
       length items / 6 ≤ first →
-      Tells (orPlain 0 nothing (plainBy h t lent v (valueTypeOf kind))) l r k →
+      Tells (orPlain 0 (plainState h t v (valueTypeOf kind)) nothing (plainBy h t lent v (valueTypeOf kind))) l r k →
       Tells (namedValue h t lent items area name kind v) l r k
   unfolding namedValue attrText uncoveredOf
   named-none p a = rw (found .all ∙ rest-end area name items first p) a
@@ -204,13 +227,13 @@ module _ (h : Head) (t : List ℕ) (lent : Lent) (items area name : List ℕ) (k
       first < length items / 6 →
       Spoken area v (fromItem area items first) l s k →
       s .some ≡ true →
-      Tells (namedValue h t lent items area name kind v) l (Shown (s .length) (s .uncovered)) k
+      Tells (namedValue h t lent items area name kind v) l (Shown (s .length) (s .uncovered) Whole) k
   unfolding namedValue
   named-said {l} {k} {s} p a e =
       let b = rw (these p) at a in
       let is = namedIn area name (itemsOf items) in
       let q : isSaid (attrText area v is) ≡ true = sym (b .some) ∙ e in
-      rw (said-text (uncoveredOf v is) (attrText area v is) (plainBy h t lent v (valueTypeOf kind)) q, ← b .uncovered)
+      rw (said-text (uncoveredOf v is) (plainState h t v (valueTypeOf kind)) (attrText area v is) (plainBy h t lent v (valueTypeOf kind)) q, ← b .uncovered)
       (tells-text (leads-wrote (b .text)))
 
   pub named-plain :
@@ -218,7 +241,7 @@ module _ (h : Head) (t : List ℕ) (lent : Lent) (items area name : List ℕ) (k
       first < length items / 6 →
       Spoken area v (fromItem area items first) l s m →
       s .some ≡ false →
-      Tells (orPlain (s .uncovered) nothing (plainBy h t lent v (valueTypeOf kind))) m r k →
+      Tells (orPlain (s .uncovered) (plainState h t v (valueTypeOf kind)) nothing (plainBy h t lent v (valueTypeOf kind))) m r k →
       Tells (namedValue h t lent items area name kind v) l r k
   unfolding namedValue
   named-plain {l} {m} {k} {s} {r} p a e g =
@@ -229,19 +252,19 @@ module _ (h : Head) (t : List ℕ) (lent : Lent) (items area name : List ℕ) (k
 
 -- ---- the whole buffer
 
-module _ {n u : ℕ} {s l k : List ℕ} (a : Leads s l n k) (kind : ℕ) where
+module _ {n u : ℕ} {d : TextState} {s l k : List ℕ} (a : Leads s l n k) (kind : ℕ) where
   -- longer than the buffer
   pub gives-short :
       {x : ValueAnswer} (ys : List ℕ) →
       length k < n →
       (x ≡ Refused (TextShort n)) × (ys ≡ replicate (length k) 0) →
-      Gives (length l) kind (shows s u) x ys
+      Gives (length l) kind (shows s u d) x ys
   unfolding fitted
   gives-short {x} ys p z =
       let c = a .count in
       let b = a .long in
       let q : leb (length s) (length l) ≡ false = lt-leb (length s) (length l) (omega arith) in
-      let e : Refused (TextShort n) ≡ answerBy (length l) kind (shows s u) = rw (q, c) in
+      let e : Refused (TextShort n) ≡ answerBy (length l) kind (shows s u d) = rw (q, c) in
       record { same = z .0 ∙ e; out = rw q (z .1 ∙ rw b) }
 
   -- zeros in the part from the end of the text on
@@ -249,7 +272,7 @@ module _ {n u : ℕ} {s l k : List ℕ} (a : Leads s l n k) (kind : ℕ) where
       (ys : List ℕ) →
       n ≤ length k →
       ys ≡ replicate (length (midOf n (length k - n) k)) 0 →
-      Gives (length l) kind (shows s u) (Answered n u) (putMid n (length k - n) k ys)
+      Gives (length l) kind (shows s u d) (Answered n u d) (putMid n (length k - n) k ys)
   unfolding fitted
   gives-text ys p z =
       let c = a .count in
@@ -276,7 +299,7 @@ module _ (n kind : ℕ) {v : Value} {l k ys : List ℕ} {r : Told} (a : Tells v 
       go : (w : Value) → toldOf w ≡ NoName → Gives n kind w x ys
       go noName q = record { same = z .0; out = z .1 ∙ rw (a .long, m) }
       go noText q = let y : _≡_ {A = ℕ} 0 1 = cc in absurd (let c : ⊥ = omega arith in c)
-      go (shows s u) q = let y : _≡_ {A = ℕ} 0 1 = cc in absurd (let c : ⊥ = omega arith in c)
+      go (shows s u d) q = let y : _≡_ {A = ℕ} 0 1 = cc in absurd (let c : ⊥ = omega arith in c)
 
   pub gives-no-text :
       r ≡ NoText →
@@ -289,22 +312,23 @@ module _ (n kind : ℕ) {v : Value} {l k ys : List ℕ} {r : Told} (a : Tells v 
       go : (w : Value) → toldOf w ≡ NoText → Gives n kind w x ys
       go noText q = record { same = z .0; out = z .1 ∙ rw (a .long, m) }
       go noName q = let y : _≡_ {A = ℕ} 0 1 = cc in absurd (let c : ⊥ = omega arith in c)
-      go (shows s u) q = let y : _≡_ {A = ℕ} 0 1 = cc in absurd (let c : ⊥ = omega arith in c)
+      go (shows s u d) q = let y : _≡_ {A = ℕ} 0 1 = cc in absurd (let c : ⊥ = omega arith in c)
 
   pub gives-shown :
-      {len u : ℕ} →
-      r ≡ Shown len u →
+      {len u : ℕ} {d : TextState} →
+      r ≡ Shown len u d →
       {x : ValueAnswer} →
-      ((s m : List ℕ) → Leads s m len k → Gives (length m) 0 (shows s u) x ys) →
+      ((s m : List ℕ) → Leads s m len k → Gives (length m) 0 (shows s u d) x ys) →
       Gives (length l) kind v x ys
-  gives-shown {len} {u} e {x} z = go v refl (sym (a .told) ∙ e)
+  gives-shown {len} {u} {d} e {x} z = go v refl (sym (a .told) ∙ e)
     where
-      go : (w : Value) → v ≡ w → toldOf w ≡ Shown len u → Gives (length l) kind w x ys
+      go : (w : Value) → v ≡ w → toldOf w ≡ Shown len u d → Gives (length l) kind w x ys
       go noName i q = let y : _≡_ {A = ℕ} 0 1 = cc in absurd (let c : ⊥ = omega arith in c)
       go noText i q = let y : _≡_ {A = ℕ} 0 1 = cc in absurd (let c : ⊥ = omega arith in c)
-      go (shows s u′) i q =
+      go (shows s u′ d′) i q =
           let c : len ≡ length s = cc in
-          let d : u′ ≡ u = cc in
-          let b : Tells (shows s u′) l r k = rw i at a in
+          let j : u′ ≡ u = cc in
+          let m : d′ ≡ d = cc in
+          let b : Tells (shows s u′ d′) l r k = rw i at a in
           let g = z s l (record { count = c; long = b .long; front = b .front }) in
-          rw d (record { same = g .same; out = g .out })
+          rw (j, m) (record { same = g .same; out = g .out })

@@ -3,5 +3,6 @@ pub mod Broken
 pub mod Cases
 pub mod Claimed
 pub mod Front
+pub mod Strings
 pub mod Looking
 pub mod Opening

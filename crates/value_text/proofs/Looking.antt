@@ -31,6 +31,7 @@ use Rattle.items.proofs.TurnLaws.{rest-all, rest-skip}
 use Rattle.value_text.specs.declared.Attribute.{Attribute}
 use Rattle.value_text.specs.declared.Told.{Told}
 use Rattle.value_text.specs.declared.Told.the-variants.{NoName}
+use Rattle.errors.specs.declared.TextState.the-variants.{Whole}
 use Rattle.value_text.specs.Value.{shows, noName, namedValue, valueBy, valueOf}
 use Rattle.value_text.specs.Inner.Leads.{Tells}
 
@@ -132,7 +133,7 @@ module _ (h : Head) (t : List ℕ) (lent : Lent) where
 -- ---- the value
 
 module _ (h : Head) (t : List ℕ) (lent : Lent) (items area : List ℕ) (a : Attribute) {l k : List ℕ} {r : Told} where
-  pub value-uri : a .prefix ≡ 2 → Tells (shows androidUri 0) l r k → Tells (valueOf h t lent items area a) l r k
+  pub value-uri : a .prefix ≡ 2 → Tells (shows androidUri 0 Whole) l r k → Tells (valueOf h t lent items area a) l r k
   unfolding valueOf
   value-uri e g = rw (eq-eqb (a .prefix) 2 e) g
 

@@ -1,7 +1,9 @@
 -- The text of a value, as a page shows it: docs/FORMAT.md, V1 to V12.
 --
 --   plainBy       the text of a value by its type alone, or nothing: that of a string of the pool, of the name of a resource, of a number
---   valueOf       the text of an attribute's value: what the items of its name say, else the plain text; and how many set bits no name covers
+--   plainState    what became of the text by the type alone: of a string what its damage is told as, and `Cut` past the pool, where no text stood
+--   valueOf       the text of an attribute's value: what the items of its name say, else the plain text; how many set bits no name covers; and what
+--                 became of the text, which is whole but for a string's
 --   shown         the text of a value, empty where it has none
 --   valueOpen     the head of the file, or the first refusal: the entry checks, the items' 14 among them, then the head's own
 --   valueAnswer   the answer of the question; valueBuffer what then stands in the lent buffer, whole
@@ -17,6 +19,8 @@ use lib.ListN.{length, replicate}
 use lib.Dec.{eqb, leb}
 use Rattle.errors.specs.Refusal.{valueNumbersOf}
 use Rattle.errors.specs.declared.Refusal.the-variants.{NothingFound, TextShort, NoPlainText}
+use Rattle.errors.specs.declared.TextState.{TextState}
+use Rattle.errors.specs.declared.TextState.the-variants as stateIs
 use Rattle.errors.specs.declared.ValueAnswer.{ValueAnswer}
 use Rattle.errors.specs.declared.ValueAnswer.the-variants.{Value as Answered, Refused}
 use Rattle.digits.specs.Digits.{signedText, hexText}
@@ -31,10 +35,10 @@ use Rattle.system_types.specs.Names.{Lent, topByte, systemName}
 use Rattle.system_types.specs.declared.Lookup.{Lookup}
 use Rattle.system_types.specs.declared.Lookup.the-variants.{Name, Missing}
 use Rattle.text.specs.declared.Head.{Head}
-use Rattle.text.specs.Content.{Content, none, cut, some, contentOf, stringOf, textIn, androidUri}
+use Rattle.text.specs.Content.{Content, none, cut, some, contentOf, stringOf, textIn, damageIn, androidUri}
 use Rattle.head.specs.Head.{openedOf, tablesIn}
 use Rattle.head.specs.Entry.{valueWith, firstOf, entryChecks}
-use Rattle.head.specs.Ask.{openBy}
+use Rattle.head.specs.Ask.{openBy, stateTold}
 use Rattle.head.specs.declared.OpenRead.{OpenRead}
 use Rattle.head.specs.declared.OpenRead.the-variants.{Open, Closed}
 use Rattle.items.specs.Items.{partIn, itemsOf, namedIn}
@@ -85,32 +89,57 @@ plainBy h t lent v Fraction = nothing
 plainBy h t lent v DynamicAttribute = nothing
 plainBy h t lent v (Unknown n) = nothing
 
+-- past the pool no text stood, and the text is empty
+abbrev pub stringState : Content → TextState
+stringState none = stateIs.Cut
+stringState cut = stateTold (damageIn cut)
+stringState (some w s) = stateTold (damageIn (some w s))
+
+unfoldable pub plainState : Head → List ℕ → ℕ → ResourceValueType → TextState
+plainState h t v String = stringState (stringOf h t v)
+plainState h t v Reference = stateIs.Whole
+plainState h t v DynamicReference = stateIs.Whole
+plainState h t v AttributeType = stateIs.Whole
+plainState h t v Dec = stateIs.Whole
+plainState h t v Hex = stateIs.Whole
+plainState h t v Boolean = stateIs.Whole
+plainState h t v ColorArgb8 = stateIs.Whole
+plainState h t v ColorRgb8 = stateIs.Whole
+plainState h t v ColorArgb4 = stateIs.Whole
+plainState h t v ColorRgb4 = stateIs.Whole
+plainState h t v Null = stateIs.Whole
+plainState h t v Float = stateIs.Whole
+plainState h t v Dimension = stateIs.Whole
+plainState h t v Fraction = stateIs.Whole
+plainState h t v DynamicAttribute = stateIs.Whole
+plainState h t v (Unknown n) = stateIs.Whole
+
 -- ---- the text of an attribute's value
 
--- noName: the name index has no text; noText: the type has no plain text, and no item answers; else the text, and the uncovered bits
+-- noName: the name index has no text; noText: the type has no plain text, and no item answers; else the text, the uncovered bits, and its state
 pub data Value : Type 0 where
   noName : Value
   noText : Value
-  shows : List ℕ → ℕ → Value
+  shows : List ℕ → ℕ → TextState → Value
 
 -- its text, empty where there is none
 abbrev pub shown : Value → List ℕ
 shown noName = []
 shown noText = []
-shown (shows s u) = s
+shown (shows s u d) = s
 
--- what the items say comes first
-abbrev pub orPlain : ℕ → Text → Text → Value
-orPlain u (says s) plain = shows s u
-orPlain u nothing (says s) = shows s u
-orPlain u nothing nothing = noText
+-- what the items say comes first; d is what became of the plain text
+abbrev pub orPlain : ℕ → TextState → Text → Text → Value
+orPlain u d (says s) plain = shows s u stateIs.Whole
+orPlain u d nothing (says s) = shows s u d
+orPlain u d nothing nothing = noText
 
 module _ (h : Head) (t : List ℕ) (lent : Lent) (items area : List ℕ) where
   -- of an attribute with this name
   unfoldable pub namedValue : List ℕ → ℕ → ℕ → Value
   namedValue name kind v =
-      orPlain (uncoveredOf v (namedIn area name (itemsOf items))) (attrText area v (namedIn area name (itemsOf items)))
-      (plainBy h t lent v (valueTypeOf kind))
+      orPlain (uncoveredOf v (namedIn area name (itemsOf items))) (plainState h t v (valueTypeOf kind))
+      (attrText area v (namedIn area name (itemsOf items))) (plainBy h t lent v (valueTypeOf kind))
 
   abbrev pub valueBy : Content → ℕ → ℕ → Value
   valueBy none kind v = noName
@@ -118,7 +147,7 @@ module _ (h : Head) (t : List ℕ) (lent : Lent) (items area : List ℕ) where
   valueBy (some w s) kind v = namedValue (textIn (some w s)) kind v
 
   unfoldable pub valueOf : Attribute → Value
-  valueOf a = cond (eqb (a .prefix) 2) (shows androidUri 0) (valueBy (contentOf h t lent (a .name .0)) (a .kind) (a .«data»))
+  valueOf a = cond (eqb (a .prefix) 2) (shows androidUri 0 stateIs.Whole) (valueBy (contentOf h t lent (a .name .0)) (a .kind) (a .«data»))
 
 -- ---- the checks
 
@@ -131,13 +160,13 @@ valueOpen f lent items area = openBy (openedOf f) (firstOf (entryChecks f lent (
 abbrev pub answerBy : ℕ → ℕ → Value → ValueAnswer
 answerBy n kind noName = Refused NothingFound
 answerBy n kind noText = Refused (NoPlainText kind)
-answerBy n kind (shows s u) = cond (leb (length s) n) (Answered (length s) u) (Refused (TextShort (length s)))
+answerBy n kind (shows s u d) = cond (leb (length s) n) (Answered (length s) u d) (Refused (TextShort (length s)))
 
 -- the text and zeros, or zeros
 abbrev pub bufferBy : ℕ → Value → List ℕ
 bufferBy n noName = replicate n 0
 bufferBy n noText = replicate n 0
-bufferBy n (shows s u) = fitted s n
+bufferBy n (shows s u d) = fitted s n
 
 abbrev pub answerIn : List ℕ → Lent → List ℕ → List ℕ → ℕ → Attribute → OpenRead → ValueAnswer
 answerIn f lent items area n a (Closed r) = Refused r

@@ -1,12 +1,13 @@
 // The text of a value, as a page shows it.
 //
 // Mirrors structs/common.rs (apk-info 13770539b8), `to_string` without resources of its own, and axml.rs where it asks `get_attr_value`
-// first. Answers: `ValueAnswer`, the length of the text and the bits that no name covers, or a refusal. Definitions: specs/Value.antt.
+// first. Answers: `ValueAnswer`, length and state of the text and the bits that no name covers, or a refusal. Definitions: specs/Value.antt.
 // Differs from the Rust: float, dimension and fraction have no text here (docs/DIFFERENCES.md).
 pub mod plain;
 
 use plain::form_of;
 use plain::is_other;
+use plain::plain_state;
 use plain::put_plain;
 ghost use mathlib.Core.Path.{_≡_};
 ghost use mathlib.Core.Bool.{true};
@@ -21,15 +22,17 @@ ghost use Rattle.items.specs.declared.ItemsRead.the-variants.{Good};
 ghost use Rattle.items.specs.Inner.Turns.{FirstNamed};
 ghost use Rattle.utf.specs.Text.{eqBytes};
 ghost use Rattle.common.specs.ValueType.{valueTypeOf};
+ghost use Rattle.errors.specs.declared.TextState.the-variants.{Whole};
 ghost use Rattle.errors.specs.declared.ValueAnswer.the-variants.{Refused};
 ghost use Rattle.head.specs.Ask.{headRead};
 ghost use Rattle.items.specs.Values.{nothing};
-ghost use Rattle.value_text.specs.Value.{shows, orPlain, plainBy, namedValue, valueOf, valueOpen, ValueReads};
+ghost use Rattle.value_text.specs.Value.{shows, orPlain, plainBy, plainState, namedValue, valueOf, valueOpen, ValueReads};
 ghost use Rattle.value_text.specs.Inner.Leads.{Leads, Tells, Gives, behindItems};
 use common::StringIndex;
 use digits::put_bytes;
 use digits::zero;
 use errors::Refusal;
+use errors::TextState;
 use errors::ValueAnswer;
 use head::Asker;
 use head::Entered;
@@ -61,9 +64,9 @@ pub struct Attribute {
     pub ns: StringIndex,
 }
 
-// What is told of a value: the length of its text and the bits that no name covers; that its name has no text; that it has none.
+// What is told of a value: the length of its text, the bits that no name covers and what became of it; that its name has no text; that it has none.
 pub enum Told {
-    Shown(usize, u32),
+    Shown(usize, u32, TextState),
     NoName,
     NoText,
 }
@@ -126,7 +129,8 @@ fn plain_into(
     uncovered: u32,
 ) -> Told
     requires { ⌜ Asks (now t) (lends (now names) (now area)) h ⌝ }
-    ensures { λ r. ⌜ Tells (orPlain uncovered nothing (plainBy h (now (t .entry)) (lends (now (names .entry)) (now (area .entry))) v (valueTypeOf kind)))
+    ensures { λ r. ⌜ Tells (orPlain uncovered (plainState h (now (t .entry)) v (valueTypeOf kind)) nothing
+        (plainBy h (now (t .entry)) (lends (now (names .entry)) (now (area .entry))) v (valueTypeOf kind)))
         (now (out .entry)) r (now (out .exit)) ⌝ }
 {
     let form = form_of(kind);
@@ -134,7 +138,8 @@ fn plain_into(
         return Told::NoText;
     }
     let n = put_plain(t, names, area, h, out, form, v);
-    Told::Shown(n, uncovered)
+    let state = plain_state(t, names, area, h, form, v);
+    Told::Shown(n, uncovered, state)
 }
 
 // What the items say first: `first` is the first item of the attribute's name, or the number of items.
@@ -160,17 +165,17 @@ fn named_into(
     }
     let said = attr_value(out, items, item_area, first, v);
     if said.some {
-        return Told::Shown(said.length, said.uncovered);
+        return Told::Shown(said.length, said.uncovered, TextState::Whole);
     }
     plain_into(t, names, area, h, out, kind, v, said.uncovered)
 }
 
 // The Android namespace.
 fn uri_into(out: &mut [u8]) -> Told
-    ensures { λ r. ⌜ Tells (shows androidUri 0) (now (out .entry)) r (now (out .exit)) ⌝ }
+    ensures { λ r. ⌜ Tells (shows androidUri 0 Whole) (now (out .entry)) r (now (out .exit)) ⌝ }
 {
     let n = put_bytes(out, 0, &ANDROID_URI);
-    Told::Shown(n, 0)
+    Told::Shown(n, 0, TextState::Whole)
 }
 
 // The text of an attribute's value at the front of a buffer; what stands behind it is anything.
@@ -260,8 +265,8 @@ fn refuse(out: &mut [u8], why: Refusal) -> ValueAnswer
 }
 
 // A text of n bytes that stands at the front of the buffer, if it fits.
-fn settle(out: &mut [u8], n: usize, uncovered: u32) -> ValueAnswer
-    ensures { λ r. ⌜ ((s l : List _) → Leads s l n (now (out .entry)) → Gives (length l) 0 (shows s uncovered) r (now (out .exit))) ⌝ }
+fn settle(out: &mut [u8], n: usize, uncovered: u32, state: TextState) -> ValueAnswer
+    ensures { λ r. ⌜ ((s l : List _) → Leads s l n (now (out .entry)) → Gives (length l) 0 (shows s uncovered state) r (now (out .exit))) ⌝ }
 {
     if out.len() < n {
         return refuse(out, Refusal::TextShort(n));
@@ -270,6 +275,7 @@ fn settle(out: &mut [u8], n: usize, uncovered: u32) -> ValueAnswer
     ValueAnswer::Value {
         length: n,
         uncovered,
+        state,
     }
 }
 
@@ -290,7 +296,7 @@ fn value_in(
 {
     let told = value_into(t, names, area, h, items, item_area, out, a);
     match told {
-        Told::Shown(n, uncovered) => settle(out, n, uncovered),
+        Told::Shown(n, uncovered, state) => settle(out, n, uncovered, state),
         Told::NoName => refuse(out, Refusal::NothingFound),
         Told::NoText => refuse(out, Refusal::NoPlainText(a.kind)),
     }
@@ -299,7 +305,7 @@ fn value_in(
 // The text of an attribute's value, in `out`: its UTF-8 and zeros behind it; on a refusal zeros alone. Names, items and head are checked
 // again at each call, and the answer tells the first that is amiss: 2, 7, 14, 1, 3, 4, 5, then 12 (its name has no text), 15 (no plain
 // text) and 11 (with the bytes needed).
-// Ruled out: the number of a value that an item names, and the names of bits that are not set.
+// Ruled out: the number of a value that an item names, the names of bits that are not set, and a damaged string answered as whole.
 pub fn value_text(
     file: &[u8],
     names: &[u32],

@@ -15,9 +15,9 @@ ghost use Rattle.text.specs.Inner.Found.{Asks};
 ghost use Rattle.common.specs.ValueType.{valueTypeOf};
 ghost use Rattle.items.specs.Items.{partIn};
 ghost use Rattle.items.specs.Values.{said, isSaid};
-ghost use Rattle.value_text.specs.Value.{boolText, referenceBy, attributeBy, plainBy};
+ghost use Rattle.value_text.specs.Value.{boolText, referenceBy, attributeBy, plainBy, stringState};
 ghost use Rattle.value_text.specs.Inner.Leads.{Leads};
-ghost use Rattle.value_text.specs.Inner.Forms.{formOf, formText, isOther};
+ghost use Rattle.value_text.specs.Inner.Forms.{formOf, formText, formState, isOther};
 use common::ResourceId;
 use common::ResourceValueType;
 use common::StringIndex;
@@ -26,12 +26,15 @@ use digits::put_byte;
 use digits::put_bytes;
 use digits::put_hex;
 use digits::put_signed;
+use errors::TextState;
+use head::found_told;
 use items::part_of;
 use system_types::Lookup;
 use system_types::get_type_name;
 use text::Head;
 use text::find;
 use text::found_into;
+use text::is_found;
 
 // How a value is written.
 pub enum Form {
@@ -117,6 +120,36 @@ fn put_string(t: &[u8], names: &[u32], area: &[u8], h: Head, out: &mut [u8], v: 
 {
     let f = find(t, &names[0..0], area, h, StringIndex(v));
     found_into(t, area, h.wide, f, out)
+}
+
+// What became of the string of the pool; past the pool no text stood.
+fn string_state(t: &[u8], names: &[u32], area: &[u8], h: Head, v: u32) -> TextState
+    requires { ⌜ Asks (now t) (lends (now names) (now area)) h ⌝ }
+    ensures { λ r. ⌜ r ≡ stringState (stringOf h (now (t .entry)) v) ⌝ }
+{
+    let f = find(t, &names[0..0], area, h, StringIndex(v));
+    if !is_found(f) {
+        return TextState::Cut;
+    }
+    found_told(t, area, h.wide, f)
+}
+
+// What became of the text of a value: only a string can be damaged.
+// Ruled out: the damage of a string that is only the number of a reference, and `Whole` for a string past the pool.
+pub fn plain_state(t: &[u8], names: &[u32], area: &[u8], h: Head, form: Form, v: u32) -> TextState
+    requires { ⌜ Asks (now t) (lends (now names) (now area)) h ⌝ }
+    ensures { λ r. ⌜ r ≡ formState h (now (t .entry)) v form ⌝ }
+{
+    match form {
+        Form::Reference => TextState::Whole,
+        Form::Attribute => TextState::Whole,
+        Form::Pool => string_state(t, names, area, h, v),
+        Form::Number => TextState::Whole,
+        Form::Word => TextState::Whole,
+        Form::Truth => TextState::Whole,
+        Form::Color => TextState::Whole,
+        Form::Other => TextState::Whole,
+    }
 }
 
 // How a value of a type is written.

@@ -7,6 +7,12 @@ use Rattle.errors.proofs.value_numbers.Tie as tie
 enum-known-a : tie.Need-enum-known-a
 enum-known-a c = search needs
 
+state-number-requires : tie.Need-state-number-requires
+state-number-requires c κs = search needs
+
+replaced-number-requires : tie.Need-replaced-number-requires
+replaced-number-requires c κs = search needs
+
 enum-known-a-2 : tie.Need-enum-known-a-2
 enum-known-a-2 c = search needs
 
@@ -18,7 +24,7 @@ refusal-value-requires c κs = search needs
 
 returns : tie.Need-returns
 unfolding valueNumbersOf
-returns c = rw (c .before .a .given .1)
+returns c = rw (c .before .before .before .a .given .1, ← c .before .state-number .ensures, ← c .replaced-number .ensures)
 
 returns-2 : tie.Need-returns-2
 unfolding valueNumbersOf
@@ -29,6 +35,8 @@ value-numbers-spec =
     tie.close
     (tie.spec
     enum-known-a
+    state-number-requires
+    replaced-number-requires
     enum-known-a-2
     refusal-number-requires
     refusal-value-requires

@@ -20,15 +20,18 @@ returns c = let a = c .before .before .before .before .before .before .before .a
 found-into-requires : tie.Need-found-into-requires
 found-into-requires c κs = search needs
 
+found-told-requires : tie.Need-found-told-requires
+found-told-requires c κs = search needs
+
 same-length : tie.Need-same-length
 same-length c = search needs
 
 returns-2 : tie.Need-returns-2
-returns-2 c = let a = c .before .before .before .before .before .before .before .before .before .before .before .args in
-    index-some (a .h .wide) (now (a .t)) (now (a .area)) (c .before .before .before .before .before .before .find .result) (c .before .before .before .before .before .before .find .ensures .same) (sym (c .before .before .before .before .before .is-found .ensures) ∙ not-false _ (c .before .before .before .before .if1 .left))
-    (c .before .before .found-into .ensures)
+returns-2 c = let a = c .before .before .before .before .before .before .before .before .before .before .before .before .args in
+    index-some (a .h .wide) (now (a .t)) (now (a .area)) (c .before .before .before .before .before .before .before .find .result) (c .before .before .before .before .before .before .before .find .ensures .same) (sym (c .before .before .before .before .before .before .is-found .ensures) ∙ not-false _ (c .before .before .before .before .before .if1 .left))
+    (c .before .before .before .found-into .ensures) (c .found-told .ensures)
 
 pub index-into-spec : {M : Type 1} → statement M
 index-into-spec =
     tie.close
-    (tie.spec find-requires is-found-requires returns found-into-requires same-length returns-2)
+    (tie.spec find-requires is-found-requires returns found-into-requires found-told-requires same-length returns-2)

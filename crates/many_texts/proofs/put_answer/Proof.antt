@@ -66,7 +66,7 @@ same-length c = search needs
 
 returns : tie.Need-returns
 returns c = let a = c .args in
-    put-words (answerWords (a .refusal) (a .start) (a .bytes) (a .uncovered) 0 0) (a .words .now) (a .i) (c .pre)
+    put-words (answerWords (a .refusal) (a .start) (a .bytes) (a .uncovered) (a .state) (a .replaced)) (a .words .now) (a .i) (c .pre)
 
 pub put-answer-spec : {M : Type 1} → statement M
 put-answer-spec =

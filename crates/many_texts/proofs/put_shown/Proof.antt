@@ -25,6 +25,12 @@ cast-put-answer c = let a = c .before .before .before .before .before .args in o
 cast-put-answer-2 : tie.Need-cast-put-answer-2
 cast-put-answer-2 c = let a = c .before .before .before .before .before .args in omega (arith, leb-true (a .at + a .n) mostBytes (sym (c .before .before .is-word .ensures) ∙ c .before .if1 .taken))
 
+state-number-requires : tie.Need-state-number-requires
+state-number-requires c κs = search needs
+
+replaced-number-requires : tie.Need-replaced-number-requires
+replaced-number-requires c κs = search needs
+
 put-answer-requires : tie.Need-put-answer-requires
 put-answer-requires c κs = search needs
 
@@ -32,8 +38,12 @@ same-length : tie.Need-same-length
 same-length c = search needs
 
 returns : tie.Need-returns
-returns c = let a = c .before .before .before .before .before .before .before .before .args in
-    λ s e. puts-shown (a .k) (a .at) (a .n) _ s (now (a .answers)) _ (c .before .before .before .before .before .before .before .before .pre) refl e (c .before .before .before .before .before .before .behind .ensures) (c .before .before .put-answer .ensures)
+returns c =
+    let s = c .before .before .before .before .before .before .before .before .before .before in
+    let a = s .args in
+    λ l e.
+    puts-shown (a .k) (a .at) (a .n) _ l (now (a .answers)) _ (s .pre) refl e (c .before .before .before .before .before .before .before .before .behind .ensures)
+    (c .before .before .before .before .state-number .ensures) (c .before .before .before .replaced-number .ensures) (c .before .before .put-answer .ensures)
 
 returns-2 : tie.Need-returns-2
 returns-2 c = let a = c .before .before .before .before .args in
@@ -49,6 +59,8 @@ put-shown-spec =
     mul-put-answer
     cast-put-answer
     cast-put-answer-2
+    state-number-requires
+    replaced-number-requires
     put-answer-requires
     same-length
     returns

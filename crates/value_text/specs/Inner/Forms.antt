@@ -8,12 +8,14 @@ use Rattle.common.specs.declared.value.ResourceValueType.the-variants.{Null, Re
 use Rattle.common.specs.declared.value.ResourceValueType.the-variants.{Float, Dimension, Fraction, DynamicReference}
 use Rattle.common.specs.declared.value.ResourceValueType.the-variants.{DynamicAttribute, Dec, Hex, Boolean}
 use Rattle.common.specs.declared.value.ResourceValueType.the-variants.{ColorArgb8, ColorRgb8, ColorArgb4, ColorRgb4, Unknown}
+use Rattle.errors.specs.declared.TextState.{TextState}
+use Rattle.errors.specs.declared.TextState.the-variants as stateIs
 use Rattle.system_types.specs.Names.{Lent, systemName}
 use Rattle.text.specs.declared.Head.{Head}
 use Rattle.text.specs.Content.{stringOf, textIn}
 use Rattle.value_text.specs.declared.plain.Form.{Form}
 use Rattle.value_text.specs.declared.plain.Form.the-variants.{Reference, Attribute, Pool, Number, Word, Truth, Color, Other}
-use Rattle.value_text.specs.Value.{boolText, referenceBy, attributeBy}
+use Rattle.value_text.specs.Value.{boolText, referenceBy, attributeBy, stringState}
 
 unfoldable pub formOf : ResourceValueType → Form
 formOf Null = Other
@@ -43,6 +45,16 @@ formText h t lent v Word = 48 ∷ 120 ∷ hexText v
 formText h t lent v Truth = boolText v
 formText h t lent v Color = 35 ∷ hexText v
 formText h t lent v Other = []
+
+abbrev pub formState : Head → List ℕ → ℕ → Form → TextState
+formState h t v Reference = stateIs.Whole
+formState h t v Attribute = stateIs.Whole
+formState h t v Pool = stringState (stringOf h t v)
+formState h t v Number = stateIs.Whole
+formState h t v Word = stateIs.Whole
+formState h t v Truth = stateIs.Whole
+formState h t v Color = stateIs.Whole
+formState h t v Other = stateIs.Whole
 
 abbrev pub isOther : Form → Bool
 isOther Reference = false

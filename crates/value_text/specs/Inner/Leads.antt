@@ -29,7 +29,7 @@ pub record Leads (s before : List ℕ) (n : ℕ) (after : List ℕ) : Type 0 whe
 abbrev pub toldOf : Value → Told
 toldOf noName = NoName
 toldOf noText = NoText
-toldOf (shows s u) = Shown (length s) u
+toldOf (shows s u d) = Shown (length s) u d
 
 pub record Tells (v : Value) (before : List ℕ) (r : Told) (after : List ℕ) : Type 0 where
   pub told : r ≡ toldOf v

@@ -2,7 +2,8 @@
 use borrow.Author.Needs.{needs}
 use denote.Ref.{now}
 use Rattle.text.specs.Inner.Found.{partOf}
-use Rattle.text.specs.Content.{textIn}
+use Rattle.text.specs.Content.{textIn, damageIn}
+use Rattle.head.specs.Ask.{stateTold}
 use Rattle.head.proofs.Questions.{gives-short, gives-text}
 use Rattle.head.proofs.ask.write_found.Statement.{statement}
 use Rattle.head.proofs.ask.write_found.Tie as tie
@@ -22,21 +23,24 @@ returns c =
     let p7 = p4 .before .before .before in
     let a = p7 .before .before .before .before .before .args in
     gives-short (textIn (partOf (a .wide) (now (a .t)) (now (a .area)) (a .f))) (now (a .out)) _ _ (p7 .found-into .result) (p7 .found-into .ensures)
-    (p4 .if1 .taken) (c .before .before .zero-from .ensures)
+    (stateTold (damageIn (partOf (a .wide) (now (a .t)) (now (a .area)) (a .f)))) (p4 .if1 .taken) (c .before .before .zero-from .ensures)
 
 zero-from-requires-2 : tie.Need-zero-from-requires-2
 zero-from-requires-2 c κs = search needs
+
+found-told-requires : tie.Need-found-told-requires
+found-told-requires c κs = search needs
 
 same-length-2 : tie.Need-same-length-2
 same-length-2 c = search needs
 
 returns-2 : tie.Need-returns-2
 returns-2 c =
-    let p4 = c .before .before .before .before in
+    let p4 = c .before .before .before .before .before in
     let p7 = p4 .before .before .before in
     let a = p7 .before .before .before .before .before .args in
     gives-text (textIn (partOf (a .wide) (now (a .t)) (now (a .area)) (a .f))) (now (a .out)) _ _ (p7 .found-into .result) (p7 .found-into .ensures)
-    (p4 .if1 .left) (c .before .before .zero-from2 .ensures)
+    (stateTold (damageIn (partOf (a .wide) (now (a .t)) (now (a .area)) (a .f)))) (p4 .if1 .left) (c .before .before .before .zero-from2 .ensures) (c .found-told .ensures)
 
 pub write-found-spec : {M : Type 1} → statement M
 write-found-spec =
@@ -47,5 +51,6 @@ write-found-spec =
     same-length
     returns
     zero-from-requires-2
+    found-told-requires
     same-length-2
     returns-2)

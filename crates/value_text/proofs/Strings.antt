@@ -1,0 +1,32 @@
+-- What became of a string of the pool, by where it was found: past the pool there is no text (`string-none`), else its damage is told (`string-some`).
+use Prim.Native.Nat.{ℕ}
+use native.Mathlib.Omega.{arith}
+use mathlib.Core.Path.{_≡_, refl, ap, _∙_}
+use mathlib.Core.List.{List}
+use mathlib.Core.Bool.{Bool, true, false}
+use Rattle.errors.specs.declared.TextState.{TextState}
+use Rattle.errors.specs.declared.TextState.the-variants as stateIs
+use Rattle.text.specs.declared.Found.{Found}
+use Rattle.text.specs.declared.Found.the-variants.{Nothing, Cut, System, Pool}
+use Rattle.text.specs.Content.{Content, damageIn}
+use Rattle.text.specs.Inner.Found.{partOf, isFound}
+use Rattle.head.specs.Ask.{stateTold}
+use Rattle.value_text.specs.Value.{stringState}
+
+module _ {c : Content} (w : Bool) (t area : List ℕ) where
+  pub string-none : (g : Found) → partOf w t area g ≡ c → isFound g ≡ false → stateIs.Cut ≡ stringState c
+  string-none Nothing e p = ap stringState e
+  string-none Cut e p = let z : _≡_ {A = ℕ} 0 1 = cc in absurd (let y : ⊥ = omega arith in y)
+  string-none (System at n) e p = let z : _≡_ {A = ℕ} 0 1 = cc in absurd (let y : ⊥ = omega arith in y)
+  string-none (Pool at n) e p = let z : _≡_ {A = ℕ} 0 1 = cc in absurd (let y : ⊥ = omega arith in y)
+
+  pub string-some
+      : {d : TextState} (g : Found)
+      → partOf w t area g ≡ c
+      → isFound g ≡ true
+      → d ≡ stateTold (damageIn (partOf w t area g))
+      → d ≡ stringState c
+  string-some Nothing e p q = let z : _≡_ {A = ℕ} 0 1 = cc in absurd (let y : ⊥ = omega arith in y)
+  string-some Cut e p q = q ∙ ap stringState e
+  string-some (System at n) e p q = q ∙ ap stringState e
+  string-some (Pool at n) e p q = q ∙ ap stringState e
