@@ -2,7 +2,7 @@
  *
  *   bench/native-object c_api /tmp/c_api.o && cc -O2 -I include -o /tmp/mains bench/mains.c /tmp/c_api.o && /tmp/mains
  *
- * A file is made in memory and read by axml_read; then the question is asked of its tables, nine times, and the best is told. */
+ * A file is made in memory and read by axml_read; then the question is asked of its tables, nine times, and the best is told, by the CPU time of the process. */
 #include <stdio.h>
 #include <stdlib.h>
 #include <string.h>
@@ -88,7 +88,7 @@ static uint32_t make(int shape, uint32_t many) {
 
 static double now(void) {
   struct timespec t;
-  clock_gettime(CLOCK_MONOTONIC, &t);
+  clock_gettime(CLOCK_PROCESS_CPUTIME_ID, &t);
   return t.tv_sec * 1e3 + t.tv_nsec / 1e6;
 }
 
