@@ -1,11 +1,16 @@
 """Files to ask for the main activities: manifests with applications, activities, aliases and filters, most of them nearly right.
 
   files(seed, count)   count files, the same for the same seed; some 30 elements each
+  model(answer, wrong) docs/FORMAT.md, S, as a plain program over the Rust's answer, with a wrong reading on demand
+  python3 mains.py PROGRAM SEED COUNT   the model against the Rust's own main activities, and how many files tell each wrong reading
 """
 import random
 import struct
+import subprocess
+import sys
 
 import cases
+import rust
 import values
 
 MAIN, LAUNCHER, INFO = "android.intent.action.MAIN", "android.intent.category.LAUNCHER", "android.intent.category.INFO"
@@ -126,3 +131,71 @@ def files(seed, count):
     r = random.Random(seed)
     for _ in range(count):
         yield Manifest(r).file()
+
+
+# readings that are wrong, each told by some of the files
+WRONG = {"deep": "descendants for children", "first": "the first application alone", "application": "the application's enabled asked", "enabled": "enabled not asked",
+         "together": "two filters that have one each", "all": "every activity", "main": "the main action alone", "launcher": "INFO not taken", "target": "an alias gives its target",
+         "zero": "0 where there is no name"}
+EMPTY = rust.NONE - 1
+
+
+def model(a, wrong=""):
+    """The numbers that the Rust's program answers for the main activities, from its nodes, attributes, names and value texts."""
+    def attribute(k, name):
+        first, count = a.nodes[k][3:5]
+        return next((j for j in range(first, first + count) if a.attribute_names[j] == name), None)
+
+    def says(k, name):
+        j = attribute(k, name)
+        return None if j is None else a.values[j]
+
+    def children(p):
+        for k in range(p + 1, len(a.nodes)):
+            if a.nodes[k][2] < p:
+                return
+            if a.nodes[k][2] == p or wrong == "deep":
+                yield k
+
+    def has(f, tag, texts):
+        return any(a.node_names[c] == tag and says(c, b"name") in texts for c in children(f))
+
+    def starts(k):
+        if a.node_names[k] not in (b"activity", b"activity-alias") or says(k, b"enabled") == b"false" and wrong != "enabled":
+            return False
+        categories = [LAUNCHER.encode()] if wrong == "launcher" else [LAUNCHER.encode(), INFO.encode()]
+        both = [(has(f, b"action", [MAIN.encode()]), has(f, b"category", categories)) for f in children(k) if a.node_names[f] == b"intent-filter"]
+        if wrong in ("all", "main", "together"):
+            return wrong == "all" or any(m for m, _ in both) and (wrong == "main" or any(c for _, c in both))
+        return any(m and c for m, c in both)
+
+    applications = [p for p in children(0) if a.node_names[p] == b"application" and not (wrong == "application" and says(p, b"enabled") == b"false")]
+    found = []
+    for p in applications[:1] if wrong == "first" else applications:
+        for k in filter(starts, children(p)):
+            j = attribute(k, b"targetActivity" if wrong == "target" and a.node_names[k] == b"activity-alias" else b"name")
+            if j is not None or wrong == "zero":
+                found.append(0 if j is None else EMPTY if a.values[j] == b"" else j)
+    return found
+
+
+def main():
+    program, seed, count = sys.argv[1], int(sys.argv[2]), int(sys.argv[3])
+    flags, r = rust.NAMES | rust.VALUES | rust.MAINS, random.Random(seed)
+    words = [program, *(x for path in cases.SETS for x in ("--names", path)), *(x for path in rust.ITEMS for x in ("--items", path))]
+    stream = b"".join(struct.pack("<4I", flags, 16, r.randrange(3) | r.randrange(4) << 8, 0) + rust.padded(f) for f in files(seed, count))
+    out, at, answers = subprocess.run(words, input=stream, stdout=subprocess.PIPE, check=True).stdout, 0, []
+    while at < len(out):
+        n = struct.unpack_from("<I", out, at)[0]
+        answers.append(rust.Answer(out[at + 4:at + 4 + n], flags, 0))
+        at += 4 + n
+    answers = [a for a in answers if not a.refusal]
+    differ = {wrong: sum(model(a, wrong) != a.mains for a in answers) for wrong in ("", *WRONG)}
+    print(f"{len(answers)} manifests, {sum(len(a.mains) for a in answers)} main activities; the rules differ from the Rust on {differ['']}")
+    for wrong, words in WRONG.items():
+        print(f"{differ[wrong]:6} tell: {words}")
+    sys.exit(differ[""] != 0 or 0 in [differ[wrong] for wrong in WRONG])
+
+
+if __name__ == "__main__":
+    main()
