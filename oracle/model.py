@@ -10,6 +10,7 @@
 `w` names one wrong reading of WRONG, which the model then makes: a stored case is worth keeping if it tells some of them.
 The proofs know nothing of this file.
 """
+import codecs
 import re
 import struct
 
@@ -478,6 +479,25 @@ class Head:
             if w == "pairs_not_joined":
                 t = re.sub("[\U00010000-\U0010ffff]", "\ufffd\ufffd", t)
         return t.encode()
+
+    def damage(self, i):
+        """The state of a text and how many characters were replaced (T11): python's decoder says where it needs a replacement."""
+        if self.system(i) is not None or i >= len(self.offsets):
+            return 0, 0
+        place = self.split(i)
+        if place is None:
+            return 3, 0
+        content = self.file[place[0]:place[1]]
+        if self.utf8:
+            bad = []
+            codecs.register_error("told", lambda e: (bad.append(e.start), ("\ufffd", e.end))[1])
+            content.decode("utf-8", "told")
+            return int(bool(bad)), len(bad)
+        try:
+            content.decode("utf-16-le")
+        except UnicodeDecodeError:
+            return 2, 0
+        return 0, 0
 
     def content(self, i):
         place = self.system(i)
@@ -974,6 +994,11 @@ def text(file, names, index, room, hits=None, w=""):
         return 0, 0, t
     except Refused as e:
         return e.number, e.value, b""
+
+
+def damage(file, names, index, room):
+    """State and count of the text question's answer (Q2): 0 and 0 where it is refused."""
+    return opened(file, names, set(), "").damage(index) if text(file, names, index, room)[0] == 0 else (0, 0)
 
 
 def content(file, names, index):
