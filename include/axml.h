@@ -20,7 +20,7 @@ extern "C" {
 
 /* The form of this interface: raised whenever a record, a signature or a number below changes or is added. A library is of this form exactly if
  * axml_abi() == AXML_ABI; one that is of another must not be called. */
-#define AXML_ABI 9u
+#define AXML_ABI 10u
 uint32_t axml_abi(void);
 
 /* The longest file that is read, in bytes: one byte more is refused with AXML_TOO_LARGE. */
@@ -102,6 +102,14 @@ enum axml_note_kind {
   AXML_DAMAGED_ELEMENT_NAME = 32          /* a: name index, b: the state of its text, 1 replaced characters, 2 bad UTF-16, 3 cut or outside */
 };
 
+/* What became of a text (T11). Where it is not whole, the file does not have the characters that the text has. */
+enum axml_state {
+  AXML_TEXT_WHOLE = 0,
+  AXML_TEXT_REPLACED = 1,   /* characters could not be read, and each is U+FFFD in the text; a U+FFFD of the file's own is none of them */
+  AXML_TEXT_BAD_UTF16 = 2,  /* a surrogate stands alone: the text is empty */
+  AXML_TEXT_CUT = 3         /* the string is cut, or lies outside the pool: the text is empty */
+};
+
 /* How a reading tells the namespace of an attribute (B16). */
 enum axml_mode {
   AXML_MODE_MERGED = 1,  /* any namespace with a text is Android's, as in apk-info; attributes that differ by it alone are one */
@@ -179,8 +187,8 @@ struct axml_part {
   uint32_t start;      /* its first byte in the buffer */
   uint32_t length;     /* its bytes */
   uint32_t uncovered;  /* how many set bits of a flag no name covers (V6) */
-  uint32_t state;      /* 0 */
-  uint32_t replaced;   /* 0 */
+  uint32_t state;      /* enum axml_state */
+  uint32_t replaced;   /* how many characters were replaced */
 };
 
 /* Four words of the lent pairs (M1): UTF-8 bytes of a tag and of a name, each a part of an area of bytes. */
@@ -213,15 +221,19 @@ struct axml_answer {
 struct axml_text_answer {
   uint32_t refusal;
   uint64_t value;
-  uint64_t length;  /* bytes of the text in the buffer; 0 where it is refused */
+  uint64_t length;    /* bytes of the text in the buffer; 0 where it is refused, as state and replaced */
+  uint32_t state;     /* enum axml_state */
+  uint32_t replaced;  /* how many characters were replaced; 0 unless the state is AXML_TEXT_REPLACED */
 };
 
 /* The answer of a value text. */
 struct axml_value_answer {
   uint32_t refusal;
   uint64_t value;
-  uint64_t length;     /* bytes of the text in the buffer; 0 where it is refused */
-  uint32_t uncovered;  /* how many set bits of a flag no name covers; 0 where it is refused */
+  uint64_t length;     /* bytes of the text in the buffer; 0 where it is refused, as all behind it */
+  uint32_t uncovered;  /* how many set bits of a flag no name covers */
+  uint32_t state;      /* enum axml_state: that of the string where the value is one, else AXML_TEXT_WHOLE */
+  uint32_t replaced;   /* how many characters of that string were replaced */
 };
 
 /* The answer of many texts. Where it is refused, buffer and answers are zeros. */

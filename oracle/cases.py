@@ -36,7 +36,8 @@ Layout of pack's OUT, where a place is two words, where a part of OUT begins and
   places of the list of sets and of the list of files; then the lists, and all parts
   list of sets:     places of words, area and questions of a set, 24 bytes each
   list of files:    places, numbered from 0 in the order in which the questions come to them
-  question:         words number of the file, index, room, refusal, value; places of text and content (a part of the file or area); 36 bytes
+  question:         words number of the file, index, room, refusal, value, state, characters replaced (the model's, T11); places of text and
+                    content (a part of the file or area); 44 bytes
 
 Layout of pack-replay's OUT, with places as above:
 
@@ -593,17 +594,18 @@ def pack(program, texts, questions, path):
     many, rows = sum(map(len, sets.values())), []
     files = list(dict.fromkeys(q[0] for qs in sets.values() for q in qs))
     number = {f: i for i, f in enumerate(files)}
-    parts = Parts(16 + 24 * len(sets) + 8 * len(files) + 36 * many)
+    parts = Parts(16 + 24 * len(sets) + 8 * len(files) + 44 * many)
     place = parts.place
     out = words(16, 24 * len(sets), 16 + 24 * len(sets), 8 * len(files))
     begin = 16 + 24 * len(sets) + 8 * len(files)
     for (table, area), qs in sets.items():
-        out += words(*place(words(*table)), *place(area), begin, 36 * len(qs))
-        begin += 36 * len(qs)
+        out += words(*place(words(*table)), *place(area), begin, 44 * len(qs))
+        begin += 44 * len(qs)
         for f, i, room, refusal, value, t, (where, start, n) in qs:
             base = place(f if where == 1 else area)[0]
             assert n == 0 or where
-            rows.append(words(number[f], i, room, refusal, value, *place(t), base + start if n else 0, n))
+            told = model.damage(f, model.Names(list(table), area), i, room)
+            rows.append(words(number[f], i, room, refusal, value, *told, *place(t), base + start if n else 0, n))
     out += b"".join(words(*place(f)) for f in files) + b"".join(rows)
     assert len(out) == parts.at
     with open(path, "wb") as f:

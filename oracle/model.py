@@ -10,6 +10,7 @@
 `w` names one wrong reading of WRONG, which the model then makes: a stored case is worth keeping if it tells some of them.
 The proofs know nothing of this file.
 """
+import codecs
 import re
 import struct
 
@@ -1033,6 +1034,11 @@ def text(file, names, index, room, hits=None, w=""):
         return 0, 0, t
     except Refused as e:
         return e.number, e.value, b""
+
+
+def damage(file, names, index, room):
+    """State and count of the text question's answer (Q2): 0 and 0 where it is refused."""
+    return opened(file, names, set(), "").state(index) if text(file, names, index, room)[0] == 0 else (0, 0)
 
 
 def content(file, names, index):

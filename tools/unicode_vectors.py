@@ -3,12 +3,15 @@
 
 Every answer is python's, and none comes from the code under test:
   the text       bytes.decode('utf-8', errors='replace'), and bytes.decode('utf-16-le') or the empty text where that raises; as UTF-8
+  the state      0 where nothing was amiss, 1 where the decoder of UTF-8 met bad bytes, 2 where the decoder of UTF-16 raised; and how often the former
+                 asked for a replacement, which it does once for each maximal subpart (an error handler of our own counts)
   a valid name   the productions [4] and [4a] of XML 1.0 (Fifth Edition), read from their own notation below, without ':' (Namespaces in XML 1.0)
   the same       `==` of the text and of the text before it in the file; before the first one stands the empty text
 
-A file is records, one after the other: the length of the bytes and the length of the text, two bytes each, the low byte first; one byte of
-marks (1 UTF-16, 2 a valid name, 4 the same as the text before); the bytes; the text. The seed is fixed, so a second run writes the same files.
+A file is records, one after the other: the length of the bytes, the length of the text and how many characters were replaced, two bytes each, the
+low byte first; one byte of marks (1 UTF-16, 2 a valid name, 4 the same as the text before, 8 times the state); the bytes; the text. The seed is fixed, so a second run writes the same files.
 """
+import codecs
 import os
 import random
 import re
@@ -50,6 +53,25 @@ def text_of(wide, s):
         return ""
 
 
+def state_of(wide, s):
+    """the state of a text, and how many characters were replaced"""
+    asked = []
+
+    def handler(error):
+        asked.append((error.start, error.end))
+        return "\ufffd", error.end
+
+    if wide:
+        try:
+            s.decode("utf-16-le")
+            return 0, 0
+        except UnicodeDecodeError:
+            return 2, 0
+    codecs.register_error("asked", handler)
+    assert s.decode("utf-8", errors="asked") == text_of(False, s)
+    return (1 if asked else 0), len(asked)
+
+
 def is_name(t):
     return t != "" and ord(t[0]) in FIRST_SET and all(ord(c) in LATER_SET for c in t[1:])
 
@@ -59,9 +81,10 @@ def write(path, texts):
     for wide, s in texts:
         t = text_of(wide, s)
         u = t.encode("utf-8")
-        marks = (1 if wide else 0) | (2 if is_name(t) else 0) | (4 if t == before else 0)
+        state, replaced = state_of(wide, s)
+        marks = (1 if wide else 0) | (2 if is_name(t) else 0) | (4 if t == before else 0) | 8 * state
         assert len(s) <= 4096 and len(u) <= 4096
-        out += len(s).to_bytes(2, "little") + len(u).to_bytes(2, "little") + bytes([marks]) + s + u
+        out += len(s).to_bytes(2, "little") + len(u).to_bytes(2, "little") + replaced.to_bytes(2, "little") + bytes([marks]) + s + u
         before = t
     assert len(out) <= 262144, (path, len(out))
     with open(path, "wb") as f:

@@ -32,7 +32,7 @@ static int text_right(struct part file, size_t name_words, struct part area, siz
   if (room > ROOM || want.length > room) return 0;
   memset(out, 0xa5, sizeof out);
   struct axml_text_answer r = axml_text(data + file.start, file.length, names, name_words, data + area.start, area.length, out, room, word(row + 4));
-  if (r.refusal != refusal || r.value != word(row + 16)) return 0;
+  if (r.refusal != refusal || r.value != word(row + 16) || r.state != word(row + 20) || r.replaced != word(row + 24)) return 0;
   size_t length = refusal == AXML_DONE ? want.length : 0;
   return r.length == length && memcmp(out, data + want.start, length) == 0 && memcmp(out + length, zeros, room - length) == 0 &&
          (room == ROOM || out[room] == 0xa5);
@@ -59,11 +59,11 @@ int main(int count, char **words) {
     size_t name_words = table.length / 4;
     if (name_words > NAMES) return fprintf(stderr, "too many names\n"), 2;
     for (size_t i = 0; i < name_words; i++) names[i] = word(table.start + 4 * i);
-    for (size_t row = rows.start; row + 36 <= rows.start + rows.length; row += 36) {
+    for (size_t row = rows.start; row + 44 <= rows.start + rows.length; row += 44) {
       struct part file = part_at(files.start + 8 * word(row));
       questions++;
-      texts += text_right(file, name_words, area, row, part_at(row + 20));
-      contents += content_right(file, name_words, area, row, part_at(row + 28));
+      texts += text_right(file, name_words, area, row, part_at(row + 28));
+      contents += content_right(file, name_words, area, row, part_at(row + 36));
     }
   }
   printf("stored: %u questions, texts %u, contents with their places %u\n", questions, texts, contents);

@@ -232,8 +232,40 @@ static void texts(const char *what, size_t bytes, uint32_t index, size_t room, u
   expect(r.refusal == refusal, what, "refusal");
   expect(r.value == value, what, "value");
   expect(r.length == length, what, "length");
+  expect(r.state == AXML_TEXT_WHOLE && r.replaced == 0, what, "state");
   expect(memcmp(out, wanted, room) == 0, what, "bytes");
   expect(room == 8 || out[room] == 0xa5, what, "behind the buffer");
+}
+
+/* The text of string 0 where the data of S's pool is 12 other bytes, of UTF-8 or of UTF-16. */
+static void damaged(const char *what, int wide, const uint8_t data[12], size_t room, uint32_t refusal, uint64_t value, const char *text, uint32_t state,
+                    uint32_t replaced) {
+  uint8_t out[16], wanted[16] = {0};
+  size_t length = strlen(text), length_of_file = insert(44, data + 4, 8);
+  memcpy(file + 40, data, 4);
+  file[12] += 8; /* the pool's size */
+  if (wide) file[25] = 0;
+  memset(out, 0xa5, sizeof out);
+  memcpy(wanted, text, length);
+  struct axml_text_answer r = axml_text(file, length_of_file, no_words, 0, no_bytes, 0, out, room, 0);
+  expect(r.refusal == refusal && r.value == value, what, "refusal");
+  expect(r.length == length, what, "length");
+  expect(r.state == state, what, "state");
+  expect(r.replaced == replaced, what, "replaced");
+  expect(memcmp(out, wanted, room) == 0, what, "bytes");
+}
+
+static void states(void) {
+  const uint8_t five[12] = {7, 7, 0x31, 0xff, 0xe2, 0x82, 0xed, 0xa0, 0x80}, own[12] = {1, 3, 0xef, 0xbf, 0xbd}, cut[12] = {9, 10, 0xff}, empty[12] = {0};
+  const uint8_t alone[12] = {1, 0, 0, 0xdc}, both[12] = {5, 0, 0, 0xdc}, wide[12] = {1, 0, 0xfd, 0xff};
+  damaged("five characters", 0, five, 16, AXML_DONE, 0, "1\xef\xbf\xbd\xef\xbf\xbd\xef\xbf\xbd\xef\xbf\xbd\xef\xbf\xbd", AXML_TEXT_REPLACED, 5);
+  damaged("five characters, no room", 0, five, 15, AXML_TEXT_SHORT, 16, "", AXML_TEXT_WHOLE, 0);
+  damaged("U+FFFD of the file's own", 0, own, 16, AXML_DONE, 0, "\xef\xbf\xbd", AXML_TEXT_WHOLE, 0);
+  damaged("its UTF-16", 1, wide, 16, AXML_DONE, 0, "\xef\xbf\xbd", AXML_TEXT_WHOLE, 0);
+  damaged("a string that is cut", 0, cut, 16, AXML_DONE, 0, "", AXML_TEXT_CUT, 0);
+  damaged("an empty string", 0, empty, 16, AXML_DONE, 0, "", AXML_TEXT_WHOLE, 0);
+  damaged("DC00 alone", 1, alone, 16, AXML_DONE, 0, "", AXML_TEXT_BAD_UTF16, 0);
+  damaged("DC00 alone, and cut", 1, both, 16, AXML_DONE, 0, "", AXML_TEXT_CUT, 0);
 }
 
 static void first(const char *what, const char *tag, const char *name, uint32_t node_count, uint32_t refusal, uint64_t value, uint32_t type) {
@@ -414,7 +446,7 @@ static const uint32_t enums[12] = {0, 1, AXML_ITEM_ENUM, 1, 1, 5, 0, 1, AXML_ITE
 static const uint32_t flags[12] = {0, 1, AXML_ITEM_FLAG, 1, 1, 1, 0, 1, AXML_ITEM_FLAG, 2, 1, 3};
 
 static void value(const char *what, const uint32_t *items, size_t item_words, size_t room, uint32_t prefix, uint32_t name, uint32_t type, uint32_t data,
-                  uint32_t refusal, uint64_t number, const char *text, uint32_t uncovered) {
+                  uint32_t refusal, uint64_t number, const char *text, uint32_t uncovered, uint32_t state) {
   uint8_t out[48], wanted[48] = {0};
   size_t length = strlen(text);
   memset(out, 0xa5, sizeof out);
@@ -425,22 +457,24 @@ static void value(const char *what, const uint32_t *items, size_t item_words, si
   expect(r.value == number, what, "value");
   expect(r.length == length, what, "length");
   expect(r.uncovered == uncovered, what, "uncovered");
+  expect(r.state == state && r.replaced == 0, what, "state");
   expect(memcmp(out, wanted, room) == 0, what, "bytes");
   expect(room == sizeof out || out[room] == 0xa5, what, "behind the buffer");
 }
 
 static void values(void) {
-  value("second item", enums, 12, 8, 0, 0, 16, 6, AXML_DONE, 0, "yz", 0);
-  value("no such item", enums, 12, 16, 1, 0, 16, 0xffffffffu, AXML_DONE, 0, "4294967295", 0);
-  value("a flag and a bit", flags, 12, 8, 1, 0, 17, 3, AXML_DONE, 0, "x", 1);
-  value("no flag", flags, 12, 16, 1, 0, 17, 6, AXML_DONE, 0, "0x00000006", 2);
-  value("a string", no_words, 0, 8, 0, 0, 3, 0, AXML_DONE, 0, "a", 0);
-  value("a number", no_words, 0, 2, 0, 0, 16, 0xffffffffu, AXML_DONE, 0, "-1", 0);
-  value("no room", no_words, 0, 1, 0, 0, 16, 0xffffffffu, AXML_TEXT_SHORT, 2, "", 0);
-  value("a float", no_words, 0, 8, 0, 0, 4, 0, AXML_NO_PLAIN_TEXT, 4, "", 0);
-  value("no name", no_words, 0, 8, 0, 1, 4, 0, AXML_NOTHING_FOUND, 0, "", 0);
-  value("the namespace", enums, 12, 48, AXML_PREFIX_XMLNS, 1, 4, 0, AXML_DONE, 0, "http://schemas.android.com/apk/res/android", 0);
-  value("items that end early", enums, 11, 8, 0, 0, 16, 6, AXML_ITEMS, 1, "", 0);
+  value("second item", enums, 12, 8, 0, 0, 16, 6, AXML_DONE, 0, "yz", 0, AXML_TEXT_WHOLE);
+  value("no such item", enums, 12, 16, 1, 0, 16, 0xffffffffu, AXML_DONE, 0, "4294967295", 0, AXML_TEXT_WHOLE);
+  value("a flag and a bit", flags, 12, 8, 1, 0, 17, 3, AXML_DONE, 0, "x", 1, AXML_TEXT_WHOLE);
+  value("no flag", flags, 12, 16, 1, 0, 17, 6, AXML_DONE, 0, "0x00000006", 2, AXML_TEXT_WHOLE);
+  value("a string", no_words, 0, 8, 0, 0, 3, 0, AXML_DONE, 0, "a", 0, AXML_TEXT_WHOLE);
+  value("a string that is not there", no_words, 0, 8, 0, 0, 3, 7, AXML_DONE, 0, "", 0, AXML_TEXT_CUT);
+  value("a number", no_words, 0, 2, 0, 0, 16, 0xffffffffu, AXML_DONE, 0, "-1", 0, AXML_TEXT_WHOLE);
+  value("no room", no_words, 0, 1, 0, 0, 16, 0xffffffffu, AXML_TEXT_SHORT, 2, "", 0, AXML_TEXT_WHOLE);
+  value("a float", no_words, 0, 8, 0, 0, 4, 0, AXML_NO_PLAIN_TEXT, 4, "", 0, AXML_TEXT_WHOLE);
+  value("no name", no_words, 0, 8, 0, 1, 4, 0, AXML_NOTHING_FOUND, 0, "", 0, AXML_TEXT_WHOLE);
+  value("the namespace", enums, 12, 48, AXML_PREFIX_XMLNS, 1, 4, 0, AXML_DONE, 0, "http://schemas.android.com/apk/res/android", 0, AXML_TEXT_WHOLE);
+  value("items that end early", enums, 11, 8, 0, 0, 16, 6, AXML_ITEMS, 1, "", 0, AXML_TEXT_WHOLE);
 }
 
 enum { OUT = 8, ANSWERS = 20 };
@@ -525,6 +559,7 @@ int main(void) {
   readings();
   modes();
   questions();
+  states();
   contents();
   values();
   manies();

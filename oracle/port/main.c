@@ -204,7 +204,8 @@ static void put_values(bytes file, names s, names items, const uint32_t *attribu
             struct axml_value_answer v = axml_value_text(file.at, file.n, s.words, s.n, s.area, s.length, items.words, items.n, items.area,
                                                          items.length, buffer, buffer_size, w[0], w[1], w[2], w[3], w[4], w[5]);
             if (v.refusal == AXML_TEXT_SHORT) fail("a value text is longer than the buffer");
-            if (v.refusal != p->refusal || v.length != p->length || v.uncovered != p->uncovered) fail("a value text by itself has other numbers");
+            if (v.refusal != p->refusal || v.length != p->length || v.uncovered != p->uncovered || v.state != p->state || v.replaced != p->replaced)
+                fail("a value text by itself has other numbers");
             if (memcmp(buffer, all + p->start, p->length)) fail("a value text by itself is another");
             if (p->refusal) put_word(NONE);
             else put_text(all + p->start, p->length);

@@ -58,6 +58,10 @@ fn numbers() {
     is("AXML_ROUND_UP_GRID", sys::ROUND_UP_GRID as u64);
     is("AXML_ROUND_UP_KINDS", sys::ROUND_UP_KINDS as u64);
     is("AXML_ROUND_UP_CLASSES", sys::ROUND_UP_CLASSES as u64);
+    is("AXML_TEXT_WHOLE", sys::TEXT_WHOLE.into());
+    is("AXML_TEXT_REPLACED", sys::TEXT_REPLACED.into());
+    is("AXML_TEXT_BAD_UTF16", sys::TEXT_BAD_UTF16.into());
+    is("AXML_TEXT_CUT", sys::TEXT_CUT.into());
     is("AXML_DONE", sys::DONE.into());
     is("AXML_TEXT_SHORT", sys::TEXT_SHORT.into());
     let refusals = [
@@ -121,17 +125,17 @@ fn places() {
     assert_eq!(fields(&header, "axml_pair_answer").len(), sys::PAIR_ANSWER_WORDS);
     assert_eq!(fields(&header, "axml_pairs_answer"), ["refusal", "value", "count"]);
     assert_eq!(fields(&header, "axml_answer"), ["refusal", "value", "starts", "nodes", "attributes", "notes"]);
-    assert_eq!(fields(&header, "axml_text_answer"), ["refusal", "value", "length"]);
+    assert_eq!(fields(&header, "axml_text_answer"), ["refusal", "value", "length", "state", "replaced"]);
     assert_eq!(fields(&header, "axml_content_answer"), ["slice", "start", "length"]);
     let item = [
         sys::ITEM_ATTRIBUTE, sys::ITEM_ATTRIBUTE_LENGTH, sys::ITEM_KIND, sys::ITEM_NAME, sys::ITEM_NAME_LENGTH, sys::ITEM_VALUE,
     ];
     assert_eq!(item, ["attribute", "attribute_length", "kind", "name", "name_length", "value"].map(|f| at("axml_item", f)));
     assert_eq!(fields(&header, "axml_item").len(), sys::ITEM_WORDS);
-    let part = [sys::PART_REFUSAL, sys::PART_START, sys::PART_LENGTH, sys::PART_UNCOVERED];
-    assert_eq!(part, ["refusal", "start", "length", "uncovered"].map(|f| at("axml_part", f)));
+    let part = [sys::PART_REFUSAL, sys::PART_START, sys::PART_LENGTH, sys::PART_UNCOVERED, sys::PART_STATE, sys::PART_REPLACED];
+    assert_eq!(part, ["refusal", "start", "length", "uncovered", "state", "replaced"].map(|f| at("axml_part", f)));
     assert_eq!(fields(&header, "axml_part").len(), sys::PART_WORDS);
-    assert_eq!(fields(&header, "axml_value_answer"), ["refusal", "value", "length", "uncovered"]);
+    assert_eq!(fields(&header, "axml_value_answer"), ["refusal", "value", "length", "uncovered", "state", "replaced"]);
     assert_eq!(fields(&header, "axml_many_answer"), ["refusal", "value", "count", "length"]);
     assert_eq!(fields(&header, "axml_main_answer"), ["refusal", "value", "count"]);
     assert_eq!(fields(&header, "axml_add_answer"), ["refusal", "value"]);

@@ -17,6 +17,7 @@
 
 #![deny(missing_docs)]
 
+mod damage;
 #[cfg(test)]
 mod held;
 mod listing;
@@ -27,6 +28,7 @@ mod round_up;
 mod sys;
 mod values;
 
+pub use damage::{Damage, Text};
 pub use listing::Listing;
 pub use note::{Note, NoteKind};
 pub use refusal::Refusal;
@@ -157,8 +159,9 @@ impl Manifest {
         Node { of: self, index: 0 }
     }
 
-    /// The text of a string index, or none where there is none. Damaged UTF-8 has U+FFFD in it; a damaged UTF-16 text is empty.
-    pub fn text(&self, index: u32) -> Option<String> {
+    /// The text of a string index, with what became of it, or none where there is none. Damaged UTF-8 has U+FFFD in it; a damaged UTF-16 text is
+    /// empty, and that of a string that is cut or lies outside the pool.
+    pub fn text(&self, index: u32) -> Option<Text> {
         let mut out = vec![0; 64];
         let mut a = sys::text(&self.file, &self.names, &mut out, index);
         if a.refusal == sys::TEXT_SHORT {
@@ -169,7 +172,8 @@ impl Manifest {
             return None;
         }
         out.truncate(a.length as usize);
-        String::from_utf8(out).ok()
+        let text = String::from_utf8(out).ok()?;
+        Some(Text { text, damage: Damage::from_numbers(a.state, a.replaced) })
     }
 
     /// The bytes of a string index before decoding, where they lie in the file or among the system names: nothing is copied. None where
@@ -239,7 +243,7 @@ impl<'a> Node<'a> {
         if self.word(sys::NODE_FIXED) == 1 {
             return "invalid-element".into();
         }
-        self.of.text(self.word(sys::NODE_NAME)).unwrap_or_default()
+        self.of.text(self.word(sys::NODE_NAME)).unwrap_or_default().text
     }
 
     /// The element around it; none for the root.
@@ -315,12 +319,12 @@ impl<'a> Attribute<'a> {
         if self.prefix() == Prefix::Xmlns {
             return "android".into();
         }
-        self.of.text(self.word(sys::ATTRIBUTE_NAME)).unwrap_or_default()
+        self.of.text(self.word(sys::ATTRIBUTE_NAME)).unwrap_or_default().text
     }
 
     /// The text of its namespace, in every mode; none where it has none, and for the leading attribute.
     pub fn namespace(&self) -> Option<String> {
-        (self.prefix() != Prefix::Xmlns).then(|| self.of.text(self.word(sys::ATTRIBUTE_NS))).flatten()
+        (self.prefix() != Prefix::Xmlns).then(|| self.of.text(self.word(sys::ATTRIBUTE_NS))).flatten().map(|t| t.text)
     }
 
     /// Its value, as the file has it.
@@ -328,10 +332,10 @@ impl<'a> Attribute<'a> {
         Value { kind: self.word(sys::ATTRIBUTE_TYPE), data: self.word(sys::ATTRIBUTE_DATA) }
     }
 
-    /// The text of a string value; none for values of other types.
-    pub fn text(&self) -> Option<String> {
+    /// The text of a string value, with what became of it; none for values of other types.
+    pub fn text(&self) -> Option<Text> {
         if self.prefix() == Prefix::Xmlns {
-            return Some("http://schemas.android.com/apk/res/android".into());
+            return Some(Text { text: "http://schemas.android.com/apk/res/android".into(), damage: Damage::Whole });
         }
         let value = self.value();
         value.is_string().then(|| self.of.text(value.data)).flatten()

@@ -5,7 +5,7 @@
 use crate::{Items, SystemNames};
 
 /// The form of the C interface that this file declares: the header's AXML_ABI.
-pub const ABI: u32 = 9;
+pub const ABI: u32 = 10;
 
 /// Bytes of the longest file that is read.
 pub const LONGEST_FILE: usize = 16_777_216;
@@ -55,6 +55,8 @@ pub const PART_REFUSAL: usize = 0;
 pub const PART_START: usize = 1;
 pub const PART_LENGTH: usize = 2;
 pub const PART_UNCOVERED: usize = 3;
+pub const PART_STATE: usize = 4;
+pub const PART_REPLACED: usize = 5;
 
 /// Words of a pair: where tag and name begin in the area, and their lengths, by turns.
 pub const PAIR_WORDS: usize = 4;
@@ -83,6 +85,12 @@ pub const MODE_APART: u32 = 2;
 pub const SLICE_AREA: u32 = 1;
 pub const SLICE_FILE: u32 = 2;
 
+pub const TEXT_WHOLE: u32 = 0;
+pub const TEXT_REPLACED: u32 = 1;
+pub const TEXT_BAD_UTF16: u32 = 2;
+#[cfg(test)]
+pub const TEXT_CUT: u32 = 3;
+
 pub const DONE: u32 = 0;
 pub const TEXT_SHORT: u32 = 11;
 
@@ -101,6 +109,8 @@ pub struct TextAnswer {
     pub refusal: u32,
     pub value: u64,
     pub length: u64,
+    pub state: u32,
+    pub replaced: u32,
 }
 
 #[repr(C)]
@@ -109,6 +119,8 @@ pub struct ValueAnswer {
     pub value: u64,
     pub length: u64,
     pub uncovered: u32,
+    pub state: u32,
+    pub replaced: u32,
 }
 
 #[repr(C)]

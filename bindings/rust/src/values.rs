@@ -1,6 +1,6 @@
 //! The texts of values, as a page shows them: docs/FORMAT.md, V.
 
-use crate::{sys, Attribute, Manifest, Refusal};
+use crate::{sys, Attribute, Damage, Manifest, Refusal};
 
 /// How the named values of an attribute go together.
 #[derive(Clone, Copy, Debug, PartialEq, Eq)]
@@ -58,10 +58,12 @@ impl<'a> FromIterator<(&'a str, ItemKind, &'a str, u32)> for Items {
 /// The text of a value.
 #[derive(Clone, Debug, PartialEq, Eq)]
 pub struct ValueText {
-    /// The text; damaged UTF-8 of the file has U+FFFD in it.
+    /// The text. A damaged one has U+FFFD in it, or is empty.
     pub text: String,
     /// How many set bits of a flag no name covers; 0 for all other values.
     pub uncovered: u32,
+    /// What became of the string where the value is one; all other texts are whole.
+    pub damage: Damage,
 }
 
 impl Attribute<'_> {
@@ -80,7 +82,7 @@ impl Attribute<'_> {
             return Err(refusal);
         }
         out.truncate(a.length as usize);
-        Ok(ValueText { text: utf8(out), uncovered: a.uncovered })
+        Ok(ValueText { text: utf8(out), uncovered: a.uncovered, damage: Damage::from_numbers(a.state, a.replaced) })
     }
 }
 
@@ -98,6 +100,8 @@ pub struct Part<'a> {
     pub text: &'a str,
     /// How many set bits of a flag no name covers; 0 for all other values.
     pub uncovered: u32,
+    /// What became of it.
+    pub damage: Damage,
 }
 
 impl Texts {
@@ -116,7 +120,8 @@ impl Texts {
         let w = self.parts.get(sys::PART_WORDS * k..)?.get(..sys::PART_WORDS)?;
         let start = w[sys::PART_START] as usize;
         let text = self.bytes.get(start..start + w[sys::PART_LENGTH] as usize)?;
-        (w[sys::PART_REFUSAL] == sys::DONE).then_some(Part { text, uncovered: w[sys::PART_UNCOVERED] })
+        let damage = Damage::from_numbers(w[sys::PART_STATE], w[sys::PART_REPLACED]);
+        (w[sys::PART_REFUSAL] == sys::DONE).then_some(Part { text, uncovered: w[sys::PART_UNCOVERED], damage })
     }
 
     /// All of them, in the order of the questions.

@@ -1,6 +1,6 @@
 //! The sample of docs/FORMAT.md, L4, and its relatives, L5.
 
-use itelbash::{is_valid_name, Manifest, Mode, Note, NoteKind, Prefix, Refusal, SystemNames, Value};
+use itelbash::{is_valid_name, Damage, Manifest, Mode, Note, NoteKind, Prefix, Refusal, SystemNames, Text, Value};
 
 const HEAD: &[u8] = &[
     0x03, 0x00, 0x08, 0x00, 0x70, 0x00, 0x00, 0x00, 0x01, 0x00, 0x1c, 0x00, 0x24, 0x00, 0x00, 0x00, 0x01, 0x00, 0x00, 0x00, 0x00, 0x00, 0x00, 0x00, 0x00, 0x01,
@@ -32,8 +32,8 @@ fn sample() {
     let a = m.root().attributes().next().unwrap();
     assert_eq!((a.owner().index(), a.prefix(), a.name().as_str()), (0, Prefix::Xmlns, "android"));
     assert_eq!(a.value(), Value { kind: 3, data: 0 });
-    assert_eq!(a.text().unwrap(), "http://schemas.android.com/apk/res/android");
-    assert_eq!(m.text(0).as_deref(), Some("a"));
+    assert_eq!(a.text().unwrap().text, "http://schemas.android.com/apk/res/android");
+    assert_eq!(m.text(0), Some(Text { text: "a".into(), damage: Damage::Whole }));
     assert_eq!(m.text(1), None);
     assert_eq!(m.first_value("a", "android"), Some(Value { kind: 3, data: 0 }));
     assert_eq!(m.first_value("a", "b"), None);
@@ -151,6 +151,23 @@ fn names_and_numbers() {
     assert_eq!((note.kind.number(), NoteKind::from_number(12)), (12, Some(NoteKind::UnclosedElements)));
 }
 
+/// The text of string 0, and what became of it.
+fn text(m: &Manifest) -> (String, Damage) {
+    let t = m.text(0).unwrap();
+    (t.text, t.damage)
+}
+
+#[test]
+fn a_damaged_text_says_so() {
+    let mut bad = file(&[START, END]);
+    bad[42] = 0xff;
+    let m = Manifest::read(&bad).unwrap();
+    assert_eq!(text(&m), ("\u{fffd}".into(), Damage::Replaced(1)));
+    assert_eq!(m.text(0).unwrap().damage.to_string(), "1 character could not be read");
+    let part = m.texts(&[0]).unwrap().get(0).map(|p| (p.text.to_owned(), p.damage));
+    assert_eq!(part, Some(text(&m)));
+}
+
 #[test]
 fn content_is_a_part_of_what_was_lent() {
     let m = Manifest::read(&file(&[START, END])).unwrap();
@@ -162,12 +179,12 @@ fn content_is_a_part_of_what_was_lent() {
     named.splice(52..52, 0x0101_0003_u32.to_le_bytes());
     let names: SystemNames = [(0x0101_0001, "label"), (0x0101_0003, "android:attr/name")].into_iter().collect();
     let m = Manifest::read_with(&named, &names, 16).unwrap();
-    assert_eq!((m.text(0).as_deref(), m.content(0)), (Some("name"), Some(&b"name"[..])));
+    assert_eq!((text(&m), m.content(0)), (("name".into(), Damage::Whole), Some(&b"name"[..])));
     // a string that says it is longer than the pool: its text is empty, and it has no content
     let mut cut = file(&[START, END]);
     cut[41] = 5;
     let m = Manifest::read(&cut).unwrap();
-    assert_eq!((m.text(0).as_deref(), m.content(0)), (Some(""), None));
+    assert_eq!((text(&m), m.content(0)), (("".into(), Damage::Cut), None));
     // an empty string has an empty content
     let mut empty = file(&[START, END]);
     empty[41] = 0;

@@ -1,6 +1,6 @@
 //! Value texts (docs/FORMAT.md, V) on the sample of L4, whose one string is `a`, with attributes of that name.
 
-use itelbash::{ItemKind, Items, Manifest, Part, Refusal, ValueText};
+use itelbash::{Damage, ItemKind, Items, Manifest, Part, Refusal, ValueText};
 
 const HEAD: &[u8] = &[
     0x03, 0x00, 0x08, 0x00, 0x70, 0x00, 0x00, 0x00, 0x01, 0x00, 0x1c, 0x00, 0x24, 0x00, 0x00, 0x00, 0x01, 0x00, 0x00, 0x00, 0x00, 0x00, 0x00, 0x00, 0x00, 0x01,
@@ -27,7 +27,7 @@ fn file(values: &[(u8, u32)]) -> Manifest {
 }
 
 fn text(text: &str, uncovered: u32) -> Result<ValueText, Refusal> {
-    Ok(ValueText { text: text.into(), uncovered })
+    Ok(ValueText { text: text.into(), uncovered, damage: Damage::Whole })
 }
 
 fn asked(kind: u8, data: u32, items: &Items) -> Result<ValueText, Refusal> {
@@ -38,7 +38,7 @@ fn asked(kind: u8, data: u32, items: &Items) -> Result<ValueText, Refusal> {
 fn by_type() {
     let none = Items::new();
     assert_eq!(asked(3, 0, &none), text("a", 0));
-    assert_eq!(asked(3, 7, &none), text("", 0));
+    assert_eq!(asked(3, 7, &none), Ok(ValueText { text: "".into(), uncovered: 0, damage: Damage::Cut }));
     assert_eq!(asked(16, u32::MAX, &none), text("-1", 0));
     assert_eq!(asked(17, 0x1f, &none), text("0x0000001f", 0));
     assert_eq!(asked(18, 2, &none), text("true", 0));
@@ -72,10 +72,10 @@ fn many_at_once_are_the_single_ones() {
     assert_eq!(all.len(), 3);
     for (attribute, part) in m.attributes().zip(all.iter()) {
         let single = attribute.value_text(&bits).ok();
-        assert_eq!(part.map(|p| (p.text.to_owned(), p.uncovered)), single.map(|s| (s.text, s.uncovered)));
+        assert_eq!(part.map(|p| (p.text.to_owned(), p.uncovered, p.damage)), single.map(|s| (s.text, s.uncovered, s.damage)));
     }
     assert_eq!(all.get(1), None);
-    assert_eq!(all.get(2), Some(Part { text: "one", uncovered: 1 }));
+    assert_eq!(all.get(2), Some(Part { text: "one", uncovered: 1, damage: Damage::Whole }));
     assert_eq!(all.get(3), None);
     let texts = m.texts(&[0, 9, 0]).unwrap();
     assert_eq!(texts.iter().map(|p| p.map(|p| p.text)).collect::<Vec<_>>(), [Some("a"), None, Some("a")]);

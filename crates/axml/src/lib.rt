@@ -24,6 +24,7 @@ pub use errors::ReadCounts;
 pub use errors::Refusal;
 pub use errors::TextAnswer;
 pub use errors::TextNumbers;
+pub use errors::TextState;
 pub use errors::ValueAnswer;
 pub use errors::ValueNumbers;
 pub use errors::first_numbers;

@@ -15,7 +15,7 @@ use Rattle.c_api.specs.declared.AxmlFirstAnswer.{AxmlFirstAnswer}
 use Rattle.c_api.specs.declared.AxmlTextAnswer.{AxmlTextAnswer}
 
 abbrev pub textAnswerOf : TextNumbers → AxmlTextAnswer
-textAnswerOf n = record { refusal = n .refusal; value = n .value; length = n .length }
+textAnswerOf n = record { refusal = n .refusal; value = n .value; length = n .length; state = n .state; replaced = n .replaced }
 
 abbrev pub firstAnswerOf : FirstNumbers → AxmlFirstAnswer
 firstAnswerOf n = record { refusal = n .refusal; value = n .value; kind = n .kind; «data» = n .«data»; reference = n .reference }

@@ -23,7 +23,8 @@ attributeBy owner prefix name kind «data» ns =
     record { owner = owner; prefix = prefix; name = record { 0 = name }; kind = kind; «data» = «data»; ns = record { 0 = ns } }
 
 abbrev pub valueAnswerOf : ValueNumbers → AxmlValueAnswer
-valueAnswerOf n = record { refusal = n .refusal; value = n .value; length = n .length; uncovered = n .uncovered }
+valueAnswerOf n =
+    record { refusal = n .refusal; value = n .value; length = n .length; uncovered = n .uncovered; state = n .state; replaced = n .replaced }
 
 abbrev pub manyAnswerOf : ManyNumbers → AxmlManyAnswer
 manyAnswerOf n = record { refusal = n .refusal; value = n .value; count = n .count; length = n .length }

@@ -163,6 +163,8 @@ pub struct AxmlTextAnswer {
     pub refusal: u32,
     pub value: u64,
     pub length: u64,
+    pub state: u32,
+    pub replaced: u32,
 }
 
 fn text_answer_of(n: TextNumbers) -> AxmlTextAnswer
@@ -172,11 +174,13 @@ fn text_answer_of(n: TextNumbers) -> AxmlTextAnswer
         refusal: n.refusal,
         value: n.value,
         length: n.length,
+        state: n.state,
+        replaced: n.replaced,
     }
 }
 
 // The text of a string index, in `out`: its UTF-8 and zeros behind it; on a refusal zeros alone (`head::text`).
-// Ruled out: the bytes needed as the length of a refused answer, and the text of another index.
+// Ruled out: the bytes needed as the length of a refused answer, the text of another index, and state 0 for a text that is not whole.
 #[no_mangle]
 pub extern "C" fn axml_text(
     file: &[u8],

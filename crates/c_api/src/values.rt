@@ -20,6 +20,8 @@ pub struct AxmlValueAnswer {
     pub value: u64,
     pub length: u64,
     pub uncovered: u32,
+    pub state: u32,
+    pub replaced: u32,
 }
 
 // The numbers of many texts' answer.
@@ -39,6 +41,8 @@ fn value_answer_of(n: ValueNumbers) -> AxmlValueAnswer
         value: n.value,
         length: n.length,
         uncovered: n.uncovered,
+        state: n.state,
+        replaced: n.replaced,
     }
 }
 

@@ -6,13 +6,15 @@
 --   content-unique   of the content question: the bytes; of their address the promise says nothing
 --   first-unique     of the first value; listing-unique of a listing's text: the answer, and the whole buffer; name-unique of a valid name
 --   complex-unique   of the complex value
---   numbers-unique   equal numbers are equal answers: of a reading; text-numbers-unique, first-numbers-unique of the two questions
+--   numbers-unique   equal numbers are equal answers: of a reading; text-numbers-unique, first-numbers-unique of the two questions; lines-numbers-unique of a listing
 -- Insertion (P3): a file without a note, and the file with complete foreign chunks at some of its places.
 --   insertion        of the promise; insertion-read of two calls. What the hypotheses and the notes mean: insertion-head to insertion-cap
 --   insertion-text, insertion-content, insertion-first, insertion-many   the questions answer as before
 -- Room (L1): suffices of a file of any length, read-suffices of a call; listing-suffices, read-listed-suffices of a listing.
 -- A part of the head that is short (P6): part-offset, part-cut of a reading, text-part-cut of the text question.
 -- Zeros (P1, B7, B8): refused-zeros, done-zeros, text-refused-zeros, text-done-zeros. Every success: structured, notes-kept.
+-- Damaged texts (T11): damage-utf8, damage-utf16: state 0 exactly if the text is the content, in its encoding; damage-table: how many characters were
+-- replaced, by Table 3-7; damage-own: none that stands in the file is counted; damage-some, damage-none, damage-empty: what each state tells.
 -- Nothing lost without a note (P7): nothing-lost; unnoted-kept: without note 12 no start is dropped. Computed: proofs/LostCases.antt.
 -- The two modes (W22, W23, B16): mode-merged, the attributes of the first are those of the second without what it merges.
 -- Readers that break the promise (P5): refuses-all-broken to wrong-kinds-broken, each of every reader of its sort (specs/Readers.antt); meets-some.
@@ -42,15 +44,18 @@ use Rattle.common.specs.declared.ResChunkHeader.{ResChunkHeader}
 use Rattle.common.specs.declared.HeaderRead.the-variants.{Whole}
 use Rattle.common.proofs.Product.{Complex-unique}
 use Rattle.chunk.specs.Sort.{sortOf}
-use Rattle.errors.specs.Refusal.{numberOf, valueOf, numbersOf, textNumbersOf, firstNumbersOf}
+use Rattle.errors.specs.Refusal.{numberOf, valueOf, numbersOf, textNumbersOf, linesNumbersOf, firstNumbersOf}
 use Rattle.errors.specs.declared.ReadAnswer.{ReadAnswer}
 use Rattle.errors.specs.declared.ReadAnswer.the-variants.{Done, Refused}
 use Rattle.errors.specs.declared.Refusal.{Refusal}
 use Rattle.errors.specs.declared.ReadCounts.{ReadCounts}
+use Rattle.errors.specs.declared.TextState.{TextState}
 use Rattle.errors.specs.declared.TextAnswer.{TextAnswer}
+use Rattle.errors.specs.declared.LinesAnswer.{LinesAnswer}
 use Rattle.errors.specs.declared.TextAnswer.the-variants as textIs
+use Rattle.errors.specs.declared.LinesAnswer.the-variants as linesIs
 use Rattle.errors.specs.declared.FirstAnswer.{FirstAnswer}
-use Rattle.errors.proofs.Laws.{numbersOf-unique, textNumbersOf-unique, firstNumbersOf-unique}
+use Rattle.errors.proofs.Laws.{numbersOf-unique, textNumbersOf-unique, linesNumbersOf-unique, firstNumbersOf-unique}
 use Rattle.anomaly.specs.Note.{noteOf}
 use Rattle.anomaly.specs.declared.Note.{Note}
 use Rattle.anomaly.specs.Kept.{ofKind, keptNotes}
@@ -161,6 +166,13 @@ use Rattle.first_values.specs.Pairs.{tagOf, nameOf, answerTo, manyAnswer, answe
 use Rattle.first_values.proofs.Unique as asked
 use Rattle.c_api.specs.declared.asking.AxmlPairsAnswer.{AxmlPairsAnswer}
 use Rattle.c_api.specs.Asking.{AsksMany}
+use mathlib.Core.Bool.{cond}
+use Prim.Native.Nat.{max}
+use Rattle.utf.specs.Utf8.{isScalar, table37, longest, anyWhole, encode}
+use Rattle.utf.specs.Text.{textOf, utf16Of, Damage, damageOf, stateNumber, replacedCount}
+use Rattle.utf.proofs.States as states
+use Rattle.text.specs.Content as content
+use Rattle.text.proofs.Wholes as wholes
 use Rattle.claims.specs.Askers.{Asker, MeetsAll, TwelveToAll}
 use Rattle.claims.proofs.Many as many
 use Rattle.records.specs.Words.{noParent}
@@ -193,9 +205,9 @@ module _ (f : List ℕ) (lent : Lent) (ns ats tag name : List ℕ) (nodes attrib
       → FirstReads f lent ns ats tag name nodes attributes r′ → r ≡ r′
   first-unique r r′ p q = firstNumbersOf-unique r r′ (p .answer ∙ sym (q .answer))
 
-pub listing-unique : (text before : List ℕ) (r r′ : TextAnswer) (after after′ : List ℕ) → Printed text before r after → Printed text before r′ after′
+pub listing-unique : (text before : List ℕ) (r r′ : LinesAnswer) (after after′ : List ℕ) → Printed text before r after → Printed text before r′ after′
     → (r ≡ r′) × (after ≡ after′)
-listing-unique text before r r′ after after′ p q = (textNumbersOf-unique r r′ (p .answer ∙ sym (q .answer)), p .out ∙ sym (q .out))
+listing-unique text before r r′ after after′ p q = (linesNumbersOf-unique r r′ (p .answer ∙ sym (q .answer)), p .out ∙ sym (q .out))
 
 pub name-unique : (s : List ℕ) (r r′ : Bool) → r ≡ validName false s → r′ ≡ validName false s → r ≡ r′
 name-unique s r r′ p q = p ∙ sym q
@@ -208,6 +220,9 @@ numbers-unique a b e = numbersOf-unique a b e
 
 pub text-numbers-unique : (a b : TextAnswer) → textNumbersOf a ≡ textNumbersOf b → a ≡ b
 text-numbers-unique a b e = textNumbersOf-unique a b e
+
+pub lines-numbers-unique : (a b : LinesAnswer) → linesNumbersOf a ≡ linesNumbersOf b → a ≡ b
+lines-numbers-unique a b e = linesNumbersOf-unique a b e
 
 pub first-numbers-unique : (a b : FirstAnswer) → firstNumbersOf a ≡ firstNumbersOf b → a ≡ b
 first-numbers-unique a b e = firstNumbersOf-unique a b e
@@ -377,8 +392,40 @@ module _ (f : List ℕ) (lent : Lent) (before : List ℕ) (i : ℕ) (after : Lis
       → TextRefusedZero (textNumbersOf (textIs.Refused x)) before after
   text-refused-zeros x h = zeros.text-refused-zeros f lent before i x after h
 
-  pub text-done-zeros : (k : ℕ) → TextReads f lent before i (textIs.Text k) after → TextDoneZero (textNumbersOf (textIs.Text k)) before after
-  text-done-zeros k h = zeros.text-done-zeros f lent before i k after h
+  pub text-done-zeros : (k : ℕ) (s : TextState) → TextReads f lent before i (textIs.Text k s) after
+      → TextDoneZero (textNumbersOf (textIs.Text k s)) before after
+  text-done-zeros k s h = zeros.text-done-zeros f lent before i k s after h
+
+-- ---- damaged texts (T11)
+
+module _ (s : List ℕ) (bytes : (i : ℕ) → getD s i 0 < 256) where
+  -- state 0 is that of a text whose bytes are the content's own
+  pub damage-utf8 : (stateNumber (damageOf false s) ≡ 0 → textOf false s ≡ s) × (textOf false s ≡ s → stateNumber (damageOf false s) ≡ 0)
+  damage-utf8 = (states.whole-narrow s, states.narrow-whole s bytes)
+
+  -- in UTF-16 that of a text of which the content is the encoding
+  pub damage-utf16 : (stateNumber (damageOf true s) ≡ 0 → utf16Of (textOf true s) ≡ s) × (utf16Of (textOf true s) ≡ s → stateNumber (damageOf true s) ≡ 0)
+  damage-utf16 = (states.whole-wide s bytes, states.wide-whole s bytes)
+
+-- nothing is replaced where a row of Table 3-7 is whole at the front, and one character where none is; then it goes on behind the maximal subpart
+pub damage-table : (b : ℕ) (s : List ℕ) → replacedCount (damageOf false (b ∷ s))
+    ≡ cond (anyWhole table37 (b ∷ s)) 0 1 + replacedCount (damageOf false (drop (max 1 (longest table37 (b ∷ s))) (b ∷ s)))
+damage-table b s = states.replaced-front b s
+
+-- a character that stands in the file is none that was replaced, U+FFFD neither
+pub damage-own : (v : ℕ) (s : List ℕ) → isScalar v ≡ true → replacedCount (damageOf false (encode v ++ s)) ≡ replacedCount (damageOf false s)
+damage-own v s k = states.replaced-own v s k
+
+-- state 1 has a count, and no other state has one
+pub damage-some : (wide : Bool) (s : List ℕ) → stateNumber (damageOf wide s) ≡ 1 → 0 < replacedCount (damageOf wide s)
+damage-some wide s e = states.replaced-some wide s e
+
+pub damage-none : (d : Damage) → (stateNumber d ≡ 1 → ⊥) → replacedCount d ≡ 0
+damage-none d e = states.replaced-none d e
+
+-- states 2 and 3 are empty texts, and 3 is that of a string cut or outside alone
+pub damage-empty : (c : content.Content) → (stateNumber (content.damageIn c) ≡ 2 → content.textIn c ≡ []) × (stateNumber (content.damageIn c) ≡ 3 → c ≡ content.cut)
+damage-empty c = (wholes.unpaired-empty c, wholes.state-cut c)
 
 -- ---- the two modes (W22, W23, B16), whatever the room and the cap of each
 
@@ -446,7 +493,7 @@ c-first-refused-zeros = inC.first-refused-zeros
 -- ---- the listing's function
 
 module _ (f ns ats before : List ℕ) where
-  pub list-unique : (r r′ : TextAnswer) (ns₁ ns₂ ats₁ ats₂ after after′ : List ℕ) → Lists f ns ats before r ns₁ ats₁ after
+  pub list-unique : (r r′ : LinesAnswer) (ns₁ ns₂ ats₁ ats₂ after after′ : List ℕ) → Lists f ns ats before r ns₁ ats₁ after
       → Lists f ns ats before r′ ns₂ ats₂ after′ → (r ≡ r′) × (ns₁ ≡ ns₂) × (ats₁ ≡ ats₂) × (after ≡ after′)
   list-unique r r′ ns₁ ns₂ ats₁ ats₂ after after′ p q =
       let e = listing-unique _ before r r′ after after′ (p .printed) (q .printed) in
@@ -454,18 +501,18 @@ module _ (f ns ats before : List ℕ) where
 
   module _ (ns′ ats′ after : List ℕ) where
     -- in the buffer, where the text has no place, and behind the text
-    pub list-refused-zeros : (x : Refusal) → Lists f ns ats before (textIs.Refused x) ns′ ats′ after → after ≡ replicate (length before) 0
+    pub list-refused-zeros : (x : Refusal) → Lists f ns ats before (linesIs.Refused x) ns′ ats′ after → after ≡ replicate (length before) 0
     list-refused-zeros x h = lists.printed-refused _ before after x (h .printed)
 
-    pub list-done-zeros : (k : ℕ) → Lists f ns ats before (textIs.Text k) ns′ ats′ after → ZeroBehind 0 k before after
+    pub list-done-zeros : (k : ℕ) → Lists f ns ats before (linesIs.Text k) ns′ ats′ after → ZeroBehind 0 k before after
     list-done-zeros k h = lists.printed-done _ before after k (h .printed)
 
     -- in the tables, where the file is refused, and behind the records that the listing has
-    pub list-unread-zeros : (r : TextAnswer) → Lists f ns ats before r ns′ ats′ after → (x : Refusal)
+    pub list-unread-zeros : (r : LinesAnswer) → Lists f ns ats before r ns′ ats′ after → (x : Refusal)
         → listed f (length ns) (length ats) .answer ≡ Refused x → (ns′ ≡ replicate (length ns) 0) × (ats′ ≡ replicate (length ats) 0)
     list-unread-zeros r h x e = let z = lists.unread-zeros f ns ats x e in (h .nodes ∙ z .0, h .attributes ∙ z .1)
 
-    pub list-read-zeros : (r : TextAnswer) → Lists f ns ats before r ns′ ats′ after → (c : ReadCounts) → listed f (length ns) (length ats) .answer ≡ Done c
+    pub list-read-zeros : (r : LinesAnswer) → Lists f ns ats before r ns′ ats′ after → (c : ReadCounts) → listed f (length ns) (length ats) .answer ≡ Done c
         → ZeroBehind 0 (nodeWidth * c .nodes) ns ns′ × ZeroBehind 0 (attributeWidth * c .attributes) ats ats′
     list-read-zeros r h c e = rw (h .nodes, h .attributes) (lists.read-zeros f ns ats c e)
 
@@ -631,9 +678,9 @@ module _ (f : List ℕ) (lent : Lent) (items area before : List ℕ) (a : Attrib
   pub value-refused-zeros : (x : Refusal) (after : List ℕ) → ValueReads f lent items area before a (valueIs.Refused x) after → after ≡ replicate (length before) 0
   value-refused-zeros x after h = valued.value-refused-zeros f lent items area before after a x h
 
-  pub value-done-zeros : (k u : ℕ) (after : List ℕ) → ValueReads f lent items area before a (valueIs.Value k u) after
+  pub value-done-zeros : (k u : ℕ) (d : TextState) (after : List ℕ) → ValueReads f lent items area before a (valueIs.Value k u d) after
       → drop k after ≡ replicate (length before - k) 0
-  value-done-zeros k u after h = valued.value-done-zeros f lent items area before after a k u h
+  value-done-zeros k u d after h = valued.value-done-zeros f lent items area before after a k u d h
 
 -- versions that cannot meet the promise: one that always shows the number, and one that always shows the first item of the attribute
 module _ (answer : List ℕ → Lent → List ℕ → List ℕ → List ℕ → Attribute → ValueAnswer)
@@ -688,6 +735,8 @@ module _ (f : List ℕ) (lent : Lent) (items area ats out₀ table₀ : List ℕ
           → IsPart (valueNumbersOf (valueAnswer f lent items area room (attributeAt ats i)) .refusal)
           (valueNumbersOf (valueAnswer f lent items area room (attributeAt ats i)) .length)
           (valueNumbersOf (valueAnswer f lent items area room (attributeAt ats i)) .uncovered)
+          (valueNumbersOf (valueAnswer f lent items area room (attributeAt ats i)) .state)
+          (valueNumbersOf (valueAnswer f lent items area room (attributeAt ats i)) .replaced)
           (valueBuffer f lent items area room (attributeAt ats i)) i out table
       values-single = manies.values-single f lent items area ats out₀ table₀ count out table k b done
 
@@ -707,7 +756,8 @@ module _ (f : List ℕ) (lent : Lent) (indices out₀ table₀ : List ℕ) where
 
       pub texts-single : (i room : ℕ) → i < k → (textNumbersOf (textAnswer f lent room (getD indices i 0)) .refusal ≡ 11 → ⊥)
           → IsPart (textNumbersOf (textAnswer f lent room (getD indices i 0)) .refusal)
-          (textNumbersOf (textAnswer f lent room (getD indices i 0)) .length) 0 (textBuffer f lent room (getD indices i 0)) i out table
+          (textNumbersOf (textAnswer f lent room (getD indices i 0)) .length) 0 (textNumbersOf (textAnswer f lent room (getD indices i 0)) .state)
+          (textNumbersOf (textAnswer f lent room (getD indices i 0)) .replaced) (textBuffer f lent room (getD indices i 0)) i out table
       texts-single = manies.texts-single f lent indices out₀ table₀ out table k b done
 
 -- ---- many pairs at once (M1 to M5)

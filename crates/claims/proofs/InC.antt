@@ -224,11 +224,13 @@ module _ (f : List ℕ) (lent : Lent) (before : List ℕ) (i : ℕ) (a : AxmlTex
   text-refused-zeros some = go (textAnswer f lent (length before) i) refl
     where
       go : (b : TextAnswer) → textAnswer f lent (length before) i ≡ b → TextRefusedInC a before after
-      go (textIs.Text k) e = absurd (some (ap (λ (x : AxmlTextAnswer). x .refusal) (h .answer ∙ ap (λ (b : TextAnswer). textAnswerOf (textNumbersOf b)) e)))
+      go (textIs.Text k s) e = absurd (some (ap (λ (x : AxmlTextAnswer). x .refusal) (h .answer ∙ ap (λ (b : TextAnswer). textAnswerOf (textNumbersOf b)) e)))
       go (textIs.Refused x) e =
           let q = h .answer ∙ ap (λ (b : TextAnswer). textAnswerOf (textNumbersOf b)) e in
           record {
             long = ap (λ (x : AxmlTextAnswer). x .length) q;
+            state = ap (λ (x : AxmlTextAnswer). x .state) q;
+            replaced = ap (λ (x : AxmlTextAnswer). x .replaced) q;
             buffer = zeros.text-refused-zeros f lent before i x after (as-text (textIs.Refused x) e) .buffer;
           }
 
@@ -239,11 +241,11 @@ module _ (f : List ℕ) (lent : Lent) (before : List ℕ) (i : ℕ) (a : AxmlTex
       go : (b : TextAnswer) → textAnswer f lent (length before) i ≡ b → TextDoneInC a before after
       go (textIs.Refused x) e =
           absurd (some-number x (sym (ap (λ (x : AxmlTextAnswer). x .refusal) (h .answer ∙ ap (λ (b : TextAnswer). textAnswerOf (textNumbersOf b)) e)) ∙ none))
-      go (textIs.Text k) e =
+      go (textIs.Text k s) e =
           let q = h .answer ∙ ap (λ (b : TextAnswer). textAnswerOf (textNumbersOf b)) e in
           record {
             value = ap (λ (x : AxmlTextAnswer). x .value) q;
-            buffer = rw (ap (λ (x : AxmlTextAnswer). x .length) q) (zeros.text-done-zeros f lent before i k after (as-text (textIs.Text k) e) .buffer);
+            buffer = rw (ap (λ (x : AxmlTextAnswer). x .length) q) (zeros.text-done-zeros f lent before i k s after (as-text (textIs.Text k s) e) .buffer);
           }
 
 pub first-refused-zeros : (b : FirstAnswer) (a : AxmlFirstAnswer) → a ≡ firstAnswerOf (firstNumbersOf b) → (a .refusal ≡ 0 → ⊥) → FirstRefusedInC a

@@ -9,14 +9,14 @@ use borrow.Author.Tests.{leb-true, ltb-false}
 use lib.ListN.{length, replicate}
 use lib.Dec.{ltb, leb}
 use Rattle.digits.specs.Written.{fitted}
-use Rattle.errors.specs.Refusal.{numberOf, numbersOf, textNumbersOf}
+use Rattle.errors.specs.Refusal.{numberOf, numbersOf, linesNumbersOf}
 use Rattle.errors.specs.declared.Refusal.{Refusal}
 use Rattle.errors.specs.declared.Refusal.the-variants.{TooLargeError, TextShort}
 use Rattle.errors.specs.declared.ReadAnswer.{ReadAnswer}
 use Rattle.errors.specs.declared.ReadAnswer.the-variants.{Done, Refused}
 use Rattle.errors.specs.declared.ReadCounts.{ReadCounts}
-use Rattle.errors.specs.declared.TextAnswer.the-variants as textIs
-use Rattle.errors.proofs.Laws.{textNumbersOf-unique}
+use Rattle.errors.specs.declared.LinesAnswer.the-variants as linesIs
+use Rattle.errors.proofs.Laws.{linesNumbersOf-unique}
 use Rattle.records.specs.Words.{nodeWidth, attributeWidth, merged}
 use Rattle.records.specs.Limits.{listedFile, listedNotes, listedCap}
 use Rattle.system_types.specs.Names.{lends}
@@ -33,27 +33,27 @@ use Rattle.claims.proofs.Zeros.{behind, refused-zeros, done-zeros}
 -- ---- the buffer
 
 module _ (text before after : List ℕ) where
-  pub printed-refused : (x : Refusal) → Printed text before (textIs.Refused x) after → after ≡ replicate (length before) 0
+  pub printed-refused : (x : Refusal) → Printed text before (linesIs.Refused x) after → after ≡ replicate (length before) 0
   unfolding listingAnswer fitted
   printed-refused x h = go (leb (length text) (length before)) refl
     where
       go : (b : Bool) → leb (length text) (length before) ≡ b → after ≡ replicate (length before) 0
       go true e =
-          let q : textIs.Refused x ≡ textIs.Text (length text) = textNumbersOf-unique _ _ (h .answer ∙ rw e) in
+          let q : linesIs.Refused x ≡ linesIs.Text (length text) = linesNumbersOf-unique _ _ (h .answer ∙ rw e) in
           let z : _≡_ {A = ℕ} 0 1 = cc in absurd (let y : ⊥ = omega arith in y)
       go false e = h .out ∙ rw e
 
-  pub printed-done : (k : ℕ) → Printed text before (textIs.Text k) after → ZeroBehind 0 k before after
+  pub printed-done : (k : ℕ) → Printed text before (linesIs.Text k) after → ZeroBehind 0 k before after
   unfolding listingAnswer fitted
   printed-done k h = go (leb (length text) (length before)) refl
     where
       go : (b : Bool) → leb (length text) (length before) ≡ b → ZeroBehind 0 k before after
       go true e =
-          let q : textIs.Text k ≡ textIs.Text (length text) = textNumbersOf-unique _ _ (h .answer ∙ rw e) in
+          let q : linesIs.Text k ≡ linesIs.Text (length text) = linesNumbersOf-unique _ _ (h .answer ∙ rw e) in
           let w : k ≡ length text = cc in
           rw w (behind 0 (length text) (length before) text before after refl refl (leb-true (length text) (length before) e) (h .out ∙ rw e))
       go false e =
-          let q : textIs.Text k ≡ textIs.Refused (TextShort (length text)) = textNumbersOf-unique _ _ (h .answer ∙ rw e) in
+          let q : linesIs.Text k ≡ linesIs.Refused (TextShort (length text)) = linesNumbersOf-unique _ _ (h .answer ∙ rw e) in
           let z : _≡_ {A = ℕ} 0 1 = cc in absurd (let y : ⊥ = omega arith in y)
 
 -- ---- the tables

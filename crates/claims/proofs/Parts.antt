@@ -14,6 +14,7 @@ use Rattle.errors.specs.declared.Refusal.{Refusal}
 use Rattle.errors.specs.declared.ReadAnswer.{ReadAnswer}
 use Rattle.errors.specs.declared.Refusal.the-variants.{NothingFound, TextShort}
 use Rattle.errors.specs.declared.ReadAnswer.the-variants.{Done, Refused}
+use Rattle.errors.specs.declared.TextState.{TextState}
 use Rattle.errors.specs.declared.TextAnswer.{TextAnswer}
 use Rattle.errors.specs.declared.TextAnswer.the-variants as textIs
 use Rattle.records.specs.Limits.{fileLimit}
@@ -21,7 +22,7 @@ use Rattle.records.specs.Repeats.{Rule}
 use Rattle.system_types.specs.Names.{Lent, namesOf}
 use Rattle.system_types.specs.declared.NamesRead.{NamesRead}
 use Rattle.system_types.specs.declared.NamesRead.the-variants.{Good, Bad}
-use Rattle.text.specs.Content.{Content, none, cut, some, textIn}
+use Rattle.text.specs.Content.{Content, none, cut, some, textIn, damageIn}
 use Rattle.head.specs.declared.HeadEnd.{HeadEnd}
 use Rattle.head.specs.declared.HeadEnd.the-variants.{Whole, TooSmall, HeaderSize, PoolShort, MapShort}
 use Rattle.head.specs.declared.Opened.{Opened}
@@ -32,7 +33,7 @@ use Rattle.head.specs.declared.Asker.{Asker}
 use Rattle.head.specs.declared.Asker.the-variants as askers
 use Rattle.head.specs.Inner.Entered.{askedBy}
 use Rattle.head.specs.Entry.{Check, passes, fails, firstOf, lengthCheck, keepsNone, capCheck, namesCheckBy, modeOf, isMode, modeCheck, entryChecks}
-use Rattle.head.specs.Ask.{openBy, openOf, fitted, textBy, contentAsked, textAnswerBy, textAnswer}
+use Rattle.head.specs.Ask.{openBy, openOf, stateTold, fitted, textBy, contentAsked, textAnswerBy, textAnswer}
 use Rattle.head.proofs.Entering.{Passed, passed, passes-all}
 use Rattle.head.proofs.Laws.{tablesIn-append}
 use Rattle.head.proofs.Shorts.{ShortBy, OpenedCut, opened-cut}
@@ -203,9 +204,9 @@ module _ (f : List ℕ) (lent : Lent) (x : Refusal) (part : isPart x ≡ true) w
       go passes p q = record { passes = p; short = head (openedOf f .end) refl q }
 
   -- a text that is there is refused for no part
-  fitted-not : (n : ℕ) (s : List ℕ) → fitted n s ≡ textIs.Refused x → ⊥
+  fitted-not : (n : ℕ) (s : List ℕ) (t : TextState) → fitted n s t ≡ textIs.Refused x → ⊥
   unfolding numberOf
-  fitted-not n s h =
+  fitted-not n s t h =
       cond-by (λ (a : TextAnswer). a ≡ textIs.Refused x → ⊥) (leb (length s) n)
       (λ e q. let z : _≡_ {A = ℕ} 0 1 = cc in omega arith)
       (λ e q. let y : x ≡ TextShort (length s) = cc in no-part part (rw y)) h
@@ -213,8 +214,8 @@ module _ (f : List ℕ) (lent : Lent) (x : Refusal) (part : isPart x ≡ true) w
   text-not : (n : ℕ) (k : Content) → textBy n k ≡ textIs.Refused x → ⊥
   unfolding numberOf
   text-not n none h = let y : x ≡ NothingFound = cc in no-part part (rw y)
-  text-not n cut h = fitted-not n (textIn cut) h
-  text-not n (some w s) h = fitted-not n (textIn (some w s)) h
+  text-not n cut h = fitted-not n (textIn cut) (stateTold (damageIn cut)) h
+  text-not n (some w s) h = fitted-not n (textIn (some w s)) (stateTold (damageIn (some w s))) h
 
   pub text-part : (n i : ℕ) → textAnswer f lent n i ≡ textIs.Refused x → openOf f lent ≡ Closed x
   unfolding textAnswer

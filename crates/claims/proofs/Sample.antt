@@ -14,6 +14,7 @@ use lib.ListN.{length, take}
 use Rattle.anomaly.specs.Note.{noteOf, kindIndex}
 use Rattle.errors.specs.declared.Refusal.the-variants.{NodesFull}
 use Rattle.errors.specs.declared.ReadAnswer.the-variants.{Done, Refused}
+use Rattle.errors.specs.declared.TextState.the-variants.{Whole}
 use Rattle.errors.specs.declared.TextAnswer.the-variants.{Text}
 use Rattle.errors.specs.declared.FirstAnswer.the-variants.{Found}
 use Rattle.errors.specs.declared.ReadCounts.{ReadCounts}
@@ -24,7 +25,7 @@ use Rattle.common.specs.ValueType.{isReference, valueTypeNumber, valueTypeOf}
 use Rattle.chunk.specs.Sort.{isXml, sortOf, contentOf as contentLen, foreignLen}
 use Rattle.chunk.specs.Walk.{walk, walkFrom, trace, traceFrom}
 use Rattle.utf.specs.Utf8.{matched, isWhole, longest, anyWhole, spelt, encode, step8}
-use Rattle.utf.specs.Text.{stepsAfter, bytesOf, allSound, textOf, eqBytes}
+use Rattle.utf.specs.Text.{stepsAfter, bytesOf, allSound, textOf, damageOf, eqBytes}
 use Rattle.xml.specs.NCName.{inRanges, isStart, isChar, sortOf as nameSort, allChar, nameOf as isNameOf, validName}
 use Rattle.res_string_pool.specs.Pool.{countOf, numbered, endOf, poolFrom, behindGarbage, poolOf, offsetOf, outsideOf}
 use Rattle.res_string_pool.specs.Content.{split8, split16}
@@ -88,14 +89,14 @@ unfolding fileS headS startS endS insertedFile inserted chunksOf restOf reading 
 s-by-computing = refl
 
 -- the questions of the longer file: the text and the content of index 0, and the first value of `android` on `a`
-pub s-asked : (textAnswer (insertedFile some fileS) (lends [] []) 2 0 ≡ Text 1) × (textBuffer (insertedFile some fileS) (lends [] []) 2 0 ≡ 0x61 ∷ 0 ∷ [])
+pub s-asked : (textAnswer (insertedFile some fileS) (lends [] []) 2 0 ≡ Text 1 Whole) × (textBuffer (insertedFile some fileS) (lends [] []) 2 0 ≡ 0x61 ∷ 0 ∷ [])
     × (contentAnswer (insertedFile some fileS) (lends [] []) 0 ≡ 0x61 ∷ [])
     × (firstAnswer (insertedFile some fileS) (lends [] []) firstNode lead (0x61 ∷ []) androidName 1 1 ≡ Found 3 0 false)
 unfolding fileS headS startS endS insertedFile inserted chunksOf restOf u16le u32le headerOf isXml sortOf contentLen foreignLen walk walkFrom
     countOf numbered endOf poolFrom behindGarbage poolOf offsetOf split8 split16 idsIn idsBy mapOf idOf isAscii isGood namesFrom nameOf systemOf
     stringAt stringOf contentOf tablesOf openedOf lengthCheck openOf textAnswer textBuffer contentAnswer firstAnswer sharedOf fitOf runsFrom
     findNode findValue startOf startTurn xmlTurn numberOf turnOf matched isWhole longest anyWhole spelt encode step8 stepsAfter bytesOf
-    allSound textOf eqBytes f105 f102 isReference valueTypeNumber valueTypeOf
+    allSound textOf damageOf eqBytes f105 f102 isReference valueTypeNumber valueTypeOf
 s-asked = (refl, refl, refl, refl)
 
 -- ---- room

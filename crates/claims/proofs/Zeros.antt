@@ -20,16 +20,17 @@ use Rattle.errors.specs.declared.Refusal.{Refusal}
 use Rattle.errors.specs.declared.Refusal.the-variants.{TextShort}
 use Rattle.errors.specs.declared.ReadAnswer.the-variants.{Done, Refused}
 use Rattle.errors.specs.declared.ReadCounts.{ReadCounts}
+use Rattle.errors.specs.declared.TextState.{TextState}
 use Rattle.errors.specs.declared.TextAnswer.the-variants as textIs
 use Rattle.errors.specs.declared.FirstAnswer.the-variants as firstIs
 use Rattle.errors.proofs.Laws.{numbersOf-unique, textNumbersOf-unique}
 use Rattle.head.specs.Head.{openedOf}
 use Rattle.head.specs.Entry.{readingAt, Check, passes, fails, firstOf, entryChecks}
-use Rattle.head.specs.Ask.{openOf, contentAsked}
+use Rattle.head.specs.Ask.{openOf, contentAsked, stateTold}
 use Rattle.head.specs.Ask.{textAnswerBy, textAnswer, textBuffer, TextReads}
 use Rattle.head.specs.declared.OpenRead.{OpenRead}
 use Rattle.head.specs.declared.OpenRead.the-variants.{Open, Closed}
-use Rattle.text.specs.Content.{Content, none, cut, some, textIn}
+use Rattle.text.specs.Content.{Content, none, cut, some, textIn, damageIn}
 use Rattle.records.specs.Words.{nodeWidth, attributeWidth}
 use Rattle.system_types.specs.Names.{Lent}
 use Rattle.walk.specs.Settle.{Room, Out, going, refused}
@@ -110,27 +111,28 @@ module _ (f : List ℕ) (lent : Lent) (before : List ℕ) (i : ℕ) where
   unfolding textNumbersOf textBuffer
   text-refused-zeros x after h =
       let e : textIs.Refused x ≡ textAnswer f lent (length before) i = textNumbersOf-unique _ _ (h .answer) in
-      record { length = refl; buffer = h .out ∙ rw (← e) }
+      record { length = refl; state = refl; replaced = refl; buffer = h .out ∙ rw (← e) }
 
   -- a text that is answered is as long as the answer says, and fits
-  fits-by : (n k : ℕ) (text : List ℕ) (b : Bool) → leb (length text) n ≡ b
-      → textIs.Text k ≡ cond b (textIs.Text (length text)) (textIs.Refused (TextShort (length text))) → (k ≡ length text) × (k ≤ n)
-  fits-by n k text true e q = let w : k ≡ length text = cc in (w, omega (arith, leb-true (length text) n e))
-  fits-by n k text false e q = let z : _≡_ {A = ℕ} 0 1 = cc in absurd (let y : ⊥ = omega arith in y)
+  fits-by : (n k : ℕ) (s t : TextState) (text : List ℕ) (b : Bool) → leb (length text) n ≡ b
+      → textIs.Text k s ≡ cond b (textIs.Text (length text) t) (textIs.Refused (TextShort (length text))) → (k ≡ length text) × (k ≤ n)
+  fits-by n k s t text true e q = let w : k ≡ length text = cc in (w, omega (arith, leb-true (length text) n e))
+  fits-by n k s t text false e q = let z : _≡_ {A = ℕ} 0 1 = cc in absurd (let y : ⊥ = omega arith in y)
 
-  answer-fits : (n k : ℕ) (c : Content) (o : OpenRead) → textIs.Text k ≡ textAnswerBy n c o → (k ≡ length (textIn c)) × (k ≤ n)
-  answer-fits n k c (Closed r) q = let z : _≡_ {A = ℕ} 0 1 = cc in absurd (let y : ⊥ = omega arith in y)
-  answer-fits n k none (Open h) q = let z : _≡_ {A = ℕ} 0 1 = cc in absurd (let y : ⊥ = omega arith in y)
-  answer-fits n k cut (Open h) q = fits-by n k (textIn cut) (leb (length (textIn cut)) n) refl q
-  answer-fits n k (some w s) (Open h) q = fits-by n k (textIn (some w s)) (leb (length (textIn (some w s))) n) refl q
+  answer-fits : (n k : ℕ) (s : TextState) (c : Content) (o : OpenRead) → textIs.Text k s ≡ textAnswerBy n c o → (k ≡ length (textIn c)) × (k ≤ n)
+  answer-fits n k s c (Closed r) q = let z : _≡_ {A = ℕ} 0 1 = cc in absurd (let y : ⊥ = omega arith in y)
+  answer-fits n k s none (Open h) q = let z : _≡_ {A = ℕ} 0 1 = cc in absurd (let y : ⊥ = omega arith in y)
+  answer-fits n k s cut (Open h) q = fits-by n k s (stateTold (damageIn cut)) (textIn cut) (leb (length (textIn cut)) n) refl q
+  answer-fits n k s (some w l) (Open h) q =
+      fits-by n k s (stateTold (damageIn (some w l))) (textIn (some w l)) (leb (length (textIn (some w l))) n) refl q
 
-  pub text-done-zeros : (k : ℕ) (after : List ℕ) → TextReads f lent before i (textIs.Text k) after
-      → TextDoneZero (textNumbersOf (textIs.Text k)) before after
+  pub text-done-zeros : (k : ℕ) (s : TextState) (after : List ℕ) → TextReads f lent before i (textIs.Text k s) after
+      → TextDoneZero (textNumbersOf (textIs.Text k s)) before after
   unfolding textNumbersOf textBuffer textAnswer
-  text-done-zeros k after h =
+  text-done-zeros k s after h =
       let c = contentAsked f lent i in
-      let e : textIs.Text k ≡ textAnswer f lent (length before) i = textNumbersOf-unique _ _ (h .answer) in
-      let q = answer-fits (length before) k c (openOf f lent) e in
+      let e : textIs.Text k s ≡ textAnswer f lent (length before) i = textNumbersOf-unique _ _ (h .answer) in
+      let q = answer-fits (length before) k s c (openOf f lent) e in
       record {
         refusal = refl;
         value = refl;

@@ -37,6 +37,8 @@ pub record DoneZero (x : Numbers) (ns ats : List ℕ) (os : List Note) (ns′ at
 
 pub record TextRefusedZero (x : TextNumbers) (before after : List ℕ) : Type 0 where
   pub length : _≡_ {A = ℕ} (x .length) 0
+  pub state : _≡_ {A = ℕ} (x .state) 0
+  pub replaced : _≡_ {A = ℕ} (x .replaced) 0
   pub buffer : after ≡ replicate (lib.ListN.length before) 0
 
 pub record TextDoneZero (x : TextNumbers) (before after : List ℕ) : Type 0 where

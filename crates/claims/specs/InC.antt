@@ -56,6 +56,8 @@ pub record DoneInC (a : AxmlAnswer) (ns ats ws ns′ ats′ ws′ : List ℕ) : 
 
 pub record TextRefusedInC (a : AxmlTextAnswer) (before after : List ℕ) : Type 0 where
   pub long : _≡_ {A = ℕ} (a .length) 0
+  pub state : _≡_ {A = ℕ} (a .state) 0
+  pub replaced : _≡_ {A = ℕ} (a .replaced) 0
   pub buffer : after ≡ replicate (length before) 0
 
 pub record TextDoneInC (a : AxmlTextAnswer) (before after : List ℕ) : Type 0 where

@@ -58,12 +58,26 @@ fn is_zero(s: &[u8]) -> bool {
 
 // ---- an answer
 
-// Whether refusal and value are those wanted, the buffer begins with `want`, and the rest of it is 0. A refused answer wants no text.
-fn is_right(a: TextNumbers, out: &[u8], refusal: u32, value: usize, want: &[u8]) -> bool {
-    if a.refusal != refusal {
+// The numbers that are wanted, but for the length.
+pub struct Wanted {
+    pub refusal: u32,
+    pub value: usize,
+    pub state: u32,
+    pub replaced: u32,
+}
+
+// Whether the numbers are those wanted, the buffer begins with `want`, and the rest of it is 0. A refused answer wants no text.
+fn is_right(a: TextNumbers, out: &[u8], w: Wanted, want: &[u8]) -> bool {
+    if a.refusal != w.refusal {
         return false;
     }
-    if a.value != value as u64 {
+    if a.value != w.value as u64 {
+        return false;
+    }
+    if a.state != w.state {
+        return false;
+    }
+    if a.replaced != w.replaced {
         return false;
     }
     let n = want.len();
@@ -86,13 +100,12 @@ fn answers(
     area: &[u8],
     out: &mut [u8],
     index: StringIndex,
-    refusal: u32,
-    value: usize,
+    w: Wanted,
     want: &[u8],
 ) -> bool {
     soil(out);
     let a = text(file, names, area, out, index);
-    is_right(text_numbers(a), out, refusal, value, want)
+    is_right(text_numbers(a), out, w, want)
 }
 
 // The same with the first `room` bytes of the buffer; a room that it does not have is not right.
@@ -103,23 +116,23 @@ fn answers_in(
     out: &mut [u8],
     room: usize,
     index: StringIndex,
-    refusal: u32,
-    value: usize,
+    w: Wanted,
     want: &[u8],
 ) -> bool {
     if out.len() < room {
         return false;
     }
-    answers(
-        file,
-        names,
-        area,
-        &mut out[0..room],
-        index,
-        refusal,
-        value,
-        want,
-    )
+    answers(file, names, area, &mut out[0..room], index, w, want)
+}
+
+// Refusal 11 with the bytes needed; it tells no state.
+fn short(needed: usize) -> Wanted {
+    Wanted {
+        refusal: 11,
+        value: needed,
+        state: 0,
+        replaced: 0,
+    }
 }
 
 // A text in a buffer that is just right, and in one that is a byte short: refusal 11 with the bytes needed. Nothing where there is none.
@@ -129,21 +142,21 @@ fn judge_buffers(
     area: &[u8],
     out: &mut [u8],
     index: StringIndex,
-    refusal: u32,
+    w: Wanted,
     want: &[u8],
     counts: &mut [u32],
 ) {
-    if refusal != 0 {
+    if w.refusal != 0 {
         return;
     }
     let n = want.len();
-    let right = answers_in(file, names, area, out, n, index, 0, 0, want);
+    let right = answers_in(file, names, area, out, n, index, w, want);
     count::tally(counts, count::BUFFERS, right);
     if n == 0 {
         return;
     }
-    let short = answers_in(file, names, area, out, n - 1, index, 11, n, &want[0..0]);
-    count::tally(counts, count::BUFFERS, short);
+    let refused = answers_in(file, names, area, out, n - 1, index, short(n), &want[0..0]);
+    count::tally(counts, count::BUFFERS, refused);
 }
 
 // Whether the content of an index is `want`.
@@ -157,7 +170,7 @@ fn holds<'a>(
     same(content(file, names, area, index), want)
 }
 
-// A question is 36 bytes: the file's number, index, room, refusal, value, then the places of text and content.
+// A question is 44 bytes: the file's number, index, room, refusal, value, state, how many were replaced, then the places of text and content.
 pub(crate) fn judge<'a>(
     data: &'a [u8],
     files: &[u8],
@@ -167,20 +180,24 @@ pub(crate) fn judge<'a>(
     out: &mut [u8],
     counts: &mut [u32],
 )
-    requires { ⌜ length (now row) ≡ 36 ⌝ }
+    requires { ⌜ length (now row) ≡ 44 ⌝ }
 {
     let number = u32_at(row, 0);
     let index = StringIndex(u32_at(row, 4));
     let room = u32_at(row, 8) as usize;
-    let refusal = u32_at(row, 12);
-    let value = u32_at(row, 16) as usize;
-    let want = part(data, &row[20..28]);
-    let held = part(data, &row[28..36]);
+    let w = Wanted {
+        refusal: u32_at(row, 12),
+        value: u32_at(row, 16) as usize,
+        state: u32_at(row, 20),
+        replaced: u32_at(row, 24),
+    };
+    let want = part(data, &row[28..36]);
+    let held = part(data, &row[36..44]);
     let file = file_of(data, files, number);
     count::new_file(counts, number);
-    let right = answers_in(file, names, area, out, room, index, refusal, value, want);
-    count::tally(counts, refusal as usize, right);
-    judge_buffers(file, names, area, out, index, refusal, want, counts);
+    let right = answers_in(file, names, area, out, room, index, w, want);
+    count::tally(counts, w.refusal as usize, right);
+    judge_buffers(file, names, area, out, index, w, want, counts);
     let same_content = holds(file, names, area, index, held);
     count::tally(counts, count::CONTENTS, same_content);
 }

@@ -1,7 +1,7 @@
 // Replays stored answers of the text question and of the content question: data/questions, made by oracle/cases.py (`pack`).
 //
 // Each text is asked for with the room that is stored, in a buffer that is just right, and in one that is a byte short. A text is
-// right where its length, its bytes and the zeros behind it are, a refusal where its number, its value and a buffer of zeros are.
+// right where its length, its state, its bytes and the zeros behind it are, a refusal where its number, its value and a buffer of zeros are.
 // What is printed is how many answers are right, and how many were asked for: of each refusal, of the texts, and so on.
 mod count;
 mod judge;
@@ -32,7 +32,7 @@ fn load(words: &[u8], names: &mut [u32]) -> usize
     n
 }
 
-// The questions of one set of names, 36 bytes each.
+// The questions of one set of names, 44 bytes each.
 fn replay_rows<'a>(
     data: &'a [u8],
     files: &[u8],
@@ -43,9 +43,9 @@ fn replay_rows<'a>(
     counts: &mut [u32],
 ) {
     let mut at = 0;
-    while rows.len() - at >= 36 {
-        judge(data, files, &rows[at..at + 36], names, area, out, counts);
-        at += 36;
+    while rows.len() - at >= 44 {
+        judge(data, files, &rows[at..at + 44], names, area, out, counts);
+        at += 44;
     }
 }
 

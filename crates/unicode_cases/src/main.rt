@@ -1,12 +1,15 @@
 // Runs the proved functions of utf and xml over published examples, and over vectors whose answers are python's (tools/unicode_vectors.py).
 //
-// For each text: its length and bytes as UTF-8 against the answer, whether it is a name, and whether it is the same as the text before it.
+// For each text: its length and bytes as UTF-8 against the answer, its state and how many characters were replaced, whether it is a name, and
+// whether it is the same as the text before it.
 // A group of texts is one line with counts; every count of wrong answers is 0 in the file `stdout`, to which the run is held.
 mod published;
 
 use field::u16_at;
 use libc::STDOUT_FILENO;
+use utf::replaced_of;
 use utf::same_text;
+use utf::state_of;
 use utf::text_into;
 use utf::text_len;
 use xml::valid_name;
@@ -18,13 +21,15 @@ ghost use Rattle.unicode_cases.specs.Inner.Lies.{Lies};
 pub struct Tally {
     pub texts: u64,
     pub wrong_texts: u64,
+    pub wrong_states: u64,
     pub wrong_names: u64,
     pub wrong_pairs: u64,
 }
 
-// Which of the three answers on a text are right.
+// Which of the four answers on a text are right.
 pub struct Verdict {
     pub text: bool,
+    pub state: bool,
     pub name: bool,
     pub pair: bool,
 }
@@ -33,6 +38,7 @@ fn none() -> Tally {
     Tally {
         texts: 0,
         wrong_texts: 0,
+        wrong_states: 0,
         wrong_names: 0,
         wrong_pairs: 0,
     }
@@ -51,6 +57,7 @@ fn with(t: Tally, v: Verdict) -> Tally {
     Tally {
         texts: counted(t.texts, true),
         wrong_texts: counted(t.wrong_texts, !v.text),
+        wrong_states: counted(t.wrong_states, !v.state),
         wrong_names: counted(t.wrong_names, !v.name),
         wrong_pairs: counted(t.wrong_pairs, !v.pair),
     }
@@ -70,6 +77,14 @@ fn text_right(wide: bool, s: &[u8], want: &[u8]) -> bool {
     check::same(&out[..n], want)
 }
 
+// Whether the text of s has this state, with so many U+FFFD put in.
+fn state_right(wide: bool, s: &[u8], state: u8, replaced: usize) -> bool {
+    if state_of(wide, s) != state as u32 {
+        return false;
+    }
+    replaced_of(wide, s) == replaced
+}
+
 // ---- the vectors
 
 // A record of a file: its marks, and where its bytes and their text lie.
@@ -78,6 +93,8 @@ pub struct Record {
     pub wide: bool,
     pub name: bool,
     pub same: bool,
+    pub state: u8,
+    pub replaced: usize,
     pub start: usize,
     pub middle: usize,
     pub end: usize,
@@ -90,13 +107,14 @@ fn record_at(file: &[u8], at: usize) -> Record
 {
     let size = file.len();
     let left = size - at;
-    if left < 5 {
+    if left < 7 {
         return cut(size);
     }
     let n = u16_at(file, at) as usize;
     let m = u16_at(file, at + 2) as usize;
-    let marks = file[at + 4];
-    if left - 5 < n + m {
+    let replaced = u16_at(file, at + 4) as usize;
+    let marks = file[at + 6];
+    if left - 7 < n + m {
         return cut(size);
     }
     Record {
@@ -104,9 +122,11 @@ fn record_at(file: &[u8], at: usize) -> Record
         wide: marks % 2 == 1,
         name: marks / 2 % 2 == 1,
         same: marks / 4 % 2 == 1,
-        start: at + 5,
-        middle: at + 5 + n,
-        end: at + 5 + n + m,
+        state: marks / 8,
+        replaced,
+        start: at + 7,
+        middle: at + 7 + n,
+        end: at + 7 + n + m,
     }
 }
 
@@ -118,6 +138,8 @@ fn cut(size: usize) -> Record
         wide: false,
         name: false,
         same: false,
+        state: 0,
+        replaced: 0,
         start: size,
         middle: size,
         end: size,
@@ -130,10 +152,12 @@ fn judge(file: &[u8], r: Record, wide: bool, from: usize, to: usize) -> Verdict
 {
     let s = &file[r.start..r.middle];
     let text = text_right(r.wide, s, &file[r.middle..r.end]);
+    let state = state_right(r.wide, s, r.state, r.replaced);
     let name = valid_name(r.wide, s);
     let pair = same_text(wide, &file[from..to], r.wide, s);
     Verdict {
         text: text && r.whole,
+        state,
         name: name == r.name,
         pair: pair == r.same,
     }
@@ -171,6 +195,8 @@ fn report(label: &[u8], t: Tally) {
     say(b" texts; wrong: ");
     io::print_decimal(STDOUT_FILENO, t.wrong_texts);
     say(b" texts, ");
+    io::print_decimal(STDOUT_FILENO, t.wrong_states);
+    say(b" states, ");
     io::print_decimal(STDOUT_FILENO, t.wrong_names);
     say(b" names, ");
     io::print_decimal(STDOUT_FILENO, t.wrong_pairs);

@@ -1,4 +1,4 @@
--- `text_cases::replay_rows` is safe and ends: each turn takes 36 bytes of the rows, and the two lent tables keep their lengths.
+-- `text_cases::replay_rows` is safe and ends: each turn takes 44 bytes of the rows, and the two lent tables keep their lengths.
 use Prim.Native.Nat.{_≤_, _-_}
 use mathlib.Core.Path.{_≡_}
 use borrow.Author.Needs.{needs}
