@@ -95,8 +95,13 @@ static bool ask_values(struct manifest *m, struct budget *b) {
   b->used = 0;
   for (uint32_t k = 0; k < count; k++) {
     asked[k] = m->attributes[k];
-    /* a value of type 0 has no text of its own; what a named value says, it says for every type (docs/FORMAT.md, V7) */
-    if (asked[k].type == STRING_TYPE && asked[k].prefix != AXML_PREFIX_XMLNS && !takes(m, b, asked[k].data)) asked[k].type = 0;
+    if (asked[k].prefix == AXML_PREFIX_XMLNS) continue;
+    if (m->names[m->answer.nodes + k].refusal != AXML_DONE) { /* a name that is left out is not compared with all items either */
+      asked[k].name = NONE;
+      m->left_out += asked[k].type == STRING_TYPE;
+    } else if (asked[k].type == STRING_TYPE && !takes(m, b, asked[k].data)) {
+      asked[k].type = 0; /* which has no text of its own; what a named value says, it says for every type (docs/FORMAT.md, V7) */
+    }
   }
   struct axml_many_answer a;
   size_t room = b->used + 32u * (size_t)count;

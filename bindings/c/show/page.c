@@ -12,22 +12,22 @@ enum {
 
 /* ---- texts */
 
-static void put_whole(struct out *o, struct text t) {
-  if (put_text(o, t.bytes, t.length, SHOWN)) return;
-  put_style(o, MARK);
-  put(o, " .. (");
-  put_number(o, t.length);
-  put(o, " bytes, --json has all)");
-  put_style(o, PLAIN_STYLE);
-}
-
-static void put_marks(struct out *o, struct text t) {
-  if (t.is != TEXT || !t.state) return;
-  put_style(o, ALARM);
-  put(o, " (damaged: ");
-  put_damage(o, t.state, t.replaced);
-  put(o, ")");
-  put_style(o, PLAIN_STYLE);
+/* What stands behind a text: that it is only the front of one, and how it is damaged. */
+static void put_marks(struct out *o, struct text t, bool whole) {
+  if (!whole) {
+    put_style(o, MARK);
+    put(o, " (the front of ");
+    put_number(o, t.length);
+    put(o, " bytes, --json has all)");
+    put_style(o, PLAIN_STYLE);
+  }
+  if (t.state) {
+    put_style(o, ALARM);
+    put(o, " (damaged: ");
+    put_damage(o, t.state, t.replaced);
+    put(o, ")");
+    put_style(o, PLAIN_STYLE);
+  }
 }
 
 static void put_left_out(struct out *o, const struct manifest *m, uint32_t index) {
@@ -38,9 +38,15 @@ static void put_left_out(struct out *o, const struct manifest *m, uint32_t index
   put_style(o, PLAIN_STYLE);
 }
 
-static void put_name(struct out *o, const struct manifest *m, struct text t, uint32_t index) {
-  if (t.is == TEXT) put_whole(o, t);
+/* A name, or a text in quotes, so that what stands in it is not taken for what stands behind it. */
+static void put_name(struct out *o, const struct manifest *m, struct text t, uint32_t index, const char *quote) {
   if (t.is == LEFT_OUT) put_left_out(o, m, index);
+  if (t.is != TEXT) return;
+  put(o, quote);
+  bool whole = put_text(o, t.bytes, t.length, SHOWN);
+  put(o, quote);
+  put_style(o, PLAIN_STYLE);
+  put_marks(o, t, whole);
 }
 
 /* ---- what is odd */
@@ -102,21 +108,14 @@ static void put_odd(struct out *o, const struct manifest *m) {
 static void put_value(struct out *o, const struct manifest *m, uint32_t attribute) {
   const struct axml_attribute *a = &m->attributes[attribute];
   struct text t = attribute_value(m, attribute);
-  if (t.is == TEXT) {
-    bool quoted = a->type == STRING_TYPE; /* so that the string "true" is not taken for the value true */
-    put_style(o, VALUE);
-    if (quoted) put(o, "\"");
-    put_whole(o, t);
-    put_style(o, VALUE);
-    if (quoted) put(o, "\"");
-    put_style(o, PLAIN_STYLE);
-  } else if (t.is == LEFT_OUT) {
-    put_left_out(o, m, a->data);
-  } else {
+  if (t.is == NO_TEXT) {
     put(o, "type ");
     put_number(o, a->type);
     put(o, ", 0x");
     put_hex(o, a->data, 8);
+  } else {
+    put_style(o, VALUE);
+    put_name(o, m, t, a->data, a->type == STRING_TYPE ? "\"" : ""); /* the string "true" is not the value true */
   }
   uint32_t uncovered = m->values[attribute].uncovered;
   if (uncovered) {
@@ -125,22 +124,18 @@ static void put_value(struct out *o, const struct manifest *m, uint32_t attribut
     put_count(o, uncovered, " bit unnamed)", " bits unnamed)");
     put_style(o, PLAIN_STYLE);
   }
-  put_marks(o, t);
 }
 
 static void put_attribute(struct out *o, const struct manifest *m, uint32_t attribute) {
   const struct axml_attribute *a = &m->attributes[attribute];
-  struct text space = attribute_space(m, attribute), name = attribute_name(m, attribute);
   if (a->prefix == AXML_PREFIX_XMLNS) put(o, "xmlns:");
   if (a->prefix == AXML_PREFIX_ANDROID) put(o, "android:");
   if (a->prefix == AXML_PREFIX_OWN) {
     put(o, "{");
-    put_name(o, m, space, a->ns);
+    put_name(o, m, attribute_space(m, attribute), a->ns, "\"");
     put(o, "}");
-    put_marks(o, space);
   }
-  put_name(o, m, name, a->name);
-  put_marks(o, name);
+  put_name(o, m, attribute_name(m, attribute), a->name, "");
   put(o, " = ");
   put_value(o, m, attribute);
   put(o, "\n");
@@ -166,22 +161,17 @@ static void put_tree(struct out *o, const struct manifest *m) {
     put_style(o, PLAIN_STYLE);
     put_spaces(o, 2 + indent);
     put_style(o, ELEMENT);
-    if (n->fixed)
-      put(o, "invalid-element");
-    else
-      put_name(o, m, name, n->name);
-    put_style(o, PLAIN_STYLE);
     if (n->fixed) {
+      put(o, "invalid-element");
+      put_style(o, PLAIN_STYLE);
       put(o, " (string ");
       put_number(o, n->name);
-      if (name.is == TEXT) {
-        put(o, " \"");
-        put_whole(o, name);
-        put(o, "\"");
-      }
+      if (name.is == TEXT) put(o, " ");
+      put_name(o, m, name, n->name, "\"");
       put(o, ")");
+    } else {
+      put_name(o, m, name, n->name, "");
     }
-    put_marks(o, name);
     if (level > DEEPEST) {
       put_style(o, MARK);
       put(o, " (level ");
@@ -215,7 +205,7 @@ static void put_permission(struct out *o, const struct manifest *m, uint32_t nod
     put_value(o, m, name);
   if (element.length != strlen("uses-permission")) {
     put(o, " (");
-    put_whole(o, element);
+    put_name(o, m, element, m->nodes[node].name, "");
     put(o, ")");
   }
   put(o, "\n");
