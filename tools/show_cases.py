@@ -1,6 +1,7 @@
 """The files that tools/test-axml-show shows, the same bytes each time: python3 tools/show_cases.py DIR writes them as DIR/NAME.axml (tools/show has them).
 
   manifest-46, manifest-1   real manifests: aapt's, of the texts of oracle/real.py (needs Debian's aapt and android-framework-res; left out where they are missing)
+  readme                    the manifest whose page is at the top of README.md
   values                    attributes of every type of value: named values, flags with unnamed bits, references by name and by number, types without plain text
   hidden                    control characters, marks of direction and all sorts of unseen characters in texts, names and namespaces
   damaged                   UTF-8 that is not, cut strings, strings outside the pool; and in damaged-16 bad UTF-16
@@ -34,6 +35,25 @@ def pool16(texts):
         units = t.encode("utf-16-le") if isinstance(t, str) else t
         data += struct.pack("<H", len(units) // 2) + units + b"\0\0"
     return pool(data + bytes(-len(data) % 4), offsets, False)
+
+
+def readme():
+    words = ["versionCode", "versionName", "name", "theme", "label", "exported", "configChanges", ANDROID.decode(), "manifest", "package", "org.example.visits", "5.77", "urn:own",
+             "depot", "\u00dcbergabe", "uses-permission", "android.permission.NFC", "application", "activity", ".Visit", "intent-filter", "action", "android.intent.action.MAIN",
+             "category", "android.intent.category.LAUNCHER"]
+    at = {w: i for i, w in enumerate(words)}
+    a, ids = at[ANDROID.decode()], (0x0101021B, 0x0101021C, 0x01010003, 0x01010000, 0x01010001, 0x01010010, 0x0101001F)
+
+    def named(element, text):
+        return start(at[element], [(a, at["name"], 3, at[text])])
+    parts = [line(2, start(at["manifest"], [(a, at["versionCode"], 16, 560161641), (a, at["versionName"], 3, at["5.77"]), (NONE, at["package"], 3, at["org.example.visits"]),
+                                            (at["urn:own"], at["depot"], 3, at["\u00dcbergabe"])])),
+             line(4, named("uses-permission", "android.permission.NFC")), end(0), chunk(0x105, 8, b""),
+             line(8, start(at["application"], [(a, at["theme"], 1, 0x01030224), (a, at["label"], 1, 0x7F0B0001)])),
+             line(9, start(at["activity"], [(a, at["name"], 3, at[".Visit"]), (a, at["exported"], 18, NONE), (a, at["configChanges"], 17, 0x08000090)])),
+             line(10, start(at["intent-filter"])), line(11, named("action", "android.intent.action.MAIN")), end(0),
+             line(12, named("category", "android.intent.category.LAUNCHER")), end(0), end(0), end(0), end(0), end(0)]
+    return whole((pool16(words), *parts), ids)
 
 
 def values():
@@ -99,7 +119,7 @@ def long():
     return whole((pool16(words), line(4294967295, start(0, [(3, 1, 3, 2)])), line(7, start(0)), end(0), end(0)))
 
 
-CASES = {"values": values, "hidden": hidden, "damaged": damaged, "damaged-16": damaged_16, "odd": odd, "deep": deep, "long": long}
+CASES = {"readme": readme, "values": values, "hidden": hidden, "damaged": damaged, "damaged-16": damaged_16, "odd": odd, "deep": deep, "long": long}
 
 
 def main(out):

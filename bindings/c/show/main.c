@@ -28,7 +28,7 @@ static int say(int status, const char *name, const char *words) {
 
 /* What a file is that is refused and plainly something else; NULL where that is not seen. */
 static const char *other_sort(size_t bytes) {
-  if (bytes >= 4 && memcmp(file, "PK", 2) == 0) return "this is an APK (a zip): unzip -p APK AndroidManifest.xml | axml-show";
+  if (bytes >= 4 && memcmp(file, "PK", 2) == 0) return "this is an APK (a zip): unzip -p APK AndroidManifest.xml | ./axml-show";
   size_t at = bytes >= 3 && memcmp(file, "\xef\xbb\xbf", 3) == 0 ? 3 : 0;
   while (at < bytes && (file[at] == ' ' || file[at] == '\t' || file[at] == '\n' || file[at] == '\r')) at++;
   if (at < bytes && file[at] == '<') return "this is XML text, not the binary form: the manifest inside an APK is binary";
