@@ -25,6 +25,8 @@ import values
 
 SCHEMA = json.load(open(f"{TOP}/docs/axml-show.schema.json"))
 CAP = 16
+# whether the library tells the state of a text: from this form of the interface on
+STATES = int(re.search(r"#define AXML_ABI (\d+)u", open(f"{TOP}/include/axml.h").read())[1]) >= 10
 ANDROID = "http://schemas.android.com/apk/res/android"
 
 
@@ -61,15 +63,32 @@ def holds(schema, value, at="$"):
             holds(schema["items"], part, f"{at}[{i}]")
 
 
+def damage(head, index):
+    """The state of the text of an index, and how many characters were replaced in it: docs/FORMAT.md, T11."""
+    if not STATES or head.system(index) is not None or index >= len(head.offsets):
+        return 0, 0
+    place = head.split(index)
+    if place is None:
+        return 3, 0
+    content = head.file[place[0]:place[1]]
+    try:
+        content.decode("utf-8" if head.utf8 else "utf-16-le")
+        return 0, 0
+    except UnicodeDecodeError:
+        # one U+FFFD for each bad part; those that the file has itself are as many as stand there when bad parts are left out
+        own = content.decode("utf-8", "ignore").count("\ufffd") if head.utf8 else 0
+        return (1, content.decode("utf-8", "replace").count("\ufffd") - own) if head.utf8 else (2, 0)
+
+
 def value_text(head, pool, lent, system, attribute):
-    """The text of a value, or None, and its unnamed bits: docs/FORMAT.md, V1 to V10."""
+    """The text of a value, or None, its unnamed bits, and whether it is the string of its data: docs/FORMAT.md, V1 to V10."""
     _, prefix, name, kind, data, _ = attribute
     if prefix == 2:
-        return ANDROID, 0
+        return ANDROID, 0, False
     sort, named = lent.get((head.text(name) or b"").decode(), ("", []))
     bits = 0
     if sort == "enum":
-        return next((n for n, v in named if v == data), str(data)), 0
+        return next((n for n, v in named if v == data), str(data)), 0, False
     if sort == "flag":
         left, taken = data, []
         for n, v in named:
@@ -78,22 +97,22 @@ def value_text(head, pool, lent, system, attribute):
                 left &= ~v
         bits = bin(left).count("1")
         if taken:
-            return "|".join(taken), bits
+            return "|".join(taken), bits, False
     if kind in (1, 7):
-        return "@" + system.get(data, f"{data:08x}"), bits
+        return "@" + system.get(data, f"{data:08x}"), bits, False
     if kind == 2:
-        return system.get(data, ("@" if data >> 24 == 1 else "?") + f"{data:08x}"), bits
+        return system.get(data, ("@" if data >> 24 == 1 else "?") + f"{data:08x}"), bits, False
     if kind == 3:
-        return (pool.text(data) or b"").decode(), bits
+        return (pool.text(data) or b"").decode(), bits, True
     if kind == 0x10:
-        return str(data - (data >> 31 << 32)), bits
+        return str(data - (data >> 31 << 32)), bits, False
     if kind == 0x11:
-        return f"0x{data:08x}", bits
+        return f"0x{data:08x}", bits, False
     if kind == 0x12:
-        return "true" if data else "false", bits
+        return "true" if data else "false", bits, False
     if 0x1C <= kind <= 0x1F:
-        return f"#{data:08x}", bits
-    return None, 0
+        return f"#{data:08x}", bits, False
+    return None, 0, False
 
 
 def first(o, node, name):
@@ -116,19 +135,26 @@ def compare(o, file, named):
     def text(index):
         t = head.text(index)
         return None if t is None else t.decode()
-    levels = []
+    levels, damaged = [], 0
     for i, (n, (name, fixed, parent, start, count, line)) in enumerate(zip(o["nodes"], nodes)):
         levels.append(0 if parent == 0xFFFFFFFF else levels[parent] + 1)
         assert (n["number"], n["line"], n["parent"], n["level"]) == (i, line, None if parent == 0xFFFFFFFF else parent, levels[i])
         assert (n["name_index"], n["name"], n["invalid"]) == (name, text(name), fixed == 1)
+        assert (n["name_state"], n["name_replaced"]) == damage(head, name)
+        damaged += n["name_state"] > 0
         assert len(n["attributes"]) == count
         for k, a in enumerate(n["attributes"], start):
             _, prefix, index, kind, data, space = attributes[k]
-            shown, bits = value_text(head, pool, lent, SYSTEM[named], attributes[k])
+            shown, bits, string = value_text(head, pool, lent, SYSTEM[named], attributes[k])
             assert (a["number"], a["prefix"], a["name_index"], a["type"], a["data"], a["namespace_index"]) == (k, prefix, index, kind, data, space)
             assert a["name"] == ("android" if prefix == 2 else text(index))
             assert a["namespace"] == (text(space) if prefix == 3 else None)
             assert (a["text"], a["unnamed_bits"]) == (shown, bits), (a, shown, bits)
+            past = STATES and data >= len(pool.offsets)
+            states = [(0, 0) if prefix == 2 else damage(head, index), damage(head, space) if prefix == 3 else (0, 0), (3, 0) if string and past else damage(pool, data) if string else (0, 0)]
+            assert [(a[f"{x}_state"], a[f"{x}_replaced"]) for x in ("name", "namespace", "text")] == states, (a, states)
+            damaged += sum(s > 0 for s, _ in states)
+    assert o["damaged_texts"] == damaged
     glance = o["glance"]
     called = [n["name"] if not n["invalid"] else None for n in o["nodes"]]
     top = called.index("manifest") if "manifest" in called else None
