@@ -5,7 +5,7 @@
  * and returns; it allocates nothing and keeps nothing. The caller, whom nothing checks, sees to this alone:
  *   - a pointer and the length behind it lend that many elements, and no pointer is NULL, also where the length is 0;
  *   - pointers to words are aligned to 4 bytes;
- *   - what a function writes (nodes, attributes, notes, out, answers, round_up) overlaps nothing else that the same call is lent.
+ *   - what a function writes (nodes, attributes, notes, out, answers, list, round_up) overlaps nothing else that the same call is lent.
  * Lengths are counted in elements: bytes of a `uint8_t *`, words of a `uint32_t *`. A table of structs is lent as `(uint32_t *)table`. */
 #ifndef AXML_H
 #define AXML_H
@@ -72,6 +72,7 @@ enum axml_refusal {
   AXML_LISTING_NUMBER = 25,    /* a line has a number over 4294967295: that line */
   AXML_LISTING_ORDER = 26,     /* a line is not the one due, or the text ends before it: that line */
   AXML_NOTES_OFF = 27,       /* a reading at a cap of 0, which would keep no note: 0 */
+  AXML_LIST_FULL = 28,       /* more names than the list has places: the places that there are (S10) */
   AXML_ROUND_UP_FULL = 29,   /* a count of a round-up would pass 4294967295: 0 (R6) */
   /* a part of the head is cut, and the value is the file offset at which it should begin (H15) */
   AXML_POOL_GARBAGE = 41,   /* a chunk in the pool's place is cut */
@@ -310,6 +311,23 @@ struct axml_pairs_answer axml_first_values(const uint8_t *file, size_t file_byte
                                            size_t attribute_words, const uint32_t *pairs, size_t pair_words, const uint8_t *pair_area,
                                            size_t pair_area_bytes, uint32_t *answers, size_t answer_words, uint32_t node_count,
                                            uint32_t attribute_count);
+
+/* The answer of axml_main_activities. Where it is refused, the list is zeros. */
+struct axml_main_answer {
+  uint32_t refusal;
+  uint64_t value;
+  uint64_t count;  /* names in the list; 0 where it is refused */
+};
+
+/* Which screens a launcher starts: the numbers of the `name` attributes of the activities and aliases that are children of an `application`, are not
+ * disabled and have an intent filter with MAIN and with LAUNCHER or INFO, at the front of list, in the order of the tree, and zeros behind them (S1 to S10).
+ * One without a name gives none, so node_count words suffice for the list. The tables may have been written by anyone.
+ * file, names, area, items, item_area: as for axml_value_text. nodes, attributes, node_count, attribute_count: as for axml_first_value. */
+struct axml_main_answer axml_main_activities(const uint8_t *file, size_t file_bytes, const uint32_t *names, size_t name_words, const uint8_t *area,
+                                             size_t area_bytes, const uint32_t *items, size_t item_words, const uint8_t *item_area,
+                                             size_t item_area_bytes, const uint32_t *nodes, size_t node_words, const uint32_t *attributes,
+                                             size_t attribute_words, uint32_t *list, size_t list_words, uint32_t node_count,
+                                             uint32_t attribute_count);
 
 /* Words of a round-up, the counts of a month of files (R1, R2): word AXML_ROUND_UP_READ is how many were read, word AXML_ROUND_UP_REFUSED + n how many were
  * refused with n, and word AXML_ROUND_UP_GRID + AXML_ROUND_UP_CLASSES * k + c how many notes of kind k were kept in files of the size class c: 0 up to 4096

@@ -275,6 +275,75 @@ static void many_pairs(void) {
   ask_pairs("7 bytes, no pairs", 7, no_words, 0, 0, 1, AXML_TOO_SMALL, 7, nothing);
 }
 
+/* Which screens start, over a head with these strings alone; the tables are lent as they stand here. */
+enum { NAME, ENABLED, MANIFEST, APPLICATION, ACTIVITY, FILTER, ACTION, CATEGORY, MAIN, LAUNCHER, FALSE, SCREEN, STRINGS };
+
+static size_t head_of(uint8_t *to) {
+  static const char *const strings[STRINGS] = {"name", "enabled", "manifest", "application", "activity", "intent-filter", "action", "category",
+                                               "android.intent.action.MAIN", "android.intent.category.LAUNCHER", "false", ".Main"};
+  const uint8_t file_header[8] = {3, 0, 8, 0}, map[8] = {0x80, 1, 8, 0, 8};
+  uint32_t pool[7] = {1 | 28 << 16, 0, STRINGS, 0, 0x100, 28 + 4 * STRINGS, 0}, offsets[STRINGS];
+  size_t at = 36 + 4 * STRINGS;
+  for (size_t k = 0; k < STRINGS; k++) {
+    size_t n = 0;
+    while (strings[k][n]) n++;
+    offsets[k] = at - 36 - 4 * STRINGS;
+    to[at++] = n;
+    to[at++] = n;
+    memcpy(to + at, strings[k], n + 1);
+    at += n + 1;
+  }
+  pool[1] = at - 8;
+  memcpy(to, file_header, 8);
+  memcpy(to + 8, pool, 28);
+  memcpy(to + 36, offsets, 4 * STRINGS);
+  memcpy(to + at, map, 8);
+  return at + 8;
+}
+
+#define NODE(name, parent, first, count) {name, 0, parent, first, count, 1}
+#define TEXT(owner, name, text) {owner, AXML_PREFIX_ANDROID, name, 3, text, 0}
+
+static void ask_main(const char *what, size_t bytes, const struct axml_node *nodes, uint32_t node_count, const struct axml_attribute *attributes, size_t places,
+                     size_t item_words, uint32_t refusal, uint64_t value, size_t found, uint32_t wanted) {
+  static uint8_t head[512];
+  uint32_t list[4];
+  size_t whole = head_of(head);
+  memset(list, 0xa5, sizeof list);
+  struct axml_main_answer r = axml_main_activities(head, bytes ? bytes : whole, no_words, 0, no_bytes, 0, no_words, item_words, no_bytes, 0,
+                                                   (const uint32_t *)nodes, 36, (const uint32_t *)attributes, 24, list, places, node_count, 4);
+  expect(r.refusal == refusal, what, "refusal");
+  expect(r.value == value, what, "value");
+  expect(r.count == found, what, "count");
+  for (size_t k = 0; k < 4; k++) expect(list[k] == (k >= places ? 0xa5a5a5a5u : k < found ? wanted : 0), what, "list");
+}
+
+static void main_screens(void) {
+  const struct axml_node nodes[6] = {NODE(MANIFEST, AXML_NO_PARENT, 0, 0), NODE(APPLICATION, 0, 0, 0), NODE(ACTIVITY, 1, 0, 1),
+                                     NODE(FILTER, 2, 2, 0),                NODE(ACTION, 3, 2, 1),      NODE(CATEGORY, 3, 3, 1)};
+  const struct axml_attribute texts[4] = {TEXT(2, NAME, SCREEN), TEXT(2, ENABLED, FALSE), TEXT(4, NAME, MAIN), TEXT(5, NAME, LAUNCHER)};
+  struct axml_node other[6];
+  ask_main("a screen", 0, nodes, 6, texts, 4, 0, AXML_DONE, 0, 1, 0);
+  ask_main("a screen, one place", 0, nodes, 6, texts, 1, 0, AXML_DONE, 0, 1, 0);
+  ask_main("a screen, no place", 0, nodes, 6, texts, 0, 0, AXML_LIST_FULL, 0, 0, 0);
+  ask_main("five nodes", 0, nodes, 5, texts, 0, 0, AXML_DONE, 0, 0, 0);
+  ask_main("no nodes", 0, nodes, 0, texts, 2, 0, AXML_DONE, 0, 0, 0);
+  ask_main("seven nodes", 0, nodes, 7, texts, 4, 0, AXML_TABLES, 7, 0, 0);
+  ask_main("a word of items", 7, nodes, 7, texts, 4, 1, AXML_ITEMS, 0, 0, 0);
+  ask_main("7 bytes", 7, nodes, 7, texts, 4, 0, AXML_TOO_SMALL, 7, 0, 0);
+  memcpy(other, nodes, sizeof other);
+  other[2].count = 2;
+  ask_main("disabled", 0, other, 6, texts, 4, 0, AXML_DONE, 0, 0, 0);
+  other[2].count = 0;
+  ask_main("without a name", 0, other, 6, texts, 0, 0, AXML_DONE, 0, 0, 0);
+  memcpy(other, nodes, sizeof other);
+  other[5].parent = 4;
+  ask_main("a grandchild", 0, other, 6, texts, 4, 0, AXML_DONE, 0, 0, 0);
+  other[5].parent = 3;
+  other[1].parent = 1;
+  ask_main("an application elsewhere", 0, other, 6, texts, 4, 0, AXML_DONE, 0, 0, 0);
+}
+
 /* The place of a content in what was lent, and its bytes there. */
 static void content(const char *what, const uint8_t *bytes, size_t count, const uint32_t *names, size_t name_words, const char *area, size_t area_bytes,
                     uint32_t index, uint32_t slice, uint64_t start, uint64_t length, const char *wanted) {
@@ -446,6 +515,7 @@ int main(void) {
   values();
   manies();
   many_pairs();
+  main_screens();
   listings();
   printf("test: %u checks, %u wrong\n", checks, failures);
   return failures != 0;

@@ -64,13 +64,13 @@ fn numbers() {
         "AXML_TOO_SMALL", "AXML_TOO_LARGE", "AXML_HEADER_SIZE", "AXML_MISSING_ROOT", "AXML_SYSTEM_NAMES",
         "AXML_NODES_FULL", "AXML_ATTRIBUTES_FULL", "AXML_NOTES_FULL", "AXML_TEXT_SHORT", "AXML_NOTHING_FOUND", "AXML_TABLES",
         "AXML_ITEMS", "AXML_NO_PLAIN_TEXT", "AXML_MODE", "AXML_PAIRS", "AXML_ANSWERS_FULL",
-        "AXML_LISTING_MALFORMED", "AXML_LISTING_NUMBER", "AXML_LISTING_ORDER", "AXML_NOTES_OFF", "AXML_ROUND_UP_FULL",
+        "AXML_LISTING_MALFORMED", "AXML_LISTING_NUMBER", "AXML_LISTING_ORDER", "AXML_NOTES_OFF", "AXML_LIST_FULL", "AXML_ROUND_UP_FULL",
         "AXML_POOL_GARBAGE", "AXML_POOL_HEADER", "AXML_POOL_OFFSETS", "AXML_POOL_STYLES", "AXML_POOL_DATA", "AXML_MAP_HEADER", "AXML_MAP_IDS",
     ];
     let cases = [
         Refusal::TooSmall(0), Refusal::TooLarge, Refusal::HeaderSize(0), Refusal::NoElement,
         Refusal::SystemNames(0), Refusal::NodesFull(0), Refusal::AttributesFull(0), Refusal::NotesFull(0), Refusal::TextShort(0),
-        Refusal::NothingFound, Refusal::Tables(0), Refusal::Items(0), Refusal::NoPlainText(0), Refusal::Mode(0), Refusal::Pairs(0), Refusal::AnswersFull(0), Refusal::ListingMalformed(0), Refusal::ListingNumber(0), Refusal::ListingOrder(0), Refusal::NotesOff, Refusal::RoundUpFull, Refusal::PoolGarbage(0), Refusal::PoolHeader(0), Refusal::PoolOffsets(0), Refusal::PoolStyles(0),
+        Refusal::NothingFound, Refusal::Tables(0), Refusal::Items(0), Refusal::NoPlainText(0), Refusal::Mode(0), Refusal::Pairs(0), Refusal::AnswersFull(0), Refusal::ListingMalformed(0), Refusal::ListingNumber(0), Refusal::ListingOrder(0), Refusal::NotesOff, Refusal::ListFull(0), Refusal::RoundUpFull, Refusal::PoolGarbage(0), Refusal::PoolHeader(0), Refusal::PoolOffsets(0), Refusal::PoolStyles(0),
         Refusal::PoolData(0), Refusal::MapHeader(0), Refusal::MapIds(0),
     ];
     for (name, refusal) in refusals.iter().zip(cases) {
@@ -133,6 +133,7 @@ fn places() {
     assert_eq!(fields(&header, "axml_part").len(), sys::PART_WORDS);
     assert_eq!(fields(&header, "axml_value_answer"), ["refusal", "value", "length", "uncovered"]);
     assert_eq!(fields(&header, "axml_many_answer"), ["refusal", "value", "count", "length"]);
+    assert_eq!(fields(&header, "axml_main_answer"), ["refusal", "value", "count"]);
     assert_eq!(fields(&header, "axml_add_answer"), ["refusal", "value"]);
     assert_eq!(fields(&header, "axml_relisted"), ["refusal", "value", "starts", "nodes", "attributes", "notes", "cap"]);
     assert_eq!(fields(&header, "axml_first_answer"), ["refusal", "value", "type", "data", "reference"]);
@@ -163,5 +164,5 @@ fn words() {
         };
         assert!(said.starts_with(words), "{said}");
     }
-    assert_eq!((refusals, notes), (28, NoteKind::ALL.len()));
+    assert_eq!((refusals, notes), (29, NoteKind::ALL.len()));
 }

@@ -202,6 +202,19 @@ impl Manifest {
             None => Ok(answers.chunks_exact(sys::PAIR_ANSWER_WORDS).map(pairs::value_of).collect()),
         }
     }
+
+    /// Which screens a launcher starts: the `name` attributes of the activities and aliases below `application` that are not disabled and have an
+    /// intent filter with MAIN and with LAUNCHER or INFO, in the order of the file. One without a name gives none. The only refusal is
+    /// [`Refusal::Items`], where the items break their rule.
+    pub fn main_activities(&self, items: &Items) -> Result<Vec<Attribute<'_>>, Refusal> {
+        // an element gives one name at most
+        let mut list = vec![0; self.nodes.len() / sys::NODE_WORDS];
+        let a = sys::main_activities(&self.file, &self.names, items, &self.nodes, &self.attributes, &mut list);
+        match Refusal::from_number(a.refusal, a.value) {
+            Some(refusal) => Err(refusal),
+            None => Ok(list[..a.count as usize].iter().map(|n| Attribute { of: self, index: *n as usize }).collect()),
+        }
+    }
 }
 
 /// An element.

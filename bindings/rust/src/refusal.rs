@@ -48,6 +48,8 @@ pub enum Refusal {
     ListingOrder(u64),
     /// A cap of 0, at which a reading would keep no note.
     NotesOff,
+    /// There are more main activities than the list has places, with the places that there are.
+    ListFull(u64),
     /// A count of a round-up would pass 4,294,967,295.
     RoundUpFull,
     /// A chunk in the string pool's place is cut, with the file offset at which its bytes should begin.
@@ -93,6 +95,7 @@ impl Refusal {
             25 => Refusal::ListingNumber(value),
             26 => Refusal::ListingOrder(value),
             27 => Refusal::NotesOff,
+            28 => Refusal::ListFull(value),
             29 => Refusal::RoundUpFull,
             41 => Refusal::PoolGarbage(value),
             42 => Refusal::PoolHeader(value),
@@ -128,6 +131,7 @@ impl Refusal {
             Refusal::ListingNumber(_) => 25,
             Refusal::ListingOrder(_) => 26,
             Refusal::NotesOff => 27,
+            Refusal::ListFull(_) => 28,
             Refusal::RoundUpFull => 29,
             Refusal::PoolGarbage(_) => 41,
             Refusal::PoolHeader(_) => 42,
@@ -148,6 +152,7 @@ impl Refusal {
             Refusal::Items(v) | Refusal::NoPlainText(v) | Refusal::Mode(v) | Refusal::AnswersFull(v) => v,
             Refusal::ListingMalformed(v) | Refusal::ListingNumber(v) | Refusal::ListingOrder(v) => v,
             Refusal::PoolGarbage(v) | Refusal::PoolHeader(v) | Refusal::PoolOffsets(v) | Refusal::PoolStyles(v) | Refusal::PoolData(v) => v,
+            Refusal::ListFull(v) => v,
             Refusal::Pairs(v) | Refusal::MapHeader(v) | Refusal::MapIds(v) | Refusal::Other(_, v) => v,
             Refusal::TooLarge | Refusal::NoElement | Refusal::NothingFound | Refusal::NotesOff | Refusal::RoundUpFull => 0,
         }
@@ -176,6 +181,7 @@ impl Refusal {
             Refusal::ListingNumber(_) => "a line of the listing has a number over 4294967295",
             Refusal::ListingOrder(_) => "a line of the listing is not the one due",
             Refusal::NotesOff => "a cap of 0 would keep no notes: ask for 1 or more of each kind",
+            Refusal::ListFull(_) => "the list is full",
             Refusal::RoundUpFull => "a count of the round-up is full",
             Refusal::PoolGarbage(_) => "the chunk before the string pool is cut short",
             Refusal::PoolHeader(_) => "the string pool's header is cut short",
@@ -198,6 +204,7 @@ impl fmt::Display for Refusal {
             Refusal::HeaderSize(n) => write!(f, " but {n} (an APK is a zip: take AndroidManifest.xml out of it first)"),
             Refusal::SystemNames(n) => write!(f, " at entry {n} (ids rise and have the top byte 1, names are ASCII and not empty)"),
             Refusal::NodesFull(n) | Refusal::AttributesFull(n) | Refusal::NotesFull(n) | Refusal::AnswersFull(n) => write!(f, " ({n} places)"),
+            Refusal::ListFull(n) => write!(f, " ({n} places)"),
             Refusal::Items(n) => write!(f, " at item {n} (names are ASCII and not empty, items of one attribute stand together and have one kind)"),
             Refusal::NoPlainText(n) => write!(f, " (type {n})"),
             Refusal::Pairs(n) => write!(f, " at pair {n}"),

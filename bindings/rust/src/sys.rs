@@ -143,6 +143,13 @@ pub struct PairsAnswer {
 }
 
 #[repr(C)]
+pub struct MainAnswer {
+    pub refusal: u32,
+    pub value: u64,
+    pub count: u64,
+}
+
+#[repr(C)]
 pub struct AddAnswer {
     pub refusal: u32,
     pub value: u64,
@@ -199,6 +206,11 @@ extern "C" {
         nodes: Words, node_words: usize, attributes: Words, attribute_words: usize, pairs: Words, pair_words: usize, pair_area: Bytes, pair_area_bytes: usize,
         answers: MutWords, answer_words: usize, node_count: u32, attribute_count: u32,
     ) -> PairsAnswer;
+    fn axml_main_activities(
+        file: Bytes, file_bytes: usize, names: Words, name_words: usize, area: Bytes, area_bytes: usize,
+        items: Words, item_words: usize, item_area: Bytes, item_area_bytes: usize, nodes: Words, node_words: usize, attributes: Words, attribute_words: usize,
+        list: MutWords, list_words: usize, node_count: u32, attribute_count: u32,
+    ) -> MainAnswer;
     fn axml_round_up_add(
         round_up: MutWords, round_up_words: usize, notes: Words, note_words: usize, refusal: u32, note_count: u32, file_bytes: usize,
     ) -> AddAnswer;
@@ -297,6 +309,19 @@ pub fn first_values(
         axml_first_values(
             file.as_ptr(), file.len(), w.as_ptr(), w.len(), a.as_ptr(), a.len(), nodes.as_ptr(), nodes.len(), attributes.as_ptr(), attributes.len(),
             pairs.as_ptr(), pairs.len(), pair_area.as_ptr(), pair_area.len(), answers.as_mut_ptr(), answers.len(), node_count, attribute_count,
+        )
+    }
+}
+
+pub fn main_activities(file: &[u8], names: &SystemNames, items: &Items, nodes: &[u32], attributes: &[u32], list: &mut [u32]) -> MainAnswer {
+    same_form();
+    let (w, a) = (&names.words, &names.area);
+    let (node_count, attribute_count) = ((nodes.len() / NODE_WORDS) as u32, (attributes.len() / ATTRIBUTE_WORDS) as u32);
+    unsafe {
+        axml_main_activities(
+            file.as_ptr(), file.len(), w.as_ptr(), w.len(), a.as_ptr(), a.len(), items.words.as_ptr(), items.words.len(),
+            items.area.as_ptr(), items.area.len(), nodes.as_ptr(), nodes.len(), attributes.as_ptr(), attributes.len(),
+            list.as_mut_ptr(), list.len(), node_count, attribute_count,
         )
     }
 }

@@ -7,3 +7,4 @@ pub mod Month
 pub mod Valued
 pub mod Asked
 pub mod Relists
+pub mod Started

@@ -7,4 +7,5 @@ pub mod Adding
 pub mod Values
 pub mod Asking
 pub mod Relisting
+pub mod Starting
 pub mod Inner

@@ -8,6 +8,7 @@ pub mod adding;
 pub mod asking;
 pub mod content;
 pub mod relisting;
+pub mod starting;
 pub mod values;
 
 pub use abi::axml_abi;
@@ -19,6 +20,8 @@ pub use content::AxmlContentAnswer;
 pub use content::axml_content;
 pub use relisting::AxmlRelisted;
 pub use relisting::axml_read_listing;
+pub use starting::AxmlMainAnswer;
+pub use starting::axml_main_activities;
 pub use values::AxmlManyAnswer;
 pub use values::AxmlValueAnswer;
 pub use values::axml_texts;

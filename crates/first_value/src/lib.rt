@@ -185,7 +185,8 @@ fn value_in(
 
 // ---- what is asked once, however many questions follow
 
-fn fitted(h: Head, fit: Fit) -> OpenRead
+// A head beside tables that fit, or 13. Ruled out: a head beside tables that do not.
+pub fn fitted(h: Head, fit: Fit) -> OpenRead
     ensures { λ r. ⌜ r ≡ fittedBy h fit ⌝ }
 {
     match fit {

@@ -131,7 +131,7 @@ fn within(at: usize, n: usize) -> usize
 }
 
 // The attribute of record k, of a table that has it.
-fn attribute_at(attributes: &[u32], k: usize) -> Attribute
+pub fn attribute_at(attributes: &[u32], k: usize) -> Attribute
     requires { ⌜ attributeWidth * k + attributeWidth ≤ length (now attributes) ⌝ }
     ensures { λ r. ⌜ r ≡ attributeAt (now (attributes .entry)) k ⌝ }
 {

@@ -97,7 +97,14 @@ fn is_item(
 }
 
 // The first item of the attribute whose name was found, or the number of items: one pass over the table.
-fn find_item(t: &[u8], area: &[u8], wide: bool, f: Found, items: &[u32], item_area: &[u8]) -> usize
+pub fn find_item(
+    t: &[u8],
+    area: &[u8],
+    wide: bool,
+    f: Found,
+    items: &[u32],
+    item_area: &[u8],
+) -> usize
     requires { ⌜ Inside (now t) (now area) f × (isFound f ≡ true) × (tableOf (now «item_area») (now items) ≡ Good) ⌝ }
     ensures { λ r. ⌜ FirstNamed (now («item_area» .entry)) (textIn (partOf wide (now (t .entry)) (now (area .entry)) f)) (now (items .entry)) r ⌝ }
 {

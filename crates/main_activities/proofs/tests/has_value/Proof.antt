@@ -1,0 +1,59 @@
+-- `main_activities::tests::has_value` meets its contract: the attribute that is found, or none (`saying`, `saying-none`).
+use mathlib.Core.Path.{sym, _∙_}
+use native.Mathlib.Omega.{arith}
+use borrow.Author.Needs.{needs}
+use denote.Ref.{now}
+use Rattle.system_types.specs.Names.{lends}
+use Rattle.main_activities.specs.Activities.{treeOf}
+use Rattle.main_activities.proofs.Laws.{from-below, saying, saying-none}
+use Rattle.main_activities.proofs.tests.has_value.Statement.{statement}
+use Rattle.main_activities.proofs.tests.has_value.Tie as tie
+
+find-named-requires : tie.Need-find-named-requires
+find-named-requires c κs =
+    (c .before .before .before .before .before .before .before .before .before .pre .0, c .before .before .before .before .before .before .before .before .before .pre .1)
+
+enum-known-found : tie.Need-enum-known-found
+enum-known-found c = search needs
+
+cast-attribute-at : tie.Need-cast-attribute-at
+cast-attribute-at c = search needs
+
+attribute-at-requires : tie.Need-attribute-at-requires
+attribute-at-requires c κs =
+    let a = c .before .before .before .before .before .before .before .before .before .before .before .before .before .args in
+    let w = treeOf (a .h) (now (a .t)) (lends (now (a .names)) (now (a .area))) (now (a .items)) (now (a .item-area)) (now (a .nodes)) (now (a .attributes)) (a .count) in
+    let q = from-below w (now (a .name)) _ _ (sym (c .before .before .before .find-named .ensures) ∙ c .before .found .given .1) in
+    omega (arith, q, c .before .before .before .before .before .before .before .before .before .before .before .before .before .pre .0 .inside (a .k) (c .before .before .before .before .before .before .before .before .before .before .before .before .before .pre .1))
+
+value-is-requires : tie.Need-value-is-requires
+value-is-requires c κs =
+    (c .before .before .before .before .before .before .before .before .before .before .before .before .before .before .pre .0 .asks, c .before .before .before .before .before .before .before .before .before .before .before .before .before .before .pre .0 .good, c .before .before .before .before .before .before .before .before .before .before .before .before .before .before .pre .2, c .before .before .before .before .before .before .before .before .before .before .before .before .before .before .pre .3)
+
+enum-told : tie.Need-enum-told
+enum-told c = search needs
+
+returns : tie.Need-returns
+returns c =
+    let a = c .before .before .before .before .before .before .before .before .before .before .before .before .before .before .before .args in
+    let w = treeOf (a .h) (now (a .t)) (lends (now (a .names)) (now (a .area))) (now (a .items)) (now (a .item-area)) (now (a .nodes)) (now (a .attributes)) (a .count) in
+    saying w (now (a .name)) (now (a .expected)) (a .k) (c .before .before .before .before .before .find-named .ensures) (c .before .before .before .found .given .1) (c .before .attribute-at .ensures) (c .value-is .ensures)
+
+returns-2 : tie.Need-returns-2
+returns-2 c =
+    let a = c .before .before .before .before .before .before .before .before .before .before .before .before .args in
+    let w = treeOf (a .h) (now (a .t)) (lends (now (a .names)) (now (a .area))) (now (a .items)) (now (a .item-area)) (now (a .nodes)) (now (a .attributes)) (a .count) in
+    saying-none w (now (a .name)) (now (a .expected)) (a .k) (c .before .before .find-named .ensures) (c .enum-told .given .1)
+
+pub has-value-spec : {M : Type 1} → statement M
+has-value-spec =
+    tie.close
+    (tie.spec
+    find-named-requires
+    enum-known-found
+    cast-attribute-at
+    attribute-at-requires
+    value-is-requires
+    enum-told
+    returns
+    returns-2)
