@@ -119,6 +119,34 @@ def first(o, node, name):
     return next((a["number"] for a in o["nodes"][node]["attributes"] if a["prefix"] < 2 and a["name"] == name), None)
 
 
+def screens(o):
+    """The main screens: the rules of FORMAT, S, on the tables of a reading."""
+    nodes = o["nodes"]
+    below = [[] for _ in nodes]
+    for n in nodes[1:]:
+        below[n["parent"]].append(n)
+
+    def children(n, *tags):
+        return [c for c in below[n["number"]] if not c["invalid"] and c["name"] in tags]
+
+    def attribute(n, name):
+        return next((a for a in n["attributes"] if a["name"] == name), None)
+
+    def says(n, name, *texts):
+        a = attribute(n, name)
+        return a is not None and a["text"] in texts
+    found = []
+    for application in children(nodes[0], "application"):
+        for activity in children(application, "activity", "activity-alias"):
+            starts = any(any(says(c, "name", "android.intent.action.MAIN") for c in children(f, "action"))
+                         and any(says(c, "name", "android.intent.category.LAUNCHER", "android.intent.category.INFO") for c in children(f, "category"))
+                         for f in children(activity, "intent-filter"))
+            name = attribute(activity, "name")
+            if starts and name is not None and not says(activity, "enabled", "false"):
+                found.append(name["number"])
+    return found
+
+
 def compare(o, file, named):
     """Asserts that the object is what the rules say of the file."""
     names, lent = LENT[named]
@@ -163,6 +191,7 @@ def compare(o, file, named):
         assert glance[key] == (None if top is None else first(o, top, name))
     asked = [first(o, i, "name") for i, n in enumerate(called) if n in ("uses-permission", "uses-permission-sdk-23", "uses-permission-sdk-m")]
     assert glance["permissions"] == [k for k in asked if k is not None]
+    assert glance["main_screens"] == screens(o), screens(o)
 
 
 def obeyed(page):
@@ -221,7 +250,7 @@ def generated(count, folder):
 
 
 def main(program, count, paths):
-    read = refused = wrong = notes = attributes = 0
+    read = refused = wrong = notes = attributes = mains = 0
     with tempfile.TemporaryDirectory() as folder:
         for number, path in enumerate(itertools.chain(paths, generated(count, folder))):
             try:
@@ -236,8 +265,9 @@ def main(program, count, paths):
             read += not o["refusal"]
             refused += o["refusal"] > 0
             notes += len(o["notes"])
+            mains += len(o["glance"]["main_screens"])
             attributes += sum(len(n["attributes"]) for n in o["nodes"])
-    print(f"show_check: {read} files read, {refused} refused, {notes} notes, {attributes} attributes; {wrong} wrong")
+    print(f"show_check: {read} files read, {refused} refused, {notes} notes, {attributes} attributes, {mains} main screens; {wrong} wrong")
     return wrong > 0
 
 

@@ -124,12 +124,7 @@ static void put_glance(struct out *o, const struct manifest *m) {
     put_number(o, k);
     between = ",";
   }
-  put(o, "],\"main_screens\":");
-  if (!m->screens_known) {
-    put(o, "null}");
-    return;
-  }
-  put(o, "[");
+  put(o, "],\"main_screens\":[");
   for (size_t i = 0; i < m->screen_count; i++) {
     if (i) put(o, ",");
     put_number(o, m->screens[i]);

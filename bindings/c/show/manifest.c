@@ -117,19 +117,14 @@ static bool ask_values(struct manifest *m, struct budget *b) {
   return a.refusal == AXML_DONE;
 }
 
-/* The names of the main screens, as attributes. A node has one at most. */
+/* The names of the main screens, as attributes. A node has one at most, so that the list has room for all. */
 static bool ask_screens(struct manifest *m) {
   m->screens = zeros(m->answer.nodes, sizeof *m->screens);
   if (!m->screens) return false;
-#ifdef AXML_MAIN_SCREENS /* the library at hand has no such question */
   struct axml_main_answer a = axml_main_activities(FILE_AND_NAMES(m), ITEMS(m), (const uint32_t *)m->nodes, m->node_words, (const uint32_t *)m->attributes,
                                                    m->attribute_words, m->screens, m->answer.nodes, m->answer.nodes, m->answer.attributes);
-  m->screens_known = a.refusal == AXML_DONE;
   m->screen_count = a.count;
-  return m->screens_known;
-#else
-  return true;
-#endif
+  return a.refusal == AXML_DONE;
 }
 
 bool read_manifest(struct manifest *m, const uint8_t *file, size_t bytes, bool named) {

@@ -240,7 +240,6 @@ static void put_glance(struct out *o, const struct manifest *m) {
     put_front(o, front);
     put(o, "none\n");
   }
-  if (!m->screens_known) return;
   front = "main screens";
   for (size_t i = 0; i < m->screen_count; i++, front = "") {
     put_front(o, front);

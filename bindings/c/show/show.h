@@ -71,8 +71,7 @@ struct manifest {
   size_t left_out; /* how many texts are */
   size_t damaged;  /* how many texts that are shown are not whole */
 
-  bool screens_known; /* whether the library was asked for them */
-  uint32_t *screens;  /* attributes: the names of the main screens */
+  uint32_t *screens; /* attributes: the names of the main screens */
   size_t screen_count;
 };
 
