@@ -1,9 +1,10 @@
 """Holds what axml-show prints to the rules: python3 tools/show_check.py PROGRAM [--generated COUNT] [FILE..]
 
-PROGRAM is axml-show, or a build of it for this machine (bench/show makes one), which is faster. For each file, and for COUNT generated ones (oracle/generate.py and
-oracle/values.py), `--json` is parsed by python3's json, held to docs/axml-show.schema.json, and compared with oracle/model.py, which has docs/FORMAT.md as a plain program:
-every number of the answer, of each node, attribute and note, every text and every value; with the framework's names and, each third time, without. Of the page every line
-is looked at for characters that a terminal would obey. Ends with 1 where anything differs. docs/CASES.md says what was run.
+PROGRAM is axml-show, or a build of it for this machine (bench/show makes one), which is faster. For each file, and for COUNT generated ones
+(oracle/generate.py and oracle/values.py), `--json` is parsed by python3's json, held to docs/axml-show.schema.json, and compared with oracle/model.py,
+which has docs/FORMAT.md as a plain program: every number of the answer, of each node, attribute and note, every text and every value; with the
+framework's names and, each third time, without. Of the page every line is looked at for characters that a terminal would obey. Ends with 1 where
+anything differs. docs/CASES.md says what was run.
 """
 import itertools
 import json
@@ -179,7 +180,8 @@ def compare(o, file, named):
             assert a["namespace"] == (text(space) if prefix == 3 else None)
             assert (a["text"], a["unnamed_bits"]) == (shown, bits), (a, shown, bits)
             past = STATES and data >= len(pool.offsets)
-            states = [(0, 0) if prefix == 2 else damage(head, index), damage(head, space) if prefix == 3 else (0, 0), (3, 0) if string and past else damage(pool, data) if string else (0, 0)]
+            states = [(0, 0) if prefix == 2 else damage(head, index), damage(head, space) if prefix == 3 else (0, 0),
+                      (3, 0) if string and past else damage(pool, data) if string else (0, 0)]
             assert [(a[f"{x}_state"], a[f"{x}_replaced"]) for x in ("name", "namespace", "text")] == states, (a, states)
             damaged += sum(s > 0 for s, _ in states)
     assert o["damaged_texts"] == damaged
@@ -196,8 +198,8 @@ def compare(o, file, named):
 
 def obeyed(page):
     """Characters of a page that a terminal would obey, or hide."""
-    return sorted({f"U+{ord(c):04X}" for c in page.replace("\n", "") if unicodedata.category(c) in ("Cc", "Cf", "Zl", "Zp", "Co", "Cs") or unicodedata.bidirectional(c) in
-                   ("LRE", "RLE", "LRO", "RLO", "PDF", "LRI", "RLI", "FSI", "PDI", "BN")})
+    return sorted({f"U+{ord(c):04X}" for c in page.replace("\n", "") if unicodedata.category(c) in ("Cc", "Cf", "Zl", "Zp", "Co", "Cs")
+                   or unicodedata.bidirectional(c) in ("LRE", "RLE", "LRO", "RLO", "PDF", "LRI", "RLI", "FSI", "PDI", "BN")})
 
 
 def run(program, *words):

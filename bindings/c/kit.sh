@@ -13,14 +13,15 @@ kit_compiles() { # SOURCE OBJECT FOLDER..: the folders have further headers
         set -- "$@" -I "$with"
         shift
     done
-    "$tools/bin/clang" --target=x86_64-unknown-linux-gnu -fPIE -O2 -std=c99 -Wall -Wextra -Werror -nostdinc -isystem "$top/bindings/c/headers" -I "$top/include" "$@" \
-        -c "$source" -o "$object"
+    "$tools/bin/clang" --target=x86_64-unknown-linux-gnu -fPIE -O2 -std=c99 -Wall -Wextra -Werror -nostdinc \
+        -isystem "$top/bindings/c/headers" -I "$top/include" "$@" -c "$source" -o "$object"
 }
 kit_links() { # PROGRAM OBJECT..
     linked=$1
     shift
-    "$tools/bin/ld.lld" -pie --dynamic-linker=/lib64/ld-linux-x86-64.so.2 -o "$linked" "$tools/lib/Scrt1.o" "$tools/lib/crti.o" "$tools/lib/crtbeginS.o" "$@" "$archive" \
-        "$tools/lib/libc.so.6" "$tools/lib/libc_nonshared.a" "$tools/lib/ld-linux-x86-64.so.2" "$tools/lib/crtendS.o" "$tools/lib/crtn.o"
+    "$tools/bin/ld.lld" -pie --dynamic-linker=/lib64/ld-linux-x86-64.so.2 -o "$linked" "$tools/lib/Scrt1.o" "$tools/lib/crti.o" \
+        "$tools/lib/crtbeginS.o" "$@" "$archive" "$tools/lib/libc.so.6" "$tools/lib/libc_nonshared.a" "$tools/lib/ld-linux-x86-64.so.2" \
+        "$tools/lib/crtendS.o" "$tools/lib/crtn.o"
 }
 # The program is for x86-64 and runs with the kit's loader, elsewhere under the kit's emulator.
 kit_becomes() { # PROGRAM WORD..: in place of the shell
@@ -28,8 +29,9 @@ kit_becomes() { # PROGRAM WORD..: in place of the shell
 }
 kit_runs() { (kit_becomes "$@"); } # PROGRAM WORD..
 
-# kit_program NAME SOURCE..: the program target/NAME/NAME of these pages and the archive, made on first use and again where something has changed, with the tables of
-# tools/c-tables beside it (words.h, tables.h); that is said. The library is proved again only where a crate has changed. False where the program was not made.
+# kit_program NAME SOURCE..: the program target/NAME/NAME of these pages and the archive, made on first use and again where something has changed,
+# with the tables of tools/c-tables beside it (words.h, tables.h); that is said. The library is proved again only where a crate has changed. False
+# where the program was not made.
 kit_fresh() { # MADE SOURCE..: it is there, and nothing of the sources is newer
     made=$1
     shift
@@ -50,7 +52,8 @@ kit_makes() { # FOLDER PROGRAM SOURCE..
 kit_program() {
     name=$1 folder=$top/target/$1
     shift
-    if kit_fresh "$folder/$name" crates.txt crates include bindings/c docs/words.tsv docs/sentences.tsv oracle/system-names.txt oracle/attr-items.txt tools/c-tables; then return 0; fi
+    if kit_fresh "$folder/$name" crates.txt crates include bindings/c docs/words.tsv docs/sentences.tsv oracle/system-names.txt oracle/attr-items.txt \
+        tools/c-tables; then return 0; fi
     began=$(date +%s)
     mkdir -p "$folder" && : >"$folder/log" || return
     if ! kit_fresh "$archive" crates.txt crates; then

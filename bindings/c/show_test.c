@@ -1,6 +1,6 @@
-/* What tools/test-axml-show cannot see from outside. `show_test escapes` tries the escapes of show/out.c on every byte, on every two bytes and on every character of
- * Unicode: what a page and JSON show is taken back, and has to be what went in. `show_test names` and `show_test items` print the lent tables in the form of the
- * files that they were made of. Ends with 1 if anything is wrong. */
+/* What tools/test-axml-show cannot see from outside. `show_test escapes` tries the escapes of show/out.c on every byte, on every two bytes and on
+ * every character of Unicode: what a page and JSON show is taken back, and has to be what went in. `show_test names` and `show_test items` print the
+ * lent tables in the form of the files that they were made of. Ends with 1 if anything is wrong. */
 #include <stdio.h>
 #include <string.h>
 
@@ -137,7 +137,8 @@ static int escapes(void) {
     if (is_mark(c)) wrong += o.bytes[1] != '\\';
   }
   /* what is no character: surrogates, what is too long, what is too high, a front of one */
-  static const char *const broken[] = {"\xed\xa0\x80", "\xc0\x80", "\xe0\x80\x80", "\xf0\x80\x80\x80", "\xf4\x90\x80\x80", "\xf5\x80\x80\x80", "\xe2\x82", "\xf0\x9f\x98"};
+  static const char *const broken[] = {"\xed\xa0\x80",     "\xc0\x80",         "\xe0\x80\x80", "\xf0\x80\x80\x80",
+                                       "\xf4\x90\x80\x80", "\xf5\x80\x80\x80", "\xe2\x82",     "\xf0\x9f\x98"};
   for (size_t i = 0; i < sizeof broken / sizeof *broken; i++) {
     tried++;
     wrong += !page_right((const uint8_t *)broken[i], strlen(broken[i]));

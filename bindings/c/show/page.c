@@ -4,10 +4,10 @@
 #include <string.h>
 
 enum {
-  STEP = 2,    /* columns that a level is indented */
+  STEP = 2,     /* columns that a level is indented */
   DEEPEST = 40, /* levels below it are indented as it is, and told by their number */
   SHOWN = 2000, /* bytes of a text at most */
-  GLANCE = 14, /* the columns of the words in front, at the end */
+  GLANCE = 14,  /* the columns of the words in front, at the end */
 };
 
 /* ---- texts */

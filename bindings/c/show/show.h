@@ -8,9 +8,8 @@
 #include "axml.h"
 
 enum {
-  NOTE_CAP = 16,     /* notes kept of each kind */
-  STRING_TYPE = 3,   /* the type of a value that is a string (docs/FORMAT.md, C5) */
-  DAMAGED_NAME = 32, /* the kind of note of an element's name that is damaged: a is its index, b its state */
+  NOTE_CAP = 16,   /* notes kept of each kind */
+  STRING_TYPE = 3, /* the type of a value that is a string (docs/FORMAT.md, C5) */
 };
 #define NONE 4294967295u /* no attribute, no node, no string */
 

@@ -1,6 +1,6 @@
-/* Numbers in words. words.h is made of docs/words.tsv and docs/sentences.tsv (tools/c-tables): what a refusal or a kind of note is called, and the sentence with
- * its numbers. In a sentence {a} and {b} stand for the numbers, {xa} for the first in hexadecimal, {limit} for the longest file, {damage} for the state of a
- * text that the second is, and {none} for "which has no text" where the second is 0. */
+/* Numbers in words. words.h is made of docs/words.tsv and docs/sentences.tsv (tools/c-tables): what a refusal or a kind of note is called, and the
+ * sentence with its numbers. In a sentence {a} and {b} stand for the numbers, {xa} for the first in hexadecimal, {limit} for the longest file,
+ * {damage} for the state of a text that the second is, and {none} for "which has no text" where the second is 0. */
 #include "show.h"
 
 #include <string.h>
