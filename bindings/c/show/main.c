@@ -76,7 +76,7 @@ int main(int count, char **words) {
 
   page.ascii = plain;
   page.colours = !plain && !json && wants_colours();
-  if (!read_manifest(&manifest, file, bytes, named)) return say(1, name, "there is no memory for the answers of the library");
+  if (!read_manifest(&manifest, file, bytes, named)) return say(1, name, "there is no memory for the answers, or the library refused what it cannot refuse");
   if (json)
     put_object(&page, &manifest, path);
   else
