@@ -2,7 +2,7 @@
 
   names_of(path)               a names file (a line `0xID NAME` each) as the words and the area that this repository lends
   ask(program, names, asked)   asked: (flags, cap, set, file, questions) each; yields an Answer for each, in order
-  ITEMS                        files of named values, a line `ATTRIBUTE enum|flag NAME 0xVALUE` with tabs each: the framework's, and odd ones
+  ITEMS                        files of named values, a line `ATTRIBUTE enum|flag NAME 0xVALUE` with tabs each: the framework's, odd ones, and some for the names of a main activity
 """
 import os
 import struct
@@ -10,9 +10,9 @@ import subprocess
 
 from model import ATTRIBUTE, NODE
 
-TEXTS, NAMES, VALUES, DUE = 1, 2, 4, 8
+TEXTS, NAMES, VALUES, DUE, MAINS = 1, 2, 4, 8, 64
 NONE = 0xFFFFFFFF
-ITEMS = [os.path.join(os.path.dirname(os.path.abspath(__file__)), f) for f in ("attr-items.txt", "odd-items.txt")]
+ITEMS = [os.path.join(os.path.dirname(os.path.abspath(__file__)), f) for f in ("attr-items.txt", "odd-items.txt", "main-items.txt")]
 
 
 def names_of(path):
@@ -30,7 +30,7 @@ def padded(b):
 
 
 class Answer:
-    """refusal, value, starts; nodes, attributes, notes as tuples; by flags: texts, node_names, attribute_names, values, due; firsts."""
+    """refusal, value, starts; nodes, attributes, notes as tuples; by flags: texts, node_names, attribute_names, values, due, mains; firsts."""
 
     def __init__(self, b, flags, questions):
         self.refusal, self.value, self.starts, n, a, m = struct.unpack_from("<6I", b)
@@ -63,6 +63,10 @@ class Answer:
             self.values = [text() for _ in range(a)]
         if flags & DUE:
             self.due = text()
+        if flags & MAINS:
+            k = struct.unpack_from("<I", b, at)[0]
+            self.mains = list(struct.unpack_from(f"<{k}I", b, at + 4))
+            at += 4 + 4 * k
         self.firsts = [struct.unpack_from("<4I", b, at + 16 * i) for i in range(questions)]
         assert at + 16 * questions == len(b)
 

@@ -15,7 +15,7 @@ TEXTS = ["", "a", "true", "singleTop", "\u00e4\u20ac\U0001f600", "com.example.Ap
 def named():
     """The attributes that have items, with their values; and an id for each that has one."""
     values, ids = {}, {}
-    for path in rust.ITEMS:
+    for path in rust.ITEMS[:2]:
         for line in open(path):
             cells = line.rstrip("\n").split("\t")
             values.setdefault(cells[0], []).append(int(cells[3], 16))

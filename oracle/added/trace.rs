@@ -26,6 +26,8 @@ pub struct Value {
 pub struct Trace {
     cap: usize,
     wants_texts: bool,
+    /// values stand in the tree as they are, without a number
+    bare: bool,
     pub starts: Vec<Start>,
     pub values: Vec<Value>,
     /// name indices of all notes 9 and 10, past the cap too
@@ -47,6 +49,11 @@ fn with<T>(f: impl FnOnce(&mut Trace) -> T) -> T {
 
 pub fn begin(cap: usize, wants_texts: bool) {
     with(|t| *t = Trace { cap, wants_texts, ..Trace::default() });
+}
+
+/// A reading whose tree has the values alone, for questions that compare them.
+pub fn begin_bare() {
+    with(|t| *t = Trace { bare: true, ..Trace::default() });
 }
 
 pub fn take() -> Trace {
@@ -97,7 +104,7 @@ pub(crate) fn value(text: &str, attribute: &XmlAttributeElement) -> String {
             data: attribute.typed_value.data,
             namespace: attribute.namespace_uri,
         });
-        format!("{}|{}", t.values.len() - 1, text)
+        if t.bare { text.to_string() } else { format!("{}|{}", t.values.len() - 1, text) }
     })
 }
 

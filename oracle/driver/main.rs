@@ -1,5 +1,6 @@
 //! Runs the Rust reader over a stream of questions and writes an answer to each. ../README.md has both layouts.
 
+use std::collections::HashMap;
 use std::io::{self, BufRead, BufReader, BufWriter, Read, Write};
 
 use apk_info_axml::anomaly::ResAnomaly;
@@ -16,7 +17,10 @@ const TEXTS: u32 = 1;
 const NAMES: u32 = 2;
 const VALUES: u32 = 4;
 const DUE: u32 = 8;
+const MAINS: u32 = 64;
 const NONE: u32 = u32::MAX;
+/// A name that is empty: which attribute it is cannot be told by its address.
+const EMPTY: u32 = u32::MAX - 1;
 
 type Names = &'static [Vec<&'static str>];
 
@@ -187,6 +191,31 @@ fn first_value(axml: &AXML, t: &Trace, tag: &[u8], name: &[u8]) -> [u32; 4] {
     }
 }
 
+/// The names of the main activities, each as the number of its attribute in the order of the tree: a name is told by where its text lies.
+fn main_activities(file: &[u8]) -> Vec<u32> {
+    trace::begin_bare();
+    let mut rest = file;
+    let answer = AXML::new(&mut rest, None);
+    trace::take();
+    let Ok(axml) = answer else {
+        return vec![NONE];
+    };
+    let mut places = HashMap::new();
+    let mut open: Vec<&Element> = vec![&axml.root];
+    let mut number = 0;
+    while let Some(element) = open.pop() {
+        for a in element.attributes() {
+            if !a.value().is_empty() {
+                places.insert(a.value().as_ptr(), number);
+            }
+            number += 1;
+        }
+        let children: Vec<&Element> = element.childrens().collect();
+        open.extend(children.into_iter().rev());
+    }
+    axml.get_main_activities().map(|name| if name.is_empty() { EMPTY } else { places[&name.as_ptr()] }).collect()
+}
+
 fn answer(file: &[u8], cap: u32, flags: u32, questions: &[(Vec<u8>, Vec<u8>)]) -> Words {
     trace::begin(cap as usize, flags & TEXTS != 0);
     let mut rest = file;
@@ -225,6 +254,11 @@ fn answer(file: &[u8], cap: u32, flags: u32, questions: &[(Vec<u8>, Vec<u8>)]) -
     }
     if flags & DUE != 0 {
         out.text(&t.due);
+    }
+    if flags & MAINS != 0 {
+        let found = main_activities(file);
+        out.word(found.len() as u32);
+        found.iter().for_each(|n| out.word(*n));
     }
     for (tag, name) in questions {
         let words = match &answer {

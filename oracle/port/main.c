@@ -13,7 +13,9 @@
 #include <string.h>
 #include "axml.h"
 
-enum { TEXTS = 1, NAMES = 2, VALUES = 4, ROOMS = 16, APART = 32, NONE = 0xffffffff };
+enum { TEXTS = 1, NAMES = 2, VALUES = 4, ROOMS = 16, APART = 32, MAINS = 64 };
+#define NONE 0xffffffffu
+#define EMPTY 0xfffffffeu
 
 static void fail(const char *why)
 {
@@ -213,6 +215,46 @@ static void put_values(bytes file, names s, names items, const uint32_t *attribu
     }
 }
 
+/* The names of the main activities, with a list that has no place, one place too few, just enough and one more: what is full is refused with 28, and zeros. An
+ * empty name is told as EMPTY, as the Rust's has no address of its own. */
+static void put_mains(bytes file, names s, names items, const uint32_t *nodes, size_t node_words, const uint32_t *attributes, size_t attribute_words,
+                      struct axml_answer a)
+{
+    if (a.refusal) {
+        put_word(1);
+        put_word(NONE);
+        return;
+    }
+    size_t most = a.nodes + 1, count = 0;
+    uint32_t *list = patterned(most + 1), *first = patterned(most + 1);
+    for (int turn = 0; turn < 5; turn++) {
+        size_t places = turn == 0 ? most : turn == 1 ? 0 : turn == 2 ? count - (count > 0) : turn == 3 ? count : count + 1;
+        memset(list, 0xa5, 4 * (most + 1));
+        struct axml_main_answer m = axml_main_activities(file.at, file.n, s.words, s.n, s.area, s.length, items.words, items.n, items.area, items.length, nodes,
+                                                         node_words, attributes, attribute_words, list, places, a.nodes, a.attributes);
+        if (list[places] != 0xa5a5a5a5) fail("a word behind the list was written");
+        if (turn == 0) {
+            if (m.refusal || m.value) fail("the main activities are refused");
+            count = m.count;
+        }
+        if (places < count ? m.refusal != AXML_LIST_FULL || m.value != places || m.count : m.refusal || m.value || m.count != count)
+            fail("the main activities have other numbers in a shorter list");
+        zeros_behind(list, m.count, places);
+        if (turn && memcmp(list, first, 4 * m.count)) fail("the main activities are others in a shorter list");
+        if (turn) continue;
+        put_word(count);
+        memcpy(first, list, 4 * count);
+        for (size_t k = 0; k < count; k++) {
+            const uint32_t *w = attributes + AXML_ATTRIBUTE_WORDS * (size_t)list[k];
+            struct axml_value_answer v = axml_value_text(file.at, file.n, s.words, s.n, s.area, s.length, items.words, items.n, items.area, items.length,
+                                                         buffer, buffer_size, w[0], w[1], w[2], w[3], w[4], w[5]);
+            put_word(!v.refusal && !v.length ? EMPTY : list[k]);
+        }
+    }
+    free(list);
+    free(first);
+}
+
 /* First values of so many pairs, all of them asked at once; each has to be what it is asked by itself. */
 static void put_firsts(bytes file, names s, const uint32_t *nodes, size_t node_words, const uint32_t *attributes, size_t attribute_words,
                        struct axml_answer a, uint32_t asked)
@@ -302,6 +344,7 @@ static void answer(uint32_t flags, uint32_t cap, names s, names items, uint32_t 
             else put_name(file, s, attributes[AXML_ATTRIBUTE_WORDS * k + 2]);
     }
     if (flags & VALUES) put_values(file, s, items, attributes, rooms[1], a.attributes);
+    if (flags & MAINS) put_mains(file, s, items, nodes, rooms[0], attributes, rooms[1], a);
     put_firsts(file, s, nodes, rooms[0], attributes, rooms[1], a, asked);
     uint32_t length = used;
     fwrite(&length, 1, 4, stdout);

@@ -26,6 +26,8 @@
 -- signed-read, hex-read, flag-whole, flag-none of the texts; values-unique to values-single of many, texts-unique to texts-single of many string indices.
 -- Many pairs at once (M): many-unique, many-numbers-unique, c-many-unique: one answer; many-refused-zeros, many-done-zeros; many-asks: each answer is the single
 -- question's; many-found: it finds a value or says 12; twelve-to-all-broken, many-meets-some.
+-- Which screens start (S): main-unique, main-numbers-unique, c-main-unique: one answer; main-refused-zeros, main-done-zeros; main-children: on the tables of
+-- a reading a child is a record whose parent word says so; every-one-broken, main-meets-some. Computed: proofs/Screened.antt.
 -- The marked cases (L5): `cases-right` of proofs/Cases.antt, one table and one theorem; `cases-read` of proofs/Given.antt: `read` gives them.
 -- Texts and names (P2): what ties them to Unicode's tables and to XML's ranges is named in ARCHITECTURE.md.
 use Prim.Native.Nat.{ℕ, _+_, _-_, _*_, _/_, _^_, _≤_, _<_}
@@ -161,6 +163,16 @@ use Rattle.c_api.specs.declared.asking.AxmlPairsAnswer.{AxmlPairsAnswer}
 use Rattle.c_api.specs.Asking.{AsksMany}
 use Rattle.claims.specs.Askers.{Asker, MeetsAll, TwelveToAll}
 use Rattle.claims.proofs.Many as many
+use Rattle.records.specs.Words.{noParent}
+use Rattle.main_activities.specs.declared.MainAnswer.{MainAnswer}
+use Rattle.main_activities.specs.declared.MainAnswer.the-variants as mainIs
+use Rattle.main_activities.specs.Activities.{Tree, childrenOf, mainNumbersOf, mainAnswer, listAfter, MainReads}
+use Rattle.main_activities.proofs.Unique as started
+use Rattle.c_api.specs.declared.starting.AxmlMainAnswer.{AxmlMainAnswer}
+use Rattle.c_api.specs.Starting.{AsksMain}
+use Rattle.claims.specs.Screens as screens
+use Rattle.claims.proofs.Nested as nests
+use Rattle.claims.proofs.Screened as screened
 
 module _ (f : List ℕ) (lent : Lent) (ns ats : List ℕ) (os : List Note) (cap mode : ℕ) where
   pub read-unique : (r r′ : ReadAnswer) (ns₁ ns₂ ats₁ ats₂ : List ℕ) (os₁ os₂ : List Note) → Reads f lent ns ats os cap mode r ns₁ ats₁ os₁
@@ -733,3 +745,47 @@ pub many-meets-some : MeetsAll (λ f lent ns ats pairs area before nodes attribu
       list = answersAfter f lent ns ats nodes attributes pairs area (length before);
     })
 many-meets-some = many.many-meets-some
+
+-- ---- which screens start (S1 to S10)
+
+module _ (f : List ℕ) (lent : Lent) (items area ns ats before : List ℕ) (nodes attributes : ℕ) where
+  -- one answer, every word of the list included
+  pub main-unique : (r r′ : MainAnswer) (after after′ : List ℕ) → MainReads f lent items area ns ats before nodes attributes r after
+      → MainReads f lent items area ns ats before nodes attributes r′ after′ → (r ≡ r′) × (after ≡ after′)
+  main-unique r r′ after after′ = started.main-unique f lent items area ns ats before nodes attributes
+
+  pub c-main-unique : (a b : AxmlMainAnswer) (after after′ : List ℕ) → AsksMain f lent items area ns ats before nodes attributes a after
+      → AsksMain f lent items area ns ats before nodes attributes b after′ → (a ≡ b) × (after ≡ after′)
+  c-main-unique a b after after′ p q = (p .answer ∙ sym (q .answer), p .list ∙ sym (q .list))
+
+  -- zeros in the whole list on a refusal, and behind the names
+  pub main-refused-zeros : (x : Refusal) (after : List ℕ) → MainReads f lent items area ns ats before nodes attributes (mainIs.Refused x) after
+      → after ≡ replicate (length before) 0
+  main-refused-zeros = started.main-refused f lent items area ns ats before nodes attributes
+
+  pub main-done-zeros : (n : ℕ) (after : List ℕ) → MainReads f lent items area ns ats before nodes attributes (mainIs.Found n) after
+      → ZeroBehind 0 n before after
+  main-done-zeros n after p =
+      let d = started.main-done f lent items area ns ats before nodes attributes n after p in record { long = d .1; there = d .0; zeros = d .2 }
+
+pub main-numbers-unique : (a b : MainAnswer) → mainNumbersOf a ≡ mainNumbersOf b → a ≡ b
+main-numbers-unique = started.mainNumbersOf-unique
+
+-- on the tables of every reading the children of p are the records whose parent word is p, whatever else a tree over them has
+pub main-children : (f : List ℕ) (lent : Lent) (ns ats : List ℕ) (os : List Note) (cap mode : ℕ) (c : ReadCounts) (ns′ ats′ : List ℕ) (os′ : List Note)
+    → Reads f lent ns ats os cap mode (Done c) ns′ ats′ os′ → (w : Tree) → w .nodes ≡ ns′ → w .count ≡ c .nodes
+    → (p : ℕ) → p < c .nodes → p < noParent → childrenOf w p ≡ screens.withParent ns′ p 0 (c .nodes)
+main-children f lent ns ats os cap mode c ns′ ats′ os′ h w e q p l s =
+    rw (e, q) (nests.children ns′ (c .nodes) p (structured f lent ns ats os cap mode ns′ ats′ os′ c h .parents)
+    (nests.nested f lent ns ats os cap mode c ns′ ats′ os′ h) l s)
+
+-- one that gives every activity breaks the promise, which can be met: by the definition itself
+pub every-one-broken : (A : screens.Teller) → screens.MeetsAll A → screens.EveryOne A → ⊥
+every-one-broken = screened.every-one-broken
+
+pub main-meets-some : screens.MeetsAll (λ f lent items area ns ats before nodes attributes.
+    record {
+      answer = mainAnswer f lent items area ns ats nodes attributes (length before);
+      list = listAfter f lent items area ns ats nodes attributes (length before);
+    })
+main-meets-some = screened.main-meets-some

@@ -51,3 +51,5 @@ pub mod Relisted
 pub mod Claims
 pub mod Month
 pub mod Many
+pub mod Nested
+pub mod Screened

@@ -46,10 +46,10 @@ use Rattle.claims.proofs.StructureSaid.{walked-said, walked-twelve, wal
 -- ---- the kept records, and zeros behind them
 
 -- of tables with so many words to a record
-abbrev Same : ℕ → List ℕ → List ℕ → ℕ → Type 0
+abbrev pub Same : ℕ → List ℕ → List ℕ → ℕ → Type 0
 Same width w w′ n = (i k : ℕ) → i < n → k < width → word width w′ i k ≡ word width w i k
 
-kept-same : (width : ℕ) (w w′ z : List ℕ) (n : ℕ) → width * n ≤ length w → w′ ≡ take (width * n) w ++ z → Same width w w′ n
+pub kept-same : (width : ℕ) (w w′ z : List ℕ) (n : ℕ) → width * n ≤ length w → w′ ≡ take (width * n) w ++ z → Same width w w′ n
 kept-same width w w′ z n h e i k g l =
     let s : length (take (width * n) w) ≡ width * n = length-take-le (width * n) w h in
     let p : width * i + k < width * n = place-lt width n i k g l in

@@ -12,3 +12,4 @@ pub mod Month
 pub mod Modes
 pub mod Askers
 pub mod Relisted
+pub mod Screens
