@@ -8,6 +8,7 @@ int printf(const char *form, ...);
 int fprintf(FILE *to, const char *form, ...);
 FILE *fopen(const char *path, const char *mode);
 size_t fread(void *into, size_t size, size_t count, FILE *from);
+size_t fwrite(const void *from, size_t size, size_t count, FILE *to);
 char *fgets(char *into, int size, FILE *from);
 int ferror(FILE *file);
 int fflush(FILE *to);

@@ -4,4 +4,5 @@
 #include <stddef.h>
 void *calloc(size_t count, size_t size);
 void free(void *block);
+char *getenv(const char *name);
 #endif
