@@ -12,7 +12,9 @@ use borrow.Author.Tests.{not-true, not-false, lt-leb, le-leb, eq-eqb, ne-eqb}
 use lib.ListN.{length, take, drop, getD, length-drop, drop-of-length-le}
 use lib.Seq.{take-all}
 use lib.Dec.{leb, eqb}
+use Rattle.records.specs.Words.{itemWidth}
 use Rattle.utf.specs.Plain.{isAscii}
+use Rattle.utf.proofs.Ascii.{isAscii-drop, isAscii-take}
 use Rattle.items.specs.Items.{itemAt, itemsFrom, partIn, sameAttribute, isName, isNew, stands, isGood, ruleFrom, endOf, tableOf}
 use Rattle.items.specs.Inner.Back.{backTo}
 use Rattle.items.specs.declared.Item.{Item}
@@ -117,6 +119,11 @@ module _ (area : List ℕ) (start n : ℕ) where
   unfolding isName
   isName-by p q = let e : start + n - start ≡ n = omega arith in rw (le-leb 1 n p, le-leb (start + n) (length area) q, e)
 
+  pub isName-plain : isAscii area ≡ true → 1 ≤ n → start + n ≤ length area → isName area start n ≡ true
+  unfolding isName
+  isName-plain e p q =
+      rw (le-leb 1 n p, le-leb (start + n) (length area) q, isAscii-take n (drop start area) (isAscii-drop start area e))
+
 -- ---- a good item
 
 module _ (area : List ℕ) (before : List Item) (i : Item) where
@@ -182,12 +189,12 @@ module _ (area w : List ℕ) (end : ItemsRead) (n : ℕ) where
 
 -- the whole items, and then whether words remain
 module _ (area w : List ℕ) where
-  pub table-first : tableOf area w ≡ saidFrom area w (endOf w) (length w / 6) 0
+  pub table-first : tableOf area w ≡ saidFrom area w (endOf w) (length w / itemWidth) 0
   unfolding tableOf backTo
   table-first = rw sub-zero
 
-  pub table-rest : (length w % 6 ≡ 0 → ⊥) → endOf w ≡ Bad (length w / 6)
-  table-rest p = rw (ne-eqb (length w % 6) 0 p)
+  pub table-rest : (length w % itemWidth ≡ 0 → ⊥) → endOf w ≡ Bad (length w / itemWidth)
+  table-rest p = rw (ne-eqb (length w % itemWidth) 0 p)
 
-  pub table-whole : length w % 6 ≡ 0 → endOf w ≡ Good
-  table-whole p = rw (eq-eqb (length w % 6) 0 p)
+  pub table-whole : length w % itemWidth ≡ 0 → endOf w ≡ Good
+  table-whole p = rw (eq-eqb (length w % itemWidth) 0 p)

@@ -3,3 +3,4 @@ pub mod Laws
 pub mod FlagLaws
 pub mod Together
 pub mod TurnLaws
+pub mod RunLaws

@@ -10,6 +10,7 @@ use mathlib.Core.Bool.{Bool, true, false, cond, not, _&&_}
 use borrow.Author.Tests.{eqb-true, ltb-true, ltb-false, not-true}
 use lib.ListN.{length}
 use lib.Dec.{leb, eqb, ltb}
+use Rattle.records.specs.Words.{itemWidth}
 use Rattle.utf.specs.Plain.{isAscii}
 use Rattle.utf.specs.Text.{eqBytes}
 use Rattle.utf.proofs.Tables.{both-true}
@@ -26,32 +27,32 @@ use Rattle.items.proofs.Laws.{saidFrom, rule-step, table-first}
 module _ (area w : List ℕ) (good : tableOf area w ≡ Good) where
   said-good :
       (k : ℕ) →
-      k < length w / 6 →
-      saidFrom area w (endOf w) (length w / 6) k ≡ Good →
-      (isGood area (backTo w k) (itemAt w k) ≡ true) × (saidFrom area w (endOf w) (length w / 6) (k + 1) ≡ Good)
-  said-good k p e = go (isGood area (backTo w k) (itemAt w k)) refl (sym (rule-step area w (endOf w) (length w / 6) k p) ∙ e)
+      k < length w / itemWidth →
+      saidFrom area w (endOf w) (length w / itemWidth) k ≡ Good →
+      (isGood area (backTo w k) (itemAt w k) ≡ true) × (saidFrom area w (endOf w) (length w / itemWidth) (k + 1) ≡ Good)
+  said-good k p e = go (isGood area (backTo w k) (itemAt w k)) refl (sym (rule-step area w (endOf w) (length w / itemWidth) k p) ∙ e)
     where
       go :
           (b : Bool) →
           isGood area (backTo w k) (itemAt w k) ≡ b →
-          cond (isGood area (backTo w k) (itemAt w k)) (saidFrom area w (endOf w) (length w / 6) (k + 1)) (Bad k) ≡ Good →
-          (isGood area (backTo w k) (itemAt w k) ≡ true) × (saidFrom area w (endOf w) (length w / 6) (k + 1) ≡ Good)
+          cond (isGood area (backTo w k) (itemAt w k)) (saidFrom area w (endOf w) (length w / itemWidth) (k + 1)) (Bad k) ≡ Good →
+          (isGood area (backTo w k) (itemAt w k) ≡ true) × (saidFrom area w (endOf w) (length w / itemWidth) (k + 1) ≡ Good)
       go true q h = (q, rw q at h)
       go false q h =
           let h′ : Bad k ≡ Good = rw q at h in
           let z : _≡_ {A = ℕ} 0 1 = cc in
           absurd (let y : ⊥ = omega arith in y)
 
-  said-all : (k : ℕ) → k ≤ length w / 6 → saidFrom area w (endOf w) (length w / 6) k ≡ Good
+  said-all : (k : ℕ) → k ≤ length w / itemWidth → saidFrom area w (endOf w) (length w / itemWidth) k ≡ Good
   said-all zero p = sym (table-first area w) ∙ good
   said-all (suc k) p =
       let h = said-good k (omega arith) (said-all k (omega arith)) .1 in
       rw (← add-one k) h
 
-  pub good-at : (k : ℕ) → k < length w / 6 → isGood area (backTo w k) (itemAt w k) ≡ true
+  pub good-at : (k : ℕ) → k < length w / itemWidth → isGood area (backTo w k) (itemAt w k) ≡ true
   good-at k p = said-good k p (said-all k (omega arith)) .0
 
-  pub good-ascii : (k : ℕ) → k < length w / 6 → isAscii (attributeOf area (itemAt w k)) ≡ true
+  pub good-ascii : (k : ℕ) → k < length w / itemWidth → isAscii (attributeOf area (itemAt w k)) ≡ true
   unfolding isGood isName
   good-ascii k p = ascii-of (itemAt w k) (backTo w k) (good-at k p)
     where
@@ -91,7 +92,7 @@ module _ (area w : List ℕ) where
     pub all : (m : ℕ) → i ≤ m → m ≤ j → called m ≡ called j
 
   module _ (good : tableOf area w ≡ Good) where
-    good-stands : (k : ℕ) → k < length w / 6 → stands area (backTo w k) (itemAt w k) ≡ true
+    good-stands : (k : ℕ) → k < length w / itemWidth → stands area (backTo w k) (itemAt w k) ≡ true
     unfolding isGood
     good-stands k p = stands-of (itemAt w k) (backTo w k) (good-at area w good k p)
       where
@@ -102,7 +103,7 @@ module _ (area w : List ℕ) where
             let a = both-true (isName area (i .attribute) (i .«attribute_len»)) (name && last) e .1 in
             both-true (leb (i .kind) 1) (stands area before i) (both-true name last a .1) .1
 
-    pub together : (j i : ℕ) → j < length w / 6 → i < j → called i ≡ called j → Together i j
+    pub together : (j i : ℕ) → j < length w / itemWidth → i < j → called i ≡ called j → Together i j
     unfolding backTo
     together zero i p q e = absurd (let y : ⊥ = omega arith in y)
     together (suc k) i p q e = go (sameAttribute area (itemAt w k) (itemAt w (suc k))) refl (good-stands (suc k) p) (together k i (omega arith))

@@ -1,20 +1,15 @@
 -- Laws of specs/Inner/Turns.antt: the items of an attribute one after the other. No contract cites this file.
--- In order: a name's length; the items left (`rest-..`, `from-first`); one item of a flag (`turned-..`) and all of them (`going-..`); the
--- first item with a value (`valued-..`); what all of them say (`spoken-..`).
-use Prim.Native.Nat.{ℕ, zero, suc, _+_, _-_, _*_, _/_, _≤_, _<_, min}
+-- In order: a name's length; the items left of a run (`run-..`); one item of a flag (`turned-..`) and all of them (`going-..`); the
+-- first item with a value (`valued-..`); what all of them say (`spoken-..`). Which items are those of a name: proofs/RunLaws.antt.
+use Prim.Native.Nat.{ℕ, suc, _+_, _-_, _*_, _≤_, _<_}
 use mathlib.Core.Path.{_≡_, refl, sym, ap, _∙_}
 use mathlib.Core.List.{List, [], _∷_, _++_}
-use mathlib.Core.Bool.{Bool, true, false, cond, _&&_, _||_, and-false}
+use mathlib.Core.Bool.{Bool, true, false, cond, _||_}
 use native.Mathlib.Omega.{arith}
-use native.Mathlib.Nat.{sub-zero}
 use native.Mathlib.Numerals.{add-one}
 use borrow.Author.Tests.{eq-eqb, ne-eqb}
 use lib.ListN.{length, take, drop, length-append, length-take}
-use lib.Dec.{eqb}
 use lib.Bits.{bitXor}
-use Rattle.utf.specs.Text.{eqBytes}
-use Rattle.utf.proofs.Equal.{eqBytes-refl}
-use Rattle.utf.proofs.Tables.{both-true}
 use Rattle.digits.specs.Written.{Wrote}
 use Rattle.digits.proofs.Written.{wrote-none, wrote-more, wrote-append, Left, left-first, left-piece, left-none}
 use Rattle.items.specs.declared.Item.{Item}
@@ -22,10 +17,10 @@ use Rattle.items.specs.declared.Flags.{Flags}
 use Rattle.items.specs.declared.Said.{Said}
 use Rattle.items.specs.declared.EnumFound.{EnumFound}
 use Rattle.items.specs.declared.EnumFound.the-variants.{Named, Unnamed}
-use Rattle.items.specs.Items.{itemAt, itemsFrom, itemsOf, partIn, attributeOf, itemNameOf, sameAttribute, namedIn, enumOf}
+use Rattle.items.specs.Items.{itemAt, itemsFrom, partIn, itemNameOf, enumOf}
 use Rattle.items.specs.Flags.{takes, leftAfter, taken, leftOf, bitSum, uncovered, bar, joinedFrom, joined}
 use Rattle.items.specs.Values.{enumText, flagText, isSaid, said, attrText, uncoveredOf}
-use Rattle.items.specs.Inner.Turns.{restFrom, fromItem, isSome, turns, Turned, Put, Spoken}
+use Rattle.items.specs.Inner.Turns.{isSome, Turned, Put, Spoken}
 use Rattle.items.proofs.FlagLaws.{bitSum-le, bitSum-some, bitSum-apart, takes-true}
 
 -- ---- lengths
@@ -55,64 +50,37 @@ wrote-name {s = s} area i some h e a b =
 
 -- ---- the items left
 
-module _ (area name w : List ℕ) (k : ℕ) where
-  pub rest-step : k < length w / 6 → restFrom area name w k ≡ namedIn area name (itemAt w k ∷ itemsFrom w (k + 1) (length w / 6 - (k + 1)))
+module _ (w : List ℕ) (k end : ℕ) where
+  pub run-step : k < end → itemsFrom w k (end - k) ≡ itemAt w k ∷ itemsFrom w (k + 1) (end - (k + 1))
   unfolding itemsFrom
-  rest-step p = let e : length w / 6 - k ≡ suc (length w / 6 - (k + 1)) = omega arith in rw (e, add-one k)
+  run-step p = let e : end - k ≡ suc (end - (k + 1)) = omega arith in rw (e, add-one k)
 
-  pub rest-skip : k < length w / 6 → eqBytes (attributeOf area (itemAt w k)) name ≡ false → restFrom area name w k ≡ restFrom area name w (k + 1)
-  unfolding namedIn
-  rest-skip p e = rest-step p ∙ rw e
-
-  pub rest-end : length w / 6 ≤ k → restFrom area name w k ≡ []
-  unfolding itemsFrom namedIn
-  rest-end p = let e : length w / 6 - k ≡ 0 = omega arith in rw e
-
-pub rest-all : (area name w : List ℕ) → namedIn area name (itemsOf w) ≡ restFrom area name w 0
-rest-all area name w = sym (rw sub-zero)
-
-pub start :
-    (area w : List ℕ) (first : ℕ) {head : Item} →
-    head ≡ itemAt w first →
-    restFrom area (attributeOf area head) w first ≡ fromItem area w first
-start area w first e = rw e
-
-pub from-first :
-    (area w : List ℕ) (first : ℕ) →
-    first < length w / 6 →
-    fromItem area w first ≡ itemAt w first ∷ restFrom area (attributeOf area (itemAt w first)) w (first + 1)
-unfolding namedIn
-from-first area w first p =
-    let name = attributeOf area (itemAt w first) in
-    rest-step area name w first p ∙ rw (eqBytes-refl name)
+  pub run-end : end ≤ k → itemsFrom w k (end - k) ≡ []
+  unfolding itemsFrom
+  run-end p = let e : end - k ≡ 0 = omega arith in rw e
 
 -- ---- one item of a flag
 
-module _ (area : List ℕ) (head i : Item) (st : Flags) (l l′ : List ℕ) {b : Bool} (e : b ≡ turns area head i (st .left)) where
+module _ (area : List ℕ) (i : Item) (st : Flags) (l l′ : List ℕ) {b : Bool} (e : b ≡ takes (st .left) (i .value)) where
   pub turned-name :
       {at : ℕ} →
       b ≡ true →
       Wrote 4294967296 (st .at) (bar (st .some) ++ itemNameOf area i) l at l′ →
-      Turned area head i st l (record { at = at; left = bitXor (st .left) (i .value); some = true }) l′
-  turned-name t w = let f : turns area head i (st .left) ≡ true = sym e ∙ t in record { left = rw f; some = rw f; wrote = rw f w }
+      Turned area i st l (record { at = at; left = bitXor (st .left) (i .value); some = true }) l′
+  turned-name t w = let f : takes (st .left) (i .value) ≡ true = sym e ∙ t in record { left = rw f; some = rw f; wrote = rw f w }
 
-  pub turned-none : b ≡ false → Turned area head i st l st l
+  pub turned-none : b ≡ false → Turned area i st l st l
   turned-none t =
-      let f : turns area head i (st .left) ≡ false = sym e ∙ t in
+      let f : takes (st .left) (i .value) ≡ false = sym e ∙ t in
       record { left = rw f; some = rw f; wrote = rw f (wrote-none 4294967296 (st .at) l) }
 
 -- what an item changes in what is left to be said
-pub record Changes (area : List ℕ) (head i : Item) (left : ℕ) (some b : Bool) (is : List Item) : Type 0 where
+pub record Changes (area : List ℕ) (i : Item) (left : ℕ) (some b : Bool) (is : List Item) : Type 0 where
   pub says :
-      joinedFrom area some (taken left (namedIn area (attributeOf area head) (i ∷ is)))
-      ≡ cond b (bar some ++ itemNameOf area i) []
-      ++ joinedFrom area (b || some) (taken (cond b (bitXor left (i .value)) left) (namedIn area (attributeOf area head) is))
-  pub leaves :
-      leftOf left (namedIn area (attributeOf area head) (i ∷ is))
-      ≡ leftOf (cond b (bitXor left (i .value)) left) (namedIn area (attributeOf area head) is)
-  pub any :
-      (some || isSome (taken left (namedIn area (attributeOf area head) (i ∷ is))))
-      ≡ ((b || some) || isSome (taken (cond b (bitXor left (i .value)) left) (namedIn area (attributeOf area head) is)))
+      joinedFrom area some (taken left (i ∷ is))
+      ≡ cond b (bar some ++ itemNameOf area i) [] ++ joinedFrom area (b || some) (taken (cond b (bitXor left (i .value)) left) is)
+  pub leaves : leftOf left (i ∷ is) ≡ leftOf (cond b (bitXor left (i .value)) left) is
+  pub any : (some || isSome (taken left (i ∷ is))) ≡ ((b || some) || isSome (taken (cond b (bitXor left (i .value)) left) is))
 
 or-true : (b : Bool) → (b || true) ≡ true
 or-true true = refl
@@ -123,20 +91,16 @@ or-false true = refl
 or-false false = refl
 
 changes :
-    (area : List ℕ) (head i : Item) (left : ℕ) (some : Bool) (is : List Item) (a b : Bool) →
-    sameAttribute area i head ≡ a →
+    (area : List ℕ) (i : Item) (left : ℕ) (some : Bool) (is : List Item) (b : Bool) →
     takes left (i .value) ≡ b →
-    Changes area head i left some (a && b) is
-unfolding namedIn taken leftOf joinedFrom
-changes area head i left some is false b e f = record { says = rw e; leaves = rw e; any = rw e }
-changes area head i left some is true false e f =
+    Changes area i left some b is
+unfolding taken leftOf joinedFrom
+changes area i left some is false f =
     let z : leftAfter left (i .value) ≡ left = rw f in
-    let rest = namedIn area (attributeOf area head) is in
-    record { says = rw (e, f); leaves = rw e (ap (λ (x : ℕ). leftOf x rest) z); any = rw (e, f) }
-changes area head i left some is true true e f =
+    record { says = rw f; leaves = ap (λ (x : ℕ). leftOf x is) z; any = rw f }
+changes area i left some is true f =
     let z : leftAfter left (i .value) ≡ bitXor left (i .value) = rw f in
-    let rest = namedIn area (attributeOf area head) is in
-    record { says = rw (e, f); leaves = rw e (ap (λ (x : ℕ). leftOf x rest) z); any = rw (e, f) (or-true some) }
+    record { says = rw f; leaves = ap (λ (x : ℕ). leftOf x is) z; any = rw f (or-true some) }
 
 -- ---- all of them
 
@@ -160,16 +124,16 @@ module _ (area : List ℕ) (n : ℕ) (all : List Item) (p₀ : ℕ) (l₀ : List
   going-near g = omega (arith, g .room, bitSum-le 32 n)
 
   -- one item more
-  module _ (head i : Item) (is : List Item) {st r : Flags} {l l′ : List ℕ} where
+  module _ (i : Item) (is : List Item) {st r : Flags} {l l′ : List ℕ} where
     going-next :
-        Going area n all p₀ l₀ (namedIn area (attributeOf area head) (i ∷ is)) st l →
-        Turned area head i st l r l′ →
-        Going area n all p₀ l₀ (namedIn area (attributeOf area head) is) r l′
-    going-next g t = go (turns area head i (st .left)) refl
+        Going area n all p₀ l₀ (i ∷ is) st l →
+        Turned area i st l r l′ →
+        Going area n all p₀ l₀ is r l′
+    going-next g t = go (takes (st .left) (i .value)) refl
       where
-        go : (b : Bool) → turns area head i (st .left) ≡ b → Going area n all p₀ l₀ (namedIn area (attributeOf area head) is) r l′
+        go : (b : Bool) → takes (st .left) (i .value) ≡ b → Going area n all p₀ l₀ is r l′
         go b e =
-            let d = changes area head i (st .left) (st .some) is (sameAttribute area i head) (takes (st .left) (i .value)) refl refl in
+            let d = changes area i (st .left) (st .some) is (takes (st .left) (i .value)) refl in
             let m = room b e in
             record {
               text = rw (t .left, t .some) (left-piece (g .text) (d .says) (t .wrote));
@@ -181,10 +145,10 @@ module _ (area : List ℕ) (n : ℕ) (all : List Item) (p₀ : ℕ) (l₀ : List
           where
             room :
                 (b : Bool) →
-                turns area head i (st .left) ≡ b →
+                takes (st .left) (i .value) ≡ b →
                 (r .at + 4294967296 * bitSum 32 (r .left) ≤ p₀ + 4294967296 * bitSum 32 n) × (r .left < 4294967296)
             room true f =
-                let k = takes-true (st .left) (i .value) (both-true (sameAttribute area i head) (takes (st .left) (i .value)) f .1) in
+                let k = takes-true (st .left) (i .value) f in
                 let x : r .left ≡ st .left - i .value = t .left ∙ rw f (k .less) in
                 let y = bitSum-apart 32 (st .left) (i .value) (k .part) in
                 let z = bitSum-some 32 (i .value) (omega (arith, k .fits, g .low)) (k .some) in
@@ -196,11 +160,11 @@ module _ (area : List ℕ) (n : ℕ) (all : List Item) (p₀ : ℕ) (l₀ : List
 
     pub going-step :
         {rest : List Item} {j : Item} →
-        rest ≡ namedIn area (attributeOf area head) (i ∷ is) →
+        rest ≡ i ∷ is →
         j ≡ i →
         Going area n all p₀ l₀ rest st l →
-        Turned area head j st l r l′ →
-        Going area n all p₀ l₀ (namedIn area (attributeOf area head) is) r l′
+        Turned area j st l r l′ →
+        Going area n all p₀ l₀ is r l′
     going-step e q g t = going-next (rw e at g) (rw q at t)
 
   pub going-done : {rest : List Item} {st : Flags} {l : List ℕ} → rest ≡ [] → Going area n all p₀ l₀ rest st l → Put area n all p₀ l₀ st l
@@ -216,35 +180,14 @@ module _ (area : List ℕ) (n : ℕ) (all : List Item) (p₀ : ℕ) (l₀ : List
 
 -- ---- the first item with a value
 
-module _
-    (area : List ℕ) (v : ℕ) (head i : Item) (is : List Item) {j : Item} {b : Bool}
-    (q : j ≡ i)
-    (e′ : b ≡ (sameAttribute area j head && eqb (j .value) v))
-  where
-    e : b ≡ (sameAttribute area i head && eqb (i .value) v)
-    e = rw q at e′
+module _ (v : ℕ) (i : Item) (is : List Item) {j : Item} (q : j ≡ i) where
+  pub valued-here : j .value ≡ v → enumOf v (i ∷ is) ≡ Named i
+  unfolding enumOf
+  valued-here e = let f : i .value ≡ v = rw q at e in rw (eq-eqb (i .value) v f)
 
-    pub valued-here : b ≡ true → enumOf v (namedIn area (attributeOf area head) (i ∷ is)) ≡ Named i
-    unfolding namedIn enumOf
-    valued-here t = let p = both-true (sameAttribute area i head) (eqb (i .value) v) (sym e ∙ t) in rw (p .0, p .1)
-
-    pub valued-next : b ≡ false → enumOf v (namedIn area (attributeOf area head) (i ∷ is)) ≡ enumOf v (namedIn area (attributeOf area head) is)
-    unfolding namedIn enumOf
-    valued-next t = go (sameAttribute area i head) refl (eqb (i .value) v) refl
-      where
-        go :
-            (x : Bool) →
-            sameAttribute area i head ≡ x →
-            (y : Bool) →
-            eqb (i .value) v ≡ y →
-            enumOf v (namedIn area (attributeOf area head) (i ∷ is)) ≡ enumOf v (namedIn area (attributeOf area head) is)
-        go false p y q = rw p
-        go true p false q = rw (p, q)
-        go true p true q =
-            let f : (sameAttribute area i head && eqb (i .value) v) ≡ true = rw (p, q) in
-            let g : _≡_ {A = Bool} true false = sym f ∙ sym e ∙ t in
-            let z : _≡_ {A = ℕ} 0 1 = cc in
-            absurd (let c : ⊥ = omega arith in c)
+  pub valued-next : (j .value ≡ v → ⊥) → enumOf v (i ∷ is) ≡ enumOf v is
+  unfolding enumOf
+  valued-next e = let f : i .value ≡ v → ⊥ = rw q at e in rw (ne-eqb (i .value) v f)
 
 -- ---- what all of them say
 
@@ -256,6 +199,13 @@ said-flags area (i ∷ is) = refl
 isSaid-flags : (area : List ℕ) (is : List Item) → isSaid (flagText area is) ≡ isSome is
 isSaid-flags area [] = refl
 isSaid-flags area (i ∷ is) = refl
+
+pub spoken-none :
+    (area : List ℕ) (v : ℕ) (l : List ℕ) {is : List Item} →
+    is ≡ [] →
+    Spoken area v is l (record { some = false; length = 0; uncovered = 0 }) l
+unfolding attrText uncoveredOf
+spoken-none area v l e = rw e (record { text = wrote-none 137438953472 0 l; some = refl; uncovered = refl })
 
 module _
     (area : List ℕ) (v : ℕ) (i : Item) (js : List Item) {is : List Item} {head : Item}

@@ -15,6 +15,7 @@ use mathlib.Core.List.{List, [], _∷_}
 use mathlib.Core.Bool.{Bool, true, false, cond, not, _&&_}
 use lib.ListN.{length, take, drop, getD}
 use lib.Dec.{leb, eqb}
+use Rattle.records.specs.Words.{itemWidth, itemAttribute, itemAttributeLength, itemKind, itemName, itemNameLength, itemValue}
 use Rattle.utf.specs.Text.{eqBytes}
 use Rattle.utf.specs.Plain.{isAscii}
 use Rattle.items.specs.declared.Item.{Item}
@@ -28,12 +29,12 @@ use Rattle.items.specs.declared.EnumFound.the-variants.{Named, Unnamed}
 unfoldable pub itemAt : List ℕ → ℕ → Item
 itemAt w k =
     record {
-      attribute = getD w (6 * k) 0;
-      «attribute_len» = getD w (6 * k + 1) 0;
-      kind = getD w (6 * k + 2) 0;
-      name = getD w (6 * k + 3) 0;
-      «name_len» = getD w (6 * k + 4) 0;
-      value = getD w (6 * k + 5) 0;
+      attribute = getD w (itemWidth * k + itemAttribute) 0;
+      «attribute_len» = getD w (itemWidth * k + itemAttributeLength) 0;
+      kind = getD w (itemWidth * k + itemKind) 0;
+      name = getD w (itemWidth * k + itemName) 0;
+      «name_len» = getD w (itemWidth * k + itemNameLength) 0;
+      value = getD w (itemWidth * k + itemValue) 0;
     }
 
 -- n items from number k on
@@ -42,7 +43,7 @@ itemsFrom w k zero = []
 itemsFrom w k (suc n) = itemAt w k ∷ itemsFrom w (suc k) n
 
 abbrev pub itemsOf : List ℕ → List Item
-itemsOf w = itemsFrom w 0 (length w / 6)
+itemsOf w = itemsFrom w 0 (length w / itemWidth)
 
 -- n bytes of the area, or as many of them as it has
 abbrev pub partIn : List ℕ → ℕ → ℕ → List ℕ
@@ -83,7 +84,7 @@ ruleFrom area end before k (i ∷ is) = cond (isGood area before i) (ruleFrom ar
 
 -- words that remain behind the whole items
 abbrev pub endOf : List ℕ → ItemsRead
-endOf w = cond (eqb (length w % 6) 0) Good (Bad (length w / 6))
+endOf w = cond (eqb (length w % itemWidth) 0) Good (Bad (length w / itemWidth))
 
 unfoldable pub tableOf : List ℕ → List ℕ → ItemsRead
 tableOf area w = ruleFrom area (endOf w) [] 0 (itemsOf w)

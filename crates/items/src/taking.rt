@@ -5,15 +5,15 @@ use super::Flags;
 use super::Item;
 use super::item_at;
 use super::part_of;
-use super::same_attribute;
 ghost use mathlib.Core.Path.{_≡_};
 ghost use mathlib.Core.List.{_++_};
-ghost use Prim.Native.Nat.{_+_, _*_, _≤_, _<_};
+ghost use Prim.Native.Nat.{_-_, _*_, _≤_, _<_};
 ghost use lib.ListN.{length};
 ghost use Rattle.digits.specs.Written.{Wrote};
-ghost use Rattle.items.specs.Items.{itemNameOf};
+ghost use Rattle.records.specs.Words.{itemWidth};
+ghost use Rattle.items.specs.Items.{itemNameOf, itemsFrom};
 ghost use Rattle.items.specs.Flags.{takes, bar};
-ghost use Rattle.items.specs.Inner.Turns.{fromItem, turns, Turned, Put};
+ghost use Rattle.items.specs.Inner.Turns.{Turned, Put};
 use digits::put_byte;
 use digits::put_bytes;
 
@@ -46,22 +46,12 @@ fn put_name(out: &mut [u8], p: usize, area: &[u8], i: Item, some: bool) -> usize
     put_bytes(out, at, part_of(area, i.name, i.name_len))
 }
 
-// Whether i is of the attribute of `head`, and is taken of what is left.
-fn is_turn(area: &[u8], head: Item, i: Item, left: u32) -> bool
-    ensures { λ r. ⌜ r ≡ turns (now (area .entry)) head i left ⌝ }
-{
-    if same_attribute(area, i, head) {
-        return is_taken(left, i.value);
-    }
-    false
-}
-
-// One item, of any attribute.
-fn put_turn(out: &mut [u8], area: &[u8], head: Item, i: Item, st: Flags) -> Flags
+// One item.
+fn put_turn(out: &mut [u8], area: &[u8], i: Item, st: Flags) -> Flags
     requires { ⌜ st .at < 9223372036854775808 ⌝ }
-    ensures { λ r. ⌜ Turned (now (area .entry)) head i st (now (out .entry)) r (now (out .exit)) ⌝ }
+    ensures { λ r. ⌜ Turned (now (area .entry)) i st (now (out .entry)) r (now (out .exit)) ⌝ }
 {
-    if is_turn(area, head, i, st.left) {
+    if is_taken(st.left, i.value) {
         let at = put_name(out, st.at, area, i, st.some);
         return Flags {
             at,
@@ -72,7 +62,7 @@ fn put_turn(out: &mut [u8], area: &[u8], head: Item, i: Item, st: Flags) -> Flag
     st
 }
 
-// The names of the items taken, of the attribute of the item `first`, from a place on.
+// The names of the items taken, of those from number `first` up to `end`, from a place on.
 // Ruled out: an item of value 0 among them, and a bit taken twice.
 pub fn put_flags(
     out: &mut [u8],
@@ -80,22 +70,21 @@ pub fn put_flags(
     items: &[u32],
     area: &[u8],
     first: usize,
+    end: usize,
     flags: u32,
 ) -> Flags
-    requires { ⌜ (p < 4611686018427387904) × (6 * first + 6 ≤ length (now items)) ⌝ }
-    ensures { λ r. ⌜ Put (now (area .entry)) flags (fromItem (now (area .entry)) (now (items .entry)) first) p (now (out .entry)) r (now (out .exit)) ⌝ }
+    requires { ⌜ (p < 4611686018427387904) × (itemWidth * end ≤ length (now items)) ⌝ }
+    ensures { λ r. ⌜ Put (now (area .entry)) flags (itemsFrom (now (items .entry)) first (end - first)) p (now (out .entry)) r (now (out .exit)) ⌝ }
 {
-    let whole = items.len() / 6;
-    let head = item_at(items, first);
     let mut st = Flags {
         at: p,
         left: flags,
         some: false,
     };
     let mut k = first;
-    while k < whole {
+    while k < end {
         let i = item_at(items, k);
-        st = put_turn(out, area, head, i, st);
+        st = put_turn(out, area, i, st);
         k += 1;
     }
     st

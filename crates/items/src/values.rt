@@ -4,46 +4,32 @@
 // into a lent buffer. Definitions: specs/Values.antt.
 use super::EnumFound;
 use super::Flags;
-use super::Item;
+use super::Run;
 use super::Said;
 use super::item_at;
 use super::part_of;
-use super::same_attribute;
 use super::taking::put_flags;
 ghost use mathlib.Core.Path.{_≡_};
-ghost use mathlib.Core.Bool.{_&&_};
-ghost use Prim.Native.Nat.{_+_, _*_, _≤_};
-ghost use lib.Dec.{eqb};
+ghost use Prim.Native.Nat.{_-_, _*_, _≤_};
 ghost use lib.ListN.{length};
 ghost use Rattle.digits.specs.Written.{Wrote};
-ghost use Rattle.items.specs.Items.{sameAttribute, enumOf};
+ghost use Rattle.records.specs.Words.{itemWidth};
+ghost use Rattle.items.specs.Items.{itemsFrom, enumOf};
 ghost use Rattle.items.specs.Flags.{bitSum};
 ghost use Rattle.items.specs.Values.{enumText};
-ghost use Rattle.items.specs.Inner.Turns.{fromItem, Spoken};
+ghost use Rattle.items.specs.Inner.Turns.{runItems, Spoken};
 use digits::put_bytes;
 use digits::put_word;
 
-// Whether i is of the attribute of `head` and has the value.
-fn is_valued(area: &[u8], head: Item, i: Item, value: u32) -> bool
-    ensures { λ r. ⌜ r ≡ (sameAttribute (now (area .entry)) i head && eqb (i .value) value) ⌝ }
+// The first item with a value, of those from number `first` up to `end`.
+fn find_value(items: &[u32], first: usize, end: usize, value: u32) -> EnumFound
+    requires { ⌜ itemWidth * end ≤ length (now items) ⌝ }
+    ensures { λ r. ⌜ r ≡ enumOf value (itemsFrom (now (items .entry)) first (end - first)) ⌝ }
 {
-    if same_attribute(area, i, head) {
-        return i.value == value;
-    }
-    false
-}
-
-// The first item with a value, of the attribute of the item `first`.
-fn find_value(items: &[u32], area: &[u8], first: usize, value: u32) -> EnumFound
-    requires { ⌜ 6 * first + 6 ≤ length (now items) ⌝ }
-    ensures { λ r. ⌜ r ≡ enumOf value (fromItem (now (area .entry)) (now (items .entry)) first) ⌝ }
-{
-    let whole = items.len() / 6;
-    let head = item_at(items, first);
     let mut k = first;
-    while k < whole {
+    while k < end {
         let i = item_at(items, k);
-        if is_valued(area, head, i, value) {
+        if i.value == value {
             return EnumFound::Named(i);
         }
         k += 1;
@@ -77,15 +63,22 @@ fn said_flags(st: Flags) -> Said
     }
 }
 
-// What the items of the attribute of the item `first` say of a value, at the front of a buffer; where they say nothing, it stays.
+// What items that are all of one attribute say of a value, at the front of a buffer; where they say nothing, it stays.
 // Ruled out: the last of two items with the value, and no bit uncovered where no item was taken.
-pub fn attr_value(out: &mut [u8], items: &[u32], area: &[u8], first: usize, value: u32) -> Said
-    requires { ⌜ 6 * first + 6 ≤ length (now items) ⌝ }
-    ensures { λ r. ⌜ Spoken (now (area .entry)) value (fromItem (now (area .entry)) (now (items .entry)) first) (now (out .entry)) r (now (out .exit)) ⌝ }
+pub fn attr_value(out: &mut [u8], items: &[u32], area: &[u8], run: Run, value: u32) -> Said
+    requires { ⌜ itemWidth * (run .end) ≤ length (now items) ⌝ }
+    ensures { λ r. ⌜ Spoken (now (area .entry)) value (runItems (now (items .entry)) run) (now (out .entry)) r (now (out .exit)) ⌝ }
 {
-    let head = item_at(items, first);
+    if run.end <= run.first {
+        return Said {
+            some: false,
+            length: 0,
+            uncovered: 0,
+        };
+    }
+    let head = item_at(items, run.first);
     if head.kind == 0 {
-        let found = find_value(items, area, first, value);
+        let found = find_value(items, run.first, run.end, value);
         let length = put_enum(out, area, found, value);
         return Said {
             some: true,
@@ -93,5 +86,5 @@ pub fn attr_value(out: &mut [u8], items: &[u32], area: &[u8], first: usize, valu
             uncovered: 0,
         };
     }
-    said_flags(put_flags(out, 0, items, area, first, value))
+    said_flags(put_flags(out, 0, items, area, run.first, run.end, value))
 }

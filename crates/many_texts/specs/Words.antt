@@ -1,4 +1,4 @@
--- words of an answer
+-- The six words of an answer, by name: docs/FORMAT.md, V13. src/lib.rt has the same numbers in code.
 use Prim.Native.Nat.{ℕ}
 use mathlib.Core.List.{List, [], _∷_}
 

@@ -3,6 +3,11 @@
 // Mirrors nothing of the Rust's, which makes a string of its own for each value. Answers: `ManyTexts`, how many there are and the bytes of
 // all their texts, or why there are none; the answer to each question is six words. Names, items and head are checked once for all of
 // them. Definitions: specs/Many.antt.
+pub mod known;
+
+use known::KNOWN;
+use known::Looked;
+use known::look_up;
 ghost use mathlib.Core.Path.{_≡_};
 ghost use mathlib.Core.Bool.{cond};
 ghost use mathlib.Core.List.{List, [], _++_};
@@ -18,9 +23,11 @@ ghost use Rattle.text.specs.Content.{contentOf};
 ghost use Rattle.text.specs.Inner.Found.{Asks};
 ghost use Rattle.items.specs.Items.{tableOf};
 ghost use Rattle.items.specs.declared.ItemsRead.the-variants.{Good};
+ghost use Rattle.items.specs.Inner.Firsts.{Firsts};
 ghost use Rattle.value_text.specs.Value.{Value, shows, shown, valueOf};
 ghost use Rattle.value_text.specs.Inner.Leads.{Tells, toldOf};
 ghost use Rattle.many_texts.specs.Many.{valueIn, attributeAt, wordsAt, manyBy, mostBytes, mostCount, ReadsValues, ReadsTexts};
+ghost use Rattle.many_texts.specs.Inner.Known.{Knows};
 ghost use Rattle.many_texts.specs.Inner.Going.{TellsAt, Puts, Done, Gives, recordValue, indexValue};
 use common::StringIndex;
 use digits::zero;
@@ -33,6 +40,9 @@ use head::OpenRead;
 use head::found_told;
 use head::open_file;
 use head::tables_of;
+use items::NO_ITEM;
+use items::PLACES;
+use items::put_firsts;
 use records::ATTRIBUTE_DATA;
 use records::ATTRIBUTE_NAME;
 use records::ATTRIBUTE_NAMESPACE;
@@ -48,10 +58,23 @@ use text::found_into;
 use text::is_found;
 use value_text::Attribute;
 use value_text::Told;
+use value_text::named_into;
 use value_text::open_value;
-use value_text::value_into;
+use value_text::uri_into;
 
 pub const ANSWER_WORDS: usize = 6;
+
+const ANSWER_REFUSAL: usize = 0;
+// where its text begins
+const ANSWER_START: usize = 1;
+// the bytes of its text
+const ANSWER_LENGTH: usize = 2;
+
+const ANSWER_UNCOVERED: usize = 3;
+
+const ANSWER_STATE: usize = 4;
+
+const ANSWER_REPLACED: usize = 5;
 
 // ---- the words of an answer
 
@@ -69,12 +92,12 @@ fn put_answer(
     ensures { λ _. ⌜ now (words .exit)
         ≡ take i (now (words .entry)) ++ answerWords refusal start bytes uncovered state replaced ++ drop (i + answerWidth) (now (words .entry)) ⌝ }
 {
-    words[i + 0] = refusal;
-    words[i + 1] = start;
-    words[i + 2] = bytes;
-    words[i + 3] = uncovered;
-    words[i + 4] = state;
-    words[i + 5] = replaced;
+    words[i + ANSWER_REFUSAL] = refusal;
+    words[i + ANSWER_START] = start;
+    words[i + ANSWER_LENGTH] = bytes;
+    words[i + ANSWER_UNCOVERED] = uncovered;
+    words[i + ANSWER_STATE] = state;
+    words[i + ANSWER_REPLACED] = replaced;
 }
 
 // The place behind a text of n bytes, as far as it can be counted.
@@ -175,6 +198,59 @@ pub fn attribute_at(attributes: &[u32], k: usize) -> Attribute
     }
 }
 
+// The text of an attribute's value at the front of a buffer, as `value_text::value_into` has it; what stands behind it is anything. The items of
+// its name are looked up with what is known of the names before (known.rt).
+fn value_by(
+    t: &[u8],
+    names: &[u32],
+    area: &[u8],
+    h: Head,
+    items: &[u32],
+    item_area: &[u8],
+    firsts: &[usize],
+    starts: &mut [usize],
+    ends: &mut [usize],
+    out: &mut [u8],
+    a: Attribute,
+) -> Told
+    requires { ⌜ Asks (now t) (lends (now names) (now area)) h × (tableOf (now «item_area») (now items) ≡ Good)
+        × Firsts (now «item_area») (now items) (now firsts) × Knows h (now t) (lends (now names) (now area)) (now items) (now «item_area») (now starts) (now ends) ⌝ }
+    ensures { λ r. ⌜ Tells (valueOf h (now (t .entry)) (lends (now (names .entry)) (now (area .entry))) (now (items .entry)) (now («item_area» .entry)) a)
+        (now (out .entry)) r (now (out .exit))
+        × Knows h (now (t .entry)) (lends (now (names .entry)) (now (area .entry))) (now (items .entry)) (now («item_area» .entry)) (now (starts .exit)) (now (ends .exit)) ⌝ }
+{
+    if a.prefix == 2 {
+        return uri_into(out);
+    }
+    let looked = look_up(
+        t,
+        names,
+        area,
+        h,
+        items,
+        item_area,
+        firsts,
+        starts,
+        ends,
+        a.name,
+    );
+    match looked {
+        Looked::NoName => Told::NoName,
+        Looked::At(run) => named_into(
+            t,
+            names,
+            area,
+            h,
+            items,
+            item_area,
+            out,
+            run,
+            a.kind,
+            a.data,
+        ),
+    }
+}
+
 fn value_at(
     t: &[u8],
     names: &[u32],
@@ -182,16 +258,33 @@ fn value_at(
     h: Head,
     items: &[u32],
     item_area: &[u8],
+    firsts: &[usize],
+    starts: &mut [usize],
+    ends: &mut [usize],
     out: &mut [u8],
     at: usize,
     a: Attribute,
 ) -> Told
-    requires { ⌜ Asks (now t) (lends (now names) (now area)) h × (tableOf (now «item_area») (now items) ≡ Good) ⌝ }
+    requires { ⌜ Asks (now t) (lends (now names) (now area)) h × (tableOf (now «item_area») (now items) ≡ Good)
+        × Firsts (now «item_area») (now items) (now firsts) × Knows h (now t) (lends (now names) (now area)) (now items) (now «item_area») (now starts) (now ends) ⌝ }
     ensures { λ r. ⌜ TellsAt at (valueOf h (now (t .entry)) (lends (now (names .entry)) (now (area .entry))) (now (items .entry)) (now («item_area» .entry)) a)
-        (now (out .entry)) r (now (out .exit)) ⌝ }
+        (now (out .entry)) r (now (out .exit))
+        × Knows h (now (t .entry)) (lends (now (names .entry)) (now (area .entry))) (now (items .entry)) (now («item_area» .entry)) (now (starts .exit)) (now (ends .exit)) ⌝ }
 {
     let from = within(at, out.len());
-    value_into(t, names, area, h, items, item_area, &mut out[from..], a)
+    value_by(
+        t,
+        names,
+        area,
+        h,
+        items,
+        item_area,
+        firsts,
+        starts,
+        ends,
+        &mut out[from..],
+        a,
+    )
 }
 
 // The text of a string index at the front of a buffer; what stands behind it is anything.
@@ -240,16 +333,19 @@ fn put_values(
     h: Head,
     items: &[u32],
     item_area: &[u8],
+    firsts: &[usize],
     attributes: &[u32],
     out: &mut [u8],
     answers: &mut [u32],
     count: usize,
 ) -> usize
     requires { ⌜ Asks (now t) (lends (now names) (now area)) h × (tableOf (now «item_area») (now items) ≡ Good)
-        × (attributeWidth * count ≤ length (now attributes)) × (answerWidth * count ≤ length (now answers)) ⌝ }
+        × Firsts (now «item_area») (now items) (now firsts) × (attributeWidth * count ≤ length (now attributes)) × (answerWidth * count ≤ length (now answers)) ⌝ }
     ensures { λ r. ⌜ Done (recordValue h (now (t .entry)) (lends (now (names .entry)) (now (area .entry))) (now (items .entry)) (now («item_area» .entry)) (now (attributes .entry)))
         (length (now (out .entry))) (length (now (answers .entry))) count r (now (out .exit)) (now (answers .exit)) ⌝ }
 {
+    let mut starts = [0usize; KNOWN];
+    let mut ends = [0usize; KNOWN];
     let mut at: usize = 0;
     let mut k: usize = 0;
     while k < count {
@@ -260,6 +356,9 @@ fn put_values(
             h,
             items,
             item_area,
+            firsts,
+            &mut starts,
+            &mut ends,
             out,
             at,
             attribute_at(attributes, k),
@@ -353,6 +452,8 @@ fn values_in(
     if places < count {
         return refuse(out, answers, Refusal::AnswersFull(places));
     }
+    let mut firsts = [NO_ITEM; PLACES];
+    put_firsts(items, item_area, &mut firsts);
     let at = put_values(
         t,
         names,
@@ -360,6 +461,7 @@ fn values_in(
         h,
         items,
         item_area,
+        &firsts,
         attributes,
         out,
         answers,

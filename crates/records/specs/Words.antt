@@ -1,7 +1,7 @@
--- The words of a record, by name: docs/FORMAT.md, B9, B11, B12, N4, M1, M4. The one place that knows them; src/lib.rt has the same numbers in code.
+-- The words of a record, by name: docs/FORMAT.md, B9, B11, B12, N4, V3, M1, M4. The one place that knows them; src/lib.rt has the same numbers in code.
 --
 --   nodeWidth, nodeName ..            how many words a node has, and the place of each; attributeWidth .., noteWidth .., nameWidth .. likewise,
---                                     and pairWidth .., answerWidth ..: of a pair of a question, and of the answer to it
+--                                     and itemWidth .., pairWidth .., answerWidth ..: of a lent item, of a pair of a question, and of the answer to it
 --   nodeWords, attributeWords, noteWords, nameWords, answerWords   the words of a record in their order
 --   noParent                          the parent word of the first node
 --   ownPrefix                         the prefix word of an attribute of a namespace that is not Android's, in the mode that tells it
@@ -113,6 +113,34 @@ nameLength = 2
 
 abbrev pub nameWords : ℕ → ℕ → ℕ → List ℕ
 nameWords id start length = id ∷ start ∷ length ∷ []
+
+-- ---- a lent item: a named value of an attribute
+
+abbrev pub itemWidth : ℕ
+itemWidth = 6
+
+-- where the attribute's name begins in the area
+abbrev pub itemAttribute : ℕ
+itemAttribute = 0
+
+-- the bytes of the attribute's name
+abbrev pub itemAttributeLength : ℕ
+itemAttributeLength = 1
+
+-- 0 enum, 1 flag
+abbrev pub itemKind : ℕ
+itemKind = 2
+
+-- where its own name begins in the area
+abbrev pub itemName : ℕ
+itemName = 3
+
+-- the bytes of its own name
+abbrev pub itemNameLength : ℕ
+itemNameLength = 4
+
+abbrev pub itemValue : ℕ
+itemValue = 5
 
 -- ---- a pair of a question: parts of an area of bytes
 

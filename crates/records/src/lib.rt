@@ -1,7 +1,7 @@
-// What the words of a record are: of a node, an attribute, a note, a lent system name, a pair of a question and its answer, each word by its
-// name; how long a file may be; and the room of a listing. The one place that knows these numbers in code, as specs/Words.antt and specs/Limits.antt are in definitions.
+// What the words of a record are: of a node, an attribute, a note, a lent system name, a lent item, a pair of a question and its answer, each
+// word by its name; how long a file may be; and the room of a listing. The one place that knows these numbers in code, as specs/Words.antt and specs/Limits.antt are in definitions.
 //
-// Mirrors nothing of the Rust's, whose tree has vectors and structs of its own. docs/FORMAT.md, B2, B9, B11, B12, N4, M1, M4, L1.
+// Mirrors nothing of the Rust's, whose tree has vectors and structs of its own. docs/FORMAT.md, B2, B9, B11, B12, N4, V3, M1, M4, L1.
 // A further word of a record is its width, its place and its parameter here; who stores the record gives the word, and nobody else changes.
 ghost use mathlib.Core.Path.{_≡_};
 ghost use mathlib.Core.List.{_++_};
@@ -66,6 +66,22 @@ pub const NAME_ID: usize = 0;
 pub const NAME_START: usize = 1;
 // the bytes of its text
 pub const NAME_LENGTH: usize = 2;
+
+// ---- a lent item: a named value of an attribute
+
+pub const ITEM_WORDS: usize = 6;
+// where the attribute's name begins in the area
+pub const ITEM_ATTRIBUTE: usize = 0;
+// the bytes of the attribute's name
+pub const ITEM_ATTRIBUTE_LENGTH: usize = 1;
+// 0 enum, 1 flag
+pub const ITEM_KIND: usize = 2;
+// where its own name begins in the area
+pub const ITEM_NAME: usize = 3;
+// the bytes of its own name
+pub const ITEM_NAME_LENGTH: usize = 4;
+
+pub const ITEM_VALUE: usize = 5;
 
 // ---- a pair of a question: parts of an area of bytes
 

@@ -33,8 +33,9 @@ use Rattle.text.specs.declared.Head.{Head}
 use Rattle.text.specs.Inner.Found.{Wrote as Put}
 use Rattle.items.specs.Items.{partIn, itemsOf, namedIn}
 use Rattle.items.specs.Values.{Text, nothing, says, isSaid, said, attrText, uncoveredOf}
-use Rattle.items.specs.Inner.Turns.{restFrom, fromItem, FirstNamed, Spoken}
-use Rattle.items.proofs.TurnLaws.{rest-end, partIn-le}
+use Rattle.items.specs.Inner.Turns.{runItems, RunOf, Spoken}
+use Rattle.items.proofs.TurnLaws.{partIn-le}
+use Rattle.items.specs.declared.Run.{Run}
 use Rattle.items.specs.declared.Said.{Said}
 use Rattle.value_text.specs.Value.{Value, noName, noText, shows, shown, orPlain, referenceBy, attributeBy, plainBy, plainState, namedValue, answerBy, bufferBy}
 use Rattle.value_text.specs.declared.Told.{Told}
@@ -209,28 +210,16 @@ tells-behind e a =
 
 -- ---- behind the items
 
--- a list of items that a name has, found from its first one on
-module _ (h : Head) (t : List ℕ) (lent : Lent) (items area name : List ℕ) (kind v first : ℕ) (found : FirstNamed area name items first) where
-  pub named-none :
-      {l k : List ℕ} {r : Told} →
-      length items / 6 ≤ first →
-      Tells (orPlain 0 (plainState h t v (valueTypeOf kind)) nothing (plainBy h t lent v (valueTypeOf kind))) l r k →
-      Tells (namedValue h t lent items area name kind v) l r k
-  unfolding namedValue attrText uncoveredOf
-  named-none p a = rw (found .all ∙ rest-end area name items first p) a
-
-  these : first < length items / 6 → fromItem area items first ≡ namedIn area name (itemsOf items)
-  these p = ap (λ (x : List ℕ). restFrom area x items first) (found .here p) ∙ sym (found .all)
-
+-- the items that a name has, as a run
+module _ (h : Head) (t : List ℕ) (lent : Lent) (items area name : List ℕ) (kind v : ℕ) (run : Run) (found : RunOf area name items run) where
   pub named-said :
       {l k : List ℕ} {s : Said} →
-      first < length items / 6 →
-      Spoken area v (fromItem area items first) l s k →
+      Spoken area v (runItems items run) l s k →
       s .some ≡ true →
       Tells (namedValue h t lent items area name kind v) l (Shown (s .length) (s .uncovered) Whole) k
   unfolding namedValue
-  named-said {l} {k} {s} p a e =
-      let b = rw (these p) at a in
+  named-said {l} {k} {s} a e =
+      let b = rw (sym (found .all)) at a in
       let is = namedIn area name (itemsOf items) in
       let q : isSaid (attrText area v is) ≡ true = sym (b .some) ∙ e in
       rw (said-text (uncoveredOf v is) (plainState h t v (valueTypeOf kind)) (attrText area v is) (plainBy h t lent v (valueTypeOf kind)) q, ← b .uncovered)
@@ -238,14 +227,13 @@ module _ (h : Head) (t : List ℕ) (lent : Lent) (items area name : List ℕ) (k
 
   pub named-plain :
       {l m k : List ℕ} {s : Said} {r : Told} →
-      first < length items / 6 →
-      Spoken area v (fromItem area items first) l s m →
+      Spoken area v (runItems items run) l s m →
       s .some ≡ false →
       Tells (orPlain (s .uncovered) (plainState h t v (valueTypeOf kind)) nothing (plainBy h t lent v (valueTypeOf kind))) m r k →
       Tells (namedValue h t lent items area name kind v) l r k
   unfolding namedValue
-  named-plain {l} {m} {k} {s} {r} p a e g =
-      let b = rw (these p) at a in
+  named-plain {l} {m} {k} {s} {r} a e g =
+      let b = rw (sym (found .all)) at a in
       let is = namedIn area name (itemsOf items) in
       let q : attrText area v is ≡ nothing = not-said (attrText area v is) (sym (b .some) ∙ e) in
       rw (q, ← b .uncovered) (tells-behind (leads-wrote (b .text) .long) g)

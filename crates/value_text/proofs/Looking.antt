@@ -1,18 +1,20 @@
 -- Laws of finding the items of an attribute's name, and of its value. No contract cites this file.
--- In order: an item against a text (`is-item`); the first item of a name (`first-..`); no names lent (`pool-..`); the value (`value-..`).
-use Prim.Native.Nat.{ℕ, _+_, _/_, _≤_, _<_}
+-- In order: an item against a text (`is-item`); a name in a buffer (`name-held`); no names lent (`pool-..`); the value (`value-..`).
+use Prim.Native.Nat.{ℕ, _-_, _/_, _≤_, _<_}
 use mathlib.Core.Path.{_≡_, refl, sym, ap, _∙_}
 use mathlib.Core.List.{List, [], _∷_}
 use mathlib.Core.Bool.{Bool, true, false, cond, _&&_}
 use native.Mathlib.Omega.{arith}
 use borrow.Author.Tests.{eq-eqb, ne-eqb}
-use lib.ListN.{length, drop}
+use lib.ListN.{length, take, drop}
+use lib.Seq.{take-append-seam}
 use lib.Dec.{eqb, ltb}
 use Rattle.utf.specs.Text.{textOf, eqBytes}
 use Rattle.utf.specs.Plain.{isAscii, isPlain, Known}
 use Rattle.utf.proofs.Equal.{eqBytes-refl, eqBytes-true, eqBytes-false, eqBytes-not}
 use Rattle.utf.proofs.Laws.{textOf-ascii}
 use Rattle.utf.proofs.Ascii.{isAscii-at}
+use Rattle.utf.proofs.Filled.{putText-whole}
 use Rattle.system_types.specs.Names.{Lent, lends, topByte, systemName, nameOf, namesFrom, namesOf}
 use Rattle.system_types.specs.declared.Lookup.the-variants.{Missing}
 use Rattle.system_types.specs.declared.NamesRead.the-variants.{Good}
@@ -21,13 +23,13 @@ use Rattle.text.specs.declared.Head.{Head}
 use Rattle.text.specs.declared.Found.{Found}
 use Rattle.text.specs.declared.Found.the-variants.{Nothing, Cut, System, Pool}
 use Rattle.text.specs.Content.{Content, none, cut, some, namedBy, systemOf, stringOf, contentOf, orElse, textIn, hasText, isText, androidUri}
-use Rattle.text.specs.Inner.Found.{Asks, partOf, isFound}
-use Rattle.items.specs.Items.{itemAt, itemsOf, attributeOf, namedIn, tableOf}
+use Rattle.text.specs.Inner.Found.{Asks, partOf, isFound, Wrote as Put}
+use Rattle.records.specs.Words.{itemWidth}
+use Rattle.items.specs.Items.{itemAt, attributeOf, tableOf}
+use Rattle.items.specs.Inner.Turns.{FirstNamed}
 use Rattle.items.specs.declared.Item.{Item}
 use Rattle.items.specs.declared.ItemsRead.the-variants.{Good as Fine}
 use Rattle.items.proofs.Together.{good-ascii}
-use Rattle.items.specs.Inner.Turns.{FirstNamed, restFrom}
-use Rattle.items.proofs.TurnLaws.{rest-all, rest-skip}
 use Rattle.value_text.specs.declared.Attribute.{Attribute}
 use Rattle.value_text.specs.declared.Told.{Told}
 use Rattle.value_text.specs.declared.Told.the-variants.{NoName}
@@ -44,7 +46,7 @@ eqBytes-sym x y = go (eqBytes y x) refl
     go true e = rw (eqBytes-true y x e) (eqBytes-refl x)
     go false e = eqBytes-not x y (λ f. eqBytes-false y x e (sym f))
 
-part-text : (w : Bool) (t area : List ℕ) (f : Found) → isFound f ≡ true → hasText (partOf w t area f) ≡ true
+pub part-text : (w : Bool) (t area : List ℕ) (f : Found) → isFound f ≡ true → hasText (partOf w t area f) ≡ true
 part-text w t area Nothing e = e
 part-text w t area Cut e = refl
 part-text w t area (System at n) e = refl
@@ -66,7 +68,7 @@ is-item w t area f {r} {s} {a} e q i h =
 pub plain-item :
     (area w : List ℕ) (k : ℕ) {i : Item} {s : List ℕ} →
     tableOf area w ≡ Fine →
-    k < length w / 6 →
+    k < length w / itemWidth →
     i ≡ itemAt w k →
     s ≡ attributeOf area i →
     isAscii s ≡ true
@@ -75,37 +77,18 @@ plain-item area w k g p q e = rw (e, q) (good-ascii area w g k p)
 pub known-plain : (s : List ℕ) → isAscii s ≡ true → Known true (isPlain false s)
 known-plain s e = record { holds = λ h. e }
 
--- ---- the first item of a name
+-- ---- a text held in a buffer
 
--- no item before k is of the name
-abbrev pub namedFrom : List ℕ → List ℕ → List ℕ → ℕ → Type 0
-namedFrom area name w k = namedIn area name (itemsOf w) ≡ restFrom area name w k
+-- a text of n bytes at the front of a buffer that holds it; the part from its front on, as the code takes it
+pub name-held : {s l k : List ℕ} {n : ℕ} → Put s l k n → n ≤ length l → take (n - 0) (drop 0 k) ≡ s
+name-held {s} {l} {k} {n} w p =
+    let c = w .count in
+    let f : length s ≤ length l = omega arith in
+    let z : n - 0 ≡ length s = omega arith in
+    ap (λ (x : ℕ). take x k) z ∙ rw (w .bytes, putText-whole s l f, take-append-seam)
 
-module _ (area name w : List ℕ) (k : ℕ) where
-  pub first-start : namedFrom area name w 0
-  first-start = rest-all area name w
-
-  pub first-here :
-      {b : Bool} →
-      k < length w / 6 →
-      b ≡ eqBytes (attributeOf area (itemAt w k)) name →
-      b ≡ true →
-      namedFrom area name w k →
-      FirstNamed area name w k
-  first-here p e t s =
-      record { fits = omega arith; here = λ q. eqBytes-true (attributeOf area (itemAt w k)) name (sym e ∙ t); all = s }
-
-  pub first-next :
-      {b : Bool} →
-      k < length w / 6 →
-      b ≡ eqBytes (attributeOf area (itemAt w k)) name →
-      b ≡ false →
-      namedFrom area name w k →
-      namedFrom area name w (k + 1)
-  first-next p e t s = s ∙ rest-skip area name w k p (sym e ∙ t)
-
-  pub first-end : k ≤ length w / 6 → length w / 6 ≤ k → namedFrom area name w k → FirstNamed area name w k
-  first-end p q s = record { fits = p; here = λ r. absurd (let y : ⊥ = omega arith in y); all = s }
+pub first-of : (area w : List ℕ) {s name : List ℕ} {r : ℕ} → s ≡ name → FirstNamed area s w r → FirstNamed area name w r
+first-of area w e f = rw (← e) f
 
 -- ---- no names lent: the pool alone
 
@@ -170,3 +153,25 @@ module _ (h : Head) (t : List ℕ) (lent : Lent) (items area : List ℕ) (a : At
   value-named Cut p e q g = value-by p e g
   value-named (System at i) p e q g = value-by p e g
   value-named (Pool at i) p e q g = value-by p e g
+
+  -- by what the name's index stands for
+  pub value-no-name :
+      (a .prefix ≡ 2 → ⊥) → contentOf h t lent (a .name .0) ≡ none → r ≡ NoName → k ≡ l → Tells (valueOf h t lent items area a) l r k
+  value-no-name p e n m = value-by p (sym e) (record { told = n; long = ap length m; front = λ z. refl })
+
+  pub value-run :
+      (a .prefix ≡ 2 → ⊥) →
+      hasText (contentOf h t lent (a .name .0)) ≡ true →
+      Tells (namedValue h t lent items area (textIn (contentOf h t lent (a .name .0))) (a .kind) (a .«data»)) l r k →
+      Tells (valueOf h t lent items area a) l r k
+  value-run p e g = go (contentOf h t lent (a .name .0)) refl e g
+    where
+      go :
+          (c : Content) →
+          c ≡ contentOf h t lent (a .name .0) →
+          hasText c ≡ true →
+          Tells (namedValue h t lent items area (textIn c) (a .kind) (a .«data»)) l r k →
+          Tells (valueOf h t lent items area a) l r k
+      go none q e′ g′ = let z : _≡_ {A = ℕ} 0 1 = cc in absurd (let y : ⊥ = omega arith in y)
+      go cut q e′ g′ = value-by p q g′
+      go (some w s) q e′ g′ = value-by p q g′

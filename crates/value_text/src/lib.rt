@@ -12,14 +12,17 @@ use plain::put_plain;
 ghost use mathlib.Core.Path.{_≡_};
 ghost use mathlib.Core.Bool.{true};
 ghost use mathlib.Core.List.{List};
-ghost use Prim.Native.Nat.{_+_, _*_, _/_, _-_, _≤_, _<_};
+ghost use Prim.Native.Nat.{_/_, _≤_, _<_};
 ghost use lib.ListN.{length, replicate};
+ghost use Rattle.records.specs.Limits.{fileLimit};
 ghost use Rattle.system_types.specs.Names.{lends};
 ghost use Rattle.text.specs.Content.{isText, textIn, androidUri};
 ghost use Rattle.text.specs.Inner.Found.{Asks, Inside, partOf, isFound};
 ghost use Rattle.items.specs.Items.{itemAt, attributeOf, tableOf};
 ghost use Rattle.items.specs.declared.ItemsRead.the-variants.{Good};
-ghost use Rattle.items.specs.Inner.Turns.{FirstNamed};
+ghost use Rattle.records.specs.Words.{itemWidth};
+ghost use Rattle.items.specs.Inner.Firsts.{Firsts};
+ghost use Rattle.items.specs.Inner.Turns.{FirstNamed, RunOf};
 ghost use Rattle.utf.specs.Text.{eqBytes};
 ghost use Rattle.common.specs.ValueType.{valueTypeOf};
 ghost use Rattle.errors.specs.declared.TextState.the-variants.{Whole};
@@ -43,15 +46,20 @@ use head::is_whole;
 use head::refusal_of;
 use head::tables_of;
 use items::ItemsRead;
+use items::Run;
 use items::attr_value;
 use items::check_items;
+use items::find_first;
 use items::item_at;
 use items::part_of;
+use items::run_of;
+use records::ITEM_WORDS;
 use text::ANDROID_URI;
 use text::Found;
 use text::Head;
 use text::equal::same_part;
 use text::find;
+use text::found_into;
 use text::is_found;
 
 // An attribute as a record of the table has it.
@@ -83,7 +91,7 @@ fn is_item(
     item_area: &[u8],
     k: usize,
 ) -> bool
-    requires { ⌜ Inside (now t) (now area) f × (isFound f ≡ true) × (tableOf (now «item_area») (now items) ≡ Good) × (k < length (now items) / 6) ⌝ }
+    requires { ⌜ Inside (now t) (now area) f × (isFound f ≡ true) × (tableOf (now «item_area») (now items) ≡ Good) × (k < length (now items) / itemWidth) ⌝ }
     ensures { λ r. ⌜ r ≡ eqBytes (attributeOf (now («item_area» .entry)) (itemAt (now (items .entry)) k))
         (textIn (partOf wide (now (t .entry)) (now (area .entry)) f)) ⌝ }
 {
@@ -111,7 +119,7 @@ pub fn find_item(
     requires { ⌜ Inside (now t) (now area) f × (isFound f ≡ true) × (tableOf (now «item_area») (now items) ≡ Good) ⌝ }
     ensures { λ r. ⌜ FirstNamed (now («item_area» .entry)) (textIn (partOf wide (now (t .entry)) (now (area .entry)) f)) (now (items .entry)) r ⌝ }
 {
-    let whole = items.len() / 6;
+    let whole = items.len() / ITEM_WORDS;
     let mut k = 0;
     while k < whole {
         if is_item(t, area, wide, f, items, item_area, k) {
@@ -120,6 +128,48 @@ pub fn find_item(
         k += 1;
     }
     k
+}
+
+// The first item of the attribute whose name was found, or the number of items, where the first item at each place of a name is known: a
+// text of up to 64 bytes is held against the items as bytes, a longer one as `find_item` does.
+fn find_known(
+    t: &[u8],
+    area: &[u8],
+    wide: bool,
+    f: Found,
+    items: &[u32],
+    item_area: &[u8],
+    firsts: &[usize],
+) -> usize
+    requires { ⌜ Inside (now t) (now area) f × (isFound f ≡ true) × (tableOf (now «item_area») (now items) ≡ Good)
+        × (length (now t) ≤ fileLimit) × Firsts (now «item_area») (now items) (now firsts) ⌝ }
+    ensures { λ r. ⌜ FirstNamed (now («item_area» .entry)) (textIn (partOf wide (now (t .entry)) (now (area .entry)) f)) (now (items .entry)) r ⌝ }
+{
+    let mut name = [0u8; 64];
+    let n = found_into(t, area, wide, f, &mut name);
+    if 64 < n {
+        return find_item(t, area, wide, f, items, item_area);
+    }
+    find_first(items, item_area, firsts, &name[0..n])
+}
+
+// All items of the attribute whose name was found, where the first item at each place of a name is known.
+// Ruled out: those of a longer name that begins with it, and none for a name of more than 64 bytes.
+pub fn known_run(
+    t: &[u8],
+    area: &[u8],
+    wide: bool,
+    f: Found,
+    items: &[u32],
+    item_area: &[u8],
+    firsts: &[usize],
+) -> Run
+    requires { ⌜ Inside (now t) (now area) f × (isFound f ≡ true) × (tableOf (now «item_area») (now items) ≡ Good)
+        × (length (now t) ≤ fileLimit) × Firsts (now «item_area») (now items) (now firsts) ⌝ }
+    ensures { λ r. ⌜ RunOf (now («item_area» .entry)) (textIn (partOf wide (now (t .entry)) (now (area .entry)) f)) (now (items .entry)) r ⌝ }
+{
+    let first = find_known(t, area, wide, f, items, item_area, firsts);
+    run_of(items, item_area, first)
 }
 
 // ---- the text of a value
@@ -149,8 +199,9 @@ fn plain_into(
     Told::Shown(n, uncovered, state)
 }
 
-// What the items say first: `first` is the first item of the attribute's name, or the number of items.
-fn named_into(
+// What the items of the attribute's name say first.
+// Ruled out: the plain text where an item answers, and no bits uncovered where none does.
+pub fn named_into(
     t: &[u8],
     names: &[u32],
     area: &[u8],
@@ -158,19 +209,16 @@ fn named_into(
     items: &[u32],
     item_area: &[u8],
     out: &mut [u8],
-    first: usize,
+    run: Run,
     kind: u32,
     v: u32,
 ) -> Told
-    requires { ⌜ Asks (now t) (lends (now names) (now area)) h ⌝ }
-    ensures { λ r. ⌜ ((name : List _) → FirstNamed (now («item_area» .entry)) name (now (items .entry)) first
+    requires { ⌜ Asks (now t) (lends (now names) (now area)) h × (run .end ≤ length (now items) / itemWidth) ⌝ }
+    ensures { λ r. ⌜ ((name : List _) → RunOf (now («item_area» .entry)) name (now (items .entry)) run
         → Tells (namedValue h (now (t .entry)) (lends (now (names .entry)) (now (area .entry))) (now (items .entry)) (now («item_area» .entry)) name kind v)
         (now (out .entry)) r (now (out .exit))) ⌝ }
 {
-    if items.len() / 6 <= first {
-        return plain_into(t, names, area, h, out, kind, v, 0);
-    }
-    let said = attr_value(out, items, item_area, first, v);
+    let said = attr_value(out, items, item_area, run, v);
     if said.some {
         return Told::Shown(said.length, said.uncovered, TextState::Whole);
     }
@@ -178,7 +226,8 @@ fn named_into(
 }
 
 // The Android namespace.
-fn uri_into(out: &mut [u8]) -> Told
+// Ruled out: a part of it where there is no room for the whole.
+pub fn uri_into(out: &mut [u8]) -> Told
     ensures { λ r. ⌜ Tells (shows androidUri 0 Whole) (now (out .entry)) r (now (out .exit)) ⌝ }
 {
     let n = put_bytes(out, 0, &ANDROID_URI);
@@ -209,6 +258,7 @@ pub fn value_into(
         return Told::NoName;
     }
     let first = find_item(t, area, h.wide, f, items, item_area);
+    let run = run_of(items, item_area, first);
     named_into(
         t,
         names,
@@ -217,7 +267,7 @@ pub fn value_into(
         items,
         item_area,
         out,
-        first,
+        run,
         a.kind,
         a.data,
     )

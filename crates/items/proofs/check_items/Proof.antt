@@ -1,85 +1,41 @@
--- `items::check_items` meets its contract. Invariant: the items from k on say what all of them say. Measure: the items left.
-use Prim.Native.Nat.{_-_, _/_, _≤_}
-use mathlib.Core.Path.{_≡_, sym, ap, _∙_}
-use native.Mathlib.Omega.{arith}
-use lib.ListN.{length}
+-- `items::check_items` meets its contract: the first item at each place, and then all of them (`check_each`).
+use Prim.Native.Nat.{_/_}
+use mathlib.Core.Path.{refl}
 use denote.Ref.{now}
-use Rattle.items.specs.Items.{endOf, tableOf}
-use Rattle.items.specs.declared.ItemsRead.the-variants.{Bad}
-use Rattle.items.proofs.Laws.{saidFrom, rule-end, rule-bad, rule-next, table-first, table-rest, table-whole}
+use lib.ListN.{length}
+use Rattle.records.specs.Words.{itemWidth}
+use Rattle.items.proofs.RunLaws.{plain-known}
 use borrow.Author.Needs.{needs}
 use Rattle.items.proofs.check_items.Statement.{statement}
 use Rattle.items.proofs.check_items.Tie as tie
 
-abbrev Inv-loop : tie.InvT-loop
-Inv-loop items area whole k₀ k = (k ≤ whole) × (tableOf area items ≡ saidFrom area items (endOf items) (length items / 6) k)
+slice-aggregate-put-firsts : tie.Need-slice-aggregate-put-firsts
+slice-aggregate-put-firsts c = search needs
 
-abbrev μ-loop : tie.MeasureT-loop
-μ-loop items area whole k₀ k = whole - k
+put-firsts-requires : tie.Need-put-firsts-requires
+put-firsts-requires c κs = refl
 
-loop-holds : tie.Need-loop-holds Inv-loop μ-loop
-loop-holds c =
-    let a = c .before .before .args in
-    (omega arith, table-first (now (a .area)) (now (a .items)))
+is-plain-requires : tie.Need-is-plain-requires
+is-plain-requires c κs = search needs
 
-item-at-requires : tie.Need-item-at-requires Inv-loop μ-loop
-item-at-requires c κs = omega arith
+slice-aggregate-check-each : tie.Need-slice-aggregate-check-each
+slice-aggregate-check-each c = search needs
 
-is-good-requires : tie.Need-is-good-requires Inv-loop μ-loop
-is-good-requires c κs = omega arith
-
-returns : tie.Need-returns Inv-loop μ-loop
-returns c =
+check-each-requires : tie.Need-check-each-requires
+check-each-requires c κs =
     let a = c .before .before .before .before .before .before .before .args in
-    let l = c .before .before .before .before .loop in
-    let w = now (a .items) in
-    rule-bad (now (a .area)) w (endOf w) (length w / 6) (l .k) (omega arith) (c .before .before .item-at .ensures) (c .before .is-good .ensures)
-    (c .if1 .taken) ∙ sym (l .inv .1)
+    (plain-known (length (now (a .items)) / itemWidth) (now (a .area)) (c .before .is-plain .ensures), c .before .before .before .put-firsts .ensures)
 
-add-k : tie.Need-add-k Inv-loop μ-loop
-add-k c = search needs
-
-loop-less : tie.Need-loop-less Inv-loop μ-loop
-loop-less c = search needs
-
-loop-again : tie.Need-loop-again Inv-loop μ-loop
-loop-again c =
-    let a = c .before .before .before .before .before .before .before .args in
-    let l = c .before .before .before .before .loop in
-    let w = now (a .items) in (
-      omega arith,
-      l .inv .1 ∙ rule-next (now (a .area)) w (endOf w) (length w / 6) (l .k) (omega arith) (c .before .before .item-at .ensures)
-          (c .before .is-good .ensures) (c .if1 .left),
-    )
-
-returns-2 : tie.Need-returns-2 Inv-loop μ-loop
-returns-2 c =
-    let a = c .before .before .before .before .before .args in
-    let l = c .before .before .loop in
-    let w = now (a .items) in
-    let k : l .k ≡ length w / 6 = omega arith in
-    sym (l .inv .1 ∙ rule-end (now (a .area)) w (endOf w) (length w / 6) (l .k) (omega arith) ∙ table-rest (now (a .area)) w (c .if2 .taken) ∙ ap Bad
-    (sym k))
-
-returns-3 : tie.Need-returns-3 Inv-loop μ-loop
-returns-3 c =
-    let a = c .before .before .before .before .before .args in
-    let l = c .before .before .loop in
-    let w = now (a .items) in
-    sym (l .inv .1 ∙ rule-end (now (a .area)) w (endOf w) (length w / 6) (l .k) (omega arith) ∙ table-whole (now (a .area)) w (c .if2 .left))
+returns : tie.Need-returns
+returns c = c .check-each .ensures
 
 pub check-items-spec : {M : Type 1} → statement M
 check-items-spec =
     tie.close
     (tie.spec
-    Inv-loop
-    μ-loop
-    loop-holds
-    item-at-requires
-    is-good-requires
-    returns
-    add-k
-    loop-less
-    loop-again
-    returns-2
-    returns-3)
+    slice-aggregate-put-firsts
+    put-firsts-requires
+    is-plain-requires
+    slice-aggregate-check-each
+    check-each-requires
+    returns)

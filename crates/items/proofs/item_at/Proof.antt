@@ -7,56 +7,59 @@ use Rattle.items.proofs.item_at.Tie as tie
 mul-at : tie.Need-mul-at
 mul-at c = search needs
 
-mul-t4 : tie.Need-mul-t4
-mul-t4 c = search needs
+add-t4 : tie.Need-add-t4
+add-t4 c = search needs
 
-shared-slice-read-t6 : tie.Need-shared-slice-read-t6
-shared-slice-read-t6 c = search needs
+mul-t5 : tie.Need-mul-t5
+mul-t5 c = search needs
 
-add-t7 : tie.Need-add-t7
-add-t7 c = search needs
+shared-slice-read-t7 : tie.Need-shared-slice-read-t7
+shared-slice-read-t7 c = search needs
 
-mul-t8 : tie.Need-mul-t8
-mul-t8 c = search needs
+add-t8 : tie.Need-add-t8
+add-t8 c = search needs
 
-shared-slice-read-t10 : tie.Need-shared-slice-read-t10
-shared-slice-read-t10 c = search needs
+mul-t9 : tie.Need-mul-t9
+mul-t9 c = search needs
 
-add-t11 : tie.Need-add-t11
-add-t11 c = search needs
+shared-slice-read-t11 : tie.Need-shared-slice-read-t11
+shared-slice-read-t11 c = search needs
 
-mul-t12 : tie.Need-mul-t12
-mul-t12 c = search needs
+add-t12 : tie.Need-add-t12
+add-t12 c = search needs
 
-shared-slice-read-t14 : tie.Need-shared-slice-read-t14
-shared-slice-read-t14 c = search needs
+mul-t13 : tie.Need-mul-t13
+mul-t13 c = search needs
 
-add-t15 : tie.Need-add-t15
-add-t15 c = search needs
+shared-slice-read-t15 : tie.Need-shared-slice-read-t15
+shared-slice-read-t15 c = search needs
 
-mul-t16 : tie.Need-mul-t16
-mul-t16 c = search needs
+add-t16 : tie.Need-add-t16
+add-t16 c = search needs
 
-shared-slice-read-t18 : tie.Need-shared-slice-read-t18
-shared-slice-read-t18 c = search needs
+mul-t17 : tie.Need-mul-t17
+mul-t17 c = search needs
 
-add-t19 : tie.Need-add-t19
-add-t19 c = search needs
+shared-slice-read-t19 : tie.Need-shared-slice-read-t19
+shared-slice-read-t19 c = search needs
 
-mul-t20 : tie.Need-mul-t20
-mul-t20 c = search needs
+add-t20 : tie.Need-add-t20
+add-t20 c = search needs
 
-shared-slice-read-t22 : tie.Need-shared-slice-read-t22
-shared-slice-read-t22 c = search needs
+mul-t21 : tie.Need-mul-t21
+mul-t21 c = search needs
 
-add-t23 : tie.Need-add-t23
-add-t23 c = search needs
+shared-slice-read-t23 : tie.Need-shared-slice-read-t23
+shared-slice-read-t23 c = search needs
 
-mul-t24 : tie.Need-mul-t24
-mul-t24 c = search needs
+add-t24 : tie.Need-add-t24
+add-t24 c = search needs
 
-shared-slice-read-t26 : tie.Need-shared-slice-read-t26
-shared-slice-read-t26 c = search needs
+mul-t25 : tie.Need-mul-t25
+mul-t25 c = search needs
+
+shared-slice-read-t27 : tie.Need-shared-slice-read-t27
+shared-slice-read-t27 c = search needs
 
 returns : tie.Need-returns
 unfolding itemAt
@@ -67,21 +70,22 @@ item-at-spec =
     tie.close
     (tie.spec
     mul-at
-    mul-t4
-    shared-slice-read-t6
-    add-t7
-    mul-t8
-    shared-slice-read-t10
-    add-t11
-    mul-t12
-    shared-slice-read-t14
-    add-t15
-    mul-t16
-    shared-slice-read-t18
-    add-t19
-    mul-t20
-    shared-slice-read-t22
-    add-t23
-    mul-t24
-    shared-slice-read-t26
+    add-t4
+    mul-t5
+    shared-slice-read-t7
+    add-t8
+    mul-t9
+    shared-slice-read-t11
+    add-t12
+    mul-t13
+    shared-slice-read-t15
+    add-t16
+    mul-t17
+    shared-slice-read-t19
+    add-t20
+    mul-t21
+    shared-slice-read-t23
+    add-t24
+    mul-t25
+    shared-slice-read-t27
     returns)

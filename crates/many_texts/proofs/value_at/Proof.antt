@@ -8,33 +8,42 @@ use Rattle.many_texts.proofs.value_at.Tie as tie
 within-requires : tie.Need-within-requires
 within-requires c κs = search needs
 
-sub-value-into : tie.Need-sub-value-into
-sub-value-into c = search needs
+sub-value-by : tie.Need-sub-value-by
+sub-value-by c = search needs
 
-part-value-into-start : tie.Need-part-value-into-start
-part-value-into-start c = search needs
+part-value-by-start : tie.Need-part-value-by-start
+part-value-by-start c = search needs
 
-part-value-into-end : tie.Need-part-value-into-end
-part-value-into-end c = search needs
+part-value-by-end : tie.Need-part-value-by-end
+part-value-by-end c = search needs
 
-value-into-requires : tie.Need-value-into-requires
-value-into-requires c κs = search needs
+value-by-requires : tie.Need-value-by-requires
+value-by-requires c κs = (c .before .before .before .before .before .before .before .before .before .before .before .before .before) .pre
 
 same-length : tie.Need-same-length
 same-length c = search needs
 
+same-length-2 : tie.Need-same-length-2
+same-length-2 c = search needs
+
+same-length-3 : tie.Need-same-length-3
+same-length-3 c = search needs
+
 returns : tie.Need-returns
-returns c = let a = c .before .before .before .before .before .before .before .before .before .before .before .args in
-    tells-at (a .at) (c .before .before .before .before .within .result) (now (a .out)) _ (c .before .before .before .before .within .ensures) (c .before .before .value-into .ensures)
+returns c =
+    let a = (c .before .before .before .before .before .before .before .before .before .before .before .before .before .before .before .before .before .before .before .before) .args in
+    (tells-at (a .at) (c .before .before .before .before .before .before .before .before .before .before .within .result) (now (a .out)) _ (c .before .before .before .before .before .before .before .before .before .before .within .ensures) (c .before .before .before .before .before .before .value-by .ensures .0), c .before .before .before .before .before .before .value-by .ensures .1)
 
 pub value-at-spec : {M : Type 1} → statement M
 value-at-spec =
     tie.close
     (tie.spec
     within-requires
-    sub-value-into
-    part-value-into-start
-    part-value-into-end
-    value-into-requires
+    sub-value-by
+    part-value-by-start
+    part-value-by-end
+    value-by-requires
     same-length
+    same-length-2
+    same-length-3
     returns)

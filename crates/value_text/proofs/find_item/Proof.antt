@@ -4,7 +4,7 @@ use native.Mathlib.Omega.{arith}
 use denote.Ref.{now}
 use Rattle.text.specs.Content.{textIn}
 use Rattle.text.specs.Inner.Found.{partOf}
-use Rattle.value_text.proofs.Looking.{namedFrom, first-start, first-here, first-next, first-end}
+use Rattle.items.proofs.RunLaws.{rest-all, namedFrom, first-here, first-next, first-end}
 use borrow.Author.Needs.{needs}
 use Rattle.value_text.proofs.find_item.Statement.{statement}
 use Rattle.value_text.proofs.find_item.Tie as tie
@@ -19,7 +19,7 @@ loop-holds : tie.Need-loop-holds Inv-loop μ-loop
 loop-holds c =
     let a = c .before .before .before .before .args in
     let name = textIn (partOf (a .wide) (now (a .t)) (now (a .area)) (a .f)) in
-    (omega arith, first-start (now (a .item-area)) name (now (a .items)) 0)
+    (omega arith, rest-all (now (a .item-area)) name (now (a .items)))
 
 is-item-requires : tie.Need-is-item-requires Inv-loop μ-loop
 is-item-requires c κs =

@@ -18,7 +18,7 @@ same-length c = search needs
 
 returns : tie.Need-returns
 returns c =
-    let a = c .before .before .before .before .before .before .before .before .before .before .before .before .args in
+    let a = (c .before .before .before .before .before .before .before .before .before .before .before .before) .args in
     let lent = lends (now (a .names)) (now (a .area)) in
     value-uri (a .h) (now (a .t)) lent (now (a .items)) (now (a .item-area)) (a .a) (c .before .before .before .before .if1 .taken)
     (c .before .before .uri-into .ensures)
@@ -31,7 +31,7 @@ is-found-requires c κs = search needs
 
 returns-2 : tie.Need-returns-2
 returns-2 c =
-    let a = c .before .before .before .before .before .before .before .before .before .before .before .args in
+    let a = (c .before .before .before .before .before .before .before .before .before .before .before) .args in
     let lent = lends (now (a .names)) (now (a .area)) in
     let e = sym (c .before .is-found .ensures) ∙ not-true _ (c .if2 .taken) in
     value-none (a .h) (now (a .t)) lent (now (a .items)) (now (a .item-area)) (a .a) (c .before .before .find .result)
@@ -40,29 +40,31 @@ returns-2 c =
 find-item-requires : tie.Need-find-item-requires
 find-item-requires c κs = (
   c .before .before .find .ensures .inside,
-  sym (c .before .is-found .ensures) ∙ not-false _
-      (c .if2 .left),
-  c .before .before .before .before .before .before .before .before .before .before .before .pre .1,
+  sym (c .before .is-found .ensures) ∙ not-false _ (c .if2 .left),
+  (c .before .before .before .before .before .before .before .before .before .before .before) .pre .1,
 )
 
+run-of-requires : tie.Need-run-of-requires
+run-of-requires c κs = (c .before .before .before .before .before .before .before .before .before .before .before .before) .pre .1
+
 named-into-requires : tie.Need-named-into-requires
-named-into-requires c κs = search needs
+named-into-requires c κs =
+    let a = (c .before .before .before .before .before .before .before .before .before .before .before .before .before .before) .args in
+    let name = textIn (partOf (a .h .wide) (now (a .t)) (now (a .area)) (c .before .before .before .before .before .find .result)) in
+    ((c .before .before .before .before .before .before .before .before .before .before .before .before .before .before) .pre .0, c .before .run-of .ensures name (c .before .before .find-item .ensures) .fits)
 
 same-length-2 : tie.Need-same-length-2
 same-length-2 c = search needs
 
 returns-3 : tie.Need-returns-3
 returns-3 c =
-    let a = c .before .before .before .before .before .before .before .before .before .before .before .before .before .before .before .before .args in
+    let a = (c .before .before .before .before .before .before .before .before .before .before .before .before .before .before .before .before .before) .args in
     let lent = lends (now (a .names)) (now (a .area)) in
-    let f = c .before .before .before .before .before .before .before .find .result in
-    let e = sym (c .before .before .before .before .before .before .is-found .ensures) ∙ not-false _
-    (c .before .before .before .before .before .if2 .left) in
-    let g = c .before .before .named-into .ensures (textIn (partOf (a .h .wide) (now (a .t)) (now (a .area)) f))
-    (c .before .before .before .before .find-item .ensures) in
-    value-named (a .h) (now (a .t)) lent (now (a .items)) (now (a .item-area)) (a .a) f
-    (c .before .before .before .before .before .before .before .before .if1 .left)
-    (c .before .before .before .before .before .before .before .find .ensures .same) e g
+    let f = c .before .before .before .before .before .before .before .before .find .result in
+    let e = sym (c .before .before .before .before .before .before .before .is-found .ensures) ∙ not-false _ (c .before .before .before .before .before .before .if2 .left) in
+    let name = textIn (partOf (a .h .wide) (now (a .t)) (now (a .area)) f) in
+    let g = c .before .before .named-into .ensures name (c .before .before .before .before .run-of .ensures name (c .before .before .before .before .before .find-item .ensures)) in
+    value-named (a .h) (now (a .t)) lent (now (a .items)) (now (a .item-area)) (a .a) f (c .before .before .before .before .before .before .before .before .before .if1 .left) (c .before .before .before .before .before .before .before .before .find .ensures .same) e g
 
 pub value-into-spec : {M : Type 1} → statement M
 value-into-spec =
@@ -75,6 +77,7 @@ value-into-spec =
     is-found-requires
     returns-2
     find-item-requires
+    run-of-requires
     named-into-requires
     same-length-2
     returns-3)

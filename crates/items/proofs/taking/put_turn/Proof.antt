@@ -5,8 +5,8 @@ use borrow.Author.Needs.{needs}
 use Rattle.items.proofs.taking.put_turn.Statement.{statement}
 use Rattle.items.proofs.taking.put_turn.Tie as tie
 
-is-turn-requires : tie.Need-is-turn-requires
-is-turn-requires c κs = search needs
+is-taken-requires : tie.Need-is-taken-requires
+is-taken-requires c κs = search needs
 
 put-name-requires : tie.Need-put-name-requires
 put-name-requires c κs = search needs
@@ -17,14 +17,19 @@ same-length c = search needs
 returns : tie.Need-returns
 returns c =
     let a = c .before .before .before .before .before .before .before .before .before .before .args in
-    turned-name (now (a .area)) (a .head) (a .i) (a .st) (now (a .out)) _ (c .before .before .before .before .before .before .before .is-turn .ensures)
-    (c .before .before .before .before .before .before .if1 .taken) (c .before .before .before .before .put-name .ensures)
+    turned-name (now (a .area)) (a .i) (a .st) (now (a .out)) _ (c .before .before .before .before .before .before .before .is-taken .ensures) (c .before .before .before .before .before .before .if1 .taken) (c .before .before .before .before .put-name .ensures)
 
 returns-2 : tie.Need-returns-2
 returns-2 c =
     let a = c .before .before .before .before .args in
-    turned-none (now (a .area)) (a .head) (a .i) (a .st) (now (a .out)) (now (a .out)) (c .before .is-turn .ensures) (c .if1 .left)
+    turned-none (now (a .area)) (a .i) (a .st) (now (a .out)) (now (a .out)) (c .before .is-taken .ensures) (c .if1 .left)
 
 pub put-turn-spec : {M : Type 1} → statement M
 put-turn-spec =
-    tie.close (tie.spec is-turn-requires put-name-requires same-length returns returns-2)
+    tie.close
+    (tie.spec
+    is-taken-requires
+    put-name-requires
+    same-length
+    returns
+    returns-2)
