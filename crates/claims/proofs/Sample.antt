@@ -24,7 +24,7 @@ use Rattle.common.specs.ValueType.{isReference, valueTypeNumber, valueTypeOf}
 use Rattle.chunk.specs.Sort.{isXml, sortOf, contentOf as contentLen, foreignLen}
 use Rattle.chunk.specs.Walk.{walk, walkFrom, trace, traceFrom}
 use Rattle.utf.specs.Utf8.{matched, isWhole, longest, anyWhole, spelt, encode, step8}
-use Rattle.utf.specs.Text.{stepsAfter, bytesOf, allSound, textOf, eqBytes}
+use Rattle.utf.specs.Text.{stepsAfter, bytesOf, allSound, textOf, damageOf, eqBytes}
 use Rattle.xml.specs.NCName.{inRanges, isStart, isChar, sortOf as nameSort, allChar, nameOf as isNameOf, validName}
 use Rattle.res_string_pool.specs.Pool.{countOf, numbered, endOf, poolFrom, behindGarbage, poolOf, offsetOf, outsideOf}
 use Rattle.res_string_pool.specs.Content.{split8, split16}
@@ -37,7 +37,7 @@ use Rattle.head.specs.Entry.{lengthCheck}
 use Rattle.head.specs.Ask.{openOf, textAnswer, textBuffer, contentAnswer}
 use Rattle.first_value.specs.Question.{androidName, runsFrom, fitOf, findNode, findValue, sharedOf, firstAnswer}
 use Rattle.xml_elements.specs.Chunk.{startOf, attributeAt, startTurn, xmlTurn, numberOf, turnOf}
-use Rattle.events.specs.Events.{attributeEvent, attributesOf, fromLead, fromOpen, fromName, fromTrailing, fromSize, fromGap, eventsOn, bodyEvents, fileEvents}
+use Rattle.events.specs.Events.{attributeEvent, attributesOf, fromLead, fromOpen, fromNamed, fromName, fromTrailing, fromSize, fromGap, eventsOn, bodyEvents, fileEvents}
 use Rattle.records.specs.Words.{nodeWidth, attributeWidth, merged}
 use Rattle.records.specs.Repeats.{repeatsOne}
 use Rattle.walk.specs.Settle.{Room, settle}
@@ -63,8 +63,8 @@ s-reads : reading room fileS (lends [] []) ≡ oneNode 1 0 none
 unfolding fileS headS startS endS reading settle u16le u32le headerOf isXml sortOf contentLen foreignLen walk walkFrom trace traceFrom
     countOf numbered endOf poolFrom behindGarbage poolOf offsetOf outsideOf split8 split16 idsIn idsBy mapOf idOf isAscii isGood namesFrom
     nameOf systemOf stringAt stringOf contentOf tablesOf openedOf outsideIn lengthCheck startOf attributeAt startTurn xmlTurn numberOf
-    turnOf attributeEvent attributesOf fromLead fromOpen fromName fromTrailing fromSize fromGap eventsOn bodyEvents fileEvents repeatsOne
-    kindIndex noteOf matched isWhole longest anyWhole spelt encode step8 stepsAfter bytesOf allSound textOf eqBytes inRanges isStart isChar
+    turnOf attributeEvent attributesOf fromLead fromOpen fromNamed fromName fromTrailing fromSize fromGap eventsOn bodyEvents fileEvents repeatsOne
+    kindIndex noteOf matched isWhole longest anyWhole spelt encode step8 stepsAfter bytesOf allSound textOf damageOf eqBytes inRanges isStart isChar
     nameSort allChar isNameOf validName
 s-reads = refl
 
@@ -82,8 +82,8 @@ pub s-by-computing : reading room (insertedFile some fileS) (lends [] []) ≡ ex
 unfolding fileS headS startS endS insertedFile inserted chunksOf restOf reading settle u16le u32le headerOf isXml sortOf contentLen foreignLen walk
     walkFrom trace traceFrom countOf numbered endOf poolFrom behindGarbage poolOf offsetOf outsideOf split8 split16 idsIn idsBy mapOf idOf isAscii
     isGood namesFrom nameOf systemOf stringAt stringOf contentOf tablesOf openedOf outsideIn lengthCheck startOf attributeAt startTurn xmlTurn
-    numberOf turnOf attributeEvent attributesOf fromLead fromOpen fromName fromTrailing fromSize fromGap eventsOn bodyEvents fileEvents repeatsOne
-    kindIndex noteOf matched isWhole longest anyWhole spelt encode step8 stepsAfter bytesOf allSound textOf eqBytes inRanges isStart isChar
+    numberOf turnOf attributeEvent attributesOf fromLead fromOpen fromNamed fromName fromTrailing fromSize fromGap eventsOn bodyEvents fileEvents repeatsOne
+    kindIndex noteOf matched isWhole longest anyWhole spelt encode step8 stepsAfter bytesOf allSound textOf damageOf eqBytes inRanges isStart isChar
     nameSort allChar isNameOf validName f105 f102
 s-by-computing = refl
 
@@ -95,7 +95,7 @@ unfolding fileS headS startS endS insertedFile inserted chunksOf restOf u16le u3
     countOf numbered endOf poolFrom behindGarbage poolOf offsetOf split8 split16 idsIn idsBy mapOf idOf isAscii isGood namesFrom nameOf systemOf
     stringAt stringOf contentOf tablesOf openedOf lengthCheck openOf textAnswer textBuffer contentAnswer firstAnswer sharedOf fitOf runsFrom
     findNode findValue startOf startTurn xmlTurn numberOf turnOf matched isWhole longest anyWhole spelt encode step8 stepsAfter bytesOf
-    allSound textOf eqBytes f105 f102 isReference valueTypeNumber valueTypeOf
+    allSound textOf damageOf eqBytes f105 f102 isReference valueTypeNumber valueTypeOf
 s-asked = (refl, refl, refl, refl)
 
 -- ---- room
@@ -104,8 +104,8 @@ pub s-full : reading (record { nodes = nodeWidth - 1; attributes = attributeWidt
 unfolding fileS headS startS endS reading settle u16le u32le headerOf isXml sortOf contentLen foreignLen walk walkFrom trace traceFrom
     countOf numbered endOf poolFrom behindGarbage poolOf offsetOf outsideOf split8 split16 idsIn idsBy mapOf idOf isAscii isGood namesFrom
     nameOf systemOf stringAt stringOf contentOf tablesOf openedOf outsideIn lengthCheck startOf attributeAt startTurn xmlTurn numberOf
-    turnOf attributeEvent attributesOf fromLead fromOpen fromName fromTrailing fromSize fromGap eventsOn bodyEvents fileEvents repeatsOne
-    kindIndex noteOf matched isWhole longest anyWhole spelt encode step8 stepsAfter bytesOf allSound textOf eqBytes inRanges isStart isChar
+    turnOf attributeEvent attributesOf fromLead fromOpen fromNamed fromName fromTrailing fromSize fromGap eventsOn bodyEvents fileEvents repeatsOne
+    kindIndex noteOf matched isWhole longest anyWhole spelt encode step8 stepsAfter bytesOf allSound textOf damageOf eqBytes inRanges isStart isChar
     nameSort allChar isNameOf validName
 s-full = refl
 
@@ -116,7 +116,7 @@ pub swallowed : reading room (take 107 fileS ++ (0x05 ∷ 0x01 ∷ 0x08 ∷ 0x00
 unfolding fileS headS startS endS reading settle u16le u32le headerOf isXml sortOf contentLen foreignLen walk walkFrom trace traceFrom
     countOf numbered endOf poolFrom behindGarbage poolOf offsetOf outsideOf split8 split16 idsIn idsBy mapOf idOf isAscii isGood namesFrom
     nameOf systemOf stringAt stringOf contentOf tablesOf openedOf outsideIn lengthCheck startOf attributeAt startTurn xmlTurn numberOf
-    turnOf attributeEvent attributesOf fromLead fromOpen fromName fromTrailing fromSize fromGap eventsOn bodyEvents fileEvents repeatsOne
-    kindIndex noteOf matched isWhole longest anyWhole spelt encode step8 stepsAfter bytesOf allSound textOf eqBytes inRanges isStart isChar
+    turnOf attributeEvent attributesOf fromLead fromOpen fromNamed fromName fromTrailing fromSize fromGap eventsOn bodyEvents fileEvents repeatsOne
+    kindIndex noteOf matched isWhole longest anyWhole spelt encode step8 stepsAfter bytesOf allSound textOf damageOf eqBytes inRanges isStart isChar
     nameSort allChar isNameOf validName
 swallowed = refl
