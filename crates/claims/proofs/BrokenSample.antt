@@ -15,7 +15,7 @@ use Rattle.common.specs.Header.{headerOf}
 use Rattle.chunk.specs.Sort.{isXml, sortOf, contentOf as contentLen, foreignLen}
 use Rattle.chunk.specs.Walk.{walk, walkFrom, trace, traceFrom}
 use Rattle.utf.specs.Utf8.{matched, isWhole, longest, anyWhole, spelt, encode, step8}
-use Rattle.utf.specs.Text.{stepsAfter, bytesOf, allSound, textOf, eqBytes}
+use Rattle.utf.specs.Text.{stepsAfter, bytesOf, allSound, textOf, damageOf, eqBytes}
 use Rattle.xml.specs.NCName.{inRanges, isStart, isChar, sortOf as nameSort, allChar, nameOf as isNameOf, validName}
 use Rattle.res_string_pool.specs.Pool.{countOf, numbered, endOf, poolFrom, behindGarbage, poolOf, offsetOf, outsideOf}
 use Rattle.res_string_pool.specs.Content.{split8, split16}
@@ -27,7 +27,7 @@ use Rattle.head.specs.Head.{tablesOf, openedOf, outsideIn}
 use Rattle.head.specs.Entry.{lengthCheck}
 use Rattle.records.specs.Words.{merged}
 use Rattle.xml_elements.specs.Chunk.{startOf, attributeAt, startTurn, xmlTurn, numberOf, turnOf}
-use Rattle.events.specs.Events.{attributeEvent, attributesOf, fromLead, fromOpen, fromName, fromTrailing, fromSize, fromGap, eventsOn, bodyEvents, fileEvents}
+use Rattle.events.specs.Events.{attributeEvent, attributesOf, fromLead, fromOpen, fromNamed, fromName, fromTrailing, fromSize, fromGap, eventsOn, bodyEvents, fileEvents}
 use Rattle.records.specs.Repeats.{repeatsOne}
 use Rattle.walk.specs.Settle.{settle}
 use Rattle.walk.specs.Reading.{Reading, reading, zeroNote}
@@ -47,8 +47,8 @@ no-start : _≡_ {A = ℕ} (opensIn (eventsOf merged headS (lends [] []))) 0
 unfolding fileS headS startS endS settle u16le u32le headerOf isXml sortOf contentLen foreignLen walk walkFrom trace traceFrom
     countOf numbered endOf poolFrom behindGarbage poolOf offsetOf outsideOf split8 split16 idsIn idsBy mapOf idOf isAscii isGood namesFrom
     nameOf systemOf stringAt stringOf contentOf tablesOf openedOf outsideIn lengthCheck startOf attributeAt startTurn xmlTurn numberOf
-    turnOf attributeEvent attributesOf fromLead fromOpen fromName fromTrailing fromSize fromGap eventsOn bodyEvents fileEvents repeatsOne
-    kindIndex noteOf matched isWhole longest anyWhole spelt encode step8 stepsAfter bytesOf allSound textOf eqBytes inRanges isStart isChar
+    turnOf attributeEvent attributesOf fromLead fromOpen fromNamed fromName fromTrailing fromSize fromGap eventsOn bodyEvents fileEvents repeatsOne
+    kindIndex noteOf matched isWhole longest anyWhole spelt encode step8 stepsAfter bytesOf allSound textOf damageOf eqBytes inRanges isStart isChar
     nameSort allChar isNameOf validName
 no-start = refl
 
@@ -56,8 +56,8 @@ one-start : _≡_ {A = ℕ} (opensIn (eventsOf merged (headS ++ startS) (lends [
 unfolding fileS headS startS endS settle u16le u32le headerOf isXml sortOf contentLen foreignLen walk walkFrom trace traceFrom
     countOf numbered endOf poolFrom behindGarbage poolOf offsetOf outsideOf split8 split16 idsIn idsBy mapOf idOf isAscii isGood namesFrom
     nameOf systemOf stringAt stringOf contentOf tablesOf openedOf outsideIn lengthCheck startOf attributeAt startTurn xmlTurn numberOf
-    turnOf attributeEvent attributesOf fromLead fromOpen fromName fromTrailing fromSize fromGap eventsOn bodyEvents fileEvents repeatsOne
-    kindIndex noteOf matched isWhole longest anyWhole spelt encode step8 stepsAfter bytesOf allSound textOf eqBytes inRanges isStart isChar
+    turnOf attributeEvent attributesOf fromLead fromOpen fromNamed fromName fromTrailing fromSize fromGap eventsOn bodyEvents fileEvents repeatsOne
+    kindIndex noteOf matched isWhole longest anyWhole spelt encode step8 stepsAfter bytesOf allSound textOf damageOf eqBytes inRanges isStart isChar
     nameSort allChar isNameOf validName
 one-start = refl
 
@@ -65,8 +65,8 @@ pub ends-S : FirstStart (lends [] []) (headS ++ startS)
 unfolding fileS headS startS endS settle u16le u32le headerOf isXml sortOf contentLen foreignLen walk walkFrom trace traceFrom
     countOf numbered endOf poolFrom behindGarbage poolOf offsetOf outsideOf split8 split16 idsIn idsBy mapOf idOf isAscii isGood namesFrom
     nameOf systemOf stringAt stringOf contentOf tablesOf openedOf outsideIn lengthCheck startOf attributeAt startTurn xmlTurn numberOf
-    turnOf attributeEvent attributesOf fromLead fromOpen fromName fromTrailing fromSize fromGap eventsOn bodyEvents fileEvents repeatsOne
-    kindIndex noteOf matched isWhole longest anyWhole spelt encode step8 stepsAfter bytesOf allSound textOf eqBytes inRanges isStart isChar
+    turnOf attributeEvent attributesOf fromLead fromOpen fromNamed fromName fromTrailing fromSize fromGap eventsOn bodyEvents fileEvents repeatsOne
+    kindIndex noteOf matched isWhole longest anyWhole spelt encode step8 stepsAfter bytesOf allSound textOf damageOf eqBytes inRanges isStart isChar
     nameSort allChar isNameOf validName
 ends-S = record { before = headS; chunk = startS; start = startOf startS; split = refl; none = no-start; one = one-start; reads = refl; long = refl }
 

@@ -1,6 +1,7 @@
 -- File S and its relatives (docs/FORMAT.md, L4 and L5), computed: one table, one theorem.
 --
---   fileS, startS, endS   the sample, its start chunk and its end chunk; startL, endL the same of other lines
+--   fileS, startS, endS   the sample, its start chunk and its end chunk; startL, endL the same of other lines;
+--                         headR, headC its head with a damaged name
 --   Case                  a file and its whole reading: the answer, every word of the two tables, every note
 --   cases                 the marked ones, with places for 3 nodes, 3 attributes and 4 notes, cap 8, no system names
 --   cases-right           each file's reading is that of the table
@@ -18,7 +19,7 @@ use Rattle.common.specs.Header.{headerOf}
 use Rattle.chunk.specs.Sort.{isXml, sortOf, contentOf as contentLen, foreignLen}
 use Rattle.chunk.specs.Walk.{walk, walkFrom, trace, traceFrom}
 use Rattle.utf.specs.Utf8.{matched, isWhole, longest, anyWhole, spelt, encode, step8}
-use Rattle.utf.specs.Text.{stepsAfter, bytesOf, allSound, textOf, eqBytes}
+use Rattle.utf.specs.Text.{stepsAfter, bytesOf, allSound, badCount, textOf, damageOf, eqBytes}
 use Rattle.xml.specs.NCName.{inRanges, isStart, isChar, sortOf as nameSort, allChar, nameOf as isNameOf, validName}
 use Rattle.res_string_pool.specs.Pool.{countOf, numbered, endOf, poolFrom, behindGarbage, poolOf, offsetOf, outsideOf}
 use Rattle.res_string_pool.specs.Content.{split8, split16}
@@ -29,7 +30,7 @@ use Rattle.text.specs.Content.{systemOf, stringAt, stringOf, contentOf}
 use Rattle.head.specs.Head.{tablesOf, openedOf, outsideIn}
 use Rattle.head.specs.Entry.{lengthCheck}
 use Rattle.xml_elements.specs.Chunk.{startOf, attributeAt, startTurn, xmlTurn, numberOf, turnOf}
-use Rattle.events.specs.Events.{attributeEvent, attributesOf, fromLead, fromOpen, fromName, fromTrailing, fromSize, fromGap, eventsOn, bodyEvents, fileEvents}
+use Rattle.events.specs.Events.{attributeEvent, attributesOf, fromLead, fromOpen, fromNamed, fromName, fromTrailing, fromSize, fromGap, eventsOn, bodyEvents, fileEvents}
 use Rattle.records.specs.Words.{nodeWidth, nodeWords, noParent, attributeWidth, attributeWords, merged}
 use Rattle.records.specs.Repeats.{repeatsOne}
 use Rattle.walk.specs.Settle.{Room, settle}
@@ -70,6 +71,15 @@ startL = take 8 startS ++ (0xff ∷ 0xff ∷ 0xff ∷ 0xff ∷ 0x05 ∷ 0x00 ∷
 unfoldable pub endL : List ℕ
 unfolding endS
 endL = take 8 endS ++ (0x07 ∷ drop 9 endS)
+
+-- its head with the byte ff for the name, whose text is then U+FFFD, and with 3 for the name's length, so that the string is cut
+unfoldable pub headR : List ℕ
+unfolding headS
+headR = take 42 headS ++ (0xff ∷ drop 43 headS)
+
+unfoldable pub headC : List ℕ
+unfolding headS
+headC = take 41 headS ++ (0x03 ∷ drop 42 headS)
 
 -- ---- the readings
 
@@ -125,7 +135,7 @@ row f r = record { file = f; result = r }
 -- ---- the table
 
 unfoldable pub cases : List Case
-unfolding fileS headS startS endS startL endL
+unfolding fileS headS startS endS startL endL headR headC
 cases =
     row fileS (oneNode 1 0 none) ∷
     row (take 7 fileS) (refusal (Refused (TooSmallError 7))) ∷
@@ -145,7 +155,14 @@ cases =
       notes = none;
     }) ∷
     row (take 88 fileS ++ (foreignChunk ++ endS)) (oneNode 1 1 (note 3 261 ∷ zeroNote ∷ zeroNote ∷ zeroNote ∷ [])) ∷
-    row (headS ++ (startL ++ endL)) (oneAt 4294967295 1 0 none) ∷ []
+    row (headS ++ (startL ++ endL)) (oneAt 4294967295 1 0 none) ∷
+    row (headR ++ (startS ++ endS)) (oneNode 1 1 (record { kind = 32; a = 0; b = 1 } ∷ zeroNote ∷ zeroNote ∷ zeroNote ∷ [])) ∷
+    row (headC ++ (startS ++ endS)) (record {
+      answer = Done (record { starts = 1; nodes = 1; attributes = 1; notes = 2 });
+      nodes = nodeWords 0 1 noParent 0 1 1 ++ noNodes 2;
+      attributes = lead ++ noAttributes 2;
+      notes = record { kind = 32; a = 0; b = 3 } ∷ record { kind = 9; a = 0; b = 1 } ∷ zeroNote ∷ zeroNote ∷ [];
+    }) ∷ []
 
 abbrev pub readings : List Case → List Reading
 readings [] = []
@@ -156,10 +173,10 @@ results [] = []
 results (c ∷ cs) = c .result ∷ results cs
 
 pub cases-right : readings cases ≡ results cases
-unfolding cases fileS headS startS endS startL endL reading settle u16le u32le headerOf isXml sortOf contentLen foreignLen walk walkFrom trace traceFrom
+unfolding cases fileS headS startS endS startL endL headR headC reading settle u16le u32le headerOf isXml sortOf contentLen foreignLen walk walkFrom trace traceFrom
     countOf numbered endOf poolFrom behindGarbage poolOf offsetOf outsideOf split8 split16 idsIn idsBy mapOf idOf isAscii isGood namesFrom
     nameOf systemOf stringAt stringOf contentOf tablesOf openedOf outsideIn lengthCheck startOf attributeAt startTurn xmlTurn numberOf
-    turnOf attributeEvent attributesOf fromLead fromOpen fromName fromTrailing fromSize fromGap eventsOn bodyEvents fileEvents repeatsOne
-    kindIndex noteOf matched isWhole longest anyWhole spelt encode step8 stepsAfter bytesOf allSound textOf eqBytes inRanges isStart isChar
-    nameSort allChar isNameOf validName
+    turnOf attributeEvent attributesOf fromLead fromOpen fromNamed fromName fromTrailing fromSize fromGap eventsOn bodyEvents fileEvents repeatsOne
+    kindIndex noteOf matched isWhole longest anyWhole spelt encode step8 stepsAfter bytesOf allSound badCount textOf damageOf eqBytes inRanges isStart
+    isChar nameSort allChar isNameOf validName
 cases-right = refl

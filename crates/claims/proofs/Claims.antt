@@ -10,6 +10,7 @@
 -- Insertion (P3): a file without a note, and the file with complete foreign chunks at some of its places.
 --   insertion        of the promise; insertion-read of two calls. What the hypotheses and the notes mean: insertion-head to insertion-cap
 --   insertion-text, insertion-content, insertion-first, insertion-many   the questions answer as before
+--   insertion-damaged to insertion-damaged-dropped   of a file whose only notes are of kind 32: it keeps them; kinds-apart: kinds are counted apart
 -- Room (L1): suffices of a file of any length, read-suffices of a call; listing-suffices, read-listed-suffices of a listing.
 -- A part of the head that is short (P6): part-offset, part-cut of a reading, text-part-cut of the text question.
 -- Zeros (P1, B7, B8): refused-zeros, done-zeros, text-refused-zeros, text-done-zeros. Every success: structured, notes-kept.
@@ -58,6 +59,7 @@ use Rattle.errors.specs.declared.FirstAnswer.{FirstAnswer}
 use Rattle.errors.proofs.Laws.{numbersOf-unique, textNumbersOf-unique, linesNumbersOf-unique, firstNumbersOf-unique}
 use Rattle.anomaly.specs.Note.{noteOf}
 use Rattle.anomaly.specs.declared.Note.{Note}
+use Rattle.anomaly.specs.declared.ResAnomaly.{ResAnomaly}
 use Rattle.anomaly.specs.Kept.{ofKind, keptNotes}
 use Rattle.anomaly.proofs.Laws.{keptNotes-of-kind}
 use Rattle.records.specs.Limits.{fileLimit, listedFile, listedNodes, listedAttributes, listedNotes, listedCap}
@@ -95,6 +97,8 @@ use Rattle.claims.specs.Readers.{LeavesNodes, LeavesAttributes, LeavesNo
 use Rattle.claims.proofs.Longer.{insertedFile-none}
 use Rattle.claims.proofs.Foreign.{foreign-of, foreign-bytes, stretch-one, placeNotes-room}
 use Rattle.claims.proofs.Insertion as proved
+use Rattle.claims.specs.Damaged.{damagePlace, besides, OnlyDamage}
+use Rattle.claims.proofs.Damaged as damaged
 use Rattle.claims.proofs.Calls as calls
 use Rattle.claims.proofs.Values as values
 use Rattle.claims.proofs.Suffices as room
@@ -317,6 +321,42 @@ insertion-stretch x xs ys h o = stretch-one x xs ys h o
 pub insertion-cap : (cap k : ℕ) (places : List (List ForeignChunk))
     → (ofKind k (keptNotes cap (placeNotes places)) ≡ take cap (ofKind k (placeNotes places))) × (length (keptNotes cap (placeNotes places)) ≤ 2 * cap)
 insertion-cap cap k places = (keptNotes-of-kind cap k (placeNotes places), placeNotes-room cap places)
+
+-- what is kept of all other kinds is what is kept of them alone (B13): notes of the kind with the place k take nothing from the cap of another
+pub kinds-apart : (cap k : ℕ) (l : List ResAnomaly) → besides k (keptNotes cap l) ≡ keptNotes cap (besides k l)
+kinds-apart = damaged.besides-kept
+
+-- A file whose only notes are of kind 32, and the same file with complete foreign chunks at some of its places, as above: a note 32 is a note, so that
+-- `insertion` says nothing of it.
+module _ (r : Room) (f : List ℕ) (lent : Lent) (c : ReadCounts) (done : reading r f lent .answer ≡ Done c)
+    (only : OnlyDamage (take (c .notes) (reading r f lent .notes))) where
+  -- nothing was dropped
+  pub insertion-damaged-dropped : c .nodes ≡ c .starts
+  insertion-damaged-dropped = damaged.nothing-dropped r f lent c done only
+
+  module _ (places : List (List ForeignChunk)) (few : length places ≤ placesIn f) (limit : length (insertedFile places f) ≤ fileLimit) (r′ : Room)
+      (one : 1 ≤ r′ .cap) (alike : r′ .mode ≡ r .mode) where
+    -- the tree stays, word for word; the notes are those that the longer file makes, up to the cap of each kind
+    pub insertion-damaged : HasRoom (reading r′ (insertedFile places f) lent .answer)
+        → reading r′ (insertedFile places f) lent
+        ≡ withNotes r′ (reading r f lent) c (keptNotes (r′ .cap) (notesIn (eventsOf (r .mode) (insertedFile places f) lent)))
+    insertion-damaged room = damaged.insertion-damaged r f lent c done only places few limit r′ one alike room
+
+    -- of these all that are not of kind 32 are exactly what `insertion` says
+    pub insertion-damaged-others : besides damagePlace (keptNotes (r′ .cap) (notesIn (eventsOf (r .mode) (insertedFile places f) lent)))
+        ≡ keptNotes (r′ .cap) (placeNotes places)
+    insertion-damaged-others = damaged.insertion-damaged-others r f lent c done only places few limit r′ one alike
+
+    -- and those of kind 32 are the file's own notes, the first as many as the cap says
+    pub insertion-damaged-kept : ofKind damagePlace (keptNotes (r′ .cap) (notesIn (eventsOf (r .mode) (insertedFile places f) lent)))
+        ≡ take (r′ .cap) (notesIn (eventsOf (r .mode) f lent))
+    insertion-damaged-kept = damaged.insertion-damaged-kept r f lent c done only places few limit r′ one alike
+
+    -- at the same cap these are the notes that stood in the first reading, word for word
+    pub insertion-damaged-same : r′ .cap ≡ r .cap
+        → map noteOf (ofKind damagePlace (keptNotes (r′ .cap) (notesIn (eventsOf (r .mode) (insertedFile places f) lent))))
+        ≡ take (c .notes) (reading r f lent .notes)
+    insertion-damaged-same = damaged.insertion-damaged-same r f lent c done only places few limit r′ one alike
 
 -- ---- room that always suffices (L1): none is refused with 8, 9 or 10
 

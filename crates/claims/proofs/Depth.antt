@@ -11,7 +11,7 @@ use lib.ListN.{length, drop}
 use lib.Dec.{ltb, eqb}
 use Rattle.chunk.proofs.Walk.{walk-ind}
 use Rattle.anomaly.specs.declared.ResAnomaly.{ResAnomaly}
-use Rattle.anomaly.specs.declared.ResAnomaly.the-variants.{AttributeStartShifted, AttributeSizeMismatch, ElementTrailingBytes, InvalidElementName}
+use Rattle.anomaly.specs.declared.ResAnomaly.the-variants.{AttributeStartShifted, AttributeSizeMismatch, ElementTrailingBytes, InvalidElementName, DamagedElementName}
 use Rattle.text.specs.declared.NameState.{NameState}
 use Rattle.text.specs.declared.NameState.the-variants.{NoText, Invalid, Valid}
 use Rattle.xml_elements.specs.declared.XmlStartElement.{XmlStartElement}
@@ -26,7 +26,7 @@ use Rattle.xml_elements.proofs.Laws.{cond-by}
 use Rattle.records.specs.Repeats.{Rule}
 use Rattle.events.specs.declared.Event.{Event}
 use Rattle.events.specs.declared.Event.the-variants.{Nothing, Open, Attribute, LeftOut, Close, Note, Refuse, Finish}
-use Rattle.events.specs.Events.{Names, Spot, when, isValid, hasOne, attributeBy, attributeEvent, attributesOf, leading, fromLead, fromOpen, fromName}
+use Rattle.events.specs.Events.{Names, Spot, when, isValid, hasOne, attributeBy, attributeEvent, attributesOf, leading, fromLead, fromOpen, fromNamed, fromName}
 use Rattle.events.specs.Events.{fromTrailing, fromSize, fromGap, cutShort, foreignNote, chunkYield, cutYield, yieldOf, chunkNext, cutNext, nextOf}
 use Rattle.events.specs.Events.{lastOf, used, next, eventsOn}
 use Rattle.events.proofs.Model.{eventsOn-stop, eventsOn-step}
@@ -65,7 +65,7 @@ deep-behind ds es d h = deep-append ds es d ∙ ap (deep es) h
 
 -- ---- what each turn adds
 
--- notes 6, 7, 8 of a start, and note 9: whether they are made, and with what
+-- notes 6, 7, 8 of a start, and notes 32 and 9: whether they are made, and with what
 pub record Maybe : Type 0 where
   pub test : Bool
   pub note : ResAnomaly
@@ -88,6 +88,10 @@ trailingNote s = record { test = not (eqb (trailingOf s) 0); note = ElementTrail
 abbrev nameNote : Names → XmlStartElement → Maybe
 nameNote N s =
     record { test = not (isValid (N .state (s .name .0))); note = InvalidElementName (s .name) (hasOne (N .state (s .name .0))) }
+
+abbrev damageNote : Names → XmlStartElement → Maybe
+damageNote N s =
+    record { test = not (eqb (N .damage (s .name .0)) 0); note = DamagedElementName (s .name) (N .damage (s .name .0)) }
 
 module _ (N : Names) where
   deep-attribute : (l : List ℕ) (d : ℕ) → deeper (attributeEvent N l) d ≡ d
@@ -112,9 +116,13 @@ module _ (N : Names) where
         deep-behind (when (eqb k 0) leading) _ d (deep-when (eqb k 0) leading d refl)
         ∙ deep-attributes (s .«attribute_count») (strideOf s) (drop (attributesAt s) l) d
 
+    deep-named : deep (fromNamed N s k l) d ≡ d + 1
+    unfolding fromNamed fromOpen
+    deep-named = deep-made (nameNote N s) (fromOpen N s k l) d ∙ deep-lead (d + 1)
+
     deep-name : deep (fromName N s k l) d ≡ d + 1
-    unfolding fromName fromOpen
-    deep-name = deep-made (nameNote N s) (fromOpen N s k l) d ∙ deep-lead (d + 1)
+    unfolding fromName
+    deep-name = deep-made (damageNote N s) (fromNamed N s k l) d ∙ deep-named
 
     deep-trailing : deep (fromTrailing N s 3 k l) d ≡ d + 1
     unfolding fromTrailing

@@ -19,6 +19,8 @@ pub mod Calls
 pub mod Sample
 pub mod PushBy
 pub mod Noted
+pub mod Quiet
+pub mod Damaged
 pub mod SufficesStart
 pub mod SufficesBytes
 pub mod Suffices

@@ -15,7 +15,7 @@ use Rattle.common.specs.Header.{headerOf}
 use Rattle.chunk.specs.Sort.{isXml, sortOf, contentOf as contentLen, foreignLen}
 use Rattle.chunk.specs.Walk.{walk, walkFrom, trace, traceFrom}
 use Rattle.utf.specs.Utf8.{matched, isWhole, longest, anyWhole, spelt, encode, step8}
-use Rattle.utf.specs.Text.{stepsAfter, bytesOf, allSound, textOf, eqBytes}
+use Rattle.utf.specs.Text.{stepsAfter, bytesOf, allSound, textOf, damageOf, eqBytes}
 use Rattle.xml.specs.NCName.{inRanges, isStart, isChar, sortOf as nameSort, allChar, nameOf as isNameOf, validName}
 use Rattle.res_string_pool.specs.Pool.{countOf, numbered, endOf, poolFrom, behindGarbage, poolOf, offsetOf, outsideOf}
 use Rattle.res_string_pool.specs.Content.{split8, split16}
@@ -26,7 +26,7 @@ use Rattle.text.specs.Content.{systemOf, stringAt, stringOf, contentOf}
 use Rattle.head.specs.Head.{tablesOf, openedOf, outsideIn}
 use Rattle.head.specs.Entry.{lengthCheck}
 use Rattle.xml_elements.specs.Chunk.{startOf, attributeAt, startTurn, xmlTurn, numberOf, turnOf}
-use Rattle.events.specs.Events.{attributeEvent, attributesOf, fromLead, fromOpen, fromName, fromTrailing, fromSize, fromGap, eventsOn, bodyEvents, fileEvents}
+use Rattle.events.specs.Events.{attributeEvent, attributesOf, fromLead, fromOpen, fromNamed, fromName, fromTrailing, fromSize, fromGap, eventsOn, bodyEvents, fileEvents}
 use Rattle.records.specs.Repeats.{repeatsOne}
 use Rattle.walk.specs.Settle.{settle}
 use Rattle.walk.specs.Reading.{reading, zeroNote}
@@ -106,7 +106,7 @@ pub files-read : map leftOf files
 unfolding files fileS headS startS endS reading settle u16le u32le headerOf isXml sortOf contentLen foreignLen walk walkFrom trace traceFrom
     countOf numbered endOf poolFrom behindGarbage poolOf offsetOf outsideOf split8 split16 idsIn idsBy mapOf idOf isAscii isGood namesFrom
     nameOf systemOf stringAt stringOf contentOf tablesOf openedOf outsideIn lengthCheck startOf attributeAt startTurn xmlTurn numberOf
-    turnOf attributeEvent attributesOf fromLead fromOpen fromName fromTrailing fromSize fromGap eventsOn bodyEvents fileEvents repeatsOne
-    kindIndex noteOf matched isWhole longest anyWhole spelt encode step8 stepsAfter bytesOf allSound textOf eqBytes inRanges isStart isChar
+    turnOf attributeEvent attributesOf fromLead fromOpen fromNamed fromName fromTrailing fromSize fromGap eventsOn bodyEvents fileEvents repeatsOne
+    kindIndex noteOf matched isWhole longest anyWhole spelt encode step8 stepsAfter bytesOf allSound textOf damageOf eqBytes inRanges isStart isChar
     nameSort allChar isNameOf validName
 files-read = refl

@@ -11,7 +11,7 @@ use mathlib.Core.Bool.{Bool, true, false, not, _&&_, cond}
 use lib.ListN.{length, drop}
 use lib.Dec.{ltb, eqb}
 use Rattle.anomaly.specs.declared.ResAnomaly.{ResAnomaly}
-use Rattle.anomaly.specs.declared.ResAnomaly.the-variants.{AttributeStartShifted, AttributeSizeMismatch, ElementTrailingBytes, InvalidElementName}
+use Rattle.anomaly.specs.declared.ResAnomaly.the-variants.{AttributeStartShifted, AttributeSizeMismatch, ElementTrailingBytes, InvalidElementName, DamagedElementName}
 use Rattle.anomaly.specs.declared.ResAnomaly.the-variants.{UnclosedElements}
 use Rattle.chunk.proofs.Walk.{walk-ind, trace-stop, trace-step}
 use Rattle.errors.specs.declared.Refusal.{Refusal}
@@ -34,7 +34,7 @@ use Rattle.xml_elements.specs.Chunk.{strideOf, attributesAt, trailingOf, attrib
 use Rattle.xml_elements.proofs.Laws.{turnOf-told, usedOf-le}
 use Rattle.events.specs.declared.Event.{Event}
 use Rattle.events.specs.declared.Event.the-variants.{Nothing, Open, Attribute, LeftOut, Close, Note, Refuse, Finish}
-use Rattle.events.specs.Events.{Names, Spot, when, isValid, hasOne, leading, foreignNote, cutShort, attributeBy, attributesOf, attributeEvent, fromLead, fromOpen, fromName, fromTrailing}
+use Rattle.events.specs.Events.{Names, Spot, when, isValid, hasOne, leading, foreignNote, cutShort, attributeBy, attributesOf, attributeEvent, fromLead, fromOpen, fromNamed, fromName, fromTrailing}
 use Rattle.events.specs.Events.{fromSize, fromGap, chunkYield, cutYield, yieldOf, used, out, next, lastOf, eventsOn, bodyEvents, notesOf, afterPool, fileEvents}
 use Rattle.claims.specs.Counts.{opensIn, openNames, openLines, stepped, depthFrom}
 use Rattle.claims.specs.Lost.{Mark, start, end, chunkMarks, cutMarks, turnMarks, marksOf, startNames, startLines}
@@ -91,15 +91,19 @@ module _ (N : Names) (s : XmlStartElement) (k : ℕ) (l : List ℕ) where
   lead-marks true es = refl
   lead-marks false es = refl
 
-  name-marks : Told (fromName N s k l) (start (s .name .0) (s .line) ∷ [])
-  unfolding fromName fromOpen fromLead
-  name-marks = record {
+  named-marks : Told (fromNamed N s k l) (start (s .name .0) (s .line) ∷ [])
+  unfolding fromNamed fromOpen fromLead
+  named-marks = record {
     told =
         noted-marks (not (isValid (N .state (s .name .0)))) (InvalidElementName (s .name) (hasOne (N .state (s .name .0)))) (fromOpen N s k l)
         ∙ ap (λ (ms : List Mark). start (s .name .0) (s .line) ∷ ms)
         (lead-marks (eqb k 0) (attributesOf N (s .«attribute_count») (strideOf s) (drop (attributesAt s) l))
         ∙ attributes-marks N (s .«attribute_count») (strideOf s) (drop (attributesAt s) l));
   }
+
+  name-marks : Told (fromName N s k l) (start (s .name .0) (s .line) ∷ [])
+  unfolding fromName
+  name-marks = record { told = noted-marks (not (eqb (N .damage (s .name .0)) 0)) (DamagedElementName (s .name) (N .damage (s .name .0))) (fromNamed N s k l) ∙ named-marks .told }
 
   cut-told : Told cutShort []
   cut-told = record { told = refl }

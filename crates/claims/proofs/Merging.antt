@@ -8,7 +8,7 @@ use lib.ListN.{length, drop}
 use lib.Dec.{eqb, ltb}
 use Rattle.chunk.specs.Walk.{turn, traceFrom, trace}
 use Rattle.anomaly.specs.declared.ResAnomaly.{ResAnomaly}
-use Rattle.anomaly.specs.declared.ResAnomaly.the-variants.{AttributeStartShifted, AttributeSizeMismatch, ElementTrailingBytes, InvalidElementName, UnclosedElements}
+use Rattle.anomaly.specs.declared.ResAnomaly.the-variants.{AttributeStartShifted, AttributeSizeMismatch, ElementTrailingBytes, InvalidElementName, DamagedElementName, UnclosedElements}
 use Rattle.records.specs.Words.{merged, apart}
 use Rattle.system_types.specs.Names.{Lent}
 use Rattle.text.specs.Content.{Content, contentOf, hasText, isAndroid, stateIn}
@@ -32,7 +32,7 @@ use Rattle.xml_elements.specs.Chunk.{strideOf, attributesAt, trailingOf, attrib
 use Rattle.events.specs.declared.Event.{Event}
 use Rattle.events.specs.declared.Event.the-variants.{Nothing, Open, Attribute, LeftOut, Close, Note, Refuse, Finish}
 use Rattle.events.specs.Events.{Names, prefixIn, namesIn, when, isValid, hasOne, fixedOf, leading, attributeBy, attributeEvent, attributesOf, cutShort}
-use Rattle.events.specs.Events.{fromLead, fromOpen, fromName, fromTrailing, fromSize, fromGap, Spot, chunkYield, cutYield, yieldOf, foreignNote}
+use Rattle.events.specs.Events.{fromLead, fromOpen, fromNamed, fromName, fromTrailing, fromSize, fromGap, Spot, chunkYield, cutYield, yieldOf, foreignNote}
 use Rattle.events.specs.Events.{lastOf, fromRoot, used, out, next, eventsOn, bodyEvents, notesOf, afterPool, fileEvents}
 use Rattle.claims.specs.Modes.{mergedPrefix}
 
@@ -136,11 +136,17 @@ module _ (h : Head) (t : List ℕ) (lent : Lent) where
     unfolding fromOpen
     open-map = ap (λ (m : List Event). Open (s .name) (fixedOf (N₂ .state (s .name .0))) (s .line) ∷ m) lead-map
 
+    named-map : mergeAll (fromNamed N₂ s k l) ≡ fromNamed N₁ s k l
+    unfolding fromNamed
+    named-map =
+        let e : Event = Note (InvalidElementName (s .name) (hasOne (N₂ .state (s .name .0)))) in
+        merge-parts (when (not (isValid (N₂ .state (s .name .0)))) e) (fromOpen N₂ s k l) (merge-when (not (isValid (N₂ .state (s .name .0)))) e) open-map
+
     name-map : mergeAll (fromName N₂ s k l) ≡ fromName N₁ s k l
     unfolding fromName
     name-map =
-        let e : Event = Note (InvalidElementName (s .name) (hasOne (N₂ .state (s .name .0)))) in
-        merge-parts (when (not (isValid (N₂ .state (s .name .0)))) e) (fromOpen N₂ s k l) (merge-when (not (isValid (N₂ .state (s .name .0)))) e) open-map
+        let e : Event = Note (DamagedElementName (s .name) (N₂ .damage (s .name .0))) in
+        merge-parts (when (not (eqb (N₂ .damage (s .name .0)) 0)) e) (fromNamed N₂ s k l) (merge-when (not (eqb (N₂ .damage (s .name .0)) 0)) e) named-map
 
     trailing-map : (reach : ℕ) → mergeAll (fromTrailing N₂ s reach k l) ≡ fromTrailing N₁ s reach k l
     unfolding fromTrailing

@@ -9,7 +9,7 @@ use mathlib.Core.Bool.{Bool, true, false, cond, not, _&&_}
 use lib.ListN.{length, drop}
 use lib.Dec.{ltb, eqb}
 use Rattle.anomaly.specs.declared.ResAnomaly.{ResAnomaly}
-use Rattle.anomaly.specs.declared.ResAnomaly.the-variants.{AttributeStartShifted, AttributeSizeMismatch, ElementTrailingBytes, InvalidElementName, UnclosedElements}
+use Rattle.anomaly.specs.declared.ResAnomaly.the-variants.{AttributeStartShifted, AttributeSizeMismatch, ElementTrailingBytes, InvalidElementName, DamagedElementName, UnclosedElements}
 use Rattle.errors.specs.declared.Refusal.{Refusal}
 use Rattle.errors.specs.declared.Refusal.the-variants.{MissingRoot}
 use Rattle.text.specs.declared.NameState.{NameState}
@@ -31,7 +31,7 @@ use Rattle.xml_elements.proofs.Laws.{cond-by, usedOf-le, turnOf-told}
 use Rattle.chunk.proofs.Walk.{walk-ind, trace-stop, trace-step}
 use Rattle.events.specs.declared.Event.{Event}
 use Rattle.events.specs.declared.Event.the-variants.{Nothing, Open, Attribute, LeftOut, Close, Note, Refuse, Finish}
-use Rattle.events.specs.Events.{Names, isValid, hasOne, fixedOf, when, leading, attributeBy, attributeEvent, attributesOf, cutShort, fromLead, fromOpen, fromName, fromTrailing}
+use Rattle.events.specs.Events.{Names, isValid, hasOne, fixedOf, when, leading, attributeBy, attributeEvent, attributesOf, cutShort, fromLead, fromOpen, fromNamed, fromName, fromTrailing}
 use Rattle.events.specs.Events.{fromSize, fromGap, Spot, foreignNote, chunkYield, cutYield, yieldOf, fromRoot, lastOf, used, out, next}
 use Rattle.events.specs.Events.{eventsOn, bodyEvents, notesOf, afterPool, fileEvents}
 
@@ -85,13 +85,20 @@ module _ (Q : Refusal → Type 0) where
       lead-refuse =
           both (when (eqb k 0) leading) (attributesOf N (s .«attribute_count») (strideOf s) (drop (attributesAt s) l)) (led (eqb k 0)) (attributes-refuse (s .«attribute_count») (strideOf s) (drop (attributesAt s) l))
 
-      name-refuse : AllRefuse (fromName N s k l)
-      unfolding fromName fromOpen
-      name-refuse =
+      named-refuse : AllRefuse (fromNamed N s k l)
+      unfolding fromNamed fromOpen
+      named-refuse =
           let state = N .state (s .name .0) in
           let opens : AllRefuse (Open (s .name) (fixedOf state) (s .line) ∷ fromLead N s k l) = (tt, lead-refuse) in
           both (when (not (isValid state)) (Note (InvalidElementName (s .name) (hasOne state)))) (Open (s .name) (fixedOf state) (s .line) ∷ fromLead N s k l)
           (noted (not (isValid state)) (InvalidElementName (s .name) (hasOne state))) opens
+
+      name-refuse : AllRefuse (fromName N s k l)
+      unfolding fromName
+      name-refuse =
+          let state = N .damage (s .name .0) in
+          both (when (not (eqb state 0)) (Note (DamagedElementName (s .name) state))) (fromNamed N s k l)
+          (noted (not (eqb state 0)) (DamagedElementName (s .name) state)) named-refuse
 
       trailing-refuse : (reach : ℕ) → AllRefuse (fromTrailing N s reach k l)
       unfolding fromTrailing

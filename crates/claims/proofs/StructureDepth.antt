@@ -12,7 +12,7 @@ use lib.Dec.{ltb, eqb}
 use Rattle.anomaly.specs.Note.{noteOf}
 use Rattle.anomaly.specs.declared.ResAnomaly.{ResAnomaly}
 use Rattle.anomaly.specs.declared.ResAnomaly.the-variants.{AttributeStartShifted, AttributeSizeMismatch, ElementTrailingBytes}
-use Rattle.anomaly.specs.declared.ResAnomaly.the-variants.{InvalidElementName, InvalidAttributeName, TruncatedXml}
+use Rattle.anomaly.specs.declared.ResAnomaly.the-variants.{InvalidElementName, DamagedElementName, InvalidAttributeName, TruncatedXml}
 use Rattle.text.specs.declared.NameState.{NameState}
 use Rattle.text.specs.declared.NameState.the-variants.{NoText, Invalid, Valid}
 use Rattle.xml_elements.specs.declared.XmlStartElement.{XmlStartElement}
@@ -20,7 +20,7 @@ use Rattle.xml_elements.specs.declared.XmlAttributeElement.{XmlAttributeElement
 use Rattle.xml_elements.specs.Chunk.{strideOf, attributesAt, trailingOf, attributeAt}
 use Rattle.events.specs.declared.Event.{Event}
 use Rattle.events.specs.declared.Event.the-variants.{Nothing, Open, Attribute, LeftOut, Close, Note, Refuse, Finish}
-use Rattle.events.specs.Events.{Names, when, isValid, hasOne, leading, attributeBy, attributesOf, attributeEvent, fromLead, fromOpen, fromName}
+use Rattle.events.specs.Events.{Names, when, isValid, hasOne, leading, attributeBy, attributesOf, attributeEvent, fromLead, fromOpen, fromNamed, fromName}
 use Rattle.events.specs.Events.{fromTrailing, fromSize, fromGap}
 use Rattle.claims.specs.Counts.{opensIn, stepped, depthFrom, notesIn}
 use Rattle.claims.proofs.Erased.{notesIn-append}
@@ -101,11 +101,16 @@ module _ (N : Names) (s : XmlStartElement) (k : ℕ) (l : List ℕ) where
   unfolding fromOpen
   open-moved = record { opens = omega (arith, lead-moved .opens); depth = λ d. omega (arith, lead-moved .depth (d + 1)); plain = lead-moved .plain }
 
+  named-moved : Moved (fromNamed N s k l) 1
+  unfolding fromNamed noteOf
+  named-moved =
+      noted-moved (not (isValid (N .state (s .name .0)))) (InvalidElementName (s .name) (hasOne (N .state (s .name .0)))) (fromOpen N s k l) 1
+      (λ e. omega arith) open-moved
+
   name-moved : Moved (fromName N s k l) 1
   unfolding fromName noteOf
   name-moved =
-      noted-moved (not (isValid (N .state (s .name .0)))) (InvalidElementName (s .name) (hasOne (N .state (s .name .0)))) (fromOpen N s k l) 1
-      (λ e. omega arith) open-moved
+      noted-moved (not (eqb (N .damage (s .name .0)) 0)) (DamagedElementName (s .name) (N .damage (s .name .0))) (fromNamed N s k l) 1 (λ e. omega arith) named-moved
 
   -- behind the notes 6, 7 and 8
   shift-moved : (es : List Event) (n : ℕ) → Moved es n

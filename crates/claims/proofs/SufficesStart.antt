@@ -12,7 +12,7 @@ use lib.ListN.{drop}
 use lib.Dec.{ltb, eqb}
 use Rattle.anomaly.specs.declared.ResAnomaly.{ResAnomaly}
 use Rattle.anomaly.specs.declared.ResAnomaly.the-variants.{AttributeStartShifted, AttributeSizeMismatch, ElementTrailingBytes}
-use Rattle.anomaly.specs.declared.ResAnomaly.the-variants.{InvalidElementName, TruncatedXml}
+use Rattle.anomaly.specs.declared.ResAnomaly.the-variants.{InvalidElementName, DamagedElementName, TruncatedXml}
 use Rattle.text.specs.declared.NameState.{NameState}
 use Rattle.text.specs.declared.NameState.the-variants.{NoText, Invalid, Valid}
 use Rattle.xml_elements.specs.declared.XmlStartElement.{XmlStartElement}
@@ -20,7 +20,7 @@ use Rattle.xml_elements.specs.declared.XmlAttributeElement.{XmlAttributeElement
 use Rattle.xml_elements.specs.Chunk.{trailingOf, strideOf, attributesAt, attributeAt}
 use Rattle.events.specs.declared.Event.{Event}
 use Rattle.events.specs.declared.Event.the-variants.{Nothing, Open, Attribute, LeftOut, Close, Note, Refuse, Finish}
-use Rattle.events.specs.Events.{Names, isValid, hasOne, when, leading, attributeBy, attributeEvent, attributesOf, fromLead, fromOpen, fromName, fromTrailing}
+use Rattle.events.specs.Events.{Names, isValid, hasOne, when, leading, attributeBy, attributeEvent, attributesOf, fromLead, fromOpen, fromNamed, fromName, fromTrailing}
 use Rattle.events.specs.Events.{fromSize, fromGap}
 use Rattle.errors.specs.Refusal.{numberOf}
 use Rattle.listing_back.specs.Back.{isListed}
@@ -111,11 +111,15 @@ module _ (N : Names) (s : XmlStartElement) (k : ℕ) (l : List ℕ) where
   unfolding fromOpen
   few-open = record { opens = omega (arith, few-lead .opens); attributes = omega (arith, few-lead .attributes); fine = (tt, few-lead .fine) }
 
-  few-name : Few (fromName N s k l) 1 (1 + s .«attribute_count»)
-  unfolding fromName
-  few-name =
+  few-named : Few (fromNamed N s k l) 1 (1 + s .«attribute_count»)
+  unfolding fromNamed
+  few-named =
       few-noted (not (isValid (N .state (s .name .0)))) (InvalidElementName (s .name) (hasOne (N .state (s .name .0)))) (fromOpen N s k l) 1
       (1 + s .«attribute_count») few-open
+
+  few-name : Few (fromName N s k l) 1 (1 + s .«attribute_count»)
+  unfolding fromName
+  few-name = few-noted (not (eqb (N .damage (s .name .0)) 0)) (DamagedElementName (s .name) (N .damage (s .name .0))) (fromNamed N s k l) 1 (1 + s .«attribute_count») few-named
 
   -- notes 6, 7 and 8
   behind-shift : (es : List Event) (n m : ℕ) → Few es n m

@@ -4,6 +4,7 @@ pub mod Counts
 pub mod Room
 pub mod InC
 pub mod Shape
+pub mod Damaged
 pub mod Lost
 pub mod Cleared
 pub mod Readers

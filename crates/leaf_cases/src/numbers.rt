@@ -31,6 +31,7 @@ pub(crate) fn print_notes() {
     print_note(ResAnomaly::InvalidAttributeName(StringIndex(510)));
     print_note(ResAnomaly::TruncatedXml);
     print_note(ResAnomaly::UnclosedElements(512));
+    print_note(ResAnomaly::DamagedElementName(StringIndex(513), 3));
 }
 
 fn print_refusal(r: Refusal) {
