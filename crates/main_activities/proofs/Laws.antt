@@ -126,8 +126,10 @@ module _ (w : Tree) (a : ℕ) where
   filtering-step {k} {m} {l} q p e f i =
       record {
         within = within-over w a q p (i .within) (within-start w k q);
-        mains = or-more m (eqb (parentOf (w .nodes) k) a && isMain w k) (anyOf (isMain w) (rest w a (k + 1))) (i .mains) (any-step w a k q p (isMain w)) e;
-        launchers = or-more l (eqb (parentOf (w .nodes) k) a && isLauncher w k) (anyOf (isLauncher w) (rest w a (k + 1))) (i .launchers) (any-step w a k q p (isLauncher w)) f;
+        mains = or-more m (eqb (parentOf (w .nodes) k) a && isMain w k) (anyOf (isMain w) (rest w a (k + 1))) (i .mains)
+            (any-step w a k q p (isMain w)) e;
+        launchers = or-more l (eqb (parentOf (w .nodes) k) a && isLauncher w k) (anyOf (isLauncher w) (rest w a (k + 1))) (i .launchers)
+            (any-step w a k q p (isLauncher w)) f;
       }
 
   pub filtering-end :

@@ -55,18 +55,22 @@ cond-and : (b c : Bool) (x : List ℕ) → cond b (cond c x []) [] ≡ cond (b &
 cond-and true c x = refl
 cond-and false c x = refl
 
-given-by : (w : Tree) (k : ℕ) (b : Bool) {yes : Bool} → yes ≡ (b && starts w k) → cond b (given w k) [] ≡ cond yes (numberBy (attributeOf w nameName k)) []
+given-by : (w : Tree) (k : ℕ) (b : Bool) {yes : Bool} → yes ≡ (b && starts w k) → cond b (given w k) [] ≡ cond yes
+    (numberBy (attributeOf w nameName k)) []
 unfolding given
-given-by w k b e = cond-and b (starts w k) (numberBy (attributeOf w nameName k)) ∙ ap (λ (x : Bool). cond x (numberBy (attributeOf w nameName k)) []) (sym e)
+given-by w k b e = cond-and b (starts w k) (numberBy (attributeOf w nameName k)) ∙ ap
+    (λ (x : Bool). cond x (numberBy (attributeOf w nameName k)) []) (sym e)
 
 module _ (w : Tree) (k : ℕ) {yes : Bool} {x : AttributeFound} {z after l : List ℕ} {n : ℕ} (e : yes ≡ true) (f : x ≡ attributeOf w nameName k) where
   pub given-at : {j : ℕ} → x ≡ At j → Holds z (cond yes (numberBy (attributeOf w nameName k)) [] ++ after) l n → Holds z (j ∷ after) l n
   given-at {j} g h =
-      holds-same (ap (λ (b : Bool). cond b (numberBy (attributeOf w nameName k)) [] ++ after) e ∙ ap (λ (y : AttributeFound). numberBy y ++ after) (sym f ∙ g)) h
+      holds-same (ap (λ (b : Bool). cond b (numberBy (attributeOf w nameName k)) [] ++ after) e ∙ ap
+      (λ (y : AttributeFound). numberBy y ++ after) (sym f ∙ g)) h
 
   pub given-none : x ≡ NoAttribute → Holds z (cond yes (numberBy (attributeOf w nameName k)) [] ++ after) l n → Holds z after l n
   given-none g h =
-      holds-same (ap (λ (b : Bool). cond b (numberBy (attributeOf w nameName k)) [] ++ after) e ∙ ap (λ (y : AttributeFound). numberBy y ++ after) (sym f ∙ g)) h
+      holds-same (ap (λ (b : Bool). cond b (numberBy (attributeOf w nameName k)) [] ++ after) e ∙ ap
+      (λ (y : AttributeFound). numberBy y ++ after) (sym f ∙ g)) h
 
 -- an application p, listed up to k, behind what the list l₀ with n₀ numbers in it held before
 pub record Listing (w : Tree) (p k : ℕ) (l₀ : List ℕ) (n₀ : ℕ) (l : List ℕ) (n : ℕ) : Type 0 where

@@ -85,7 +85,8 @@ module _ (f : List ℕ) (lent : Lent) (items area ns ats before : List ℕ) (nod
       → after ≡ replicate (length before) 0
   unfolding listAfter mainAnswer
   main-refused x after p =
-      p .list ∙ by-answer (length before) (activitiesIn f lent items area ns ats nodes attributes) (mainOpen f lent items area ns ats nodes attributes) x (told p)
+      p .list ∙ by-answer (length before) (activitiesIn f lent items area ns ats nodes attributes)
+      (mainOpen f lent items area ns ats nodes attributes) x (told p)
 
   done-by : (m : ℕ) (z : Head → List ℕ) (x : OpenRead) (n : ℕ) (after : List ℕ) → answerIn m z x ≡ Found n → after ≡ listIn m z x
       → (n ≤ m) × (length after ≡ m) × (drop n after ≡ replicate (m - n) 0)
@@ -104,5 +105,6 @@ module _ (f : List ℕ) (lent : Lent) (items area ns ats before : List ℕ) (nod
       → (n ≤ length before) × (length after ≡ length before) × (drop n after ≡ replicate (length before - n) 0)
   unfolding listAfter mainAnswer
   main-done n after p =
-      done-by (length before) (activitiesIn f lent items area ns ats nodes attributes) (mainOpen f lent items area ns ats nodes attributes) n after (told p)
+      done-by (length before) (activitiesIn f lent items area ns ats nodes attributes)
+      (mainOpen f lent items area ns ats nodes attributes) n after (told p)
       (p .list)

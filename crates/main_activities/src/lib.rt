@@ -100,14 +100,17 @@ fn scan_filter(
     count: u32,
     f: u32,
 ) -> Scan
-    requires { ⌜ Ready (treeOf h (now t) (lends (now names) (now area)) (now items) (now «item_area») (now nodes) (now attributes) count) × (f < count) ⌝ }
+    requires { ⌜ Ready (treeOf h (now t) (lends (now names) (now area)) (now items) (now «item_area») (now nodes) (now attributes) count) ×
+        (f < count) ⌝ }
     ensures { λ r. ⌜ Within (treeOf h (now (t .entry)) (lends (now (names .entry)) (now (area .entry))) (now (items .entry))
         (now («item_area» .entry)) (now (nodes .entry)) (now (attributes .entry)) count) f (r .next)
         × (r .yes ≡ (anyOf (isMain (treeOf h (now (t .entry)) (lends (now (names .entry)) (now (area .entry))) (now (items .entry))
-        (now («item_area» .entry)) (now (nodes .entry)) (now (attributes .entry)) count)) (childrenOf (treeOf h (now (t .entry)) (lends (now (names .entry)) (now (area .entry))) (now (items .entry))
+        (now («item_area» .entry)) (now (nodes .entry)) (now (attributes .entry)) count))
+        (childrenOf (treeOf h (now (t .entry)) (lends (now (names .entry)) (now (area .entry))) (now (items .entry))
         (now («item_area» .entry)) (now (nodes .entry)) (now (attributes .entry)) count) f)
         && anyOf (isLauncher (treeOf h (now (t .entry)) (lends (now (names .entry)) (now (area .entry))) (now (items .entry))
-        (now («item_area» .entry)) (now (nodes .entry)) (now (attributes .entry)) count)) (childrenOf (treeOf h (now (t .entry)) (lends (now (names .entry)) (now (area .entry))) (now (items .entry))
+        (now («item_area» .entry)) (now (nodes .entry)) (now (attributes .entry)) count))
+        (childrenOf (treeOf h (now (t .entry)) (lends (now (names .entry)) (now (area .entry))) (now (items .entry))
         (now («item_area» .entry)) (now (nodes .entry)) (now (attributes .entry)) count) f))) ⌝ }
 {
     let mut k = f + 1;
@@ -170,10 +173,12 @@ fn filter_child(
     a: u32,
     k: u32,
 ) -> Scan
-    requires { ⌜ Ready (treeOf h (now t) (lends (now names) (now area)) (now items) (now «item_area») (now nodes) (now attributes) count) × (k < count) ⌝ }
+    requires { ⌜ Ready (treeOf h (now t) (lends (now names) (now area)) (now items) (now «item_area») (now nodes) (now attributes) count) ×
+        (k < count) ⌝ }
     ensures { λ r. ⌜ Within (treeOf h (now (t .entry)) (lends (now (names .entry)) (now (area .entry))) (now (items .entry))
         (now («item_area» .entry)) (now (nodes .entry)) (now (attributes .entry)) count) k (r .next)
-        × (r .yes ≡ (eqb (parentOf (now (nodes .entry)) k) a && isFilter (treeOf h (now (t .entry)) (lends (now (names .entry)) (now (area .entry))) (now (items .entry))
+        × (r .yes ≡ (eqb (parentOf (now (nodes .entry)) k) a && isFilter
+        (treeOf h (now (t .entry)) (lends (now (names .entry)) (now (area .entry))) (now (items .entry))
         (now («item_area» .entry)) (now (nodes .entry)) (now (attributes .entry)) count) k)) ⌝ }
 {
     if parent_at(nodes, k) != a {
@@ -217,11 +222,13 @@ fn scan_activity(
     count: u32,
     a: u32,
 ) -> Scan
-    requires { ⌜ Ready (treeOf h (now t) (lends (now names) (now area)) (now items) (now «item_area») (now nodes) (now attributes) count) × (a < count) ⌝ }
+    requires { ⌜ Ready (treeOf h (now t) (lends (now names) (now area)) (now items) (now «item_area») (now nodes) (now attributes) count) ×
+        (a < count) ⌝ }
     ensures { λ r. ⌜ Within (treeOf h (now (t .entry)) (lends (now (names .entry)) (now (area .entry))) (now (items .entry))
         (now («item_area» .entry)) (now (nodes .entry)) (now (attributes .entry)) count) a (r .next)
         × (r .yes ≡ anyOf (isFilter (treeOf h (now (t .entry)) (lends (now (names .entry)) (now (area .entry))) (now (items .entry))
-        (now («item_area» .entry)) (now (nodes .entry)) (now (attributes .entry)) count)) (childrenOf (treeOf h (now (t .entry)) (lends (now (names .entry)) (now (area .entry))) (now (items .entry))
+        (now («item_area» .entry)) (now (nodes .entry)) (now (attributes .entry)) count))
+        (childrenOf (treeOf h (now (t .entry)) (lends (now (names .entry)) (now (area .entry))) (now (items .entry))
         (now («item_area» .entry)) (now (nodes .entry)) (now (attributes .entry)) count) a)) ⌝ }
 {
     let mut k = a + 1;
@@ -270,10 +277,12 @@ fn activity_child(
     p: u32,
     k: u32,
 ) -> Scan
-    requires { ⌜ Ready (treeOf h (now t) (lends (now names) (now area)) (now items) (now «item_area») (now nodes) (now attributes) count) × (k < count) ⌝ }
+    requires { ⌜ Ready (treeOf h (now t) (lends (now names) (now area)) (now items) (now «item_area») (now nodes) (now attributes) count) ×
+        (k < count) ⌝ }
     ensures { λ r. ⌜ Within (treeOf h (now (t .entry)) (lends (now (names .entry)) (now (area .entry))) (now (items .entry))
         (now («item_area» .entry)) (now (nodes .entry)) (now (attributes .entry)) count) k (r .next)
-        × (r .yes ≡ (eqb (parentOf (now (nodes .entry)) k) p && starts (treeOf h (now (t .entry)) (lends (now (names .entry)) (now (area .entry))) (now (items .entry))
+        × (r .yes ≡ (eqb (parentOf (now (nodes .entry)) k) p && starts
+        (treeOf h (now (t .entry)) (lends (now (names .entry)) (now (area .entry))) (now (items .entry))
         (now («item_area» .entry)) (now (nodes .entry)) (now (attributes .entry)) count) k)) ⌝ }
 {
     if parent_at(nodes, k) != p {
@@ -342,8 +351,10 @@ fn put_given(
     k: u32,
     yes: bool,
 ) -> usize
-    requires { ⌜ Ready (treeOf h (now t) (lends (now names) (now area)) (now items) (now «item_area») (now nodes) (now attributes) count) × (k < count) ⌝ }
-    ensures { λ r. ⌜ ((z after : List _) → Holds z (cond yes (numberBy (attributeOf (treeOf h (now (t .entry)) (lends (now (names .entry)) (now (area .entry))) (now (items .entry))
+    requires { ⌜ Ready (treeOf h (now t) (lends (now names) (now area)) (now items) (now «item_area») (now nodes) (now attributes) count) ×
+        (k < count) ⌝ }
+    ensures { λ r. ⌜ ((z after : List _) → Holds z
+        (cond yes (numberBy (attributeOf (treeOf h (now (t .entry)) (lends (now (names .entry)) (now (area .entry))) (now (items .entry))
         (now («item_area» .entry)) (now (nodes .entry)) (now (attributes .entry)) count) nameName k)) [] ++ after) (now (list .entry)) n
         → Holds z after (now (list .exit)) r) ⌝ }
 {
@@ -386,11 +397,14 @@ fn scan_application(
     n: usize,
     p: u32,
 ) -> Going
-    requires { ⌜ Ready (treeOf h (now t) (lends (now names) (now area)) (now items) (now «item_area») (now nodes) (now attributes) count) × (p < count) ⌝ }
+    requires { ⌜ Ready (treeOf h (now t) (lends (now names) (now area)) (now items) (now «item_area») (now nodes) (now attributes) count) ×
+        (p < count) ⌝ }
     ensures { λ r. ⌜ Within (treeOf h (now (t .entry)) (lends (now (names .entry)) (now (area .entry))) (now (items .entry))
         (now («item_area» .entry)) (now (nodes .entry)) (now (attributes .entry)) count) p (r .next)
-        × ((z after : List _) → Holds z (flatMap (given (treeOf h (now (t .entry)) (lends (now (names .entry)) (now (area .entry))) (now (items .entry))
-        (now («item_area» .entry)) (now (nodes .entry)) (now (attributes .entry)) count)) (childrenOf (treeOf h (now (t .entry)) (lends (now (names .entry)) (now (area .entry))) (now (items .entry))
+        × ((z after : List _) → Holds z (flatMap (given
+        (treeOf h (now (t .entry)) (lends (now (names .entry)) (now (area .entry))) (now (items .entry))
+        (now («item_area» .entry)) (now (nodes .entry)) (now (attributes .entry)) count))
+        (childrenOf (treeOf h (now (t .entry)) (lends (now (names .entry)) (now (area .entry))) (now (items .entry))
         (now («item_area» .entry)) (now (nodes .entry)) (now (attributes .entry)) count) p) ++ after) (now (list .entry)) n
         → Holds z after (now (list .exit)) (r .found)) ⌝ }
 {
@@ -448,10 +462,12 @@ fn application_child(
     n: usize,
     k: u32,
 ) -> Going
-    requires { ⌜ Ready (treeOf h (now t) (lends (now names) (now area)) (now items) (now «item_area») (now nodes) (now attributes) count) × (k < count) ⌝ }
+    requires { ⌜ Ready (treeOf h (now t) (lends (now names) (now area)) (now items) (now «item_area») (now nodes) (now attributes) count) ×
+        (k < count) ⌝ }
     ensures { λ r. ⌜ Within (treeOf h (now (t .entry)) (lends (now (names .entry)) (now (area .entry))) (now (items .entry))
         (now («item_area» .entry)) (now (nodes .entry)) (now (attributes .entry)) count) k (r .next)
-        × ((z after : List _) → Holds z (cond (eqb (parentOf (now (nodes .entry)) k) 0) (inApplication (treeOf h (now (t .entry)) (lends (now (names .entry)) (now (area .entry))) (now (items .entry))
+        × ((z after : List _) → Holds z (cond (eqb (parentOf (now (nodes .entry)) k) 0)
+        (inApplication (treeOf h (now (t .entry)) (lends (now (names .entry)) (now (area .entry))) (now (items .entry))
         (now («item_area» .entry)) (now (nodes .entry)) (now (attributes .entry)) count) k) [] ++ after) (now (list .entry)) n
         → Holds z after (now (list .exit)) (r .found)) ⌝ }
 {
@@ -559,7 +575,8 @@ fn main_in(
     count: u32,
 ) -> MainAnswer
     requires { ⌜ Ready (treeOf h (now t) (lends (now names) (now area)) (now items) (now «item_area») (now nodes) (now attributes) count) ⌝ }
-    ensures { λ r. ⌜ Gives (length (now (list .entry))) (mainActivities (treeOf h (now (t .entry)) (lends (now (names .entry)) (now (area .entry))) (now (items .entry))
+    ensures { λ r. ⌜ Gives (length (now (list .entry)))
+        (mainActivities (treeOf h (now (t .entry)) (lends (now (names .entry)) (now (area .entry))) (now (items .entry))
         (now («item_area» .entry)) (now (nodes .entry)) (now (attributes .entry)) count)) r (now (list .exit)) ⌝ }
 {
     let n = list_all(

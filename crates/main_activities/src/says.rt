@@ -83,7 +83,8 @@ fn plain_is(
     v: u32,
 ) -> bool
     requires { ⌜ Asks (now t) (lends (now names) (now area)) h × Fits (now expected) (now out) ⌝ }
-    ensures { λ r. ⌜ r ≡ saidIs (now (expected .entry)) (plainBy h (now (t .entry)) (lends (now (names .entry)) (now (area .entry))) v (valueTypeOf kind)) ⌝ }
+    ensures { λ r. ⌜ r ≡ saidIs (now (expected .entry))
+        (plainBy h (now (t .entry)) (lends (now (names .entry)) (now (area .entry))) v (valueTypeOf kind)) ⌝ }
 {
     let form = form_of(kind);
     if is_other(form) {
@@ -113,7 +114,8 @@ fn named_is(
     requires { ⌜ Asks (now t) (lends (now names) (now area)) h × Fits (now expected) (now out) ⌝ }
     ensures { λ r. ⌜ ((name : List _) → FirstNamed (now («item_area» .entry)) name (now (items .entry)) first
         → r ≡ shownAs (now (expected .entry))
-        (namedValue h (now (t .entry)) (lends (now (names .entry)) (now (area .entry))) (now (items .entry)) (now («item_area» .entry)) name kind v)) ⌝ }
+        (namedValue h (now (t .entry)) (lends (now (names .entry)) (now (area .entry))) (now (items .entry))
+        (now («item_area» .entry)) name kind v)) ⌝ }
 {
     if items.len() / 6 <= first {
         return plain_is(t, names, area, h, out, expected, kind, v);

@@ -80,7 +80,8 @@ fn find_from(
     first: u32,
     number: u32,
 ) -> AttributeFound
-    requires { ⌜ Asks (now t) (lends (now names) (now area)) h × (first + number < 4294967296) × (attributeWidth * (first + number) ≤ length (now attributes)) ⌝ }
+    requires { ⌜ Asks (now t) (lends (now names) (now area)) h × (first + number < 4294967296) ×
+        (attributeWidth * (first + number) ≤ length (now attributes)) ⌝ }
     ensures { λ r. ⌜ r ≡ attributeFrom (treeOf h (now (t .entry)) (lends (now (names .entry)) (now (area .entry))) (now (items .entry))
         (now («item_area» .entry)) (now (nodes .entry)) (now (attributes .entry)) count) (now (name .entry)) first number ⌝ }
 {
@@ -118,7 +119,8 @@ pub fn find_named(
     count: u32,
     k: u32,
 ) -> AttributeFound
-    requires { ⌜ Ready (treeOf h (now t) (lends (now names) (now area)) (now items) (now «item_area») (now nodes) (now attributes) count) × (k < count) ⌝ }
+    requires { ⌜ Ready (treeOf h (now t) (lends (now names) (now area)) (now items) (now «item_area») (now nodes) (now attributes) count) ×
+        (k < count) ⌝ }
     ensures { λ r. ⌜ r ≡ attributeOf (treeOf h (now (t .entry)) (lends (now (names .entry)) (now (area .entry))) (now (items .entry))
         (now («item_area» .entry)) (now (nodes .entry)) (now (attributes .entry)) count) (now (name .entry)) k ⌝ }
 {
@@ -154,7 +156,8 @@ fn has_value(
     count: u32,
     k: u32,
 ) -> bool
-    requires { ⌜ Ready (treeOf h (now t) (lends (now names) (now area)) (now items) (now «item_area») (now nodes) (now attributes) count) × (k < count)
+    requires { ⌜ Ready (treeOf h (now t) (lends (now names) (now area)) (now items) (now «item_area») (now nodes) (now attributes) count) ×
+        (k < count)
         × (0 < length (now expected)) × (length (now expected) ≤ 32) ⌝ }
     ensures { λ r. ⌜ r ≡ says (treeOf h (now (t .entry)) (lends (now (names .entry)) (now (area .entry))) (now (items .entry))
         (now («item_area» .entry)) (now (nodes .entry)) (now (attributes .entry)) count) (now (name .entry)) (now (expected .entry)) k ⌝ }
@@ -201,8 +204,10 @@ pub fn is_main_child(
     p: u32,
     k: u32,
 ) -> bool
-    requires { ⌜ Ready (treeOf h (now t) (lends (now names) (now area)) (now items) (now «item_area») (now nodes) (now attributes) count) × (k < count) ⌝ }
-    ensures { λ r. ⌜ r ≡ (eqb (parentOf (now (nodes .entry)) k) p && isMain (treeOf h (now (t .entry)) (lends (now (names .entry)) (now (area .entry))) (now (items .entry))
+    requires { ⌜ Ready (treeOf h (now t) (lends (now names) (now area)) (now items) (now «item_area») (now nodes) (now attributes) count) ×
+        (k < count) ⌝ }
+    ensures { λ r. ⌜ r ≡ (eqb (parentOf (now (nodes .entry)) k) p && isMain
+        (treeOf h (now (t .entry)) (lends (now (names .entry)) (now (area .entry))) (now (items .entry))
         (now («item_area» .entry)) (now (nodes .entry)) (now (attributes .entry)) count) k) ⌝ }
 {
     if parent_at(nodes, k) != p {
@@ -240,7 +245,8 @@ fn is_launching(
     count: u32,
     k: u32,
 ) -> bool
-    requires { ⌜ Ready (treeOf h (now t) (lends (now names) (now area)) (now items) (now «item_area») (now nodes) (now attributes) count) × (k < count) ⌝ }
+    requires { ⌜ Ready (treeOf h (now t) (lends (now names) (now area)) (now items) (now «item_area») (now nodes) (now attributes) count) ×
+        (k < count) ⌝ }
     ensures { λ r. ⌜ r ≡ (says (treeOf h (now (t .entry)) (lends (now (names .entry)) (now (area .entry))) (now (items .entry))
         (now («item_area» .entry)) (now (nodes .entry)) (now (attributes .entry)) count) nameName launcherText k
         || says (treeOf h (now (t .entry)) (lends (now (names .entry)) (now (area .entry))) (now (items .entry))
@@ -292,8 +298,10 @@ pub fn is_launcher_child(
     p: u32,
     k: u32,
 ) -> bool
-    requires { ⌜ Ready (treeOf h (now t) (lends (now names) (now area)) (now items) (now «item_area») (now nodes) (now attributes) count) × (k < count) ⌝ }
-    ensures { λ r. ⌜ r ≡ (eqb (parentOf (now (nodes .entry)) k) p && isLauncher (treeOf h (now (t .entry)) (lends (now (names .entry)) (now (area .entry))) (now (items .entry))
+    requires { ⌜ Ready (treeOf h (now t) (lends (now names) (now area)) (now items) (now «item_area») (now nodes) (now attributes) count) ×
+        (k < count) ⌝ }
+    ensures { λ r. ⌜ r ≡ (eqb (parentOf (now (nodes .entry)) k) p && isLauncher
+        (treeOf h (now (t .entry)) (lends (now (names .entry)) (now (area .entry))) (now (items .entry))
         (now («item_area» .entry)) (now (nodes .entry)) (now (attributes .entry)) count) k) ⌝ }
 {
     if parent_at(nodes, k) != p {
@@ -329,7 +337,8 @@ fn is_activity(
     count: u32,
     k: u32,
 ) -> bool
-    requires { ⌜ Ready (treeOf h (now t) (lends (now names) (now area)) (now items) (now «item_area») (now nodes) (now attributes) count) × (k < count) ⌝ }
+    requires { ⌜ Ready (treeOf h (now t) (lends (now names) (now area)) (now items) (now «item_area») (now nodes) (now attributes) count) ×
+        (k < count) ⌝ }
     ensures { λ r. ⌜ r ≡ isActivity (treeOf h (now (t .entry)) (lends (now (names .entry)) (now (area .entry))) (now (items .entry))
         (now («item_area» .entry)) (now (nodes .entry)) (now (attributes .entry)) count) k ⌝ }
 {
@@ -352,7 +361,8 @@ pub fn is_enabled(
     count: u32,
     k: u32,
 ) -> bool
-    requires { ⌜ Ready (treeOf h (now t) (lends (now names) (now area)) (now items) (now «item_area») (now nodes) (now attributes) count) × (k < count) ⌝ }
+    requires { ⌜ Ready (treeOf h (now t) (lends (now names) (now area)) (now items) (now «item_area») (now nodes) (now attributes) count) ×
+        (k < count) ⌝ }
     ensures { λ r. ⌜ r ≡ isEnabled (treeOf h (now (t .entry)) (lends (now (names .entry)) (now (area .entry))) (now (items .entry))
         (now («item_area» .entry)) (now (nodes .entry)) (now (attributes .entry)) count) k ⌝ }
 {

@@ -13,7 +13,8 @@ use Rattle.main_activities.proofs.list_all.Statement.{statement}
 use Rattle.main_activities.proofs.list_all.Tie as tie
 
 abbrev Inv-loop : tie.InvT-loop
-Inv-loop t names area h items item-area nodes attributes list₀ count k₀ found₀ list k found = AllListed (treeOf h t (lends names area) items item-area nodes attributes count) k list found × (length list ≡ length list₀)
+Inv-loop t names area h items item-area nodes attributes list₀ count k₀ found₀ list k found = AllListed
+    (treeOf h t (lends names area) items item-area nodes attributes count) k list found × (length list ≡ length list₀)
 
 abbrev μ-loop : tie.MeasureT-loop
 μ-loop t names area h items item-area nodes attributes list₀ count k₀ found₀ list k found = count - k
@@ -21,35 +22,47 @@ abbrev μ-loop : tie.MeasureT-loop
 loop-holds : tie.Need-loop-holds Inv-loop μ-loop
 loop-holds c =
     let a = c .before .before .before .before .before .before .before .before .args in
-    let w = treeOf (a .h) (now (a .t)) (lends (now (a .names)) (now (a .area))) (now (a .items)) (now (a .item-area)) (now (a .nodes)) (now (a .attributes)) (a .count) in
+    let w = treeOf (a .h) (now (a .t)) (lends (now (a .names)) (now (a .area))) (now (a .items)) (now (a .item-area)) (now (a .nodes))
+    (now (a .attributes)) (a .count) in
     (all-start w (a .list .now), refl)
 
 application-child-requires : tie.Need-application-child-requires Inv-loop μ-loop
 application-child-requires c κs =
-    (c .before .before .before .before .before .before .before .before .before .before .before .pre, c .before .loop-test .taken)
+    let p = c .before .before .before .before .before .before .before .before .before .before .before .pre in
+    let test = c .before .loop-test in
+    (p, test .taken)
 
 loop-less : tie.Need-loop-less Inv-loop μ-loop
 loop-less c =
-    omega (arith, c .before .before .before .before .loop-test .taken, c .before .before .application-child .ensures .0 .later, c .before .before .application-child .ensures .0 .fits)
+    let test = c .before .before .before .before .loop-test in
+    let at-application-child = c .before .before .application-child in
+    omega (arith, test .taken, at-application-child .ensures .0 .later, at-application-child .ensures .0 .fits)
 
 loop-again : tie.Need-loop-again Inv-loop μ-loop
 loop-again c =
     let a = c .before .before .before .before .before .before .before .before .before .before .before .before .before .before .args in
-    let w = treeOf (a .h) (now (a .t)) (lends (now (a .names)) (now (a .area))) (now (a .items)) (now (a .item-area)) (now (a .nodes)) (now (a .attributes)) (a .count) in
-    let l = c .before .before .before .before .before .loop in (
-      all-step w (l .k) (l .list) (l .found) _ _ (c .before .before .before .before .loop-test .taken) (c .before .before .application-child .ensures .0) (c .before .before .application-child .ensures .1) (l .inv .0),
-      c .before .before .application-child .kept .1 .1 .1 .1 .1 .1 .1 .1 .0 ∙ l .inv .1,
+    let test = c .before .before .before .before .loop-test in
+    let at-application-child = c .before .before .application-child in
+    let l = c .before .before .before .before .before .loop in
+    let w = treeOf (a .h) (now (a .t)) (lends (now (a .names)) (now (a .area))) (now (a .items)) (now (a .item-area)) (now (a .nodes))
+    (now (a .attributes)) (a .count) in (
+      all-step w (l .k) (l .list) (l .found) _ _ (test .taken) (at-application-child .ensures .0) (at-application-child .ensures .1) (l .inv .0),
+      at-application-child .kept .1 .1 .1 .1 .1 .1 .1 .1 .0 ∙ l .inv .1,
     )
 
 same-length : tie.Need-same-length Inv-loop μ-loop
-same-length c = c .before .loop .inv .1
+same-length c =
+    let l = c .before .loop in
+    l .inv .1
 
 returns : tie.Need-returns Inv-loop μ-loop
 returns c =
     let a = c .before .before .before .before .before .before .before .before .before .before .args in
-    let w = treeOf (a .h) (now (a .t)) (lends (now (a .names)) (now (a .area))) (now (a .items)) (now (a .item-area)) (now (a .nodes)) (now (a .attributes)) (a .count) in
+    let test = c .loop-test in
     let l = c .before .loop in
-    all-end w (l .k) (rest-end w 0 (l .k) (c .loop-test .left)) (l .inv .0)
+    let w = treeOf (a .h) (now (a .t)) (lends (now (a .names)) (now (a .area))) (now (a .items)) (now (a .item-area)) (now (a .nodes))
+    (now (a .attributes)) (a .count) in
+    all-end w (l .k) (rest-end w 0 (l .k) (test .left)) (l .inv .0)
 
 pub list-all-spec : {M : Type 1} → statement M
 list-all-spec =

@@ -21,9 +21,14 @@ tables-of-requires c κs = search needs
 main-in-requires : tie.Need-main-in-requires
 main-in-requires c κs =
     let a = c .before .before .before .before .before .before .before .before .before .before .before .before .before .before .args in
-    let e = sym (c .before .before .before .before .before .open-main .ensures) ∙ c .before .before .before .opened .given .1 in
-    let small : a .attribute-count < 4294967296 = omega (arith, c .before .before .before .before .before .before .before .before .before .before .before .before .before .before .good .1 .1 .1 .1 .1 .1 .1 .1 .1 .0) in
-    ready (now (a .file)) (lends (now (a .names)) (now (a .area))) (now (a .items)) (now (a .item-area)) (now (a .nodes)) (now (a .attributes)) (a .node-count) (a .attribute-count) small e (c .before .tables-of .ensures)
+    let at-open-main = c .before .before .before .before .before .open-main in
+    let at-opened = c .before .before .before .opened in
+    let good = c .before .before .before .before .before .before .before .before .before .before .before .before .before .before .good in
+    let at-tables-of = c .before .tables-of in
+    let e = sym (at-open-main .ensures) ∙ at-opened .given .1 in
+    let small : a .attribute-count < 4294967296 = omega (arith, good .1 .1 .1 .1 .1 .1 .1 .1 .1 .0) in
+    ready (now (a .file)) (lends (now (a .names)) (now (a .area))) (now (a .items)) (now (a .item-area)) (now (a .nodes)) (now (a .attributes))
+    (a .node-count) (a .attribute-count) small e (at-tables-of .ensures)
 
 enum-known-opened-2 : tie.Need-enum-known-opened-2
 enum-known-opened-2 c = search needs
@@ -37,9 +42,14 @@ same-length c = search needs
 returns : tie.Need-returns
 returns c =
     let a = c .before .before .before .before .before .before .before .before .before .before .before .before .before .before .before .before .before .args in
-    let e = sym (c .before .before .before .before .before .before .before .before .open-main .ensures) ∙ c .before .before .before .before .before .before .opened .given .1 in
-    main-open (now (a .file)) (lends (now (a .names)) (now (a .area))) (now (a .items)) (now (a .item-area)) (now (a .nodes)) (now (a .attributes)) (a .list .now) (a .node-count)
-    (a .attribute-count) _ e (c .before .before .before .before .tables-of .ensures) (c .before .before .main-in .ensures)
+    let at-open-main = c .before .before .before .before .before .before .before .before .open-main in
+    let at-opened = c .before .before .before .before .before .before .opened in
+    let at-tables-of = c .before .before .before .before .tables-of in
+    let at-main-in = c .before .before .main-in in
+    let e = sym (at-open-main .ensures) ∙ at-opened .given .1 in
+    main-open (now (a .file)) (lends (now (a .names)) (now (a .area))) (now (a .items)) (now (a .item-area)) (now (a .nodes))
+    (now (a .attributes)) (a .list .now) (a .node-count)
+    (a .attribute-count) _ e (at-tables-of .ensures) (at-main-in .ensures)
 
 same-length-2 : tie.Need-same-length-2
 same-length-2 c = search needs
@@ -47,9 +57,13 @@ same-length-2 c = search needs
 returns-2 : tie.Need-returns-2
 returns-2 c =
     let a = c .before .before .before .before .before .before .before .before .before .before .before .before .before .before .before .before .args in
-    let e = sym (c .before .before .before .before .before .before .before .open-main .ensures) ∙ c .before .before .before .before .before .opened2 .given .1 in
-    main-closed (now (a .file)) (lends (now (a .names)) (now (a .area))) (now (a .items)) (now (a .item-area)) (now (a .nodes)) (now (a .attributes)) (a .list .now) (a .node-count)
-    (a .attribute-count) _ e (c .before .before .refuse .ensures)
+    let at-open-main = c .before .before .before .before .before .before .before .open-main in
+    let at-opened2 = c .before .before .before .before .before .opened2 in
+    let at-refuse = c .before .before .refuse in
+    let e = sym (at-open-main .ensures) ∙ at-opened2 .given .1 in
+    main-closed (now (a .file)) (lends (now (a .names)) (now (a .area))) (now (a .items)) (now (a .item-area)) (now (a .nodes))
+    (now (a .attributes)) (a .list .now) (a .node-count)
+    (a .attribute-count) _ e (at-refuse .ensures)
 
 pub main-activities-spec : {M : Type 1} → statement M
 main-activities-spec =

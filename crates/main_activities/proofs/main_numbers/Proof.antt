@@ -18,11 +18,17 @@ refusal-value-requires c κs = search needs
 
 returns : tie.Need-returns
 unfolding mainNumbersOf
-returns c = rw (c .before .a .given .1)
+returns c =
+    let at-a = c .before .a in
+    rw (at-a .given .1)
 
 returns-2 : tie.Need-returns-2
 unfolding mainNumbersOf
-returns-2 c = rw (c .before .before .before .a2 .given .1, c .before .refusal-number .ensures, c .refusal-value .ensures)
+returns-2 c =
+    let at-a2 = c .before .before .before .a2 in
+    let at-refusal-number = c .before .refusal-number in
+    let at-refusal-value = c .refusal-value in
+    rw (at-a2 .given .1, at-refusal-number .ensures, at-refusal-value .ensures)
 
 pub main-numbers-spec : {M : Type 1} → statement M
 main-numbers-spec =

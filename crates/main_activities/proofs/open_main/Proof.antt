@@ -25,15 +25,23 @@ enum-known-opened-2 c = search needs
 returns : tie.Need-returns
 returns c =
     let a = c .before .before .before .before .before .before .before .before .before .before .before .before .before .args in
-    let e = sym (c .before .before .before .before .before .open-value .ensures) ∙ c .before .before .before .opened .given .1 in
-    open-in (now (a .file)) (lends (now (a .names)) (now (a .area))) (now (a .items)) (now (a .item-area)) (now (a .nodes)) (now (a .attributes)) (a .node-count)
-    (a .attribute-count) e (c .before .fit-of .ensures) (c .fitted .ensures)
+    let at-open-value = c .before .before .before .before .before .open-value in
+    let at-opened = c .before .before .before .opened in
+    let at-fit-of = c .before .fit-of in
+    let at-fitted = c .fitted in
+    let e = sym (at-open-value .ensures) ∙ at-opened .given .1 in
+    open-in (now (a .file)) (lends (now (a .names)) (now (a .area))) (now (a .items)) (now (a .item-area)) (now (a .nodes))
+    (now (a .attributes)) (a .node-count)
+    (a .attribute-count) e (at-fit-of .ensures) (at-fitted .ensures)
 
 returns-2 : tie.Need-returns-2
 returns-2 c =
     let a = c .before .before .before .before .before .before .before .before .before .before .before .args in
-    let e = sym (c .before .before .before .open-value .ensures) ∙ c .before .opened2 .given .1 in
-    open-out (now (a .file)) (lends (now (a .names)) (now (a .area))) (now (a .items)) (now (a .item-area)) (now (a .nodes)) (now (a .attributes)) (a .node-count)
+    let at-open-value = c .before .before .before .open-value in
+    let at-opened2 = c .before .opened2 in
+    let e = sym (at-open-value .ensures) ∙ at-opened2 .given .1 in
+    open-out (now (a .file)) (lends (now (a .names)) (now (a .area))) (now (a .items)) (now (a .item-area)) (now (a .nodes))
+    (now (a .attributes)) (a .node-count)
     (a .attribute-count) e
 
 pub open-main-spec : {M : Type 1} → statement M

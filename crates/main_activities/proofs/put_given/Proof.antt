@@ -11,14 +11,16 @@ use Rattle.main_activities.proofs.put_given.Tie as tie
 returns : tie.Need-returns
 returns c =
     let a = c .before .before .before .before .before .before .before .before .before .args in
-    λ z after h. rw (not-true (a .yes) (c .if1 .taken)) at h
+    let if1 = c .if1 in
+    λ z after h. rw (not-true (a .yes) (if1 .taken)) at h
 
 slice-aggregate-find-named : tie.Need-slice-aggregate-find-named
 slice-aggregate-find-named c = search needs
 
 find-named-requires : tie.Need-find-named-requires
 find-named-requires c κs =
-    (c .before .before .before .before .before .before .before .before .before .before .pre .0, c .before .before .before .before .before .before .before .before .before .before .pre .1)
+    let p = c .before .before .before .before .before .before .before .before .before .before .pre in
+    (p .0, p .1)
 
 enum-known-name : tie.Need-enum-known-name
 enum-known-name c = search needs
@@ -35,14 +37,23 @@ same-length c = search needs
 returns-2 : tie.Need-returns-2
 returns-2 c =
     let a = c .before .before .before .before .before .before .before .before .before .before .before .before .before .before .before .before .before .before .args in
-    let w = treeOf (a .h) (now (a .t)) (lends (now (a .names)) (now (a .area))) (now (a .items)) (now (a .item-area)) (now (a .nodes)) (now (a .attributes)) (a .count) in
-    λ z after h. c .before .before .put-number .ensures z after (given-at w (a .k) (not-false (a .yes) (c .before .before .before .before .before .before .before .before .before .if1 .left)) (c .before .before .before .before .before .before .before .find-named .ensures) (c .before .before .before .before .before .name .given .1) h)
+    let at-put-number = c .before .before .put-number in
+    let if1 = c .before .before .before .before .before .before .before .before .before .if1 in
+    let at-find-named = c .before .before .before .before .before .before .before .find-named in
+    let at-name = c .before .before .before .before .before .name in
+    let w = treeOf (a .h) (now (a .t)) (lends (now (a .names)) (now (a .area))) (now (a .items)) (now (a .item-area)) (now (a .nodes))
+    (now (a .attributes)) (a .count) in
+    λ z after h. at-put-number .ensures z after (given-at w (a .k) (not-false (a .yes) (if1 .left)) (at-find-named .ensures) (at-name .given .1) h)
 
 returns-3 : tie.Need-returns-3
 returns-3 c =
     let a = c .before .before .before .before .before .before .before .before .before .before .before .before .before .args in
-    let w = treeOf (a .h) (now (a .t)) (lends (now (a .names)) (now (a .area))) (now (a .items)) (now (a .item-area)) (now (a .nodes)) (now (a .attributes)) (a .count) in
-    λ z after h. given-none w (a .k) (not-false (a .yes) (c .before .before .before .before .if1 .left)) (c .before .before .find-named .ensures) (c .enum-told .given .1) h
+    let if1 = c .before .before .before .before .if1 in
+    let at-find-named = c .before .before .find-named in
+    let at-enum-told = c .enum-told in
+    let w = treeOf (a .h) (now (a .t)) (lends (now (a .names)) (now (a .area))) (now (a .items)) (now (a .item-area)) (now (a .nodes))
+    (now (a .attributes)) (a .count) in
+    λ z after h. given-none w (a .k) (not-false (a .yes) (if1 .left)) (at-find-named .ensures) (at-enum-told .given .1) h
 
 pub put-given-spec : {M : Type 1} → statement M
 put-given-spec =

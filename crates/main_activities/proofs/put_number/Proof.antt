@@ -17,13 +17,17 @@ same-length : tie.Need-same-length
 same-length c = search needs
 
 returns : tie.Need-returns
-returns c = λ z after h. put-room (c .if1 .taken) h
+returns c =
+    let if1 = c .if1 in
+    λ z after h. put-room (if1 .taken) h
 
 add-result-2 : tie.Need-add-result-2
 add-result-2 c = search needs
 
 returns-2 : tie.Need-returns-2
-returns-2 c = λ z after h. put-full (c .if1 .left) h
+returns-2 c =
+    let if1 = c .if1 in
+    λ z after h. put-full (if1 .left) h
 
 pub put-number-spec : {M : Type 1} → statement M
 put-number-spec =

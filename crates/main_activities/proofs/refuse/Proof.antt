@@ -11,7 +11,9 @@ same-length : tie.Need-same-length
 same-length c = search needs
 
 returns : tie.Need-returns
-returns c = (refl, c .before .before .zero-all .ensures)
+returns c =
+    let at-zero-all = c .before .before .zero-all in
+    (refl, at-zero-all .ensures)
 
 pub refuse-spec : {M : Type 1} → statement M
 refuse-spec =

@@ -6,7 +6,10 @@ use Rattle.main_activities.proofs.says.is_front.Statement.{statement}
 use Rattle.main_activities.proofs.says.is_front.Tie as tie
 
 returns : tie.Need-returns
-returns c = λ s l e. front-long e (c .before .before .before .pre) (c .if1 .taken)
+returns c =
+    let p = c .before .before .before .pre in
+    let if1 = c .if1 in
+    λ s l e. front-long e (p) (if1 .taken)
 
 sub-same-bytes : tie.Need-sub-same-bytes
 sub-same-bytes c = search needs
@@ -22,7 +25,10 @@ same-bytes-requires c κs = search needs
 
 returns-2 : tie.Need-returns-2
 returns-2 c =
-    λ s l e. front-same e (c .before .before .before .before .before .pre) (c .before .before .if1 .left) (rw sub-zero at (c .same-bytes .ensures))
+    let p = c .before .before .before .before .before .pre in
+    let if1 = c .before .before .if1 in
+    let at-same-bytes = c .same-bytes in
+    λ s l e. front-same e (p) (if1 .left) (rw sub-zero at (at-same-bytes .ensures))
 
 pub is-front-spec : {M : Type 1} → statement M
 is-front-spec =

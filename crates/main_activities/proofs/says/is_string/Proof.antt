@@ -19,12 +19,16 @@ part-is-index-text-end c = search needs
 is-index-text-requires : tie.Need-is-index-text-requires
 is-index-text-requires c κs =
     let a = c .before .before .before .before .before .args in
-    pool-asks (a .h) (now (a .t)) (lends (now (a .names)) (now (a .area))) (c .before .before .before .before .before .pre .0)
+    let p = c .before .before .before .before .before .pre in
+    pool-asks (a .h) (now (a .t)) (lends (now (a .names)) (now (a .area))) (p .0)
 
 returns : tie.Need-returns
 returns c =
     let a = c .before .before .before .before .before .before .args in
-    string-is (now (a .expected)) (c .before .before .before .before .before .before .pre .1) (pool-content (a .h) (now (a .t)) (lends (now (a .names)) (now (a .area))) (now (a .area)) (a .v)) (c .is-index-text .ensures)
+    let p = c .before .before .before .before .before .before .pre in
+    let at-is-index-text = c .is-index-text in
+    string-is (now (a .expected)) (p .1) (pool-content (a .h) (now (a .t)) (lends (now (a .names)) (now (a .area))) (now (a .area)) (a .v))
+    (at-is-index-text .ensures)
 
 pub is-string-spec : {M : Type 1} → statement M
 is-string-spec =

@@ -18,29 +18,45 @@ is-other-requires c κs = search needs
 returns : tie.Need-returns
 returns c =
     let a = c .before .before .before .before .before .before .before .before .args in
+    let at-form-of = c .before .before .form-of in
+    let at-is-other = c .before .is-other in
+    let if1 = c .if1 in
     let lent = lends (now (a .names)) (now (a .area)) in
-    plain-other (a .h) (now (a .t)) lent (a .v) (valueTypeOf (a .kind)) (now (a .expected)) (c .before .before .form-of .ensures) (sym (c .before .is-other .ensures) ∙ c .if1 .taken)
+    plain-other (a .h) (now (a .t)) lent (a .v) (valueTypeOf (a .kind)) (now (a .expected)) (at-form-of .ensures)
+    (sym (at-is-other .ensures) ∙ if1 .taken)
 
 is-pool-requires : tie.Need-is-pool-requires
 is-pool-requires c κs = search needs
 
 is-string-requires : tie.Need-is-string-requires
 is-string-requires c κs =
-    (c .before .before .before .before .before .before .before .before .before .before .pre .0, c .before .before .before .before .before .before .before .before .before .before .pre .1 .some)
+    let p = c .before .before .before .before .before .before .before .before .before .before .pre in
+    (p .0, p .1 .some)
 
 returns-2 : tie.Need-returns-2
 returns-2 c =
     let a = c .before .before .before .before .before .before .before .before .before .before .before .args in
+    let at-form-of = c .before .before .before .before .before .form-of in
+    let at-is-other = c .before .before .before .before .is-other in
+    let if1 = c .before .before .before .if1 in
+    let at-is-pool = c .before .before .is-pool in
+    let if2 = c .before .if2 in
+    let at-is-string = c .is-string in
     let lent = lends (now (a .names)) (now (a .area)) in
-    plain-pool (a .h) (now (a .t)) lent (a .v) (valueTypeOf (a .kind)) (now (a .expected)) (c .before .before .before .before .before .form-of .ensures) (sym (c .before .before .before .before .is-other .ensures) ∙ c .before .before .before .if1 .left)
-    (sym (c .before .before .is-pool .ensures) ∙ c .before .if2 .taken) (c .is-string .ensures)
+    plain-pool (a .h) (now (a .t)) lent (a .v) (valueTypeOf (a .kind)) (now (a .expected)) (at-form-of .ensures)
+    (sym (at-is-other .ensures) ∙ if1 .left)
+    (sym (at-is-pool .ensures) ∙ if2 .taken) (at-is-string .ensures)
 
 put-plain-requires : tie.Need-put-plain-requires
-put-plain-requires c κs = c .before .before .before .before .before .before .before .before .before .before .before .pre .0
+put-plain-requires c κs =
+    let p = c .before .before .before .before .before .before .before .before .before .before .before .pre in
+    p .0
 
 is-front-requires : tie.Need-is-front-requires
 is-front-requires c κs =
-    record { some = c .before .before .before .before .before .before .before .before .before .before .before .before .before .before .before .pre .1 .some; fits = omega (arith, c .before .before .before .put-plain .ensures .long, c .before .before .before .before .before .before .before .before .before .before .before .before .before .before .before .pre .1 .fits) }
+    let p = c .before .before .before .before .before .before .before .before .before .before .before .before .before .before .before .pre in
+    let at-put-plain = c .before .before .before .put-plain in
+    record { some = p .1 .some; fits = omega (arith, at-put-plain .ensures .long, p .1 .fits) }
 
 same-length : tie.Need-same-length
 same-length c = search needs
@@ -48,9 +64,15 @@ same-length c = search needs
 returns-3 : tie.Need-returns-3
 returns-3 c =
     let a = c .before .before .before .before .before .before .before .before .before .before .before .before .before .before .before .before .args in
+    let at-form-of = c .before .before .before .before .before .before .before .before .before .before .form-of in
+    let at-is-other = c .before .before .before .before .before .before .before .before .before .is-other in
+    let if1 = c .before .before .before .before .before .before .before .before .if1 in
+    let at-is-front = c .is-front in
+    let at-put-plain = c .before .before .before .before .put-plain in
     let lent = lends (now (a .names)) (now (a .area)) in
-    plain-form (a .h) (now (a .t)) lent (a .v) (valueTypeOf (a .kind)) (now (a .expected)) (c .before .before .before .before .before .before .before .before .before .before .form-of .ensures) (sym (c .before .before .before .before .before .before .before .before .before .is-other .ensures) ∙ c .before .before .before .before .before .before .before .before .if1 .left)
-    (c .is-front .ensures _ _ (c .before .before .before .before .put-plain .ensures))
+    plain-form (a .h) (now (a .t)) lent (a .v) (valueTypeOf (a .kind)) (now (a .expected)) (at-form-of .ensures)
+    (sym (at-is-other .ensures) ∙ if1 .left)
+    (at-is-front .ensures _ _ (at-put-plain .ensures))
 
 pub plain-is-spec : {M : Type 1} → statement M
 plain-is-spec =

@@ -19,10 +19,15 @@ same-bytes-requires c κs = search needs
 returns : tie.Need-returns
 returns c =
     let a = c .before .before .before .before .before .before .before .before .before .before .args in
-    value-uri (a .h) (now (a .t)) (lends (now (a .names)) (now (a .area))) (now (a .items)) (now (a .item-area)) (a .a) (now (a .expected)) (c .before .before .if1 .taken) (c .same-bytes .ensures)
+    let if1 = c .before .before .if1 in
+    let at-same-bytes = c .same-bytes in
+    value-uri (a .h) (now (a .t)) (lends (now (a .names)) (now (a .area))) (now (a .items)) (now (a .item-area)) (a .a) (now (a .expected))
+    (if1 .taken) (at-same-bytes .ensures)
 
 find-requires : tie.Need-find-requires
-find-requires c κs = c .before .before .before .before .before .before .before .before .pre .0
+find-requires c κs =
+    let p = c .before .before .before .before .before .before .before .before .pre in
+    p .0
 
 is-found-requires : tie.Need-is-found-requires
 is-found-requires c κs = search needs
@@ -30,25 +35,42 @@ is-found-requires c κs = search needs
 returns-2 : tie.Need-returns-2
 returns-2 c =
     let a = c .before .before .before .before .before .before .before .before .before .before .before .args in
-    value-none (a .h) (now (a .t)) (lends (now (a .names)) (now (a .area))) (now (a .items)) (now (a .item-area)) (a .a) (now (a .expected)) (c .before .before .find .result) (c .before .before .before .if1 .left) (c .before .before .find .ensures .same) (sym (c .before .is-found .ensures) ∙ not-true _ (c .if2 .taken)) refl
+    let at-find = c .before .before .find in
+    let if1 = c .before .before .before .if1 in
+    let at-is-found = c .before .is-found in
+    let if2 = c .if2 in
+    value-none (a .h) (now (a .t)) (lends (now (a .names)) (now (a .area))) (now (a .items)) (now (a .item-area)) (a .a) (now (a .expected))
+    (at-find .result) (if1 .left) (at-find .ensures .same) (sym (at-is-found .ensures) ∙ not-true _ (if2 .taken)) refl
 
 find-item-requires : tie.Need-find-item-requires
 find-item-requires c κs =
-    (c .before .before .find .ensures .inside, sym (c .before .is-found .ensures) ∙ not-false _ (c .if2 .left), c .before .before .before .before .before .before .before .before .before .before .before .pre .1)
+    let at-find = c .before .before .find in
+    let at-is-found = c .before .is-found in
+    let if2 = c .if2 in
+    let p = c .before .before .before .before .before .before .before .before .before .before .before .pre in
+    (at-find .ensures .inside, sym (at-is-found .ensures) ∙ not-false _ (if2 .left), p .1)
 
 slice-aggregate-named-is : tie.Need-slice-aggregate-named-is
 slice-aggregate-named-is c = search needs
 
 named-is-requires : tie.Need-named-is-requires
 named-is-requires c κs =
-    (c .before .before .before .before .before .before .before .before .before .before .before .before .before .pre .0, record { some = c .before .before .before .before .before .before .before .before .before .before .before .before .before .pre .2; fits = c .before .before .before .before .before .before .before .before .before .before .before .before .before .pre .3 })
+    let p = c .before .before .before .before .before .before .before .before .before .before .before .before .before .pre in
+    (p .0, record { some = p .2; fits = p .3 })
 
 returns-3 : tie.Need-returns-3
 returns-3 c =
     let a = c .before .before .before .before .before .before .before .before .before .before .before .before .before .before .before .args in
-    let f = c .before .before .before .before .before .before .find .result in
-    value-named (a .h) (now (a .t)) (lends (now (a .names)) (now (a .area))) (now (a .items)) (now (a .item-area)) (a .a) (now (a .expected)) f (c .before .before .before .before .before .before .before .if1 .left) (c .before .before .before .before .before .before .find .ensures .same) (sym (c .before .before .before .before .before .is-found .ensures) ∙ not-false _ (c .before .before .before .before .if2 .left))
-    (c .before .named-is .ensures (textIn (partOf (a .h .wide) (now (a .t)) (now (a .area)) f)) (c .before .before .before .find-item .ensures))
+    let at-find = c .before .before .before .before .before .before .find in
+    let if1 = c .before .before .before .before .before .before .before .if1 in
+    let at-is-found = c .before .before .before .before .before .is-found in
+    let if2 = c .before .before .before .before .if2 in
+    let at-named-is = c .before .named-is in
+    let at-find-item = c .before .before .before .find-item in
+    let f = at-find .result in
+    value-named (a .h) (now (a .t)) (lends (now (a .names)) (now (a .area))) (now (a .items)) (now (a .item-area)) (a .a) (now (a .expected)) f
+    (if1 .left) (at-find .ensures .same) (sym (at-is-found .ensures) ∙ not-false _ (if2 .left))
+    (at-named-is .ensures (textIn (partOf (a .h .wide) (now (a .t)) (now (a .area)) f)) (at-find-item .ensures))
 
 pub value-is-spec : {M : Type 1} → statement M
 value-is-spec =

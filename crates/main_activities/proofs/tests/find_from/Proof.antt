@@ -13,7 +13,9 @@ use Rattle.main_activities.proofs.tests.find_from.Statement.{statement}
 use Rattle.main_activities.proofs.tests.find_from.Tie as tie
 
 abbrev Inv-loop : tie.InvT-loop
-Inv-loop t names area h items item-area nodes attributes name count first number i₀ i = (i ≤ number) × (attributeFrom (treeOf h t (lends names area) items item-area nodes attributes count) name first number ≡ attributeFrom (treeOf h t (lends names area) items item-area nodes attributes count) name (first + i) (number - i))
+Inv-loop t names area h items item-area nodes attributes name count first number i₀ i = (i ≤ number) ×
+    (attributeFrom (treeOf h t (lends names area) items item-area nodes attributes count) name first number ≡ attributeFrom
+    (treeOf h t (lends names area) items item-area nodes attributes count) name (first + i) (number - i))
 
 abbrev μ-loop : tie.MeasureT-loop
 μ-loop t names area h items item-area nodes attributes name count first number i₀ i = number - i
@@ -23,7 +25,9 @@ loop-holds c = (omega arith, rw (sub-zero, add-zero))
 
 add-j : tie.Need-add-j Inv-loop μ-loop
 add-j c =
-    omega (arith, c .loop-test .taken, c .before .before .before .before .before .before .before .before .before .before .pre .1)
+    let test = c .loop-test in
+    let p = c .before .before .before .before .before .before .before .before .before .before .pre in
+    omega (arith, test .taken, p .1)
 
 attribute-place-requires : tie.Need-attribute-place-requires Inv-loop μ-loop
 attribute-place-requires c κs = search needs
@@ -48,14 +52,21 @@ shared-slice-read-t25 c = search needs
 
 is-named-requires : tie.Need-is-named-requires Inv-loop μ-loop
 is-named-requires c κs =
-    c .before .before .before .before .before .before .before .before .before .before .before .before .before .pre .0
+    let p = c .before .before .before .before .before .before .before .before .before .before .before .before .before .pre in
+    p .0
 
 returns : tie.Need-returns Inv-loop μ-loop
 returns c =
     let a = c .before .before .before .before .before .before .before .before .before .before .before .before .before .before .before .args in
-    let w = treeOf (a .h) (now (a .t)) (lends (now (a .names)) (now (a .area))) (now (a .items)) (now (a .item-area)) (now (a .nodes)) (now (a .attributes)) (a .count) in
+    let test = c .before .before .before .before .before .loop-test in
+    let at-attribute-place = c .before .before .before .before .attribute-place in
+    let at-is-named = c .before .is-named in
+    let if1 = c .if1 in
     let l = c .before .before .before .before .before .before .loop in
-    sym (l .inv .1 ∙ from-found w (now (a .name)) (a .first) (a .number) (l .i) (c .before .before .before .before .before .loop-test .taken) (rw (← c .before .before .before .before .attribute-place .ensures) (c .before .is-named .ensures)) (c .if1 .taken))
+    let w = treeOf (a .h) (now (a .t)) (lends (now (a .names)) (now (a .area))) (now (a .items)) (now (a .item-area)) (now (a .nodes))
+    (now (a .attributes)) (a .count) in
+    sym (l .inv .1 ∙ from-found w (now (a .name)) (a .first) (a .number) (l .i) (test .taken)
+    (rw (← at-attribute-place .ensures) (at-is-named .ensures)) (if1 .taken))
 
 add-i : tie.Need-add-i Inv-loop μ-loop
 add-i c = search needs
@@ -66,18 +77,26 @@ loop-less c = search needs
 loop-again : tie.Need-loop-again Inv-loop μ-loop
 loop-again c =
     let a = c .before .before .before .before .before .before .before .before .before .before .before .before .before .before .before .args in
-    let w = treeOf (a .h) (now (a .t)) (lends (now (a .names)) (now (a .area))) (now (a .items)) (now (a .item-area)) (now (a .nodes)) (now (a .attributes)) (a .count) in
-    let l = c .before .before .before .before .before .before .loop in (
-      omega (arith, c .before .before .before .before .before .loop-test .taken),
-      l .inv .1 ∙ from-next w (now (a .name)) (a .first) (a .number) (l .i) (c .before .before .before .before .before .loop-test .taken) (rw (← c .before .before .before .before .attribute-place .ensures) (c .before .is-named .ensures)) (c .if1 .left),
+    let test = c .before .before .before .before .before .loop-test in
+    let at-attribute-place = c .before .before .before .before .attribute-place in
+    let at-is-named = c .before .is-named in
+    let if1 = c .if1 in
+    let l = c .before .before .before .before .before .before .loop in
+    let w = treeOf (a .h) (now (a .t)) (lends (now (a .names)) (now (a .area))) (now (a .items)) (now (a .item-area)) (now (a .nodes))
+    (now (a .attributes)) (a .count) in (
+      omega (arith, test .taken),
+      l .inv .1 ∙ from-next w (now (a .name)) (a .first) (a .number) (l .i) (test .taken)
+          (rw (← at-attribute-place .ensures) (at-is-named .ensures)) (if1 .left),
     )
 
 returns-2 : tie.Need-returns-2 Inv-loop μ-loop
 returns-2 c =
     let a = c .before .before .before .before .before .before .before .before .before .before .args in
-    let w = treeOf (a .h) (now (a .t)) (lends (now (a .names)) (now (a .area))) (now (a .items)) (now (a .item-area)) (now (a .nodes)) (now (a .attributes)) (a .count) in
+    let test = c .loop-test in
     let l = c .before .loop in
-    sym (l .inv .1 ∙ from-end w (now (a .name)) (a .first) (a .number) (l .i) (c .loop-test .left))
+    let w = treeOf (a .h) (now (a .t)) (lends (now (a .names)) (now (a .area))) (now (a .items)) (now (a .item-area)) (now (a .nodes))
+    (now (a .attributes)) (a .count) in
+    sym (l .inv .1 ∙ from-end w (now (a .name)) (a .first) (a .number) (l .i) (test .left))
 
 pub find-from-spec : {M : Type 1} → statement M
 find-from-spec =

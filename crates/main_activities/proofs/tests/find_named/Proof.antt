@@ -30,11 +30,17 @@ shared-slice-read-find-from-2 c = search needs
 find-from-requires : tie.Need-find-from-requires
 find-from-requires c κs =
     let a = c .before .before .before .before .before .before .before .before .before .before .before .args in
-    let w = treeOf (a .h) (now (a .t)) (lends (now (a .names)) (now (a .area))) (now (a .items)) (now (a .item-area)) (now (a .nodes)) (now (a .attributes)) (a .count) in
-    (c .before .before .before .before .before .before .before .before .before .before .before .pre .0 .asks, rw (c .before .before .node-place .ensures) (c .before .before .before .before .before .before .before .before .before .before .before .pre .0 .small (a .k) (c .before .before .before .before .before .before .before .before .before .before .before .pre .1)), rw (c .before .before .node-place .ensures) (c .before .before .before .before .before .before .before .before .before .before .before .pre .0 .inside (a .k) (c .before .before .before .before .before .before .before .before .before .before .before .pre .1)))
+    let p = c .before .before .before .before .before .before .before .before .before .before .before .pre in
+    let at-node-place = c .before .before .node-place in
+    let w = treeOf (a .h) (now (a .t)) (lends (now (a .names)) (now (a .area))) (now (a .items)) (now (a .item-area)) (now (a .nodes))
+    (now (a .attributes)) (a .count) in
+    (p .0 .asks, rw (at-node-place .ensures) (p .0 .small (a .k) (p .1)), rw (at-node-place .ensures) (p .0 .inside (a .k) (p .1)))
 
 returns : tie.Need-returns
-returns c = rw (← c .before .before .before .node-place .ensures) (c .find-from .ensures)
+returns c =
+    let at-node-place = c .before .before .before .node-place in
+    let at-find-from = c .find-from in
+    rw (← at-node-place .ensures) (at-find-from .ensures)
 
 pub find-named-spec : {M : Type 1} → statement M
 find-named-spec =

@@ -25,10 +25,15 @@ shared-slice-read-t16 : tie.Need-shared-slice-read-t16
 shared-slice-read-t16 c = search needs
 
 is-tagged-requires : tie.Need-is-tagged-requires
-is-tagged-requires c κs = c .before .before .before .before .before .before .before .before .pre .0
+is-tagged-requires c κs =
+    let p = c .before .before .before .before .before .before .before .before .pre in
+    p .0
 
 returns : tie.Need-returns
-returns c = rw (← c .before .before .before .node-place .ensures) (c .is-tagged .ensures)
+returns c =
+    let at-node-place = c .before .before .before .node-place in
+    let at-is-tagged = c .is-tagged in
+    rw (← at-node-place .ensures) (at-is-tagged .ensures)
 
 pub has-tag-spec : {M : Type 1} → statement M
 has-tag-spec =

@@ -13,23 +13,32 @@ slice-aggregate-has-tag c = search needs
 
 has-tag-requires : tie.Need-has-tag-requires
 has-tag-requires c κs =
-    (c .before .before .before .before .before .before .before .before .pre .0 .asks, omega (arith, c .before .before .before .before .before .before .before .before .pre .0 .fits, c .before .before .before .before .before .before .before .before .pre .1))
+    let p = c .before .before .before .before .before .before .before .before .pre in
+    (p .0 .asks, omega (arith, p .0 .fits, p .1))
 
 returns : tie.Need-returns
 returns c =
     let a = c .before .before .before .before .before .before .before .before .before .before .args in
-    let w = treeOf (a .h) (now (a .t)) (lends (now (a .names)) (now (a .area))) (now (a .items)) (now (a .item-area)) (now (a .nodes)) (now (a .attributes)) (a .count) in
-    or-left (tagged w aliasTag (a .k)) (c .before .has-tag .ensures) (c .if1 .taken)
+    let at-has-tag = c .before .has-tag in
+    let if1 = c .if1 in
+    let w = treeOf (a .h) (now (a .t)) (lends (now (a .names)) (now (a .area))) (now (a .items)) (now (a .item-area)) (now (a .nodes))
+    (now (a .attributes)) (a .count) in
+    or-left (tagged w aliasTag (a .k)) (at-has-tag .ensures) (if1 .taken)
 
 slice-aggregate-has-tag-2 : tie.Need-slice-aggregate-has-tag-2
 slice-aggregate-has-tag-2 c = search needs
 
 has-tag-requires-2 : tie.Need-has-tag-requires-2
 has-tag-requires-2 c κs =
-    (c .before .before .before .before .before .before .before .before .before .before .before .pre .0 .asks, omega (arith, c .before .before .before .before .before .before .before .before .before .before .before .pre .0 .fits, c .before .before .before .before .before .before .before .before .before .before .before .pre .1))
+    let p = c .before .before .before .before .before .before .before .before .before .before .before .pre in
+    (p .0 .asks, omega (arith, p .0 .fits, p .1))
 
 returns-2 : tie.Need-returns-2
-returns-2 c = or-right (c .before .before .before .has-tag .ensures) (c .before .before .if1 .left) (c .has-tag2 .ensures)
+returns-2 c =
+    let at-has-tag = c .before .before .before .has-tag in
+    let if1 = c .before .before .if1 in
+    let at-has-tag2 = c .has-tag2 in
+    or-right (at-has-tag .ensures) (if1 .left) (at-has-tag2 .ensures)
 
 pub is-activity-spec : {M : Type 1} → statement M
 is-activity-spec =

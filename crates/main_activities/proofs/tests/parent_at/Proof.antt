@@ -16,7 +16,9 @@ shared-slice-read-result : tie.Need-shared-slice-read-result
 shared-slice-read-result c = search needs
 
 returns : tie.Need-returns
-returns c = rw (← c .before .node-place .ensures)
+returns c =
+    let at-node-place = c .before .node-place in
+    rw (← at-node-place .ensures)
 
 pub parent-at-spec : {M : Type 1} → statement M
 parent-at-spec =
