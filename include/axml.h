@@ -20,7 +20,7 @@ extern "C" {
 
 /* The form of this interface: raised whenever a record, a signature or a number below changes or is added. A library is of this form exactly if
  * axml_abi() == AXML_ABI; one that is of another must not be called. */
-#define AXML_ABI 10u
+#define AXML_ABI 11u
 uint32_t axml_abi(void);
 
 /* The longest file that is read, in bytes: one byte more is refused with AXML_TOO_LARGE. */

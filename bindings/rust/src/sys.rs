@@ -5,7 +5,7 @@
 use crate::{Items, SystemNames};
 
 /// The form of the C interface that this file declares: the header's AXML_ABI.
-pub const ABI: u32 = 10;
+pub const ABI: u32 = 11;
 
 /// Bytes of the longest file that is read.
 pub const LONGEST_FILE: usize = 16_777_216;

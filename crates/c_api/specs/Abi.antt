@@ -10,8 +10,9 @@
 --         7: attributes of six words, the namespace index behind the others; axml_read takes a mode, and refusal 16
 --         8: axml_first_values; refusal 20
 --         9: axml_read_listing; refusals 24, 25, 26
---        10: state and replaced in the answer of a text and of a value text, and in a part of many texts
+--        10: state and replaced in the answer of a text and of a value text, and in a part of many texts; notes of kind 32
+--        11: axml_main_activities; refusal 28
 use Prim.Native.Nat.{ℕ}
 
 abbrev pub abi : ℕ
-abi = 10
+abi = 11

@@ -7,5 +7,5 @@ ghost use Rattle.c_api.specs.Abi.{abi};
 pub extern "C" fn axml_abi() -> u32
     ensures { λ r. ⌜ r ≡ abi ⌝ }
 {
-    10
+    11
 }
