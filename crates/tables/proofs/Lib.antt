@@ -1,3 +1,5 @@
 -- The root of the crate's laws.
+pub mod Hashes
 pub mod Keys
 pub mod Tables
+pub mod Ways
