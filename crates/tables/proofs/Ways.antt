@@ -98,6 +98,17 @@ module _ (rule : Rule) (new : List ℕ) where
       ap (λ (x : List ℕ). rule new x || repeatsOne rule new a (drop attributeWidth (take m w))) first
       ∙ ap (λ (r : Bool). rule new (take attributeWidth w) || r) rest
 
+  -- one of the front
+  pub repeat-front : (k : ℕ) (w f : List ℕ) → attributeWidth * k ≤ length w → f ≡ take (attributeWidth * k) w → isRepeat rule new f ≡ true → isRepeat rule new w ≡ true
+  repeat-front k w f h e some =
+      let n : length w / attributeWidth ≡ k + (length w - attributeWidth * k) / attributeWidth = omega arith in
+      let lf : length f ≡ attributeWidth * k = ap length e ∙ length-take-le (attributeWidth * k) w h in
+      let nf : length f / attributeWidth ≡ k = omega arith in
+      let front : repeatsOne rule new k w ≡ true =
+      sym (front-same k (attributeWidth * k) w (omega arith) h) ∙ ap (repeatsOne rule new k) (sym e) ∙ ap (λ (m : ℕ). repeatsOne rule new m f) (sym nf) ∙ some in
+      ap (λ (m : ℕ). repeatsOne rule new m w) n ∙ split-more k _ w
+      ∙ or-left (repeatsOne rule new k w) (repeatsOne rule new ((length w - attributeWidth * k) / attributeWidth) (drop (attributeWidth * k) w)) front
+
   -- the front f, and the records behind it
   pub repeat-split : (k : ℕ) (w f : List ℕ) → attributeWidth * k ≤ length w → f ≡ take (attributeWidth * k) w → isRepeat rule new f ≡ false
       → isRepeat rule new w ≡ isRepeat rule new (drop (attributeWidth * k) w)
