@@ -5,6 +5,7 @@
   LONG             name, function: files of long names, each used often
   LONG_16          the same, of 16 MiB
   SLOW             name, function: files that are slow still
+  MANY             name, function, rounds: elements of very many attributes
   REPEATING        name, function, whether names are lent: elements whose attributes repeat
   real()           (name, bytes): manifests that aapt makes of oracle/real.py's texts, the framework's own, and the longest of its other files.
                    Manifests have UTF-16 pools, whatever aapt is told; the other files have UTF-8 ones.
@@ -115,6 +116,38 @@ def many_attributes(count, common="", wide=False):
     return whole((texts, start(0, [(NONE, i, 16, i) for i in range(count)]), end(0)))
 
 
+def elements(names, wide=False, repeated=1, spaces=(NONE,)):
+    """So many elements, each with an attribute of every name in every namespace; a namespace is the index of a text behind the names."""
+    texts = [*names, "http://schemas.android.com/apk/res/android"]
+    pooled = pool16(texts) if wide else pool8([n.encode() for n in texts])
+    one = start(0, [(ns, i, 16, i) for ns in spaces for i in range(len(names))]) + end(0)
+    return whole((pooled, start(0), one * repeated, end(0)))
+
+
+def mixed(state, value):
+    """tables/specs/Inner/Keys.antt"""
+    x = (state >> 32 ^ value) * 2654435769
+    y = ((state & 0xFFFFFFFF) + value & 0xFFFFFFFF) * 3266489917
+    return (x >> 32 ^ y & 0xFFFFFFFF) << 32 | (y >> 32 ^ x & 0xFFFFFFFF)
+
+
+def colliding(count, bits):
+    """So many names whose keys, with no prefix, agree in their lowest bits: nothing in the reader is secret."""
+    made, i, letters = [], 0, "abcdefghijklmnopqrstuvwxyzABCDEFGHIJKLMNOPQRSTUVWXYZ0123456789"
+    while len(made) < count:
+        first, state = f"n{i:x}-", 0
+        for c in first:
+            state = mixed(state, ord(c))
+        made += [first + c for c in letters if not mixed(state, ord(c)) >> 32 & (1 << bits) - 1]
+        i += 1
+    return made[:count]
+
+
+def last_units(count, length):
+    """Names of so many units that differ in the last one alone."""
+    return ["a" * (length - 1) + chr(0x4E00 + i) for i in range(count)]
+
+
 def long_names(letter):
     """Six names of a million units that differ in their last unit alone, on twenty elements."""
     texts = [letter * 999_999 + last for last in "abcdef"]
@@ -212,8 +245,14 @@ HOSTILE = (("2,000,000 foreign chunks in a run", foreign, 11),
            ("names of a million UTF-16 units, Cyrillic", lambda: long_names("\u0436"), 3),
            ("8,192 attributes of different names", lambda: many_attributes(8192), 5),
            ("8,192 attributes, UTF-16", lambda: many_attributes(8192, wide=True), 3),
-           ("8,192 attributes, the first 100 letters the same", lambda: many_attributes(8192, "a" * 100), 3),
-           ("65,535 attributes of different names", lambda: many_attributes(65_535), 0))
+           ("8,192 attributes, the first 100 letters the same", lambda: many_attributes(8192, "a" * 100), 3))
+
+HEXED = [f"n{i:04x}" for i in range(65_535)]
+MANY = (("65,535 attributes of different names", lambda: elements(HEXED), 0),
+        ("12 elements of 65,535 attributes", lambda: elements(HEXED, repeated=12), 0),
+        ("32,767 names in two namespaces", lambda: elements(HEXED[:32_767], spaces=(NONE, 32_767)), 0),
+        ("8,192 names whose keys agree in 8 bits", lambda: elements(colliding(8_192, 8)), 5),
+        ("500 names of 1,000 units that differ in the last, in 10 elements", lambda: elements(last_units(500, 1_000), True, 10), 5))
 
 LONG = (("one long name in one element", lambda: in_turns(1_500_000, 1, each=30_000)),
         ("one long name, once in each element", lambda: in_turns(1_000_000, 1)),

@@ -40,7 +40,7 @@ module _ (same : ℕ → ℕ → Bool) (owner p n kind value ns : ℕ) (l : List
   abbrev new : List ℕ
   new = attributeWords owner p n kind value ns
 
-  byPrefix-at : byPrefix same new (take attributeWidth (drop i l))
+  pub byPrefix-at : byPrefix same new (take attributeWidth (drop i l))
       ≡ (eqb (getD l (i + attributePrefix) 0) p
       && (same (getD l (i + attributeName) 0) n && sameSpace same p (getD l (i + attributeNamespace) 0) ns))
   byPrefix-at =

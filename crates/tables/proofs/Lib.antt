@@ -1,4 +1,6 @@
 -- The root of the crate's laws.
+pub mod Hashes
 pub mod Keys
 pub mod Tables
 pub mod Valid
+pub mod Ways

@@ -1,7 +1,11 @@
 // Records in lent tables: a word is stored, words are zeroed, and attributes are asked whether a new one repeats one of them.
 //
-// Stands for the vectors of axml.rs (apk-info 13770539b8), and `has` for its `HashSet` of attribute names.
+// Stands for the vectors of axml.rs (apk-info 13770539b8), and `has` for its `HashSet` of attribute names: it compares with each record, and links.rt
+// finds its way among many.
 // Definitions: records/specs/Repeats.antt. Differs from the Rust: names are compared where they lie, by text, and nothing is copied.
+pub mod hash;
+pub mod links;
+
 ghost use mathlib.Core.Path.{_≡_};
 ghost use mathlib.Core.List.{_++_};
 ghost use mathlib.Core.Bool.{true};

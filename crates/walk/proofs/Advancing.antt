@@ -68,7 +68,7 @@ pub read-first : (f : List ℕ) (lent : Lent) (ns ats : List ℕ) (st : State) (
 read-first f lent ns ats st g e =
     let r = g .onWay e in
     record {
-      now = record { stack = g .stack; ready = r .ready; within = r .within; tied = r .tied; budget = r .budget };
+      now = record { stack = g .stack; ready = r .ready; within = r .within; tied = r .tied; chained = r .chained; budget = r .budget };
       ln = refl;
       la = refl;
       low = omega arith;
@@ -180,6 +180,7 @@ module _ (f : List ℕ) (lent : Lent) (ns₀ ats₀ : List ℕ) (st : State) (g 
           ready = due .now .ready;
           within = due .now .within;
           tied = due .now .tied;
+          chained = due .now .chained;
           budget = due .now .budget;
           few = omega (arith, hd .few, due-less, hd .low);
           stored = omega arith;

@@ -38,10 +38,11 @@ use Rattle.events.specs.declared.Event.the-variants.{Nothing, Open, Attribute, 
 use Rattle.events.specs.Events.{Names, namesIn, leading, foreignNote, attributeBy, attributeEvent}
 use Rattle.events.specs.Inner.Steps.{noteIf, nameStep, chunkStep, cutStep, turnStep, stepBy, stepOf}
 use Rattle.events.specs.Inner.Pending.{Held, Ready, Within}
+use Rattle.tables.specs.Inner.Keys.{Key}
 use Rattle.walk.specs.declared.tree.Tree.{Tree}
 use Rattle.walk.specs.declared.placing.Placed.{Placed}
 use Rattle.walk.specs.declared.placing.Placed.the-variants.{Done, Full, Due, Finished}
-use Rattle.walk.specs.Inner.Tree.{Tied, PlacesBy, NotEnd, AsksFor}
+use Rattle.walk.specs.Inner.Tree.{Tied, Chained, PlacesBy, NotEnd, AsksFor}
 
 -- ---- which events ask for texts
 
@@ -223,15 +224,15 @@ not-other e e′ p h q = subst (λ (x : Event). Other x) (sym p ∙ q) h
 
 -- ---- those that leave the tables alone
 
-module _ (rule : Rule) (ns ats : List ℕ) (t : Tree) (o : List ℕ) (e : Event) where
-  pub place-as : (p : Placed) (ns′ ats′ : List ℕ) (e′ : Event) → e ≡ e′ → PlacesBy rule p ns ats t o e′ ns′ ats′ → PlacesBy rule p ns ats t o e ns′ ats′
+module _ (rule : Rule) (key : Key) (ns ats : List ℕ) (t : Tree) (o : List ℕ) (e : Event) where
+  pub place-as : (p : Placed) (ns′ ats′ : List ℕ) (e′ : Event) → e ≡ e′ → PlacesBy rule key p ns ats t o e′ ns′ ats′ → PlacesBy rule key p ns ats t o e ns′ ats′
   place-as p ns′ ats′ e′ q h = rw q h
 
-  pub place-nothing : Tied ns ats t o → e ≡ Nothing → PlacesBy rule (Done t) ns ats t o e ns ats
-  place-nothing h q = rw q (record { stack = o; tied = h; few = omega arith; pushed = λ r os cs rn ra. refl })
+  pub place-nothing : Tied ns ats t o → Chained key ns ats t → e ≡ Nothing → PlacesBy rule key (Done t) ns ats t o e ns ats
+  place-nothing h l q = rw q (record { stack = o; tied = h; few = omega arith; chained = l; pushed = λ r os cs rn ra. refl })
 
-  pub place-left : (n : StringIndex) → Tied ns ats t o → e ≡ LeftOut n → PlacesBy rule (Done t) ns ats t o e ns ats
-  place-left n h q = rw q (record { stack = o; tied = h; few = omega arith; pushed = λ r os cs rn ra. refl })
+  pub place-left : (n : StringIndex) → Tied ns ats t o → Chained key ns ats t → e ≡ LeftOut n → PlacesBy rule key (Done t) ns ats t o e ns ats
+  place-left n h l q = rw q (record { stack = o; tied = h; few = omega arith; chained = l; pushed = λ r os cs rn ra. refl })
 
-  pub place-refused : (x : Refusal) → e ≡ Refuse x → PlacesBy rule (Full x) ns ats t o e ns ats
+  pub place-refused : (x : Refusal) → e ≡ Refuse x → PlacesBy rule key (Full x) ns ats t o e ns ats
   place-refused x q = rw q (λ r os cs rn ra. refl)

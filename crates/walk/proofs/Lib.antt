@@ -5,6 +5,7 @@ pub mod Trees
 pub mod Attributes
 pub mod Asking
 pub mod Running
+pub mod Chains
 pub mod Clearing
 pub mod Advancing
 pub mod Quiet

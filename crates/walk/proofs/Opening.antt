@@ -5,14 +5,18 @@ use Prim.Native.Nat.{ℕ, _+_, _-_, _*_, _≤_}
 use native.Mathlib.Omega.{arith}
 use mathlib.Core.Path.{_≡_, refl, _∙_, ap}
 use mathlib.Core.List.{List, []}
-use lib.ListN.{length, replicate, length-drop}
+use lib.ListN.{length, drop, replicate, length-drop}
 use Rattle.anomaly.specs.declared.Note.{Note as NoteOf}
 use Rattle.errors.specs.declared.Refusal.{Refusal}
 use Rattle.errors.specs.declared.ReadAnswer.{ReadAnswer}
 use Rattle.errors.specs.declared.ReadAnswer.the-variants.{Refused}
 use Rattle.errors.specs.Refusal.{numbersOf}
 use Rattle.system_types.specs.Names.{Lent}
-use Rattle.head.specs.Head.{openedOf, bodyIn}
+use Rattle.head.specs.Head.{openedOf, tablesIn, bodyIn}
+use Rattle.records.specs.Words.{nodeWidth, attributeWidth}
+use Rattle.tables.specs.Inner.Keys.{keyBy, keysOf}
+use Rattle.tables.specs.Inner.Ways.{frontWords}
+use Rattle.tables.proofs.Ways.{hung-none}
 use Rattle.head.proofs.Laws.{openedOf-fits}
 use Rattle.head.specs.Entry.{readingAt, Check, passes, fails, firstOf, entryChecks}
 use Rattle.head.specs.Inner.Entered.{enteredOf}
@@ -104,6 +108,7 @@ module _ (f : List ℕ) (lent : Lent) (ns ats : List ℕ) (st : State) (g : Good
           upto = λ n. absurd (n refl);
           below = omega arith;
         };
+        chained = λ _. hung-none (keysOf (keyBy (openedOf f .head) (tablesIn f (openedOf f .head)) lent) (drop (attributeWidth * 0 + frontWords) ats)) (drop (nodeWidth * 0) ns) 0 refl;
         budget = omega (arith, told .short, body-le);
         few = omega (arith, told .short, body-le);
         stored = omega arith;

@@ -123,6 +123,7 @@ read-passed f lent ns₀ ats₀ st g ns ats c tree hd c′ p = record {
     ready = hd .now .ready;
     within = p .within (st .opened) (hd .now .within);
     tied = hd .now .tied;
+    chained = hd .now .chained;
     budget = omega (arith, hd .now .budget, p .low);
   };
   ln = hd .ln;

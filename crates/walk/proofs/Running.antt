@@ -18,6 +18,7 @@ use Rattle.events.specs.Events.{Names, namesIn}
 use Rattle.events.specs.Inner.Steps.{stepOf}
 use Rattle.events.specs.Inner.Pending.{pending, steps, the, Stepped}
 use Rattle.events.proofs.Steps.{stepped}
+use Rattle.tables.specs.Inner.Keys.{keyBy}
 use Rattle.walk.specs.declared.tree.Tree.{Tree}
 use Rattle.walk.specs.declared.placing.Placed.{Placed}
 use Rattle.walk.specs.declared.placing.Placed.the-variants.{Done, Full, Due, Finished}
@@ -56,13 +57,13 @@ module _ (mode : ℕ) (t : List ℕ) (lent : Lent) (b : List ℕ) (o : Opened) w
 
   module _ (ns₀ ats₀ : List ℕ) (c₀ : Cursor) (tree₀ : Tree) (g : Running t lent b o ns₀ ats₀ c₀ tree₀) (ns ats : List ℕ) (c : Cursor) (tree : Tree)
       (h : RunHead mode t lent b o ns₀ ats₀ c₀ tree₀ g ns ats c tree) (s : Step) (es : s ≡ stepOf N o t b c) (ns′ ats′ : List ℕ)
-      (ln : length ns′ ≡ length ns) (la : length ats′ ≡ length ats) (p : Placed) (places : Places (N .repeats) p ns ats tree (s .event) ns′ ats′)
+      (ln : length ns′ ≡ length ns) (la : length ats′ ≡ length ats) (p : Placed) (places : Places (N .repeats) (keyBy (o .head) t lent) p ns ats tree (s .event) ns′ ats′)
       (notEnd : NotEnd p (s .event)) where
     st : Stepped N o t b c s
     st = rw es (stepped N o t b c (h .now .within))
 
-    put : PlacesBy (N .repeats) p ns ats tree (h .now .stack) (s .event) ns′ ats′
-    put = places (h .now .stack) (h .now .tied)
+    put : PlacesBy (N .repeats) (keyBy (o .head) t lent) p ns ats tree (h .now .stack) (s .event) ns′ ats′
+    put = places (h .now .stack) (h .now .tied) (h .now .chained)
 
     once : (r : Room) (os : List NoteOf) (cs : List ℕ)
         → onFrom r N o t b ns ats c tree (h .now .stack) os cs
@@ -83,7 +84,7 @@ module _ (mode : ℕ) (t : List ℕ) (lent : Lent) (b : List ℕ) (o : Opened) w
         let q = rw e at put in
         let less : steps b (s .cur) < steps b c = run-less u e in
         record {
-          now = record { stack = q .stack; ready = h .now .ready; within = st .within; tied = q .tied; budget = omega (arith, q .few, h .now .budget) };
+          now = record { stack = q .stack; ready = h .now .ready; within = st .within; tied = q .tied; chained = q .chained; budget = omega (arith, q .few, h .now .budget) };
           ln = ln ∙ h .ln;
           la = la ∙ h .la;
           low = omega (arith, h .low);
@@ -103,7 +104,7 @@ module _ (mode : ℕ) (t : List ℕ) (lent : Lent) (b : List ℕ) (o : Opened) w
         let first-is : pending N o t b c ≡ Note x ∷ pending N o t b (s .cur) = st .same ∙ ap (λ (y : Event). the y ++ pending N o t b (s .cur)) (q .event) in
         rw (q .nodes, q .attributes)
         (record {
-          now = record { stack = h .now .stack; ready = h .now .ready; within = st .within; tied = h .now .tied; budget = omega (arith, h .now .budget) };
+          now = record { stack = h .now .stack; ready = h .now .ready; within = st .within; tied = h .now .tied; chained = h .now .chained; budget = omega (arith, h .now .budget) };
           less = omega (arith, h .low);
           goes = λ r os cs rn ra.
               (h .same r os cs rn ra ∙ ap (λ (y : List Event). settle (N .repeats) r (going (tablesOf ns ats tree (h .now .stack) os cs)) y) first-is);

@@ -16,11 +16,14 @@ use Rattle.errors.specs.declared.Refusal.the-variants.{NodesFull}
 use Rattle.records.specs.Words.{nodeWidth, nodeParent, nodeFirst, nodeCount, attributeWidth}
 use Rattle.records.specs.Repeats.{Rule}
 use Rattle.events.specs.declared.Event.the-variants.{Open, Close}
+use Rattle.tables.specs.Inner.Keys.{Key, keysOf}
+use Rattle.tables.specs.Inner.Ways.{frontWords}
+use Rattle.tables.proofs.Ways.{hung-none}
 use Rattle.walk.specs.declared.tree.Tree.{Tree}
 use Rattle.walk.specs.declared.placing.Placed.the-variants.{Done, Full}
 use Rattle.walk.specs.Settle.{Room, going, push, parentIn, closedIn}
 use Rattle.walk.specs.Reading.{secondOf}
-use Rattle.walk.specs.Inner.Tree.{parentOf, openedTree, closedTree, openedWords, Linked, Tied, tablesOf, PlacesBy}
+use Rattle.walk.specs.Inner.Tree.{parentOf, openedTree, closedTree, openedWords, Linked, Tied, tablesOf, behindOf, Chained, PlacesBy}
 
 pub take-put : (l l′ w : List ℕ) (i j : ℕ) → i ≤ length l → i + length w ≡ j → l′ ≡ take i l ++ w ++ drop j l → take j l′ ≡ take i l ++ w
 take-put l l′ w i j h e q = rw (q, take-at (take i l ++ w) (drop j l) j (length-append (take i l) w ∙ rw (length-take-le i l h) e))
@@ -62,7 +65,7 @@ second-in w (k ∷ j ∷ i ∷ r) h n = second-in w (j ∷ i ∷ r) (h .3) n
 
 -- ---- a node opens
 
-module _ (rule : Rule) (ns ats ns′ : List ℕ) (t : Tree) (name : StringIndex) (fixed line : ℕ) (room : nodeWidth * t .nodes + nodeWidth ≤ length ns)
+module _ (rule : Rule) (key : Key) (ns ats ns′ : List ℕ) (t : Tree) (name : StringIndex) (fixed line : ℕ) (room : nodeWidth * t .nodes + nodeWidth ≤ length ns)
     (len : length ns′ ≡ length ns) (put : ns′ ≡ take (nodeWidth * t .nodes) ns ++ openedWords t (name .0) fixed line ++ drop (nodeWidth * t .nodes + nodeWidth) ns) where
   abbrev w : List ℕ
   w = take (nodeWidth * t .nodes) ns
@@ -119,10 +122,13 @@ module _ (rule : Rule) (ns ats ns′ : List ℕ) (t : Tree) (name : StringIndex)
       below = rw ua ub;
     }
 
-    done : PlacesBy rule (Done u) ns ats t o (Open name fixed line) ns′ ats
-    done = record { stack = t .nodes ∷ o; tied = tied; few = rw (un, ua) (omega arith); pushed = pushed }
+    chained : Chained key ns′ ats u
+    chained _ = hung-none (keysOf key (drop (attributeWidth * u .first + frontWords) ats)) (drop (nodeWidth * u .nodes) ns′) (behindOf u) (omega (arith, ua, uf))
 
-  pub node-opens : (o : List ℕ) → Tied ns ats t o → PlacesBy rule (Done (openedTree t)) ns ats t o (Open name fixed line) ns′ ats
+    done : PlacesBy rule key (Done u) ns ats t o (Open name fixed line) ns′ ats
+    done = record { stack = t .nodes ∷ o; tied = tied; few = rw (un, ua) (omega arith); chained = chained; pushed = pushed }
+
+  pub node-opens : (o : List ℕ) → Tied ns ats t o → PlacesBy rule key (Done (openedTree t)) ns ats t o (Open name fixed line) ns′ ats
   node-opens [] h =
       let z : t .nodes ≡ 0 = omega (arith, h .linked, lw) in
       rw (eq-eqb (t .nodes) 0 z)
@@ -146,21 +152,21 @@ module _ (rule : Rule) (ns ats ns′ : List ℕ) (t : Tree) (name : StringIndex)
       refl refl refl refl (h .second) (λ n. List·getD-append w opening 0 (nodeWidth * t .second + nodeFirst) (omega (arith, b n)) ∙ h .upto n) (h .below))
 
 -- no place for it
-pub node-full : (rule : Rule) (ns ats ns′ : List ℕ) (t : Tree) (name : StringIndex) (fixed line : ℕ) (o : List ℕ) → Tied ns ats t o
-    → length ns < nodeWidth * t .nodes + nodeWidth → PlacesBy rule (Full (NodesFull (length ns / nodeWidth))) ns ats t o (Open name fixed line) ns′ ats
-node-full rule ns ats ns′ t name fixed line o h none r os cs rn ra =
+pub node-full : (rule : Rule) (key : Key) (ns ats ns′ : List ℕ) (t : Tree) (name : StringIndex) (fixed line : ℕ) (o : List ℕ) → Tied ns ats t o
+    → length ns < nodeWidth * t .nodes + nodeWidth → PlacesBy rule key (Full (NodesFull (length ns / nodeWidth))) ns ats t o (Open name fixed line) ns′ ats
+node-full rule key ns ats ns′ t name fixed line o h none r os cs rn ra =
     let lw : length (take (nodeWidth * t .nodes) ns) ≡ nodeWidth * t .nodes = length-take-le (nodeWidth * t .nodes) ns (h .sized .nodes) in
     let over : r .nodes < length (take (nodeWidth * t .nodes) ns) + nodeWidth = omega (arith, lw) in
     rw (lt-leb _ _ over, rn)
 
 -- ---- an element closes
 
-module _ (rule : Rule) (ns ats : List ℕ) (t : Tree) where
+module _ (rule : Rule) (key : Key) (ns ats : List ℕ) (t : Tree) where
   abbrev u : List ℕ
   u = take (nodeWidth * t .nodes) ns
 
-  stays : (o : List ℕ) → Tied ns ats t o → closedIn o ≡ o → PlacesBy rule (Done t) ns ats t o Close ns ats
-  stays o h e = record { stack = o; tied = h; few = omega arith; pushed = λ r os cs rn ra. rw e }
+  stays : (o : List ℕ) → Tied ns ats t o → Chained key ns ats t → closedIn o ≡ o → PlacesBy rule key (Done t) ns ats t o Close ns ats
+  stays o h l e = record { stack = o; tied = h; few = omega arith; chained = l; pushed = λ r os cs rn ra. rw e }
 
   -- the parent word of the innermost is the next of the open elements
   parent-word : (k j : ℕ) (r : List ℕ) → Tied ns ats t (k ∷ j ∷ r) → getD ns (nodeWidth * t .inner + nodeParent) 0 ≡ j
@@ -168,11 +174,11 @@ module _ (rule : Rule) (ns ats : List ℕ) (t : Tree) where
       let lu : length u ≡ nodeWidth * t .nodes = length-take-le (nodeWidth * t .nodes) ns (h .sized .nodes) in
       rw (← h .top) (sym (getD-take (nodeWidth * t .nodes) ns (nodeWidth * k + nodeParent) 0 (omega (arith, h .linked .1, lu))) ∙ h .linked .2)
 
-  pub node-closes : (o : List ℕ) → Tied ns ats t o
-      → PlacesBy rule (Done (cond (eqb (t .inner) 0) t (closedTree t (getD ns (nodeWidth * t .inner + nodeParent) 0)))) ns ats t o Close ns ats
-  node-closes [] h = rw (eq-eqb (t .inner) 0 (sym (h .top))) (stays [] h refl)
-  node-closes (k ∷ []) h = rw (eq-eqb (t .inner) 0 (sym (h .top) ∙ h .linked .0)) (stays (k ∷ []) h refl)
-  node-closes (k ∷ j ∷ []) h =
+  pub node-closes : (o : List ℕ) → Tied ns ats t o → Chained key ns ats t
+      → PlacesBy rule key (Done (cond (eqb (t .inner) 0) t (closedTree t (getD ns (nodeWidth * t .inner + nodeParent) 0)))) ns ats t o Close ns ats
+  node-closes [] h l = rw (eq-eqb (t .inner) 0 (sym (h .top))) (stays [] h l refl)
+  node-closes (k ∷ []) h l = rw (eq-eqb (t .inner) 0 (sym (h .top) ∙ h .linked .0)) (stays (k ∷ []) h l refl)
+  node-closes (k ∷ j ∷ []) h l =
       let e : (t .inner ≡ 0 → ⊥) = λ z. omega (arith, h .top, h .linked .0) in
       rw (ne-eqb (t .inner) 0 e, parent-word k j [] h, eq-eqb j 0 (h .linked .3 .0))
       (record {
@@ -186,9 +192,10 @@ module _ (rule : Rule) (ns ats : List ℕ) (t : Tree) where
           below = omega arith;
         };
         few = omega arith;
+        chained = l;
         pushed = λ r os cs rn ra. refl;
       })
-  node-closes (k ∷ j ∷ i ∷ r) h =
+  node-closes (k ∷ j ∷ i ∷ r) h l =
       let lu : length u ≡ nodeWidth * t .nodes = length-take-le (nodeWidth * t .nodes) ns (h .sized .nodes) in
       let e : (t .inner ≡ 0 → ⊥) = λ z. omega (arith, h .top, h .linked .0) in
       let p : (j ≡ 0 → ⊥) = λ z. omega (arith, h .linked .3 .0) in
@@ -205,5 +212,6 @@ module _ (rule : Rule) (ns ats : List ℕ) (t : Tree) where
           below = h .below;
         };
         few = omega arith;
+        chained = l;
         pushed = λ s os cs rn ra. refl;
       })

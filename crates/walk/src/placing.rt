@@ -5,6 +5,7 @@
 ghost use Rattle.records.specs.Repeats.{Rule, byPrefix};
 ghost use Rattle.system_types.specs.Names.{lends};
 ghost use Rattle.text.specs.Content.{sameName};
+ghost use Rattle.tables.specs.Inner.Keys.{Key, keyBy};
 ghost use Rattle.events.specs.declared.Event.the-variants.{Open, Attribute, Close};
 ghost use Rattle.head.specs.Head.{tablesIn};
 ghost use Rattle.events.specs.Inner.Remembered.{Remembers};
@@ -61,7 +62,7 @@ fn open_place(
     line: u32,
 ) -> Placed
     requires { ⌜ Fit (now nodes) (now attributes) tree ⌝ }
-    ensures { λ r. ⌜ ((rule : Rule) → Places rule r (now (nodes .entry)) (now (attributes .entry)) tree (Open name fixed line)
+    ensures { λ r. ⌜ ((rule : Rule) (key : Key) → Places rule key r (now (nodes .entry)) (now (attributes .entry)) tree (Open name fixed line)
         (now (nodes .exit)) (now (attributes .entry))) ⌝ }
 {
     if nodes.len() - node_place(tree.nodes) < NODE_WORDS {
@@ -73,7 +74,7 @@ fn open_place(
 // The innermost element closes.
 fn close_place(nodes: &[u32], attributes: &[u32], tree: Tree) -> Placed
     requires { ⌜ Fit (now nodes) (now attributes) tree ⌝ }
-    ensures { λ r. ⌜ ((rule : Rule) → Places rule r (now (nodes .entry)) (now (attributes .entry)) tree Close
+    ensures { λ r. ⌜ ((rule : Rule) (key : Key) → Places rule key r (now (nodes .entry)) (now (attributes .entry)) tree Close
         (now (nodes .entry)) (now (attributes .entry))) ⌝ }
 {
     Placed::Done(close_node(nodes, tree))
@@ -92,7 +93,8 @@ fn keep_place(
     a: XmlAttributeElement,
 ) -> Placed
     requires { ⌜ AsksFor (Attribute prefix a) (now t) (lends (now names) (now area)) h × Fit (now nodes) (now attributes) tree ⌝ }
-    ensures { λ r. ⌜ Places (byPrefix (sameName h (now (t .entry)) (lends (now (names .entry)) (now (area .entry))))) r
+    ensures { λ r. ⌜ Places (byPrefix (sameName h (now (t .entry)) (lends (now (names .entry)) (now (area .entry)))))
+        (keyBy h (now (t .entry)) (lends (now (names .entry)) (now (area .entry)))) r
         (now (nodes .entry)) (now (attributes .entry)) tree (Attribute prefix a) (now (nodes .exit)) (now (attributes .exit)) ⌝ }
 {
     let p = keep(t, names, area, h, nodes, attributes, tree, prefix, a);
@@ -115,7 +117,8 @@ pub fn place(
     e: Event,
 ) -> Placed
     requires { ⌜ AsksFor e (now t) (lends (now names) (now area)) h × Fit (now nodes) (now attributes) tree ⌝ }
-    ensures { λ r. ⌜ Places (byPrefix (sameName h (now (t .entry)) (lends (now (names .entry)) (now (area .entry))))) r
+    ensures { λ r. ⌜ Places (byPrefix (sameName h (now (t .entry)) (lends (now (names .entry)) (now (area .entry)))))
+        (keyBy h (now (t .entry)) (lends (now (names .entry)) (now (area .entry)))) r
         (now (nodes .entry)) (now (attributes .entry)) tree e (now (nodes .exit)) (now (attributes .exit)) × NotEnd r e ⌝ }
 {
     match e {

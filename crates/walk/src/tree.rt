@@ -5,16 +5,18 @@
 // two numbers, the element open above the first and the attributes before it.
 ghost use mathlib.Core.Path.{_≡_};
 ghost use mathlib.Core.List.{_++_};
-ghost use mathlib.Core.Bool.{cond};
+ghost use mathlib.Core.Bool.{cond, false};
 ghost use Prim.Native.Nat.{_+_, _*_, _≤_, _<_};
 ghost use lib.ListN.{length, drop, take, getD};
 ghost use lib.Dec.{eqb};
-ghost use Rattle.records.specs.Words.{nodeWidth, nodeParent};
-ghost use Rattle.records.specs.Repeats.{byPrefix};
+ghost use Rattle.records.specs.Words.{nodeWidth, nodeParent, attributeWidth};
+ghost use Rattle.records.specs.Repeats.{byPrefix, isRepeat};
 ghost use Rattle.system_types.specs.Names.{lends};
 ghost use Rattle.text.specs.Content.{sameName};
+ghost use Rattle.text.specs.Inner.Found.{Asks};
+ghost use Rattle.tables.specs.Inner.Keys.{keyBy};
 ghost use Rattle.events.specs.declared.Event.the-variants.{Attribute};
-ghost use Rattle.walk.specs.Inner.Tree.{parentOf, openedTree, closedTree, keptTree, openedWords, keptNodes, keptAttributes, Fit, Keeps, AsksFor};
+ghost use Rattle.walk.specs.Inner.Tree.{parentOf, openedTree, closedTree, keptTree, openedWords, keptNodes, keptAttributes, newWords, frontOf, Fit, Far, Puts, KeepsIn, AsksFor};
 use common::StringIndex;
 use records::ATTRIBUTE_WORDS;
 use records::NO_PARENT;
@@ -25,8 +27,15 @@ use records::node_place;
 use records::put_attribute;
 use records::put_node;
 use tables::has;
+use tables::hash::key_of;
+use tables::links::FRONT_WORDS;
+use tables::links::front_of;
+use tables::links::is_far;
+use tables::links::link;
+use tables::links::seek;
 use tables::put_one;
 use text::Head;
+use text::find;
 use xml_elements::XmlAttributeElement;
 
 // How many nodes and attributes are stored, how many attributes before those of the last node, the innermost open element, the one that is
@@ -168,6 +177,93 @@ pub fn close_node(nodes: &[u32], tree: Tree) -> Tree
     tree.closed(nodes[i])
 }
 
+// A new attribute of the last node is stored behind the others, and the node counts it.
+fn store(
+    nodes: &mut [u32],
+    attributes: &mut [u32],
+    tree: Tree,
+    prefix: u32,
+    a: XmlAttributeElement,
+) -> Tree
+    requires { ⌜ Fit (now nodes) (now attributes) tree × (0 < tree .nodes) × (attributeWidth * tree .attributes + attributeWidth ≤ length (now attributes)) ⌝ }
+    ensures { λ r. ⌜ Puts r tree prefix a (now (nodes .entry)) (now (attributes .entry)) (now (nodes .exit)) (now (attributes .exit)) ⌝ }
+{
+    let name = a.name;
+    let ns = a.namespace_uri;
+    let last = tree.nodes - 1;
+    put_attribute(
+        attributes,
+        attribute_place(tree.attributes),
+        last,
+        prefix,
+        name.0,
+        a.data_type,
+        a.data,
+        ns.0,
+    );
+    put_one(
+        nodes,
+        node_place(last) + NODE_COUNT,
+        tree.attributes + 1 - tree.first,
+    );
+    tree.kept()
+}
+
+// The same as `keep` from the 33rd attribute of a node on, where it repeats none of the first 32: the others are linked, in the words behind the nodes.
+fn keep_far(
+    t: &[u8],
+    names: &[u32],
+    area: &[u8],
+    h: Head,
+    nodes: &mut [u32],
+    attributes: &mut [u32],
+    tree: Tree,
+    prefix: u32,
+    a: XmlAttributeElement,
+) -> Put
+    requires { ⌜ Asks (now t) (lends (now names) (now area)) h × Fit (now nodes) (now attributes) tree × Far (now nodes) tree ⌝ }
+    ensures { λ r. ⌜ (isRepeat (byPrefix (sameName h (now (t .entry)) (lends (now (names .entry)) (now (area .entry))))) (newWords tree prefix a) (frontOf tree (now (attributes .entry))) ≡ false
+        → KeepsIn (byPrefix (sameName h (now (t .entry)) (lends (now (names .entry)) (now (area .entry)))))
+        (keyBy h (now (t .entry)) (lends (now (names .entry)) (now (area .entry)))) r tree prefix a
+        (now (nodes .entry)) (now (attributes .entry)) (now (nodes .exit)) (now (attributes .exit))) ⌝ }
+{
+    let from = attribute_place(tree.first) + FRONT_WORDS;
+    let used = attribute_place(tree.attributes);
+    let free = node_place(tree.nodes);
+    let name = a.name;
+    let ns = a.namespace_uri;
+    let g = find(t, names, area, h, name);
+    let key = key_of(t, names, area, h, prefix, g, ns);
+    let e = seek(
+        t,
+        names,
+        area,
+        h,
+        &attributes[from..used],
+        &nodes[free..],
+        key,
+        prefix,
+        name,
+        ns,
+        g,
+    );
+    if e.found {
+        return Put::Same;
+    }
+    if attributes.len() - used < ATTRIBUTE_WORDS {
+        return Put::Full;
+    }
+    let u = store(nodes, attributes, tree, prefix, a);
+    link(
+        &mut nodes[free..],
+        (used - from) / ATTRIBUTE_WORDS,
+        key,
+        e.at,
+        e.left,
+    );
+    Put::Stored(u)
+}
+
 // An attribute of the last node, unless it repeats one of that node's.
 // Ruled out: a place asked for a repeat, and the node's count of attributes left as it was.
 pub fn keep(
@@ -182,7 +278,8 @@ pub fn keep(
     a: XmlAttributeElement,
 ) -> Put
     requires { ⌜ AsksFor (Attribute prefix a) (now t) (lends (now names) (now area)) h × Fit (now nodes) (now attributes) tree ⌝ }
-    ensures { λ r. ⌜ Keeps (byPrefix (sameName h (now (t .entry)) (lends (now (names .entry)) (now (area .entry))))) r tree prefix a
+    ensures { λ r. ⌜ KeepsIn (byPrefix (sameName h (now (t .entry)) (lends (now (names .entry)) (now (area .entry)))))
+        (keyBy h (now (t .entry)) (lends (now (names .entry)) (now (area .entry)))) r tree prefix a
         (now (nodes .entry)) (now (attributes .entry)) (now (nodes .exit)) (now (attributes .exit)) ⌝ }
 {
     let n = tree.nodes;
@@ -193,29 +290,27 @@ pub fn keep(
     let used = attribute_place(tree.attributes);
     let name = a.name;
     let ns = a.namespace_uri;
-    if has(t, names, area, h, &attributes[from..used], prefix, name, ns) {
+    let far = is_far(used - from, nodes.len() - node_place(n));
+    let front = front_of(far, used - from);
+    if has(
+        t,
+        names,
+        area,
+        h,
+        &attributes[from..from + front],
+        prefix,
+        name,
+        ns,
+    ) {
         return Put::Same;
+    }
+    if far {
+        return keep_far(t, names, area, h, nodes, attributes, tree, prefix, a);
     }
     if attributes.len() - used < ATTRIBUTE_WORDS {
         return Put::Full;
     }
-    let last = n - 1;
-    put_attribute(
-        attributes,
-        used,
-        last,
-        prefix,
-        name.0,
-        a.data_type,
-        a.data,
-        ns.0,
-    );
-    put_one(
-        nodes,
-        node_place(last) + NODE_COUNT,
-        tree.attributes + 1 - tree.first,
-    );
-    Put::Stored(tree.kept())
+    Put::Stored(store(nodes, attributes, tree, prefix, a))
 }
 
 // How many nodes are kept at the end: all before the second open element (W29). Ruled out: a finished child of a dropped element counted, and

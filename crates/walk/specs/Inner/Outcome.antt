@@ -29,13 +29,14 @@ use Rattle.events.specs.declared.Cursor.{Cursor}
 use Rattle.events.specs.Events.{namesIn}
 use Rattle.events.specs.Inner.Steps.{firstCursor}
 use Rattle.events.specs.Inner.Pending.{Ready, Within, steps}
+use Rattle.tables.specs.Inner.Keys.{keyBy}
 use Rattle.walk.specs.declared.tree.Tree.{Tree}
 use Rattle.walk.specs.declared.Stage.{Stage}
 use Rattle.walk.specs.declared.Stage.the-variants.{Fresh, Reading as InBody, Clearing}
 use Rattle.walk.specs.declared.State.{State}
 use Rattle.walk.specs.Settle.{Room}
 use Rattle.walk.specs.Reading.{Reading, zeroNote, finalOf, reading, roomIn}
-use Rattle.walk.specs.Inner.Tree.{Tied, keptNodes, keptAttributes}
+use Rattle.walk.specs.Inner.Tree.{Tied, Chained, keptNodes, keptAttributes}
 use Rattle.walk.specs.Inner.Run.{onFrom}
 
 -- ---- states
@@ -177,6 +178,7 @@ pub record OnWay (f : List ℕ) (lent : Lent) (ns ats : List ℕ) (st : State) (
   pub ready : Ready (tablesIn f (st .opened .head)) lent (st .opened)
   pub within : Within (st .opened) (bodyIn f (st .opened .head)) (st .cur)
   pub tied : Tied ns ats (st .tree) stack
+  pub chained : Chained (keyBy (st .opened .head) (tablesIn f (st .opened .head)) lent) ns ats (st .tree)
   pub budget : st .tree .nodes + st .tree .attributes + steps (bodyIn f (st .opened .head)) (st .cur) ≤ 400000000
   pub few : st .notes .used + steps (bodyIn f (st .opened .head)) (st .cur) ≤ 400000000
   pub stored : st .notes .used ≤ st .room

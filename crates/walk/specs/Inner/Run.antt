@@ -17,12 +17,13 @@ use Rattle.events.specs.declared.Cursor.{Cursor}
 use Rattle.events.specs.declared.Event.the-variants.{Note}
 use Rattle.events.specs.Events.{Names, namesIn}
 use Rattle.events.specs.Inner.Pending.{Ready, Within, pending, steps}
+use Rattle.tables.specs.Inner.Keys.{keyBy}
 use Rattle.walk.specs.declared.tree.Tree.{Tree}
 use Rattle.walk.specs.declared.placing.Halt.{Halt}
 use Rattle.walk.specs.declared.placing.Stop.{Stop}
 use Rattle.walk.specs.declared.placing.Stop.the-variants.{Full, Due, Finished}
 use Rattle.walk.specs.Settle.{Room, Out, going, refused, settle}
-use Rattle.walk.specs.Inner.Tree.{Tied, tablesOf}
+use Rattle.walk.specs.Inner.Tree.{Tied, Chained, tablesOf}
 
 -- the list of open elements is the proof's to know
 pub record Running (t : List ℕ) (lent : Lent) (b : List ℕ) (o : Opened) (ns ats : List ℕ) (c : Cursor) (tree : Tree) : Type 0 where
@@ -30,6 +31,7 @@ pub record Running (t : List ℕ) (lent : Lent) (b : List ℕ) (o : Opened) (ns 
   pub ready : Ready t lent o
   pub within : Within o b c
   pub tied : Tied ns ats tree stack
+  pub chained : Chained (keyBy (o .head) t lent) ns ats tree
   pub budget : tree .nodes + tree .attributes + steps b c ≤ 400000000
 
 abbrev pub onFrom : Room → Names → Opened → List ℕ → List ℕ → List ℕ → List ℕ → Cursor → Tree → List ℕ → List NoteOf → List ℕ → Out

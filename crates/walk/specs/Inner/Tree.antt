@@ -3,7 +3,8 @@
 --   openedTree, closedTree, keptTree   the numbers of a tree behind a start, an end, a kept attribute
 --   Sized, Fit   the numbers fit the tables, and more fit a u32
 --   Tied         the numbers tell the tables: the open elements are the list o, linked by the parent words
---   Keeps        what `keep` does with an attribute: it Repeats one, Lacks a place, or `keep` Stores it
+--   Chained      the last node's attributes behind the first 32 are linked, in the words behind the nodes; Far where the next one is to be linked
+--   Keeps        what `keep` does with an attribute: it Repeats one, Lacks a place, or `keep` Stores it; KeepsIn where those before it are Chained
 --   Places       what `place` does with an event: it is PutAway, one push of specs/Settle.antt; or it is refused, or Passes to the caller
 --   AsksFor      an attribute asks for texts, and its name is valid but for the leading one's; no other event asks
 use Prim.Native.Nat.{ℕ, _+_, _-_, _*_, _≤_, _<_}
@@ -22,6 +23,8 @@ use Rattle.records.specs.Repeats.{Rule, isRepeat}
 use Rattle.system_types.specs.Names.{Lent}
 use Rattle.events.specs.declared.Event.{Event}
 use Rattle.events.specs.declared.Event.the-variants.{Nothing, Open, Attribute, LeftOut, Close, Note, Refuse, Finish}
+use Rattle.tables.specs.Inner.Keys.{Key, keysOf}
+use Rattle.tables.specs.Inner.Ways.{linkWidth, frontWords, Hung}
 use Rattle.walk.specs.declared.tree.Tree.{Tree}
 use Rattle.walk.specs.declared.tree.Put.{Put}
 use Rattle.walk.specs.declared.tree.Put.the-variants.{Same, Full as NoPlace, Stored}
@@ -104,6 +107,31 @@ ownWords t ats = take (attributeWidth * t .attributes - attributeWidth * t .firs
 abbrev pub newWords : Tree → ℕ → XmlAttributeElement → List ℕ
 newWords t p a = attributeWords (t .nodes - 1) p (a .name .0) (a .«data_type») (a .«data») (a .«namespace_uri» .0)
 
+-- those of the first 32
+abbrev pub frontOf : Tree → List ℕ → List ℕ
+frontOf t ats = take frontWords (drop (attributeWidth * t .first) ats)
+
+-- how many there are behind them, where they begin, and the words for their links
+abbrev pub behindOf : Tree → ℕ
+behindOf t = t .attributes - t .first - 32
+
+-- they are linked, where there is room for one link more
+abbrev pub Chained : Key → List ℕ → List ℕ → Tree → Type 0
+Chained key ns ats t =
+    linkWidth * behindOf t + linkWidth ≤ length ns - nodeWidth * t .nodes
+    → Hung (keysOf key (drop (attributeWidth * t .first + frontWords) ats)) (drop (nodeWidth * t .nodes) ns) (behindOf t)
+
+pub record Far (ns : List ℕ) (t : Tree) : Type 0 where
+  pub some : 0 < t .nodes
+  pub many : t .first + 32 ≤ t .attributes
+  pub room : linkWidth * behindOf t + linkWidth ≤ length ns - nodeWidth * t .nodes
+
+-- a new one is put behind them
+pub record Puts (u t : Tree) (p : ℕ) (a : XmlAttributeElement) (ns ats ns′ ats′ : List ℕ) : Type 0 where
+  pub tree : u ≡ keptTree t
+  pub attributes : ats′ ≡ take (attributeWidth * t .attributes) ats ++ newWords t p a ++ drop (attributeWidth * t .attributes + attributeWidth) ats
+  pub nodes : ns′ ≡ set ns (nodeWidth * (t .nodes - 1) + nodeCount) (t .attributes + 1 - t .first)
+
 -- it repeats one of its element, or there is no element
 pub record Repeats (rule : Rule) (t : Tree) (p : ℕ) (a : XmlAttributeElement) (ns ats ns′ ats′ : List ℕ) : Type 0 where
   pub there : (t .nodes ≡ 0 → ⊥) → isRepeat rule (newWords t p a) (ownWords t ats) ≡ true
@@ -116,27 +144,32 @@ pub record Lacks (rule : Rule) (t : Tree) (p : ℕ) (a : XmlAttributeElement) (a
   pub new : isRepeat rule (newWords t p a) (ownWords t ats) ≡ false
   pub full : length ats < attributeWidth * t .attributes + attributeWidth
 
--- it is stored, and its element counts it
-pub record Stores (rule : Rule) (u t : Tree) (p : ℕ) (a : XmlAttributeElement) (ns ats ns′ ats′ : List ℕ) : Type 0 where
+-- it is stored, and its element counts it; what stands behind the nodes may change
+pub record Stores (rule : Rule) (key : Key) (u t : Tree) (p : ℕ) (a : XmlAttributeElement) (ns ats ns′ ats′ : List ℕ) : Type 0 where
   pub some : t .nodes ≡ 0 → ⊥
   pub new : isRepeat rule (newWords t p a) (ownWords t ats) ≡ false
   pub room : attributeWidth * t .attributes + attributeWidth ≤ length ats
   pub tree : u ≡ keptTree t
   pub attributes : ats′ ≡ take (attributeWidth * t .attributes) ats ++ newWords t p a ++ drop (attributeWidth * t .attributes + attributeWidth) ats
-  pub nodes : ns′ ≡ set ns (nodeWidth * (t .nodes - 1) + nodeCount) (t .attributes + 1 - t .first)
+  pub nodes : take (nodeWidth * t .nodes) ns′ ≡ set (take (nodeWidth * t .nodes) ns) (nodeWidth * (t .nodes - 1) + nodeCount) (t .attributes + 1 - t .first)
+  pub chained : Chained key ns′ ats′ u
 
-abbrev pub Keeps : Rule → Put → Tree → ℕ → XmlAttributeElement → List ℕ → List ℕ → List ℕ → List ℕ → Type 0
-Keeps rule Same t p a ns ats ns′ ats′ = Repeats rule t p a ns ats ns′ ats′
-Keeps rule NoPlace t p a ns ats ns′ ats′ = Lacks rule t p a ats
-Keeps rule (Stored u) t p a ns ats ns′ ats′ = Stores rule u t p a ns ats ns′ ats′
+abbrev pub Keeps : Rule → Key → Put → Tree → ℕ → XmlAttributeElement → List ℕ → List ℕ → List ℕ → List ℕ → Type 0
+Keeps rule key Same t p a ns ats ns′ ats′ = Repeats rule t p a ns ats ns′ ats′
+Keeps rule key NoPlace t p a ns ats ns′ ats′ = Lacks rule t p a ats
+Keeps rule key (Stored u) t p a ns ats ns′ ats′ = Stores rule key u t p a ns ats ns′ ats′
+
+abbrev pub KeepsIn : Rule → Key → Put → Tree → ℕ → XmlAttributeElement → List ℕ → List ℕ → List ℕ → List ℕ → Type 0
+KeepsIn rule key r t p a ns ats ns′ ats′ = Chained key ns ats t → Keeps rule key r t p a ns ats ns′ ats′
 
 -- ---- an event
 
 -- it is put away, and the tree is u: one push
-pub record PutAway (rule : Rule) (u : Tree) (ns ats : List ℕ) (t : Tree) (o : List ℕ) (e : Event) (ns′ ats′ : List ℕ) : Type 0 where
+pub record PutAway (rule : Rule) (key : Key) (u : Tree) (ns ats : List ℕ) (t : Tree) (o : List ℕ) (e : Event) (ns′ ats′ : List ℕ) : Type 0 where
   pub stack : List ℕ
   pub tied : Tied ns′ ats′ u stack
   pub few : u .nodes + u .attributes ≤ t .nodes + t .attributes + 1
+  pub chained : Chained key ns′ ats′ u
   pub pushed : (r : Room) (os : List NoteOf) (cs : List ℕ) → r .nodes ≡ length ns → r .attributes ≡ length ats
       → push rule r (going (tablesOf ns ats t o os cs)) e ≡ going (tablesOf ns′ ats′ u stack os cs)
 
@@ -146,16 +179,16 @@ pub record Passes (e e′ : Event) (ns ats ns′ ats′ : List ℕ) : Type 0 whe
   pub nodes : ns′ ≡ ns
   pub attributes : ats′ ≡ ats
 
-abbrev pub PlacesBy : Rule → Placed → List ℕ → List ℕ → Tree → List ℕ → Event → List ℕ → List ℕ → Type 0
-PlacesBy rule (Done u) ns ats t o e ns′ ats′ = PutAway rule u ns ats t o e ns′ ats′
-PlacesBy rule (Full x) ns ats t o e ns′ ats′ =
+abbrev pub PlacesBy : Rule → Key → Placed → List ℕ → List ℕ → Tree → List ℕ → Event → List ℕ → List ℕ → Type 0
+PlacesBy rule key (Done u) ns ats t o e ns′ ats′ = PutAway rule key u ns ats t o e ns′ ats′
+PlacesBy rule key (Full x) ns ats t o e ns′ ats′ =
     (r : Room) (os : List NoteOf) (cs : List ℕ) → r .nodes ≡ length ns → r .attributes ≡ length ats
     → push rule r (going (tablesOf ns ats t o os cs)) e ≡ refused x
-PlacesBy rule (Due x) ns ats t o e ns′ ats′ = Passes e (Note x) ns ats ns′ ats′
-PlacesBy rule Finished ns ats t o e ns′ ats′ = Passes e Finish ns ats ns′ ats′
+PlacesBy rule key (Due x) ns ats t o e ns′ ats′ = Passes e (Note x) ns ats ns′ ats′
+PlacesBy rule key Finished ns ats t o e ns′ ats′ = Passes e Finish ns ats ns′ ats′
 
-abbrev pub Places : Rule → Placed → List ℕ → List ℕ → Tree → Event → List ℕ → List ℕ → Type 0
-Places rule p ns ats t e ns′ ats′ = (o : List ℕ) → Tied ns ats t o → PlacesBy rule p ns ats t o e ns′ ats′
+abbrev pub Places : Rule → Key → Placed → List ℕ → List ℕ → Tree → Event → List ℕ → List ℕ → Type 0
+Places rule key p ns ats t e ns′ ats′ = (o : List ℕ) → Tied ns ats t o → Chained key ns ats t → PlacesBy rule key p ns ats t o e ns′ ats′
 
 -- what is put away is not the end
 abbrev pub NotEnd : Placed → Event → Type 0

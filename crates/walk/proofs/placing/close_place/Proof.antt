@@ -10,7 +10,7 @@ close-node-requires c κs = λ n. omega (arith, c .before .before .pre .sized .n
 returns : tie.Need-returns
 returns c =
     let at-start = c .before .before .before in
-    let a = at-start .args in λ rule o h. rw (c .close-node .ensures) (node-closes rule (a .nodes .now) (a .attributes .now) (a .tree) o h)
+    let a = at-start .args in λ rule key o h l. rw (c .close-node .ensures) (node-closes rule key (a .nodes .now) (a .attributes .now) (a .tree) o h l)
 
 pub close-place-spec : {M : Type 1} → statement M
 close-place-spec = tie.close (tie.spec close-node-requires returns)

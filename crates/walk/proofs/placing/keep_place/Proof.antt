@@ -2,6 +2,7 @@
 use lib.ListN.{length}
 use Rattle.records.specs.Repeats.{byPrefix}
 use Rattle.text.specs.Content.{sameName}
+use Rattle.tables.specs.Inner.Keys.{keyBy}
 use Rattle.walk.proofs.Attributes.{keep-same, keep-full, keep-stored}
 use borrow.Author.Needs.{needs}
 use Rattle.system_types.specs.Names.{lends}
@@ -32,10 +33,10 @@ returns c =
     let at-start = at-keep .before .before .before .before .before .before .before .before in
     let a = at-start .args in
     let q = at-keep .keep in
-    λ o h.
-    keep-same (byPrefix (sameName (a .h) (a .t .now) (lends (a .names .now) (a .area .now)))) (a .nodes .now) (a .attributes .now) (q .last .1 .1 .1 .1 .0)
+    λ o h l.
+    keep-same (byPrefix (sameName (a .h) (a .t .now) (lends (a .names .now) (a .area .now)))) (keyBy (a .h) (a .t .now) (lends (a .names .now) (a .area .now))) (a .nodes .now) (a .attributes .now) (q .last .1 .1 .1 .1 .0)
     (q .last .1 .1 .1 .1 .1 .0)
-    (a .tree) o h (a .prefix) (a .a) (c .enum-told .given .1) (q .ensures)
+    (a .tree) o h l (a .prefix) (a .a) (c .enum-told .given .1) (q .ensures l)
 
 same-length-3 : tie.Need-same-length-3
 same-length-3 c = search needs
@@ -49,10 +50,10 @@ returns-2 c =
     let at-start = at-keep .before .before .before .before .before .before .before .before in
     let a = at-start .args in
     let q = at-keep .keep in
-    λ o h.
-    keep-full (byPrefix (sameName (a .h) (a .t .now) (lends (a .names .now) (a .area .now)))) (a .nodes .now) (a .attributes .now) (q .last .1 .1 .1 .1 .0)
+    λ o h l.
+    keep-full (byPrefix (sameName (a .h) (a .t .now) (lends (a .names .now) (a .area .now)))) (keyBy (a .h) (a .t .now) (lends (a .names .now) (a .area .now))) (a .nodes .now) (a .attributes .now) (q .last .1 .1 .1 .1 .0)
     (q .last .1 .1 .1 .1 .1 .0)
-    (a .tree) o h (a .prefix) (a .a) (length (q .last .1 .1 .1 .1 .1 .0)) (c .enum-told2 .given .1) (q .ensures) (q .kept .1 .1 .1 .1 .1 .0)
+    (a .tree) o h l (a .prefix) (a .a) (length (q .last .1 .1 .1 .1 .1 .0)) (c .enum-told2 .given .1) (q .ensures l) (q .kept .1 .1 .1 .1 .1 .0)
 
 same-length-5 : tie.Need-same-length-5
 same-length-5 c = search needs
@@ -66,9 +67,9 @@ returns-3 c =
     let at-start = at-keep .before .before .before .before .before .before .before .before in
     let a = at-start .args in
     let q = at-keep .keep in
-    λ o h.
-    keep-stored (byPrefix (sameName (a .h) (a .t .now) (lends (a .names .now) (a .area .now)))) (a .nodes .now) (a .attributes .now) (q .last .1 .1 .1 .1 .0)
-    (q .last .1 .1 .1 .1 .1 .0) (a .tree) o h (a .prefix) (a .a) (c .before .p .given .0 .0) (c .before .p .given .1) (q .ensures) (q .kept .1 .1 .1 .1 .0)
+    λ o h l.
+    keep-stored (byPrefix (sameName (a .h) (a .t .now) (lends (a .names .now) (a .area .now)))) (keyBy (a .h) (a .t .now) (lends (a .names .now) (a .area .now))) (a .nodes .now) (a .attributes .now) (q .last .1 .1 .1 .1 .0)
+    (q .last .1 .1 .1 .1 .1 .0) (a .tree) o h l (a .prefix) (a .a) (c .before .p .given .0 .0) (c .before .p .given .1) (q .ensures l) (q .kept .1 .1 .1 .1 .0)
     (q .kept .1 .1 .1 .1 .1 .0)
 
 pub keep-place-spec : {M : Type 1} → statement M

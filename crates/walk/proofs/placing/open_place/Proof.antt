@@ -15,8 +15,8 @@ returns : tie.Need-returns
 returns c =
     let at-start = c .before .before .before .before in
     let a = at-start .args in
-    λ rule o h.
-    node-full rule (a .nodes .now) (a .attributes .now) (a .nodes .now) (a .tree) (a .name) (a .fixed) (a .line) o h
+    λ rule key o h l.
+    node-full rule key (a .nodes .now) (a .attributes .now) (a .nodes .now) (a .tree) (a .name) (a .fixed) (a .line) o h
     (omega (arith, c .if1 .taken, c .before .node-place .ensures))
 
 open-node-requires : tie.Need-open-node-requires
@@ -32,9 +32,9 @@ returns-2 c =
     let at-start = at-place .before .before .before in
     let a = at-start .args in
     let q = c .before .before .open-node in
-    λ rule o h.
+    λ rule key o h l.
     rw (q .ensures .0)
-    (node-opens rule (a .nodes .now) (a .attributes .now) (q .last .0) (a .tree) (a .name) (a .fixed) (a .line)
+    (node-opens rule key (a .nodes .now) (a .attributes .now) (q .last .0) (a .tree) (a .name) (a .fixed) (a .line)
     (omega (arith, at-if1 .if1 .left, at-place .node-place .ensures)) (q .kept .0) (q .ensures .1) o h)
 
 pub open-place-spec : {M : Type 1} → statement M

@@ -1,6 +1,7 @@
 -- `walk::placing::place` meets its contract: one answer for each event (proofs/Asking.antt).
 use Rattle.records.specs.Repeats.{byPrefix}
 use Rattle.text.specs.Content.{sameName}
+use Rattle.tables.specs.Inner.Keys.{keyBy}
 use Rattle.walk.proofs.Asking.{not-end, not-other, place-as, place-nothing, place-left, place-refused}
 use borrow.Author.Needs.{needs}
 use Rattle.system_types.specs.Names.{lends}
@@ -47,8 +48,9 @@ returns : tie.Need-returns
 returns c =
     let at-start = c .before .before .before .before .before .before .before in
     let a = at-start .args in
-    let rule = byPrefix (sameName (a .h) (a .t .now) (lends (a .names .now) (a .area .now))) in (
-      (λ o h. place-nothing rule (a .nodes .now) (a .attributes .now) (a .tree) o (a .e) h (c .enum-told .given .1)),
+    let rule = byPrefix (sameName (a .h) (a .t .now) (lends (a .names .now) (a .area .now))) in
+    let key = keyBy (a .h) (a .t .now) (lends (a .names .now) (a .area .now)) in (
+      (λ o h l. place-nothing rule key (a .nodes .now) (a .attributes .now) (a .tree) o (a .e) h l (c .enum-told .given .1)),
       not-other (a .e) _ (c .enum-told .given .1) tt,
     )
 
@@ -65,9 +67,10 @@ returns-2 c =
     let a = at-start .args in
     let q = c .before .before .open-place in
     let e = at-e .e .given in
-    let rule = byPrefix (sameName (a .h) (a .t .now) (lends (a .names .now) (a .area .now))) in (
-      (λ o h. place-as rule (a .nodes .now) (a .attributes .now) (a .tree) o (a .e) (q .result) (q .last .0) (a .attributes .now) _ (e .1)
-          (q .ensures rule o h)),
+    let rule = byPrefix (sameName (a .h) (a .t .now) (lends (a .names .now) (a .area .now))) in
+    let key = keyBy (a .h) (a .t .now) (lends (a .names .now) (a .area .now)) in (
+      (λ o h l. place-as rule key (a .nodes .now) (a .attributes .now) (a .tree) o (a .e) (q .result) (q .last .0) (a .attributes .now) _ (e .1)
+          (q .ensures rule key o h l)),
       not-end (q .result) (a .e) (not-other (a .e) _ (e .1) tt),
     )
 
@@ -85,10 +88,11 @@ returns-3 c =
     let a = at-start .args in
     let q = at-keep-place .keep-place in
     let e = at-e2 .e2 .given in
-    let rule = byPrefix (sameName (a .h) (a .t .now) (lends (a .names .now) (a .area .now))) in (
-      (λ o h.
-          place-as rule (a .nodes .now) (a .attributes .now) (a .tree) o (a .e) (q .result) (q .last .1 .1 .1 .1 .0) (q .last .1 .1 .1 .1 .1 .0) _ (e .1)
-          (q .ensures o h)),
+    let rule = byPrefix (sameName (a .h) (a .t .now) (lends (a .names .now) (a .area .now))) in
+    let key = keyBy (a .h) (a .t .now) (lends (a .names .now) (a .area .now)) in (
+      (λ o h l.
+          place-as rule key (a .nodes .now) (a .attributes .now) (a .tree) o (a .e) (q .result) (q .last .1 .1 .1 .1 .0) (q .last .1 .1 .1 .1 .1 .0) _ (e .1)
+          (q .ensures o h l)),
       not-end (q .result) (a .e) (not-other (a .e) _ (e .1) tt),
     )
 
@@ -98,7 +102,8 @@ returns-4 c =
     let a = at-start .args in
     let e = c .before .e3 .given in
     let rule = byPrefix (sameName (a .h) (a .t .now) (lends (a .names .now) (a .area .now))) in
-    ((λ o h. place-left rule (a .nodes .now) (a .attributes .now) (a .tree) o (a .e) (e .0 .0) h (e .1)), not-other (a .e) _ (e .1) tt)
+    let key = keyBy (a .h) (a .t .now) (lends (a .names .now) (a .area .now)) in
+    ((λ o h l. place-left rule key (a .nodes .now) (a .attributes .now) (a .tree) o (a .e) (e .0 .0) h l (e .1)), not-other (a .e) _ (e .1) tt)
 
 same-length-5 : tie.Need-same-length-5
 same-length-5 c = search needs
@@ -113,9 +118,10 @@ returns-5 c =
     let a = at-start .args in
     let q = c .close-place in
     let e = at-enum-told2 .enum-told2 .given in
-    let rule = byPrefix (sameName (a .h) (a .t .now) (lends (a .names .now) (a .area .now))) in (
-      (λ o h. place-as rule (a .nodes .now) (a .attributes .now) (a .tree) o (a .e) (q .result) (a .nodes .now) (a .attributes .now) _ (e .1)
-          (q .ensures rule o h)),
+    let rule = byPrefix (sameName (a .h) (a .t .now) (lends (a .names .now) (a .area .now))) in
+    let key = keyBy (a .h) (a .t .now) (lends (a .names .now) (a .area .now)) in (
+      (λ o h l. place-as rule key (a .nodes .now) (a .attributes .now) (a .tree) o (a .e) (q .result) (a .nodes .now) (a .attributes .now) _ (e .1)
+          (q .ensures rule key o h l)),
       not-end (q .result) (a .e) (not-other (a .e) _ (e .1) tt),
     )
 
@@ -128,7 +134,8 @@ returns-7 c =
     let a = at-start .args in
     let e = c .before .e5 .given in
     let rule = byPrefix (sameName (a .h) (a .t .now) (lends (a .names .now) (a .area .now))) in
-    ((λ o h. place-refused rule (a .nodes .now) (a .attributes .now) (a .tree) o (a .e) (e .0 .0) (e .1)), tt)
+    let key = keyBy (a .h) (a .t .now) (lends (a .names .now) (a .area .now)) in
+    ((λ o h l. place-refused rule key (a .nodes .now) (a .attributes .now) (a .tree) o (a .e) (e .0 .0) (e .1)), tt)
 
 returns-8 : tie.Need-returns-8
 returns-8 c = search needs

@@ -1,15 +1,23 @@
--- `walk::tree::keep` meets its contract: a repeat changes nothing, a new attribute is stored where it has a place.
+-- `walk::tree::keep` meets its contract: a repeat changes nothing, a new attribute is stored where it has a place; many are linked (proofs/Chains.antt).
+use Prim.Native.Nat.{ℕ, _+_, _-_, _*_, _≤_}
 use native.Mathlib.Omega.{arith}
-use mathlib.Core.Path.{refl}
+use native.Mathlib.Nat.{pos-of-ne-zero}
+use mathlib.Core.Path.{refl, sym, _∙_}
+use mathlib.Core.Bool.{true, false}
+use lib.ListN.{length}
 use borrow.Author.Needs.{needs}
+use Rattle.records.specs.Words.{attributeWidth}
+use Rattle.records.specs.Repeats.{byPrefix}
 use Rattle.system_types.specs.Names.{lends}
 use Rattle.text.specs.Content.{sameName}
-use Rattle.walk.proofs.Attributes.{own-repeat}
+use Rattle.tables.specs.Inner.Keys.{keyBy}
+use Rattle.walk.specs.Inner.Tree.{newWords}
+use Rattle.walk.proofs.Chains.{far-of, front-le, front-found, front-near, front-first, counted-nodes, chained-near}
 use Rattle.walk.proofs.tree.keep.Statement.{statement}
 use Rattle.walk.proofs.tree.keep.Tie as tie
 
 returns : tie.Need-returns
-returns c = record { there = λ n. absurd (n (c .if1 .taken)); nodes = refl; attributes = refl }
+returns c = λ l. record { there = λ n. absurd (n (c .if1 .taken)); nodes = refl; attributes = refl }
 
 attribute-place-requires : tie.Need-attribute-place-requires
 attribute-place-requires c κs = search needs
@@ -17,122 +25,80 @@ attribute-place-requires c κs = search needs
 attribute-place-requires-2 : tie.Need-attribute-place-requires-2
 attribute-place-requires-2 c κs = search needs
 
+sub-is-far : tie.Need-sub-is-far
+sub-is-far c = omega (arith, c .before .before .attribute-place2 .ensures, c .before .before .before .attribute-place .ensures, c .before .before .before .before .before .before .before .before .before .before .pre .1 .sized .first)
+
+node-place-requires : tie.Need-node-place-requires
+node-place-requires c κs = search needs
+
+sub-is-far-2 : tie.Need-sub-is-far-2
+sub-is-far-2 c = omega (arith, c .node-place .ensures, c .before .before .before .before .before .before .before .before .before .before .before .pre .1 .sized .nodes)
+
+is-far-requires : tie.Need-is-far-requires
+is-far-requires c κs = search needs
+
+sub-front-of : tie.Need-sub-front-of
+sub-front-of c = omega (arith, c .before .before .before .before .attribute-place2 .ensures, c .before .before .before .before .before .attribute-place .ensures, c .before .before .before .before .before .before .before .before .before .before .before .before .pre .1 .sized .first)
+
+front-of-requires : tie.Need-front-of-requires
+front-of-requires c κs = search needs
+
+add-has : tie.Need-add-has
+add-has c = omega (arith, front-le (c .before .is-far .result) _ _ (c .front-of .result) (c .before .is-far .ensures) (c .front-of .ensures), c .before .before .before .before .before .attribute-place2 .ensures, c .before .before .before .before .before .before .attribute-place .ensures, c .before .before .before .before .before .before .before .before .before .before .before .before .before .pre .1 .sized .first, c .before .before .before .before .before .before .before .before .before .before .before .before .before .pre .1 .sized .attributes, c .before .before .before .before .before .before .before .before .before .before .before .before .before .pre .1 .many)
+
 mul-has : tie.Need-mul-has
-mul-has c = search needs
+mul-has c = omega (arith, front-le (c .before .is-far .result) _ _ (c .front-of .result) (c .before .is-far .ensures) (c .front-of .ensures), c .before .before .before .before .before .attribute-place2 .ensures, c .before .before .before .before .before .before .attribute-place .ensures, c .before .before .before .before .before .before .before .before .before .before .before .before .before .pre .1 .sized .first, c .before .before .before .before .before .before .before .before .before .before .before .before .before .pre .1 .sized .attributes, c .before .before .before .before .before .before .before .before .before .before .before .before .before .pre .1 .many)
 
 sub-has : tie.Need-sub-has
-sub-has c = search needs
+sub-has c = omega (arith, front-le (c .before .is-far .result) _ _ (c .front-of .result) (c .before .is-far .ensures) (c .front-of .ensures), c .before .before .before .before .before .attribute-place2 .ensures, c .before .before .before .before .before .before .attribute-place .ensures, c .before .before .before .before .before .before .before .before .before .before .before .before .before .pre .1 .sized .first, c .before .before .before .before .before .before .before .before .before .before .before .before .before .pre .1 .sized .attributes, c .before .before .before .before .before .before .before .before .before .before .before .before .before .pre .1 .many)
 
 part-has-start : tie.Need-part-has-start
-part-has-start c = search needs
+part-has-start c = omega (arith, front-le (c .before .before .is-far .result) _ _ (c .before .front-of .result) (c .before .before .is-far .ensures) (c .before .front-of .ensures), c .before .before .before .before .before .before .attribute-place2 .ensures, c .before .before .before .before .before .before .before .attribute-place .ensures, c .before .before .before .before .before .before .before .before .before .before .before .before .before .before .pre .1 .sized .first, c .before .before .before .before .before .before .before .before .before .before .before .before .before .before .pre .1 .sized .attributes, c .before .before .before .before .before .before .before .before .before .before .before .before .before .before .pre .1 .many)
 
 part-has-end : tie.Need-part-has-end
-part-has-end c = search needs
+part-has-end c = omega (arith, front-le (c .before .before .is-far .result) _ _ (c .before .front-of .result) (c .before .before .is-far .ensures) (c .before .front-of .ensures), c .before .before .before .before .before .before .attribute-place2 .ensures, c .before .before .before .before .before .before .before .attribute-place .ensures, c .before .before .before .before .before .before .before .before .before .before .before .before .before .before .pre .1 .sized .first, c .before .before .before .before .before .before .before .before .before .before .before .before .before .before .pre .1 .sized .attributes, c .before .before .before .before .before .before .before .before .before .before .before .before .before .before .pre .1 .many)
 
 has-requires : tie.Need-has-requires
-has-requires c κs = c .before .before .before .before .before .before .before .before .before .before .before .before .pre .0
+has-requires c κs = c .before .before .before .before .before .before .before .before .before .before .before .before .before .before .before .pre .0
 
 same-length : tie.Need-same-length
 same-length c = search needs
 
 returns-2 : tie.Need-returns-2
-returns-2 c =
-    let at-used = c .before .before .before .before .before .before in
-    let at-from = at-used .before in
-    let at-start = at-from .before .before .before .before .before .before .before in
-    let a = at-start .args in
-    record {
-      there = λ _. own-repeat (sameName (a .h) (a .t .now) (lends (a .names .now) (a .area .now))) (a .prefix) (a .a) (a .attributes .now) (a .tree)
-          (at-from .attribute-place .result) (at-used .attribute-place2 .result) (c .before .has .result) _
-          (at-from .attribute-place .ensures) (at-used .attribute-place2 .ensures) (c .before .has .ensures) (c .if2 .taken);
-      nodes = refl;
-      attributes = refl;
-    }
+returns-2 c = let s = c .before .before .before .before .before .before .before .before .before .before .before .before .before .before .before .before .before in let a = s .args in let lent = lends (a .names .now) (a .area .now) in let same = sameName (a .h) (a .t .now) lent in let key = keyBy (a .h) (a .t .now) lent in λ l. record { there = λ _. front-found (a .nodes .now) (a .attributes .now) (a .tree) (s .pre .1 .sized) (byPrefix same) (newWords (a .tree) (a .prefix) (a .a)) _ _ _ _ _ (c .before .before .before .before .before .before .before .before .before .before .attribute-place .ensures) (c .before .before .before .before .before .before .before .before .before .attribute-place2 .ensures) refl (c .before .before .before .before .before .is-far .result) (c .before .has .result) (c .before .before .before .before .before .is-far .ensures) (c .before .before .before .before .front-of .ensures) (c .before .has .ensures (a .tree .nodes - 1) (a .a .«data_type») (a .a .«data»)) (c .if2 .taken); nodes = refl; attributes = refl }
 
-sub-if3 : tie.Need-sub-if3
-sub-if3 c = search needs
+keep-far-requires : tie.Need-keep-far-requires
+keep-far-requires c κs = let s = c .before .before .before .before .before .before .before .before .before .before .before .before .before .before .before .before .before .before .before .before in let a = s .args in (s .pre .0 .0, s .pre .1, far-of (a .nodes .now) (a .attributes .now) (a .tree) (c .before .before .before .before .before .before .before .before .before .before .before .before .attribute-place2 .result - c .before .before .before .before .before .before .before .before .before .before .before .before .before .attribute-place .result) (length (a .nodes .now) - c .before .before .before .before .before .before .before .before .before .node-place .result) (c .before .before .before .before .before .before .before .before .before .before .before .before .before .before .if1 .left) (s .pre .1 .sized) (omega (arith, c .before .before .before .before .before .before .before .before .before .before .before .before .attribute-place2 .ensures, c .before .before .before .before .before .before .before .before .before .before .before .before .before .attribute-place .ensures)) (omega (arith, c .before .before .before .before .before .before .before .before .before .node-place .ensures)) (sym (c .before .before .before .before .before .before .before .before .is-far .ensures) ∙ c .before .before .if3 .taken))
 
 same-length-2 : tie.Need-same-length-2
 same-length-2 c = search needs
 
-returns-3 : tie.Need-returns-3
-returns-3 c =
-    let at-used = c .before .before .before .before .before .before .before in
-    let at-from = at-used .before in
-    let at-if1 = at-from .before in
-    let at-start = at-if1 .before .before .before .before .before .before in
-    let a = at-start .args in
-    record {
-      some = at-if1 .if1 .left;
-      new = own-repeat (sameName (a .h) (a .t .now) (lends (a .names .now) (a .area .now))) (a .prefix) (a .a) (a .attributes .now) (a .tree)
-          (at-from .attribute-place .result) (at-used .attribute-place2 .result) (c .before .before .has .result) _
-          (at-from .attribute-place .ensures) (at-used .attribute-place2 .ensures) (c .before .before .has .ensures) (c .before .if2 .left);
-      full = omega (arith, c .if3 .taken, at-used .attribute-place2 .ensures);
-    }
-
-sub-last : tie.Need-sub-last
-sub-last c = search needs
-
-put-attribute-requires : tie.Need-put-attribute-requires
-put-attribute-requires c κs = search needs
-
-node-place-requires : tie.Need-node-place-requires
-node-place-requires c κs = search needs
-
-add-put-one : tie.Need-add-put-one
-add-put-one c = search needs
-
-add-put-one-2 : tie.Need-add-put-one-2
-add-put-one-2 c = search needs
-
-sub-put-one : tie.Need-sub-put-one
-sub-put-one c =
-    let half-way = c .before .before .before .before .before .before .before .before .before .before .before in
-    let at-start = half-way .before .before .before .before .before .before .before .before .before .before .before .before in
-    omega (arith, at-start .pre .1 .sized .first)
-
-put-one-requires : tie.Need-put-one-requires
-put-one-requires c κs =
-    let at-if1 = c .before .before .before .before .before .before .before .before .before .before .before .before .before .before .before .before .before in
-    let at-start = at-if1 .before .before .before .before .before .before in
-    omega (arith, at-start .pre .1 .sized .nodes, c .before .before .node-place .ensures, at-if1 .if1 .left)
-
-kept-requires : tie.Need-kept-requires
-kept-requires c κs =
-    let half-way = c .before .before .before .before .before .before .before .before .before .before .before .before in
-    let at-start = half-way .before .before .before .before .before .before .before .before .before .before .before .before .before .before in
-    omega (arith, at-start .pre .1 .many)
-
 same-length-3 : tie.Need-same-length-3
 same-length-3 c = search needs
+
+returns-3 : tie.Need-returns-3
+returns-3 c = let s = c .before .before .before .before .before .before .before .before .before .before .before .before .before .before .before .before .before .before .before .before .before .before .before .before .before in let a = s .args in let lent = lends (a .names .now) (a .area .now) in let same = sameName (a .h) (a .t .now) lent in let key = keyBy (a .h) (a .t .now) lent in c .before .before .before .before .keep-far .ensures (front-first (a .nodes .now) (a .attributes .now) (a .tree) (s .pre .1 .sized) (byPrefix same) (newWords (a .tree) (a .prefix) (a .a)) _ _ _ 0 _ (c .before .before .before .before .before .before .before .before .before .before .before .before .before .before .before .before .before .before .attribute-place .ensures) (c .before .before .before .before .before .before .before .before .before .before .before .before .before .before .before .before .before .attribute-place2 .ensures) refl (c .before .before .before .before .before .before .before .before .before .before .before .before .before .is-far .result) (c .before .before .before .before .before .before .before .before .before .has .result) false (c .before .before .before .before .before .before .before .if3 .taken) (c .before .before .before .before .before .before .before .before .before .before .before .before .front-of .ensures) (c .before .before .before .before .before .before .before .before .before .has .ensures (a .tree .nodes - 1) (a .a .«data_type») (a .a .«data»)) (c .before .before .before .before .before .before .before .before .if2 .left))
+
+sub-if4 : tie.Need-sub-if4
+sub-if4 c = omega (arith, c .before .before .before .before .before .before .before .before .before .before .attribute-place2 .ensures, c .before .before .before .before .before .before .before .before .before .before .before .before .before .before .before .before .before .before .pre .1 .sized .attributes)
 
 same-length-4 : tie.Need-same-length-4
 same-length-4 c = search needs
 
 returns-4 : tie.Need-returns-4
-returns-4 c =
-    let at-put-one = c .before .before .before in
-    let at-place = at-put-one .before .before .before in
-    let at-put = at-place .before .before .before .before in
-    let at-if3 = at-put .before .before in
-    let at-if2 = at-if3 .before in
-    let at-has = at-if2 .before in
-    let at-used = at-has .before .before .before .before .before in
-    let at-from = at-used .before in
-    let at-if1 = at-from .before in
-    let at-start = at-if1 .before .before .before .before .before .before in
-    let a = at-start .args in
-    let used = at-used .attribute-place2 .ensures in
-    record {
-      some = at-if1 .if1 .left;
-      new = own-repeat (sameName (a .h) (a .t .now) (lends (a .names .now) (a .area .now))) (a .prefix) (a .a) (a .attributes .now) (a .tree)
-          (at-from .attribute-place .result) (at-used .attribute-place2 .result) (at-has .has .result) _
-          (at-from .attribute-place .ensures) (at-used .attribute-place2 .ensures) (at-has .has .ensures) (at-if2 .if2 .left);
-      room = omega (arith, at-if3 .if3 .left, used);
-      tree = c .kept .ensures;
-      attributes = rw used at (at-put .put-attribute .ensures);
-      nodes = rw (at-place .node-place .ensures) at (at-put-one .put-one .ensures);
-    }
+returns-4 c = let s = c .before .before .before .before .before .before .before .before .before .before .before .before .before .before .before .before .before .before .before in let a = s .args in let lent = lends (a .names .now) (a .area .now) in let same = sameName (a .h) (a .t .now) lent in let key = keyBy (a .h) (a .t .now) lent in λ l. record { some = c .before .before .before .before .before .before .before .before .before .before .before .before .before .if1 .left; new = front-near (a .nodes .now) (a .attributes .now) (a .tree) (s .pre .1 .sized) (byPrefix same) (newWords (a .tree) (a .prefix) (a .a)) _ _ _ 0 _ (c .before .before .before .before .before .before .before .before .before .before .before .before .attribute-place .ensures) (c .before .before .before .before .before .before .before .before .before .before .before .attribute-place2 .ensures) refl (c .before .before .before .before .before .before .before .is-far .result) (c .before .before .before .has .result) false (c .before .if3 .left) (c .before .before .before .before .before .before .front-of .ensures) (c .before .before .before .has .ensures (a .tree .nodes - 1) (a .a .«data_type») (a .a .«data»)) (c .before .before .if2 .left); full = omega (arith, c .if4 .taken, c .before .before .before .before .before .before .before .before .before .before .before .attribute-place2 .ensures) }
+
+store-requires : tie.Need-store-requires
+store-requires c κs = (c .before .before .before .before .before .before .before .before .before .before .before .before .before .before .before .before .before .before .before .before .before .pre .1, pos-of-ne-zero (c .before .before .before .before .before .before .before .before .before .before .before .before .before .before .before .if1 .left), omega (arith, c .before .before .if4 .left, c .before .before .before .before .before .before .before .before .before .before .before .before .before .attribute-place2 .ensures))
+
+same-length-5 : tie.Need-same-length-5
+same-length-5 c = search needs
+
+same-length-6 : tie.Need-same-length-6
+same-length-6 c = search needs
+
+returns-5 : tie.Need-returns-5
+returns-5 c = let s = c .before .before .before .before .before .before .before .before .before .before .before .before .before .before .before .before .before .before .before .before .before .before .before .before .before .before in let a = s .args in let lent = lends (a .names .now) (a .area .now) in let same = sameName (a .h) (a .t .now) lent in let key = keyBy (a .h) (a .t .now) lent in let room : attributeWidth * a .tree .attributes + attributeWidth ≤ length (a .attributes .now) = omega (arith, c .before .before .before .before .before .before .before .if4 .left, c .before .before .before .before .before .before .before .before .before .before .before .before .before .before .before .before .before .before .attribute-place2 .ensures) in let q = c .before .before .before .before .store in let w = q .ensures in λ l. record { some = c .before .before .before .before .before .before .before .before .before .before .before .before .before .before .before .before .before .before .before .before .if1 .left; new = front-near (a .nodes .now) (a .attributes .now) (a .tree) (s .pre .1 .sized) (byPrefix same) (newWords (a .tree) (a .prefix) (a .a)) _ _ _ 0 _ (c .before .before .before .before .before .before .before .before .before .before .before .before .before .before .before .before .before .before .before .attribute-place .ensures) (c .before .before .before .before .before .before .before .before .before .before .before .before .before .before .before .before .before .before .attribute-place2 .ensures) refl (c .before .before .before .before .before .before .before .before .before .before .before .before .before .before .is-far .result) (c .before .before .before .before .before .before .before .before .before .before .has .result) false (c .before .before .before .before .before .before .before .before .if3 .left) (c .before .before .before .before .before .before .before .before .before .before .before .before .before .front-of .ensures) (c .before .before .before .before .before .before .before .before .before .before .has .ensures (a .tree .nodes - 1) (a .a .«data_type») (a .a .«data»)) (c .before .before .before .before .before .before .before .before .before .if2 .left); room = room; tree = w .tree; attributes = w .attributes; nodes = counted-nodes (a .nodes .now) (a .attributes .now) (q .last .0) (q .last .1 .0) (a .tree) (q .result) (a .prefix) (a .a) (s .pre .1 .sized) (pos-of-ne-zero (c .before .before .before .before .before .before .before .before .before .before .before .before .before .before .before .before .before .before .before .before .if1 .left)) room w; chained = chained-near (a .nodes .now) (a .attributes .now) (q .last .0) (q .last .1 .0) (a .tree) (q .result) (a .prefix) (a .a) (s .pre .1 .sized) (pos-of-ne-zero (c .before .before .before .before .before .before .before .before .before .before .before .before .before .before .before .before .before .before .before .before .if1 .left)) room w key (c .before .before .before .before .before .before .before .before .before .before .before .before .before .before .before .before .before .before .attribute-place2 .result - c .before .before .before .before .before .before .before .before .before .before .before .before .before .before .before .before .before .before .before .attribute-place .result) (length (a .nodes .now) - c .before .before .before .before .before .before .before .before .before .before .before .before .before .before .before .node-place .result) (omega (arith, c .before .before .before .before .before .before .before .before .before .before .before .before .before .before .before .before .before .before .attribute-place2 .ensures, c .before .before .before .before .before .before .before .before .before .before .before .before .before .before .before .before .before .before .before .attribute-place .ensures)) (omega (arith, c .before .before .before .before .before .before .before .before .before .before .before .before .before .before .before .node-place .ensures)) (sym (c .before .before .before .before .before .before .before .before .before .before .before .before .before .before .is-far .ensures) ∙ c .before .before .before .before .before .before .before .before .if3 .left) }
 
 pub keep-spec : {M : Type 1} → statement M
 keep-spec =
@@ -141,6 +107,13 @@ keep-spec =
     returns
     attribute-place-requires
     attribute-place-requires-2
+    sub-is-far
+    node-place-requires
+    sub-is-far-2
+    is-far-requires
+    sub-front-of
+    front-of-requires
+    add-has
     mul-has
     sub-has
     part-has-start
@@ -148,17 +121,14 @@ keep-spec =
     has-requires
     same-length
     returns-2
-    sub-if3
+    keep-far-requires
     same-length-2
-    returns-3
-    sub-last
-    put-attribute-requires
-    node-place-requires
-    add-put-one
-    add-put-one-2
-    sub-put-one
-    put-one-requires
-    kept-requires
     same-length-3
+    returns-3
+    sub-if4
     same-length-4
-    returns-4)
+    returns-4
+    store-requires
+    same-length-5
+    same-length-6
+    returns-5)

@@ -1,0 +1,148 @@
+-- `walk::tree::keep_far` meets its contract: the attributes behind the first 32 are sought along their links, and a new one is linked (proofs/Chains.antt).
+use Prim.Native.Nat.{ℕ, _+_, _*_, _≤_}
+use native.Mathlib.Omega.{arith}
+use mathlib.Core.Path.{refl, ap}
+use mathlib.Core.Bool.{true, false}
+use lib.ListN.{length}
+use borrow.Author.Needs.{needs}
+use Rattle.records.specs.Words.{attributeWidth}
+use Rattle.system_types.specs.Names.{lends}
+use Rattle.text.specs.Content.{sameName}
+use Rattle.tables.specs.Inner.Keys.{keyBy}
+use Rattle.tables.specs.Inner.Ways.{frontWords}
+use Rattle.walk.proofs.Chains.{behind-room, count-is, count-seen, link-room, far-repeat, linked-nodes, ends-here, chained-far}
+use Rattle.walk.proofs.tree.keep_far.Statement.{statement}
+use Rattle.walk.proofs.tree.keep_far.Tie as tie
+
+attribute-place-requires : tie.Need-attribute-place-requires
+attribute-place-requires c κs = search needs
+
+add-from : tie.Need-add-from
+add-from c = search needs
+
+attribute-place-requires-2 : tie.Need-attribute-place-requires-2
+attribute-place-requires-2 c κs = search needs
+
+node-place-requires : tie.Need-node-place-requires
+node-place-requires c κs = search needs
+
+find-requires : tie.Need-find-requires
+find-requires c κs = search needs
+
+key-of-requires : tie.Need-key-of-requires
+key-of-requires c κs = (c .before .before .before .before .before .before .before .before .before .before .before .pre .0, c .find .ensures .inside)
+
+mul-seek : tie.Need-mul-seek
+mul-seek c = search needs
+
+sub-seek : tie.Need-sub-seek
+sub-seek c = omega (arith, c .before .before .before .before .before .before .attribute-place .ensures, c .before .before .before .before .before .attribute-place2 .ensures, c .before .before .before .before .before .before .before .before .before .before .before .before .pre .2 .many)
+
+part-seek-start : tie.Need-part-seek-start
+part-seek-start c = omega (arith, c .before .before .before .before .before .before .before .attribute-place .ensures, c .before .before .before .before .before .before .attribute-place2 .ensures, c .before .before .before .before .before .before .before .before .before .before .before .before .before .pre .2 .many)
+
+part-seek-end : tie.Need-part-seek-end
+part-seek-end c = omega (arith, c .before .before .before .before .before .before .attribute-place2 .ensures, c .before .before .before .before .before .before .before .before .before .before .before .before .before .pre .1 .sized .attributes)
+
+mul-seek-2 : tie.Need-mul-seek-2
+mul-seek-2 c = search needs
+
+sub-seek-2 : tie.Need-sub-seek-2
+sub-seek-2 c = search needs
+
+part-seek-start-2 : tie.Need-part-seek-start-2
+part-seek-start-2 c = search needs
+
+part-seek-end-2 : tie.Need-part-seek-end-2
+part-seek-end-2 c = search needs
+
+seek-requires : tie.Need-seek-requires
+seek-requires c κs = let s = c .before .before .before .before .before .before .before .before .before .before .before .before .before .before .before .before in let a = s .args in (s .pre .0, c .before .before .before .before .before .find .ensures, behind-room (a .nodes .now) (a .attributes .now) (a .tree) (s .pre .1 .sized) (s .pre .2) _ _ _ (ap (λ (k : ℕ). k + frontWords) (c .before .before .before .before .before .before .before .before .before .before .attribute-place .ensures)) (c .before .before .before .before .before .before .before .before .before .attribute-place2 .ensures) (c .before .before .before .before .before .before .before .before .node-place .ensures))
+
+same-length : tie.Need-same-length
+same-length c = search needs
+
+same-length-2 : tie.Need-same-length-2
+same-length-2 c = search needs
+
+returns : tie.Need-returns
+returns c = let s = c .before .before .before .before .before .before .before .before .before .before .before .before .before .before .before .before .before .before in let a = s .args in let lent = lends (a .names .now) (a .area .now) in let same = sameName (a .h) (a .t .now) lent in let key = keyBy (a .h) (a .t .now) lent in λ none l. record { there = λ _. far-repeat (a .nodes .now) (a .attributes .now) (a .tree) (s .pre .1 .sized) (s .pre .2) key same (a .prefix) (a .a) _ _ _ (c .before .before .before .before .before .before .key-of .result) (c .before .seek .result) true (ap (λ (k : ℕ). k + frontWords) (c .before .before .before .before .before .before .before .before .before .before .before .before .attribute-place .ensures)) (c .before .before .before .before .before .before .before .before .before .before .before .attribute-place2 .ensures) (c .before .before .before .before .before .before .before .before .before .before .node-place .ensures) l (c .before .seek .ensures) (c .before .before .before .before .before .before .key-of .ensures (a .a .name .0) (c .before .before .before .before .before .before .before .find .ensures)) none (c .if1 .taken); nodes = refl; attributes = refl }
+
+sub-if2 : tie.Need-sub-if2
+sub-if2 c = omega (arith, c .before .before .before .before .before .before .before .before .before .before .before .attribute-place2 .ensures, c .before .before .before .before .before .before .before .before .before .before .before .before .before .before .before .before .before .before .pre .1 .sized .attributes)
+
+same-length-3 : tie.Need-same-length-3
+same-length-3 c = search needs
+
+same-length-4 : tie.Need-same-length-4
+same-length-4 c = search needs
+
+returns-2 : tie.Need-returns-2
+returns-2 c = let s = c .before .before .before .before .before .before .before .before .before .before .before .before .before .before .before .before .before .before .before in let a = s .args in let lent = lends (a .names .now) (a .area .now) in let same = sameName (a .h) (a .t .now) lent in let key = keyBy (a .h) (a .t .now) lent in λ none l. record { some = λ z. omega (arith, s .pre .2 .some); new = far-repeat (a .nodes .now) (a .attributes .now) (a .tree) (s .pre .1 .sized) (s .pre .2) key same (a .prefix) (a .a) _ _ _ (c .before .before .before .before .before .before .before .key-of .result) (c .before .before .seek .result) false (ap (λ (k : ℕ). k + frontWords) (c .before .before .before .before .before .before .before .before .before .before .before .before .before .attribute-place .ensures)) (c .before .before .before .before .before .before .before .before .before .before .before .before .attribute-place2 .ensures) (c .before .before .before .before .before .before .before .before .before .before .before .node-place .ensures) l (c .before .before .seek .ensures) (c .before .before .before .before .before .before .before .key-of .ensures (a .a .name .0) (c .before .before .before .before .before .before .before .before .find .ensures)) none (c .before .if1 .left); full = omega (arith, c .if2 .taken, c .before .before .before .before .before .before .before .before .before .before .before .before .attribute-place2 .ensures) }
+
+store-requires : tie.Need-store-requires
+store-requires c κs = (c .before .before .before .before .before .before .before .before .before .before .before .before .before .before .before .before .before .before .before .before .before .pre .1, c .before .before .before .before .before .before .before .before .before .before .before .before .before .before .before .before .before .before .before .before .before .pre .2 .some, omega (arith, c .before .before .if2 .left, c .before .before .before .before .before .before .before .before .before .before .before .before .before .before .attribute-place2 .ensures))
+
+mul-link : tie.Need-mul-link
+mul-link c = omega (arith, c .before .before .before .before .before .before .before .before .before .before .before .before .before .before .before .before .before .before .node-place .ensures, c .before .before .before .before .before .before .before .before .before .before .before .before .before .before .before .before .before .before .before .before .before .before .before .before .before .before .pre .1 .many)
+
+sub-link : tie.Need-sub-link
+sub-link c = omega (arith, c .before .before .before .before .before .before .before .before .before .before .before .before .before .before .before .before .before .before .node-place .ensures, c .before .before .before .before .before .before .before .before .before .before .before .before .before .before .before .before .before .before .before .before .before .before .before .before .before .before .pre .1 .sized .nodes, c .before .before .before .before .store .kept .0)
+
+part-link-start : tie.Need-part-link-start
+part-link-start c = omega (arith, c .before .before .before .before .before .before .before .before .before .before .before .before .before .before .before .before .before .before .node-place .ensures, c .before .before .before .before .before .before .before .before .before .before .before .before .before .before .before .before .before .before .before .before .before .before .before .before .before .before .pre .1 .sized .nodes, c .before .before .before .before .store .kept .0)
+
+part-link-end : tie.Need-part-link-end
+part-link-end c = search needs
+
+sub-link-2 : tie.Need-sub-link-2
+sub-link-2 c = omega (arith, c .before .before .before .before .before .before .before .before .before .before .before .before .before .before .before .before .before .before .before .before .before .attribute-place .ensures, c .before .before .before .before .before .before .before .before .before .before .before .before .before .before .before .before .before .before .before .before .attribute-place2 .ensures, c .before .before .before .before .before .before .before .before .before .before .before .before .before .before .before .before .before .before .before .before .before .before .before .before .before .before .before .pre .2 .many)
+
+link-requires : tie.Need-link-requires
+link-requires c κs = let s = c .before .before .before .before .before .before .before .before .before .before .before .before .before .before .before .before .before .before .before .before .before .before .before .before .before .before .before in let a = s .args in let h = s .pre .1 .sized in let far = s .pre .2 in let ef = ap (λ (k : ℕ). k + frontWords) (c .before .before .before .before .before .before .before .before .before .before .before .before .before .before .before .before .before .before .before .before .before .attribute-place .ensures) in let eu = c .before .before .before .before .before .before .before .before .before .before .before .before .before .before .before .before .before .before .before .before .attribute-place2 .ensures in let seen = count-seen (a .nodes .now) (a .attributes .now) (a .tree) h far _ _ ef eu in (link-room (a .nodes .now) (a .attributes .now) (a .tree) h far (c .before .before .before .before .before .store .last .0) _ _ _ (c .before .before .before .before .before .store .kept .0) ef eu (c .before .before .before .before .before .before .before .before .before .before .before .before .before .before .before .before .before .before .before .node-place .ensures), omega (arith, count-is (a .nodes .now) (a .attributes .now) (a .tree) h far _ _ ef eu, s .pre .1 .many), λ pos. (let n = c .before .before .before .before .before .before .before .before .before .before .seek .ensures .ends (c .before .before .before .before .before .before .before .before .before .if1 .left) (omega (arith, seen, pos)) .below in omega (arith, seen, n)))
+
+same-length-5 : tie.Need-same-length-5
+same-length-5 c = search needs
+
+same-length-6 : tie.Need-same-length-6
+same-length-6 c = search needs
+
+returns-3 : tie.Need-returns-3
+returns-3 c = let s = c .before .before .before .before .before .before .before .before .before .before .before .before .before .before .before .before .before .before .before .before .before .before .before .before .before .before .before .before .before .before in let a = s .args in let lent = lends (a .names .now) (a .area .now) in let same = sameName (a .h) (a .t .now) lent in let key = keyBy (a .h) (a .t .now) lent in let h = s .pre .1 .sized in let far = s .pre .2 in let ef = ap (λ (k : ℕ). k + frontWords) (c .before .before .before .before .before .before .before .before .before .before .before .before .before .before .before .before .before .before .before .before .before .before .before .before .attribute-place .ensures) in let eu = c .before .before .before .before .before .before .before .before .before .before .before .before .before .before .before .before .before .before .before .before .before .before .before .attribute-place2 .ensures in let room : attributeWidth * a .tree .attributes + attributeWidth ≤ length (a .attributes .now) = omega (arith, c .before .before .before .before .before .before .before .before .before .before .before .if2 .left, c .before .before .before .before .before .before .before .before .before .before .before .before .before .before .before .before .before .before .before .before .before .before .before .attribute-place2 .ensures) in let q = c .before .before .before .before .before .before .before .before .store in let seen = count-seen (a .nodes .now) (a .attributes .now) (a .tree) h far _ _ ef eu in let w = q .ensures in λ none l. record { some = λ z. omega (arith, far .some); new = far-repeat (a .nodes .now) (a .attributes .now) (a .tree) (s .pre .1 .sized) (s .pre .2) key same (a .prefix) (a .a) _ _ _ (c .before .before .before .before .before .before .before .before .before .before .before .before .before .before .before .before .before .before .key-of .result) (c .before .before .before .before .before .before .before .before .before .before .before .before .before .seek .result) false (ap (λ (k : ℕ). k + frontWords) (c .before .before .before .before .before .before .before .before .before .before .before .before .before .before .before .before .before .before .before .before .before .before .before .before .attribute-place .ensures)) (c .before .before .before .before .before .before .before .before .before .before .before .before .before .before .before .before .before .before .before .before .before .before .before .attribute-place2 .ensures) (c .before .before .before .before .before .before .before .before .before .before .before .before .before .before .before .before .before .before .before .before .before .before .node-place .ensures) l (c .before .before .before .before .before .before .before .before .before .before .before .before .before .seek .ensures) (c .before .before .before .before .before .before .before .before .before .before .before .before .before .before .before .before .before .before .key-of .ensures (a .a .name .0) (c .before .before .before .before .before .before .before .before .before .before .before .before .before .before .before .before .before .before .before .find .ensures)) none (c .before .before .before .before .before .before .before .before .before .before .before .before .if1 .left); room = room; tree = w .tree; attributes = w .attributes; nodes = linked-nodes (a .nodes .now) (a .attributes .now) (q .last .0) (q .last .1 .0) (a .tree) (q .result) (a .prefix) (a .a) h (far .some) room w far key _ (c .before .before .link .last .0) (c .before .before .before .before .before .before .before .before .before .before .before .before .before .before .before .before .before .before .before .before .before .before .node-place .ensures); chained = chained-far (a .nodes .now) (a .attributes .now) (q .last .0) (q .last .1 .0) (a .tree) (q .result) (a .prefix) (a .a) h (far .some) room w far key _ (c .before .before .link .last .0) (c .before .before .before .before .before .before .before .before .before .before .before .before .before .before .before .before .before .before .before .before .before .before .node-place .ensures) _ _ l (count-is (a .nodes .now) (a .attributes .now) (a .tree) h far _ _ ef eu) (c .before .before .before .before .before .before .before .before .before .before .before .before .before .before .before .before .before .before .key-of .ensures (a .a .name .0) (c .before .before .before .before .before .before .before .before .before .before .before .before .before .before .before .before .before .before .before .find .ensures)) (c .before .before .link .ensures (λ pos. ends-here (a .nodes .now) (a .attributes .now) (q .last .0) (q .last .1 .0) (a .tree) (q .result) (a .prefix) (a .a) h (far .some) room w far key _ (c .before .before .link .last .0) (c .before .before .before .before .before .before .before .before .before .before .before .before .before .before .before .before .before .before .before .before .before .before .node-place .ensures) _ _ _ _ _ seen (c .before .before .before .before .before .before .before .before .before .before .before .before .before .seek .ensures .ends (c .before .before .before .before .before .before .before .before .before .before .before .before .if1 .left) (omega (arith, seen, pos))))) }
+
+pub keep-far-spec : {M : Type 1} → statement M
+keep-far-spec =
+    tie.close
+    (tie.spec
+    attribute-place-requires
+    add-from
+    attribute-place-requires-2
+    node-place-requires
+    find-requires
+    key-of-requires
+    mul-seek
+    sub-seek
+    part-seek-start
+    part-seek-end
+    mul-seek-2
+    sub-seek-2
+    part-seek-start-2
+    part-seek-end-2
+    seek-requires
+    same-length
+    same-length-2
+    returns
+    sub-if2
+    same-length-3
+    same-length-4
+    returns-2
+    store-requires
+    mul-link
+    sub-link
+    part-link-start
+    part-link-end
+    sub-link-2
+    link-requires
+    same-length-5
+    same-length-6
+    returns-3)
