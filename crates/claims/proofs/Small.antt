@@ -23,7 +23,8 @@ use Rattle.errors.specs.declared.ReadAnswer.the-variants.{Done, Refused}
 use Rattle.records.specs.Limits.{fileLimit, listedFile, listedNotes, listedCap}
 use Rattle.records.specs.Words.{nodeWidth, nodeFirst, attributeWidth, apart, ownPrefix}
 use Rattle.system_types.specs.Names.{Lent, lends, namesFrom}
-use Rattle.text.specs.Content.{Content, contentOf, hasText, isAndroid}
+use Rattle.utf.specs.Text.{Damage, whole, replaced, unpaired, cut, stateNumber}
+use Rattle.text.specs.Content.{Content, contentOf, hasText, isAndroid, damageIn}
 use Rattle.head.specs.declared.Opened.{Opened}
 use Rattle.head.specs.declared.Asker.the-variants as askers
 use Rattle.head.specs.Head.{openedOf, tablesIn, bodyIn, headLen}
@@ -281,6 +282,12 @@ module _ (r : Room) (roomNodes : Fits (r .nodes)) (roomAttributes : Fits (r .att
         (λ e. cond-by Fits (eqb (r .mode) apart) {x = cond (isAndroid c) 1 ownPrefix} {y = 1}
         (λ e. cond-by Fits (isAndroid c) {x = 1} {y = ownPrefix} (λ e. omega arith) (λ e. omega arith)) (λ e. omega arith)) (λ e. omega arith)
 
+    state-fits : (d : Damage) → Fits (stateNumber d)
+    state-fits whole = omega arith
+    state-fits (replaced n) = omega arith
+    state-fits unpaired = omega arith
+    state-fits cut = omega arith
+
     settled-in32 : (f : List ℕ) → InBytes f → Fits (8 + length f) → InOut (Fitting r []) Told (settledIn r f (lends [] []) (openedOf f))
     settled-in32 f h short =
         let o = openedOf f in
@@ -288,7 +295,7 @@ module _ (r : Room) (roomNodes : Fits (r .nodes)) (roomAttributes : Fits (r .att
         let N = namesIn (r .mode) (o .head) t (lends [] []) in
         let n = 8 + headLen (o .head) in
         settle-by (N .repeats) r (Fitting r) Told goes stops nothingYet (fileEvents N o t (bodyIn f (o .head))) (record {
-          small = file-small o (opened-small f h short) t N (λ i. prefix-fits (contentOf (o .head) t (lends [] []) i)) (bodyIn f (o .head)) (drop-bytes n f h)
+          small = file-small o (opened-small f h short) t N (λ i. prefix-fits (contentOf (o .head) t (lends [] []) i)) (λ i. state-fits (damageIn (contentOf (o .head) t (lends [] []) i))) (bodyIn f (o .head)) (drop-bytes n f h)
               (omega (arith, short, length-drop n f));
           nodes = no-over;
           attributes = no-over;

@@ -21,7 +21,7 @@ use Rattle.anomaly.specs.declared.Note.{Note as NoteOf}
 use Rattle.anomaly.specs.declared.ResAnomaly.{ResAnomaly}
 use Rattle.anomaly.specs.declared.ResAnomaly.the-variants.{StringPoolGarbageChunk, StringCountMismatch, StringOffsetsOutOfBounds, NonXmlChunk}
 use Rattle.anomaly.specs.declared.ResAnomaly.the-variants.{XmlNodeHeaderSize, UnknownChunk, AttributeStartShifted, AttributeSizeMismatch}
-use Rattle.anomaly.specs.declared.ResAnomaly.the-variants.{ElementTrailingBytes, InvalidElementName, InvalidAttributeName, TruncatedXml, UnclosedElements}
+use Rattle.anomaly.specs.declared.ResAnomaly.the-variants.{ElementTrailingBytes, InvalidElementName, InvalidAttributeName, TruncatedXml, UnclosedElements, DamagedElementName}
 use Rattle.errors.specs.Refusal.{valueOf}
 use Rattle.errors.specs.declared.Refusal.{Refusal}
 use Rattle.errors.specs.declared.Refusal.the-variants.{MissingRoot}
@@ -58,7 +58,7 @@ use Rattle.xml_elements.specs.Chunk.{startOf, strideOf, attributesAt, attribute
 use Rattle.xml_elements.proofs.Laws.{cond-by, usedOf-le, turnOf-told}
 use Rattle.events.specs.declared.Event.{Event}
 use Rattle.events.specs.declared.Event.the-variants.{Nothing, Open, Attribute, LeftOut, Close, Note, Refuse, Finish}
-use Rattle.events.specs.Events.{Names, isValid, hasOne, fixedOf, when, leading, attributeBy, attributeEvent, attributesOf, cutShort, fromLead, fromOpen, fromName, fromTrailing}
+use Rattle.events.specs.Events.{Names, isValid, hasOne, fixedOf, when, leading, attributeBy, attributeEvent, attributesOf, cutShort, fromLead, fromOpen, fromNamed, fromName, fromTrailing}
 use Rattle.events.specs.Events.{fromSize, fromGap, Spot, foreignNote, chunkYield, cutYield, yieldOf, nextOf, chunkNext, cutNext, fromRoot, lastOf, used, out, next}
 use Rattle.events.specs.Events.{eventsOn, bodyEvents, notesOf, afterPool, fileEvents}
 use Rattle.claims.specs.Readers.{allBelow}
@@ -164,7 +164,7 @@ leading-small : (b : Bool) → Small (when b leading)
 leading-small true = ((omega arith, record { space = omega arith; name = omega arith; sort = omega arith; value = omega arith }), tt)
 leading-small false = tt
 
-module _ (N : Names) (prefixes : (i : ℕ) → Fits (N .prefixOf i)) where
+module _ (N : Names) (prefixes : (i : ℕ) → Fits (N .prefixOf i)) (states : (i : ℕ) → Fits (N .damage i)) where
   attribute-by : (a : XmlAttributeElement) → SmallAttribute a → (s : NameState) → SmallOf (attributeBy N a s)
   unfolding noteOf
   attribute-by a w NoText = tt
@@ -183,6 +183,10 @@ module _ (N : Names) (prefixes : (i : ℕ) → Fits (N .prefixOf i)) where
     name-note : (x : NameState) → SmallNote (noteOf (InvalidElementName (s .name) (hasOne x)))
     unfolding noteOf
     name-note x = record { kind = omega arith; first = w .name; second = has-small x }
+
+    damage-note : SmallNote (noteOf (DamagedElementName (s .name) (N .damage (s .name .0))))
+    unfolding noteOf
+    damage-note = record { kind = omega arith; first = w .name; second = states (s .name .0) }
 
     trailing-note : SmallNote (noteOf (ElementTrailingBytes (trailingOf s)))
     unfolding noteOf
@@ -206,12 +210,19 @@ module _ (N : Names) (prefixes : (i : ℕ) → Fits (N .prefixOf i)) where
     unfolding fromOpen
     open-small = ((w .name, fixed-small (N .state (s .name .0)), w .line), lead-small)
 
-    name-small : Small (fromName N s k l)
-    unfolding fromName
-    name-small =
+    named-small : Small (fromNamed N s k l)
+    unfolding fromNamed
+    named-small =
         let state = N .state (s .name .0) in
         both (when (not (isValid state)) (Note (InvalidElementName (s .name) (hasOne state)))) (fromOpen N s k l)
         (noted (not (isValid state)) (InvalidElementName (s .name) (hasOne state)) (name-note state)) open-small
+
+    name-small : Small (fromName N s k l)
+    unfolding fromName
+    name-small =
+        let state = N .damage (s .name .0) in
+        both (when (not (eqb state 0)) (Note (DamagedElementName (s .name) state))) (fromNamed N s k l)
+        (noted (not (eqb state 0)) (DamagedElementName (s .name) state) damage-note) named-small
 
     trailing-small : (reach : ℕ) → Small (fromTrailing N s reach k l)
     unfolding fromTrailing
@@ -353,10 +364,10 @@ last-small p d =
 
 -- ---- a body
 
-module _ (N : Names) (prefixes : (i : ℕ) → Fits (N .prefixOf i)) where
+module _ (N : Names) (prefixes : (i : ℕ) → Fits (N .prefixOf i)) (states : (i : ℕ) → Fits (N .damage i)) where
   module _ (l : List ℕ) (h : InBytes l) (p : Spot) where
     chunk-events : (c : Chunk) → SmallChunk c → Small (chunkYield N l p c)
-    chunk-events (Start s) w = gap-small N prefixes s w (p .starts) l h 3
+    chunk-events (Start s) w = gap-small N prefixes states s w (p .starts) l h 3
     chunk-events End w = (tt, tt)
     chunk-events (Other n) w = tt
     chunk-events Last w = (last-note, tt)
@@ -364,9 +375,9 @@ module _ (N : Names) (prefixes : (i : ℕ) → Fits (N .prefixOf i)) where
     cut-events : (c : CutChunk) → SmallCut c → Small (cutYield N l p c)
     cut-events CutLine w = cut-small
     cut-events CutHead w = cut-small
-    cut-events (CutGap s) w = gap-small N prefixes s w (p .starts) l h 0
-    cut-events (CutAttributes s) w = gap-small N prefixes s w (p .starts) l h 1
-    cut-events (CutTrailing s) w = gap-small N prefixes s w (p .starts) l h 2
+    cut-events (CutGap s) w = gap-small N prefixes states s w (p .starts) l h 0
+    cut-events (CutAttributes s) w = gap-small N prefixes states s w (p .starts) l h 1
+    cut-events (CutTrailing s) w = gap-small N prefixes states s w (p .starts) l h 2
     cut-events CutEnd w = (tt, tt)
     cut-events CutOther w = tt
 
@@ -523,9 +534,9 @@ module _ (o : Opened) (w : SmallOpened o) (t : List ℕ) where
   offsets-small : Small (notesOf (offsetNotes t o))
   offsets-small = head-notes (not (eqb (outsideIn t (o .head)) 0)) (StringOffsetsOutOfBounds (outsideIn t (o .head))) offset-note
 
-  module _ (N : Names) (prefixes : (i : ℕ) → Fits (N .prefixOf i)) (b : List ℕ) (h : InBytes b) (short : Fits (length b)) where
+  module _ (N : Names) (prefixes : (i : ℕ) → Fits (N .prefixOf i)) (states : (i : ℕ) → Fits (N .damage i)) (b : List ℕ) (h : InBytes b) (short : Fits (length b)) where
     after-small : (e : HeadEnd) → Fits (valueOf (refusalOf e)) → Small (afterPool N o t b e)
-    after-small Whole v = both (notesOf (offsetNotes t o)) (bodyEvents N b) offsets-small (body-small N prefixes b h short)
+    after-small Whole v = both (notesOf (offsetNotes t o)) (bodyEvents N b) offsets-small (body-small N prefixes states b h short)
     after-small (MapShort m) v = both (notesOf (offsetNotes t o)) (Refuse (refusalOf (MapShort m)) ∷ []) offsets-small (v, tt)
     after-small (PoolShort e) v = (v, tt)
     after-small (TooSmall n) v = (v, tt)
