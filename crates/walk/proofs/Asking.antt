@@ -9,6 +9,7 @@ use mathlib.Core.Bool.{Bool, true, false, not, cond, _&&_}
 use lib.ListN.{length, drop}
 use lib.Dec.{eqb, ltb}
 use Rattle.anomaly.specs.declared.ResAnomaly.{ResAnomaly}
+use Rattle.anomaly.specs.declared.ResAnomaly.the-variants.{DamagedElementName}
 use Rattle.common.specs.declared.StringIndex.{StringIndex}
 use Rattle.errors.specs.declared.Refusal.{Refusal}
 use Rattle.text.specs.declared.NameState.{NameState}
@@ -36,7 +37,7 @@ use Rattle.events.specs.declared.Phase.the-variants.{AtShort, AtName, AtNamed, 
 use Rattle.events.specs.declared.Event.{Event}
 use Rattle.events.specs.declared.Event.the-variants.{Nothing, Open, Attribute, LeftOut, Close, Note, Refuse, Finish}
 use Rattle.events.specs.Events.{Names, namesIn, leading, foreignNote, attributeBy, attributeEvent}
-use Rattle.events.specs.Inner.Steps.{noteIf, nameStep, chunkStep, cutStep, turnStep, stepBy, stepOf}
+use Rattle.events.specs.Inner.Steps.{noteIf, toStep, namedStep, nameStep, chunkStep, cutStep, turnStep, stepBy, stepOf}
 use Rattle.events.specs.Inner.Pending.{Held, Ready, Within}
 use Rattle.tables.specs.Inner.Keys.{Key}
 use Rattle.walk.specs.declared.tree.Tree.{Tree}
@@ -98,10 +99,17 @@ close-not p a e = let z : _≡_ {A = ℕ} 0 1 = cc in omega arith
 left-not : (n : StringIndex) (p : ℕ) (a : XmlAttributeElement) → LeftOut n ≡ Attribute p a → ⊥
 left-not n p a e = let z : _≡_ {A = ℕ} 0 1 = cc in omega arith
 
-name-not : (c : Cursor) (s : NameState) (p : ℕ) (a : XmlAttributeElement) → nameStep c s .event ≡ Attribute p a → ⊥
-name-not c NoText p a e = note-not _ p a e
-name-not c Invalid p a e = note-not _ p a e
-name-not c Valid p a e = open-not _ 0 _ p a e
+named-not : (c : Cursor) (s : NameState) (p : ℕ) (a : XmlAttributeElement) → namedStep c s .event ≡ Attribute p a → ⊥
+named-not c NoText p a e = note-not _ p a e
+named-not c Invalid p a e = note-not _ p a e
+named-not c Valid p a e = open-not _ 0 _ p a e
+
+name-not : (c : Cursor) (d : ℕ) (s : NameState) (p : ℕ) (a : XmlAttributeElement) → nameStep c d s .event ≡ Attribute p a → ⊥
+name-not c d s p a e = go (eqb d 0) e
+  where
+    go : (q : Bool) → cond q (namedStep c s) (toStep c (Note (DamagedElementName (c .start .name) d)) AtNamed) .event ≡ Attribute p a → ⊥
+    go true e = named-not c s p a e
+    go false e = note-not _ p a e
 
 foreign-not : (q : Bool) (x : ResAnomaly) (p : ℕ) (a : XmlAttributeElement) → cond q Nothing (Note x) ≡ Attribute p a → ⊥
 foreign-not true x p a e = nothing-not p a e
@@ -156,7 +164,8 @@ attribute-valid N o t b c p a AtSize e n =
     absurd (noteIf-not (not (eqb (c .start .«attribute_count») 0) && ltb 20 (c .start .«attribute_size»)) _ p a e)
 attribute-valid N o t b c p a AtTrailing e n = absurd (noteIf-not (not (eqb (trailingOf (c .start)) 0)) _ p a e)
 attribute-valid N o t b c p a AtShort e n = absurd (note-not _ p a e)
-attribute-valid N o t b c p a AtName e n = absurd (name-not c (N .state (c .start .name .0)) p a e)
+attribute-valid N o t b c p a AtName e n = absurd (name-not c (N .damage (c .start .name .0)) (N .state (c .start .name .0)) p a e)
+attribute-valid N o t b c p a AtNamed e n = absurd (named-not c (N .state (c .start .name .0)) p a e)
 attribute-valid N o t b c p a AtOpen e n = absurd (open-not _ 1 _ p a e)
 attribute-valid N o t b c p a AtLead e n = absurd (n (lead-is p a e))
 attribute-valid N o t b c p a AtAttribute e n = attribute-of N (drop (c .at) b) p a e
