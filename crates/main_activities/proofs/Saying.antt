@@ -20,13 +20,14 @@ use Rattle.text.specs.Content.{Content, none, cut, some, contentOf, stringOf, t
 use Rattle.text.specs.Inner.Found.{partOf, isFound}
 use Rattle.items.specs.Items.{itemsOf, namedIn}
 use Rattle.items.specs.Values.{Text, nothing, says, isSaid, said, attrText, uncoveredOf}
-use Rattle.items.specs.Inner.Turns.{restFrom, fromItem, FirstNamed, Spoken}
+use Rattle.items.specs.Inner.Turns.{runItems, RunOf, Spoken}
+use Rattle.items.specs.declared.Run.{Run}
+use Rattle.errors.specs.declared.TextState.{TextState}
 use Rattle.items.specs.declared.Said.{Said}
-use Rattle.items.proofs.TurnLaws.{rest-end}
 use Rattle.value_text.specs.declared.Attribute.{Attribute}
 use Rattle.value_text.specs.declared.plain.Form.{Form}
 use Rattle.value_text.specs.declared.plain.Form.the-variants.{Reference, Attribute as AttributeForm, Pool, Number, Word, Truth, Color, Other}
-use Rattle.value_text.specs.Value.{orPlain, plainBy, namedValue, valueBy, valueOf}
+use Rattle.value_text.specs.Value.{orPlain, plainBy, plainState, namedValue, valueBy, valueOf}
 use Rattle.value_text.specs.Inner.Leads.{Leads}
 use Rattle.value_text.specs.Inner.Forms.{formOf, formText, isOther}
 use Rattle.value_text.proofs.Front.{form-said, form-other, leads-wrote}
@@ -97,57 +98,46 @@ module _ (h : Head) (t : List ℕ) (lent : Lent) (v : ℕ) (y : ResourceValueTyp
 
 -- ---- behind the items
 
-shown-said : (s : List ℕ) (u : ℕ) (a p : Text) → isSaid a ≡ true → eqBytes (said a) s ≡ shownAs s (orPlain u a p)
-shown-said s u nothing p e = let z : _≡_ {A = ℕ} 0 1 = cc in absurd (let y : ⊥ = omega arith in y)
-shown-said s u (says x) p e = refl
+shown-said : (s : List ℕ) (u : ℕ) (d : TextState) (a p : Text) → isSaid a ≡ true → eqBytes (said a) s ≡ shownAs s (orPlain u d a p)
+shown-said s u d nothing p e = let z : _≡_ {A = ℕ} 0 1 = cc in absurd (let y : ⊥ = omega arith in y)
+shown-said s u d (says x) p e = refl
 
-plain-shown : (s : List ℕ) (u : ℕ) (p : Text) → saidIs s p ≡ shownAs s (orPlain u nothing p)
-plain-shown s u nothing = refl
-plain-shown s u (says x) = refl
+plain-shown : (s : List ℕ) (u : ℕ) (d : TextState) (p : Text) → saidIs s p ≡ shownAs s (orPlain u d nothing p)
+plain-shown s u d nothing = refl
+plain-shown s u d (says x) = refl
 
-shown-plain : (s : List ℕ) (u : ℕ) (a p : Text) → isSaid a ≡ false → saidIs s p ≡ shownAs s (orPlain u a p)
-shown-plain s u nothing p e = plain-shown s u p
-shown-plain s u (says x) p e = let z : _≡_ {A = ℕ} 0 1 = cc in absurd (let y : ⊥ = omega arith in y)
+shown-plain : (s : List ℕ) (u : ℕ) (d : TextState) (a p : Text) → isSaid a ≡ false → saidIs s p ≡ shownAs s (orPlain u d a p)
+shown-plain s u d nothing p e = plain-shown s u d p
+shown-plain s u d (says x) p e = let z : _≡_ {A = ℕ} 0 1 = cc in absurd (let y : ⊥ = omega arith in y)
 
-these : (items area name : List ℕ) (first : ℕ) → FirstNamed area name items first → first < length items / 6
-    → fromItem area items first ≡ namedIn area name (itemsOf items)
-these items area name first found p = ap (λ (x : List ℕ). restFrom area x items first) (found .here p) ∙ sym (found .all)
-
-module _ (h : Head) (t : List ℕ) (lent : Lent) (items area name : List ℕ) (kind v first : ℕ) (found : FirstNamed area name items first)
+-- the items that a name has, as a run
+module _ (h : Head) (t : List ℕ) (lent : Lent) (items area name : List ℕ) (kind v : ℕ) (run : Run) (found : RunOf area name items run)
     (s : List ℕ) {r : Bool} where
-  pub named-none :
-      length items / 6 ≤ first →
-      r ≡ saidIs s (plainBy h t lent v (valueTypeOf kind)) →
-      r ≡ shownAs s (namedValue h t lent items area name kind v)
-  unfolding namedValue attrText uncoveredOf
-  named-none p g = rw (found .all ∙ rest-end area name items first p) (g ∙ plain-shown s 0 (plainBy h t lent v (valueTypeOf kind)))
-
   pub named-said :
       {l k : List ℕ} {x : Said} →
-      first < length items / 6 →
-      Spoken area v (fromItem area items first) l x k →
+      Spoken area v (runItems items run) l x k →
       x .some ≡ true →
       ((y m : List ℕ) → Leads y m (x .length) k → r ≡ eqBytes y s) →
       r ≡ shownAs s (namedValue h t lent items area name kind v)
   unfolding namedValue
-  named-said {l} {k} {x} p a e g =
-      let b = rw (these items area name first found p) at a in
+  named-said {l} {k} {x} a e g =
+      let b = rw (sym (found .all)) at a in
       let is = namedIn area name (itemsOf items) in
       g (said (attrText area v is)) l (leads-wrote (b .text))
-      ∙ shown-said s (uncoveredOf v is) (attrText area v is) (plainBy h t lent v (valueTypeOf kind)) (sym (b .some) ∙ e)
+      ∙ shown-said s (uncoveredOf v is) (plainState h t v (valueTypeOf kind)) (attrText area v is) (plainBy h t lent v (valueTypeOf kind)) (sym (b .some) ∙ e)
 
   pub named-plain :
       {l m : List ℕ} {x : Said} →
-      first < length items / 6 →
-      Spoken area v (fromItem area items first) l x m →
+      Spoken area v (runItems items run) l x m →
       x .some ≡ false →
       r ≡ saidIs s (plainBy h t lent v (valueTypeOf kind)) →
       r ≡ shownAs s (namedValue h t lent items area name kind v)
   unfolding namedValue
-  named-plain {l} {m} {x} p a e g =
-      let b = rw (these items area name first found p) at a in
+  named-plain {l} {m} {x} a e g =
+      let b = rw (sym (found .all)) at a in
       let is = namedIn area name (itemsOf items) in
-      g ∙ shown-plain s (uncoveredOf v is) (attrText area v is) (plainBy h t lent v (valueTypeOf kind)) (sym (b .some) ∙ e)
+      g
+      ∙ shown-plain s (uncoveredOf v is) (plainState h t v (valueTypeOf kind)) (attrText area v is) (plainBy h t lent v (valueTypeOf kind)) (sym (b .some) ∙ e)
 
 -- ---- the value
 

@@ -151,7 +151,7 @@ attributeOf w name k =
 abbrev pub shownAs : List ℕ → Value → Bool
 shownAs s noName = false
 shownAs s noText = false
-shownAs s (shows x u) = eqBytes x s
+shownAs s (shows x u d) = eqBytes x s
 
 abbrev pub saysBy : Tree → List ℕ → AttributeFound → Bool
 saysBy w s NoAttribute = false

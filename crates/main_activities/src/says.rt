@@ -4,7 +4,7 @@
 // Mirrors nothing of the Rust's, whose values are texts. Definitions: crate value_text, and `shownAs` of specs/Activities.antt.
 ghost use mathlib.Core.Path.{_≡_};
 ghost use mathlib.Core.List.{List};
-ghost use Prim.Native.Nat.{_≤_, _<_};
+ghost use Prim.Native.Nat.{_/_, _≤_, _<_};
 ghost use lib.ListN.{length};
 ghost use Rattle.utf.specs.Text.{eqBytes};
 ghost use Rattle.system_types.specs.Names.{lends};
@@ -12,14 +12,17 @@ ghost use Rattle.text.specs.Content.{stringOf, textIn};
 ghost use Rattle.text.specs.Inner.Found.{Asks};
 ghost use Rattle.items.specs.Items.{tableOf};
 ghost use Rattle.items.specs.declared.ItemsRead.the-variants.{Good};
-ghost use Rattle.items.specs.Inner.Turns.{FirstNamed};
+ghost use Rattle.records.specs.Words.{itemWidth};
+ghost use Rattle.items.specs.Inner.Turns.{RunOf};
 ghost use Rattle.common.specs.ValueType.{valueTypeOf};
 ghost use Rattle.value_text.specs.Value.{plainBy, namedValue, valueOf};
 ghost use Rattle.value_text.specs.Inner.Leads.{Leads};
 ghost use Rattle.main_activities.specs.Activities.{shownAs};
 ghost use Rattle.main_activities.specs.Inner.Pass.{Fits, saidIs, isPool};
 use common::StringIndex;
+use items::Run;
 use items::attr_value;
+use items::run_of;
 use text::ANDROID_URI;
 use text::Head;
 use text::find;
@@ -97,7 +100,7 @@ fn plain_is(
     is_front(out, n, expected)
 }
 
-// What the items say first: `first` is the first item of the attribute's name, or the number of items.
+// What the items of the attribute's name say first.
 fn named_is(
     t: &[u8],
     names: &[u32],
@@ -107,20 +110,17 @@ fn named_is(
     item_area: &[u8],
     out: &mut [u8],
     expected: &[u8],
-    first: usize,
+    run: Run,
     kind: u32,
     v: u32,
 ) -> bool
-    requires { ⌜ Asks (now t) (lends (now names) (now area)) h × Fits (now expected) (now out) ⌝ }
-    ensures { λ r. ⌜ ((name : List _) → FirstNamed (now («item_area» .entry)) name (now (items .entry)) first
+    requires { ⌜ Asks (now t) (lends (now names) (now area)) h × Fits (now expected) (now out) × (run .end ≤ length (now items) / itemWidth) ⌝ }
+    ensures { λ r. ⌜ ((name : List _) → RunOf (now («item_area» .entry)) name (now (items .entry)) run
         → r ≡ shownAs (now (expected .entry))
         (namedValue h (now (t .entry)) (lends (now (names .entry)) (now (area .entry))) (now (items .entry))
         (now («item_area» .entry)) name kind v)) ⌝ }
 {
-    if items.len() / 6 <= first {
-        return plain_is(t, names, area, h, out, expected, kind, v);
-    }
-    let said = attr_value(out, items, item_area, first, v);
+    let said = attr_value(out, items, item_area, run, v);
     if said.some {
         return is_front(out, said.length, expected);
     }
@@ -151,6 +151,7 @@ pub fn value_is(
         return false;
     }
     let first = find_item(t, area, h.wide, f, items, item_area);
+    let run = run_of(items, item_area, first);
     let mut out = [0u8; LONGEST];
     named_is(
         t,
@@ -161,7 +162,7 @@ pub fn value_is(
         item_area,
         &mut out,
         expected,
-        first,
+        run,
         a.kind,
         a.data,
     )

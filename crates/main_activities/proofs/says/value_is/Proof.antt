@@ -50,27 +50,35 @@ find-item-requires c κs =
     let p = c .before .before .before .before .before .before .before .before .before .before .before .pre in
     (at-find .ensures .inside, sym (at-is-found .ensures) ∙ not-false _ (if2 .left), p .1)
 
+run-of-requires : tie.Need-run-of-requires
+run-of-requires c κs = c .before .before .before .before .before .before .before .before .before .before .before .before .pre .1
+
 slice-aggregate-named-is : tie.Need-slice-aggregate-named-is
 slice-aggregate-named-is c = search needs
 
 named-is-requires : tie.Need-named-is-requires
 named-is-requires c κs =
-    let p = c .before .before .before .before .before .before .before .before .before .before .before .before .before .pre in
-    (p .0, record { some = p .2; fits = p .3 })
+    let s = c .before .before .before .before .before .before .before .before .before .before .before .before .before .before in
+    let p = s .pre in
+    let a = s .args in
+    let name = textIn (partOf (a .h .wide) (now (a .t)) (now (a .area)) (c .before .before .before .before .before .find .result)) in
+    (p .0, record { some = p .2; fits = p .3 }, c .before .run-of .ensures name (c .before .before .find-item .ensures) .fits)
 
 returns-3 : tie.Need-returns-3
 returns-3 c =
-    let a = c .before .before .before .before .before .before .before .before .before .before .before .before .before .before .before .args in
-    let at-find = c .before .before .before .before .before .before .find in
-    let if1 = c .before .before .before .before .before .before .before .if1 in
-    let at-is-found = c .before .before .before .before .before .is-found in
-    let if2 = c .before .before .before .before .if2 in
+    let a = c .before .before .before .before .before .before .before .before .before .before .before .before .before .before .before .before .args in
+    let at-find = c .before .before .before .before .before .before .before .find in
+    let if1 = c .before .before .before .before .before .before .before .before .if1 in
+    let at-is-found = c .before .before .before .before .before .before .is-found in
+    let if2 = c .before .before .before .before .before .if2 in
     let at-named-is = c .before .named-is in
-    let at-find-item = c .before .before .before .find-item in
+    let at-find-item = c .before .before .before .before .find-item in
+    let at-run-of = c .before .before .before .run-of in
     let f = at-find .result in
+    let name = textIn (partOf (a .h .wide) (now (a .t)) (now (a .area)) f) in
     value-named (a .h) (now (a .t)) (lends (now (a .names)) (now (a .area))) (now (a .items)) (now (a .item-area)) (a .a) (now (a .expected)) f
     (if1 .left) (at-find .ensures .same) (sym (at-is-found .ensures) ∙ not-false _ (if2 .left))
-    (at-named-is .ensures (textIn (partOf (a .h .wide) (now (a .t)) (now (a .area)) f)) (at-find-item .ensures))
+    (at-named-is .ensures name (at-run-of .ensures name (at-find-item .ensures)))
 
 pub value-is-spec : {M : Type 1} → statement M
 value-is-spec =
@@ -83,6 +91,7 @@ value-is-spec =
     is-found-requires
     returns-2
     find-item-requires
+    run-of-requires
     slice-aggregate-named-is
     named-is-requires
     returns-3)
