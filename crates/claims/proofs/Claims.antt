@@ -570,9 +570,9 @@ relist-printed = relisted.listed-back
 
 -- The same of any two calls, of the listing's function in a listing's room and of `read_listing` with what it printed, whatever stood in the tables of either:
 -- the answer of the reading, the cap of a listing, and every word of nodes and attributes as the first call left it; notes are the reading's.
-pub relist-calls : (f ns ats before : List ℕ) → allBelow 256 f ≡ true → Roomy (length ns) (length ats) (length before) → (a : TextAnswer) (ns₁ ats₁ after : List ℕ)
+pub relist-calls : (f ns ats before : List ℕ) → allBelow 256 f ≡ true → Roomy (length ns) (length ats) (length before) → (a : LinesAnswer) (ns₁ ats₁ after : List ℕ)
     → Lists f ns ats before a ns₁ ats₁ after → (ns₂ ats₂ os : List ℕ) → length ns₂ ≡ length ns → length ats₂ ≡ length ats → length os ≡ noteWidth * listedNotes
-    → (r : Relisted) (ns₃ ats₃ os₃ : List ℕ) → Relists (take (textNumbersOf a .length) after) ns₂ ats₂ os r ns₃ ats₃ os₃
+    → (r : Relisted) (ns₃ ats₃ os₃ : List ℕ) → Relists (take (linesNumbersOf a .length) after) ns₂ ats₂ os r ns₃ ats₃ os₃
     → (r .answer ≡ listed f (length ns) (length ats) .answer) × (r .cap ≡ listedCap) × (ns₃ ≡ ns₁) × (ats₃ ≡ ats₁)
     × (os₃ ≡ wordsOf (listed f (length ns) (length ats) .notes))
 relist-calls = relisted.calls-back

@@ -12,7 +12,7 @@ use lib.Seq.{take-append-seam}
 use lib.Dec.{ltb, leb, eqb}
 use Rattle.anomaly.specs.declared.Note.{Note}
 use Rattle.digits.specs.Written.{fitted}
-use Rattle.errors.specs.Refusal.{numberOf, valueOf, numbersOf, textNumbersOf}
+use Rattle.errors.specs.Refusal.{numberOf, valueOf, numbersOf, linesNumbersOf}
 use Rattle.errors.specs.declared.Refusal.{Refusal}
 use Rattle.errors.specs.declared.Refusal.the-variants.{TooSmallError, TooLargeError, HeaderSizeError, MissingRoot, SystemNamesError, NodesFull, AttributesFull}
 use Rattle.errors.specs.declared.Refusal.the-variants.{NotesFull, TextShort, NothingFound, TablesError, ItemsError, NoPlainText, ModeError, PairsError, AnswersFull}
@@ -22,8 +22,8 @@ use Rattle.errors.specs.declared.ReadAnswer.{ReadAnswer}
 use Rattle.errors.specs.declared.ReadAnswer.the-variants.{Done, Refused}
 use Rattle.errors.specs.declared.ReadCounts.{ReadCounts}
 use Rattle.errors.specs.declared.Numbers.{Numbers}
-use Rattle.errors.specs.declared.TextAnswer.{TextAnswer}
-use Rattle.errors.specs.declared.TextAnswer.the-variants as textIs
+use Rattle.errors.specs.declared.LinesAnswer.{LinesAnswer}
+use Rattle.errors.specs.declared.LinesAnswer.the-variants as linesIs
 use Rattle.errors.proofs.Laws.{numbersOf-unique}
 use Rattle.records.specs.Words.{nodeWidth, attributeWidth, noteWidth, noteWords, merged}
 use Rattle.records.specs.Limits.{listedFile, listedNodes, listedAttributes, listedNotes, listedCap}
@@ -277,32 +277,32 @@ same-words : {n m o n′ m′ o′ : ℕ} → n ≡ n′ → m ≡ m′ → o �
 same-words p q r = rw (p, q, r)
 
 module _
-    (f ns ats before : List ℕ) (bytes : allBelow 256 f ≡ true) (room : Roomy (length ns) (length ats) (length before)) (a : TextAnswer) (ns₁ ats₁ after : List ℕ)
+    (f ns ats before : List ℕ) (bytes : allBelow 256 f ≡ true) (room : Roomy (length ns) (length ats) (length before)) (a : LinesAnswer) (ns₁ ats₁ after : List ℕ)
     (first : Lists f ns ats before a ns₁ ats₁ after) where
   -- the bytes that the first call printed
-  printed-text : take (textNumbersOf a .length) after ≡ listedText f (length ns) (length ats)
-  unfolding textNumbersOf
+  printed-text : take (linesNumbersOf a .length) after ≡ listedText f (length ns) (length ats)
+  unfolding linesNumbersOf
   printed-text =
       let t = listedText f (length ns) (length ats) in
-      let e : a ≡ textIs.Text (length t) = lists-answer f ns ats before ns₁ ats₁ after room a first in
+      let e : a ≡ linesIs.Text (length t) = lists-answer f ns ats before ns₁ ats₁ after room a first in
       let h : length t ≤ length before =
       lists-le f ns ats before ns₁ ats₁ after room (length t) (lists-text f ns ats before ns₁ ats₁ after a (length t) e first) in
-      ap (λ (x : TextAnswer). take (textNumbersOf x .length) after) e ∙
+      ap (λ (x : LinesAnswer). take (linesNumbersOf x .length) after) e ∙
       (ap (take (length t)) (first .printed .out ∙ fitted-text t (length before) h) ∙ take-append-seam t (replicate (length before - length t) 0))
 
   module _
       (ns₂ ats₂ os : List ℕ) (l₁ : length ns₂ ≡ length ns) (l₂ : length ats₂ ≡ length ats) (l₃ : length os ≡ noteWidth * listedNotes) (r : Relisted)
-      (ns₃ ats₃ os₃ : List ℕ) (second : Relists (take (textNumbersOf a .length) after) ns₂ ats₂ os r ns₃ ats₃ os₃) where
+      (ns₃ ats₃ os₃ : List ℕ) (second : Relists (take (linesNumbersOf a .length) after) ns₂ ats₂ os r ns₃ ats₃ os₃) where
     abbrev read : Reading
     read = listed f (length ns) (length ats)
 
-    said : relistedIn (take (textNumbersOf a .length) after) ns₂ ats₂ os ≡ saidBy read
+    said : relistedIn (take (linesNumbersOf a .length) after) ns₂ ats₂ os ≡ saidBy read
     said =
         ap (λ (x : List ℕ). relistedIn x ns₂ ats₂ os) printed-text ∙
         (ap (λ (w : Words). told (relisting w (listedText f (length ns) (length ats)))) (same-words l₁ l₂ l₃) ∙
         ap told (listed-back f ns ats bytes (room .nodes) (room .attributes)))
 
-    fitted-said : (pick : Relisting → List ℕ) (n m : ℕ) → n ≡ m → fitted (pick (relistedIn (take (textNumbersOf a .length) after) ns₂ ats₂ os)) n ≡ fitted (pick (saidBy read)) m
+    fitted-said : (pick : Relisting → List ℕ) (n m : ℕ) → n ≡ m → fitted (pick (relistedIn (take (linesNumbersOf a .length) after) ns₂ ats₂ os)) n ≡ fitted (pick (saidBy read)) m
     fitted-said pick n m e = ap (λ (x : Relisting). fitted (pick x) n) said ∙ ap (fitted (pick (saidBy read))) e
 
     pub calls-back :

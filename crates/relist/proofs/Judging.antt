@@ -13,11 +13,11 @@ use lib.ListN.{length, take, drop, getD, set, replicate, length-drop, length-app
 use lib.Seq.{getD-drop, drop-drop, take-at}
 use Rattle.anomaly.specs.declared.Note.{Note}
 use Rattle.digits.specs.Written.{fitted}
-use Rattle.errors.specs.Refusal.{numbersOf, textNumbersOf}
+use Rattle.errors.specs.Refusal.{numbersOf, linesNumbersOf}
 use Rattle.errors.specs.declared.Numbers.{Numbers}
-use Rattle.errors.specs.declared.TextAnswer.{TextAnswer}
-use Rattle.errors.specs.declared.TextAnswer.the-variants as textIs
-use Rattle.errors.proofs.Laws.{textNumbersOf-unique}
+use Rattle.errors.specs.declared.LinesAnswer.{LinesAnswer}
+use Rattle.errors.specs.declared.LinesAnswer.the-variants as textIs
+use Rattle.errors.proofs.Laws.{linesNumbersOf-unique}
 use Rattle.records.specs.Words.{nodeWidth, attributeWidth, noteWidth, noteKind, noteA, noteB}
 use Rattle.records.specs.Limits.{listedNotes}
 use Rattle.listing_text.specs.Listing.{Line, linesText, headLines, nodeLines, attributeLines, recordLines, noteLines, listing, listingText}
@@ -185,12 +185,12 @@ judged-own w text (found x) n v out e q o p =
 -- ---- a listing
 
 printed-whole :
-    (text t before after : List ℕ) (a : TextAnswer) → t ≡ text → Printed t before a after → length text ≤ length before →
+    (text t before after : List ℕ) (a : LinesAnswer) → t ≡ text → Printed t before a after → length text ≤ length before →
     (a ≡ textIs.Text (length text)) × (take (length text) after ≡ text) × (length text ≤ length after)
 unfolding listingAnswer
 printed-whole text t before after a e p h =
     let q : after ≡ text ++ replicate (length before - length text) 0 = p .out ∙ (ap (λ (x : List ℕ). fitted x (length before)) e ∙ fitted-long text (length before) h) in (
-      textNumbersOf-unique a (textIs.Text (length text)) (p .answer ∙ rw (e, le-leb (length text) (length before) h)),
+      linesNumbersOf-unique a (textIs.Text (length text)) (p .answer ∙ rw (e, le-leb (length text) (length before) h)),
       ap (take (length text)) q ∙ take-at text (replicate (length before - length text) 0) (length text) refl,
       let l : length after ≡ length before = ap length (p .out) ∙ (ap (λ (x : List ℕ). length (fitted x (length before))) e ∙ length-fitted text (length before) h) in
           omega (arith, l, h),
@@ -205,7 +205,7 @@ module _ {text ns ats os : List ℕ} {r : Relisted} {ns′ ats′ os′ : List �
   judges-own out o p = judged-own w text _ n v out refl (q ∙ h .answer) o p
 
   module _
-      (before after : List ℕ) (a : TextAnswer) (notes : List Note) (places : length os ≡ noteWidth * listedNotes) (room : length text ≤ length before)
+      (before after : List ℕ) (a : LinesAnswer) (notes : List Note) (places : length os ≡ noteWidth * listedNotes) (room : length text ≤ length before)
       (records : notes ≡ notesFrom listedNotes os′) (p : Printed (listingText (r .cap) n ns′ ats′ notes) before a after) (is : v ≡ verdictOf a)
       (o : isOwn (n .refusal) ≡ false) where
     by-found : (x : Found) → relisting w text ≡ x → n ≡ told x .numbers → r .cap ≡ told x .cap → ns′ ≡ fitted (told x .nodes) (length ns) →

@@ -4,7 +4,7 @@
 // that it is the text of what was read, which is the text that came in. A text that is no listing is told by the number of its refusal and its
 // value, in a line of its own, `fault=24 value=9`. More bytes than any listing has are told as `fault=0`.
 use anomaly::Note;
-use errors::TextAnswer;
+use errors::LinesAnswer;
 use errors::read_numbers;
 use libc::STDERR_FILENO;
 use libc::STDIN_FILENO;
@@ -107,12 +107,12 @@ fn notes_of(words: &[u32]) -> [Note; LISTED_NOTES]
     notes
 }
 
-fn verdict_of(answer: TextAnswer) -> Verdict
+fn verdict_of(answer: LinesAnswer) -> Verdict
     ensures { λ r. ⌜ r ≡ verdictOf answer ⌝ }
 {
     match answer {
-        TextAnswer::Text(length) => told(0, 0, length),
-        TextAnswer::Refused(_) => told(0, 0, 0), // never: the text is as long as the one that came in
+        LinesAnswer::Text(length) => told(0, 0, length),
+        LinesAnswer::Refused(_) => told(0, 0, 0), // never: the text is as long as the one that came in
     }
 }
 

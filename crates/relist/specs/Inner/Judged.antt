@@ -10,8 +10,8 @@ use mathlib.Core.Path.{_≡_}
 use mathlib.Core.List.{List, [], _∷_}
 use lib.ListN.{length, take, drop, getD}
 use Rattle.anomaly.specs.declared.Note.{Note}
-use Rattle.errors.specs.declared.TextAnswer.{TextAnswer}
-use Rattle.errors.specs.declared.TextAnswer.the-variants.{Text, Refused}
+use Rattle.errors.specs.declared.LinesAnswer.{LinesAnswer}
+use Rattle.errors.specs.declared.LinesAnswer.the-variants.{Text, Refused}
 use Rattle.records.specs.Words.{noteWidth, noteKind, noteA, noteB}
 use Rattle.listing_back.specs.Back.{Words, Relisting, fault, found, relisting, relistText}
 use Rattle.relist.specs.declared.Verdict.{Verdict}
@@ -23,7 +23,7 @@ unfoldable pub notesFrom : ℕ → List ℕ → List Note
 notesFrom zero w = []
 notesFrom (suc n) w = noteIn w ∷ notesFrom n (drop noteWidth w)
 
-abbrev pub verdictOf : TextAnswer → Verdict
+abbrev pub verdictOf : LinesAnswer → Verdict
 verdictOf (Text k) = record { fault = 0; value = 0; printed = k }
 verdictOf (Refused x) = record { fault = 0; value = 0; printed = 0 }
 
