@@ -17,7 +17,10 @@ same-length c = search needs
 returns : tie.Need-returns
 returns c =
     let a = c .before .before .before .before .before .before .before .before .before .before .args in
-    turned-name (now (a .area)) (a .i) (a .st) (now (a .out)) _ (c .before .before .before .before .before .before .before .is-taken .ensures) (c .before .before .before .before .before .before .if1 .taken) (c .before .before .before .before .put-name .ensures)
+    turned-name (now (a .area)) (a .i) (a .st) (now (a .out)) _
+    (c .before .before .before .before .before .before .before .is-taken .ensures)
+    (c .before .before .before .before .before .before .if1 .taken)
+    (c .before .before .before .before .put-name .ensures)
 
 returns-2 : tie.Need-returns-2
 returns-2 c =

@@ -31,7 +31,10 @@ returns-2 c =
     let w = now (a .items) in
     let i = itemAt w (a .run .first) in
     let js = itemsFrom w (a .run .first + 1) (a .run .end - (a .run .first + 1)) in
-    spoken-enum (now (a .area)) (a .value) i js (run-step w (a .run .first) (a .run .end) (c .before .before .before .before .before .before .before .before .if1 .left)) (c .before .before .before .before .before .before .before .item-at .ensures) (c .before .before .before .before .before .if2 .taken)
+    spoken-enum (now (a .area)) (a .value) i js
+    (run-step w (a .run .first) (a .run .end) (c .before .before .before .before .before .before .before .before .if1 .left))
+    (c .before .before .before .before .before .before .before .item-at .ensures)
+    (c .before .before .before .before .before .if2 .taken)
     (c .before .before .before .before .find-value .ensures) (c .before .before .put-enum .ensures)
 
 put-flags-requires : tie.Need-put-flags-requires
@@ -49,7 +52,10 @@ returns-3 c =
     let w = now (a .items) in
     let i = itemAt w (a .run .first) in
     let js = itemsFrom w (a .run .first + 1) (a .run .end - (a .run .first + 1)) in
-    spoken-flags (now (a .area)) (a .value) i js (run-step w (a .run .first) (a .run .end) (c .before .before .before .before .before .before .before .before .if1 .left)) (c .before .before .before .before .before .before .before .item-at .ensures) (c .before .before .before .before .before .if2 .left)
+    spoken-flags (now (a .area)) (a .value) i js
+    (run-step w (a .run .first) (a .run .end) (c .before .before .before .before .before .before .before .before .if1 .left))
+    (c .before .before .before .before .before .before .before .item-at .ensures)
+    (c .before .before .before .before .before .if2 .left)
     (c .before .before .before .put-flags .ensures) (c .said-flags .ensures)
 
 pub attr-value-spec : {M : Type 1} → statement M
