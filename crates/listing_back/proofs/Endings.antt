@@ -19,7 +19,9 @@ use Rattle.records.specs.Words.{nodeWidth, attributeWidth, noteWidth}
 use Rattle.listing_text.specs.Keys.{refusalKey, valueKey, capKey, startsKey, nodesKey, attributesKey, notesKey}
 use Rattle.listing_back.specs.Forms.{Front, lost, front, taken, formText, formsOf, forms}
 use Rattle.listing_back.specs.Due.{Step, stops, goes, anyOver, strayBy, strayIn, stray, Test, headBy, headLine, Table, recordBy, recordLine, records, ended}
-use Rattle.listing_back.specs.Back.{isListed, isPlain, zeroWhere, refusalTest, valueTest, anyTest, countTest, notesTest, headForm, headOf, headNumbers, Words, Relisting, Found, fault, found, nodeTable, attributeTable, noteTable, inNotes, inAttributes, inNodes, inHead, relisting, faultNumbers, told, relistedIn, Relists}
+use Rattle.listing_back.specs.Back.{isListed, isPlain, zeroWhere, refusalTest, valueTest, anyTest, countTest, notesTest, headForm, headOf}
+use Rattle.listing_back.specs.Back.{headNumbers, Words, Relisting, Found, fault, found, nodeTable, attributeTable, noteTable, inNotes}
+use Rattle.listing_back.specs.Back.{inAttributes, inNodes, inHead, relisting, faultNumbers, told, relistedIn, Relists}
 use Rattle.listing_back.specs.Inner.Stands.{formAt}
 use Rattle.listing_back.specs.Inner.Steps.{testBy, stepOf, CountsOn, tableOf, RecordsOn, EndsOn}
 use Rattle.listing_back.specs.Inner.Whole.{headingList, headingNumbers, spotOf, ReadsHead, TestedHeading, isOwn, Sayable, Says, relistingOf, ReadsAll}

@@ -27,7 +27,10 @@ returns-4 c = record { number = sym (c .if4 .taken); value = refl }
 
 returns-5 : tie.Need-returns-5
 unfolding numberOf valueOf
-returns-5 c = let e = root-last _ _ (c .before .before .before .before .pre) (c .before .before .before .if1 .left) (c .before .before .if2 .left) (c .before .if3 .left) (c .if4 .left) in record { number = e; value = six-plain _ _ (c .before .before .before .before .pre) e }
+returns-5 c =
+    let p = c .before .before .before .before .pre in
+    let e = root-last _ _ p (c .before .before .before .if1 .left) (c .before .before .if2 .left) (c .before .if3 .left) (c .if4 .left) in
+    record { number = e; value = six-plain _ _ p e }
 
 pub listed-refusal-spec : {M : Type 1} → statement M
 listed-refusal-spec =

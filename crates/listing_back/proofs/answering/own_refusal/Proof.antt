@@ -28,7 +28,10 @@ returns-5 c = record { number = sym (c .if5 .taken); value = refl }
 
 returns-6 : tie.Need-returns-6
 unfolding numberOf valueOf
-returns-6 c = record { number = own-last _ (c .before .before .before .before .before .pre) (c .before .before .before .before .if1 .left) (c .before .before .before .if2 .left) (c .before .before .if3 .left) (c .before .if4 .left) (c .if5 .left); value = refl }
+returns-6 c =
+    let e = own-last _ (c .before .before .before .before .before .pre) (c .before .before .before .before .if1 .left) (c .before .before .before .if2 .left)
+    (c .before .before .if3 .left) (c .before .if4 .left) (c .if5 .left) in
+    record { number = e; value = refl }
 
 pub own-refusal-spec : {M : Type 1} → statement M
 own-refusal-spec =

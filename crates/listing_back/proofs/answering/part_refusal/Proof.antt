@@ -32,7 +32,11 @@ returns-6 c = record { number = sym (c .if6 .taken); value = refl }
 
 returns-7 : tie.Need-returns-7
 unfolding numberOf valueOf
-returns-7 c = record { number = part-last _ _ (c .before .before .before .before .before .before .pre .0) (c .before .before .before .before .before .before .pre .1) (c .before .before .before .before .before .if1 .left) (c .before .before .before .before .if2 .left) (c .before .before .before .if3 .left) (c .before .before .if4 .left) (c .before .if5 .left) (c .if6 .left); value = refl }
+returns-7 c =
+    let p = c .before .before .before .before .before .before .pre in
+    let e = part-last _ _ (p .0) (p .1) (c .before .before .before .before .before .if1 .left) (c .before .before .before .before .if2 .left)
+    (c .before .before .before .if3 .left) (c .before .before .if4 .left) (c .before .if5 .left) (c .if6 .left) in
+    record { number = e; value = refl }
 
 pub part-refusal-spec : {M : Type 1} → statement M
 part-refusal-spec =
