@@ -56,18 +56,22 @@ impl Names {
         names
     }
 
-    /// The items of a file: a line for each, attribute, `enum` or `flag`, name, value in hexadecimal, a tab between them.
+    /// The items of a file: a line for each, attribute, `enum` or `flag`, name, value in hexadecimal, a tab between them. An attribute's name stands once.
     pub fn items(path: &str) -> Names {
         let mut items = Names { words: vec![], area: vec![] };
         let text = std::fs::read_to_string(path).unwrap();
+        let (mut of, mut at) = ("", [0, 0]);
         for line in text.lines() {
             let cells: Vec<&str> = line.split('\t').collect();
             let mut place = |name: &str| {
                 items.area.extend(name.as_bytes());
                 [(items.area.len() - name.len()) as u32, name.len() as u32]
             };
-            let ([a, n], [b, m]) = (place(cells[0]), place(cells[2]));
-            items.words.extend([a, n, (cells[1] == "flag") as u32, b, m, u32::from_str_radix(&cells[3][2..], 16).unwrap()]);
+            if cells[0] != of {
+                (of, at) = (cells[0], place(cells[0]));
+            }
+            let [start, length] = place(cells[2]);
+            items.words.extend([at[0], at[1], (cells[1] == "flag") as u32, start, length, u32::from_str_radix(&cells[3][2..], 16).unwrap()]);
         }
         items
     }
