@@ -25,23 +25,37 @@ impl Items {
     }
 
     /// Adds an item. Names are ASCII and not empty, and the items of an attribute stand together and have one kind: a question checks it, and refuses otherwise.
+    /// The attribute's name is written once for all its items, which makes that check cheap.
     pub fn push(&mut self, attribute: &str, kind: ItemKind, name: &str, value: u32) {
-        let start = self.area.len() as u32;
-        let named = start + attribute.len() as u32;
         let kind = match kind {
             ItemKind::Enum => sys::ITEM_ENUM,
             ItemKind::Flag => sys::ITEM_FLAG,
         };
         let mut item = [0; sys::ITEM_WORDS];
-        item[sys::ITEM_ATTRIBUTE] = start;
+        item[sys::ITEM_ATTRIBUTE] = self.written(attribute);
         item[sys::ITEM_ATTRIBUTE_LENGTH] = attribute.len() as u32;
         item[sys::ITEM_KIND] = kind;
-        item[sys::ITEM_NAME] = named;
+        item[sys::ITEM_NAME] = self.write(name);
         item[sys::ITEM_NAME_LENGTH] = name.len() as u32;
         item[sys::ITEM_VALUE] = value;
         self.words.extend(item);
-        self.area.extend_from_slice(attribute.as_bytes());
+    }
+
+    /// Where an attribute's name begins in the area: that of the last item, if it is the same.
+    fn written(&mut self, attribute: &str) -> u32 {
+        if let Some(last) = self.words.rchunks_exact(sys::ITEM_WORDS).next() {
+            let start = last[sys::ITEM_ATTRIBUTE] as usize;
+            if &self.area[start..][..last[sys::ITEM_ATTRIBUTE_LENGTH] as usize] == attribute.as_bytes() {
+                return start as u32;
+            }
+        }
+        self.write(attribute)
+    }
+
+    fn write(&mut self, name: &str) -> u32 {
+        let start = self.area.len() as u32;
         self.area.extend_from_slice(name.as_bytes());
+        start
     }
 }
 
