@@ -12,6 +12,7 @@ pub mod Turns
 pub mod Filled
 pub mod Places
 pub mod Laws
+pub mod Lengths
 pub mod BadSteps
 pub mod Units
 pub mod States

@@ -90,7 +90,7 @@ paired wa a i u n x wb b j v m y h k t r = record {
   later = omega arith;
 }
 
-bytesOf-some : (wide : Bool) (s : List ℕ) → 0 < length s → 0 < length (bytesOf (stepsOf wide s))
+pub bytesOf-some : (wide : Bool) (s : List ℕ) → 0 < length s → 0 < length (bytesOf (stepsOf wide s))
 unfolding bytesOf stepsAfter
 bytesOf-some wide [] h = absurd (let z : ⊥ = omega arith in z)
 bytesOf-some wide (b ∷ s) h =

@@ -6,7 +6,7 @@ use super::is_refused;
 use super::next_of;
 use super::span::is_ascii;
 ghost use mathlib.Core.Path.{_≡_};
-ghost use mathlib.Core.Bool.{true};
+ghost use mathlib.Core.Bool.{Bool, true, false};
 ghost use mathlib.Core.List.{[]};
 ghost use Prim.Native.Nat.{_<_};
 ghost use lib.ListN.{length};
@@ -117,7 +117,22 @@ fn same_wide(a: &[u8], b: &[u8]) -> bool
 
 // ---- the texts
 
-// Whether two texts, each in its own encoding, are the same.
+// Whether a text is surely another than that of some bytes of UTF-8, because it has more than sixteen times as many bytes: nothing of it is read.
+// A step takes at most four bytes and makes at least one, and a byte of UTF-8 makes at most four.
+fn is_far_longer(a: &[u8], wide_b: bool, b: &[u8]) -> bool
+    ensures { λ r. ⌜ (r ≡ true → (w : Bool) → (eqBytes (textOf w (now (a .entry))) (textOf «wide_b» (now (b .entry))) ≡ false)
+        × (eqBytes (textOf «wide_b» (now (b .entry))) (textOf w (now (a .entry))) ≡ false)) ⌝ }
+{
+    if wide_b {
+        return false;
+    }
+    if b.len() == 0 {
+        return false;
+    }
+    b.len() < a.len() / 16
+}
+
+// Whether two texts, each in its own encoding, are the same. One that is far longer than the other is not looked at.
 // Ruled out: false of FF in UTF-8 and FD FF in UTF-16, since both are U+FFFD; true of a text and a longer one that begins with it.
 pub fn same_text(wide_a: bool, a: &[u8], wide_b: bool, b: &[u8]) -> bool
     ensures { λ r. ⌜ r ≡ eqBytes (textOf «wide_a» (now (a .entry))) (textOf «wide_b» (now (b .entry))) ⌝ }
@@ -126,6 +141,12 @@ pub fn same_text(wide_a: bool, a: &[u8], wide_b: bool, b: &[u8]) -> bool
         if wide_b {
             return same_wide(a, b);
         }
+    }
+    if is_far_longer(a, wide_b, b) {
+        return false;
+    }
+    if is_far_longer(b, wide_a, a) {
+        return false;
     }
     let no_b = is_refused(wide_b, b);
     if is_refused(wide_a, a) {

@@ -13,42 +13,54 @@ same-wide-requires c κs = search needs
 returns : tie.Need-returns
 returns c = rw (c .before .before .if1 .taken, c .before .if2 .taken) (c .same-wide .ensures)
 
+is-far-longer-requires : tie.Need-is-far-longer-requires
+is-far-longer-requires c κs = search needs
+
+returns-2 : tie.Need-returns-2
+returns-2 c = sym (c .before .is-far-longer .ensures (c .if3 .taken) (c .before .before .before .before .before .args .wide-a) .0)
+
+is-far-longer-requires-2 : tie.Need-is-far-longer-requires-2
+is-far-longer-requires-2 c κs = search needs
+
+returns-3 : tie.Need-returns-3
+returns-3 c = sym (c .before .is-far-longer2 .ensures (c .if4 .taken) (c .before .before .before .before .before .before .before .args .wide-b) .1)
+
 is-refused-requires : tie.Need-is-refused-requires
 is-refused-requires c κs = search needs
 
 is-refused-requires-2 : tie.Need-is-refused-requires-2
 is-refused-requires-2 c κs = search needs
 
-returns-2 : tie.Need-returns-2
-unfolding eqBytes
-returns-2 c =
-    let a = c .before .before .before .before .before .before .before .args in
-    rw (
-      textOf-refused (a .wide-a) (now (a .a)) (sym (c .before .before .is-refused2 .ensures) ∙ c .before .if3 .taken),
-      textOf-refused (a .wide-b) (now (a .b)) (sym (c .before .before .before .is-refused .ensures) ∙ c .if4 .taken),
-    ) (c .if4 .taken)
-
-returns-3 : tie.Need-returns-3
-returns-3 c =
-    let a = c .before .before .before .before .before .before .before .args in
-    rw (textOf-refused (a .wide-a) (now (a .a)) (sym (c .before .before .is-refused2 .ensures) ∙ c .before .if3 .taken))
-    (textOf-empty (a .wide-b) (now (a .b)) (sym (c .before .before .before .is-refused .ensures) ∙ c .if4 .left) .1)
-
 returns-4 : tie.Need-returns-4
+unfolding eqBytes
 returns-4 c =
-    let a = c .before .before .before .before .before .before .before .args in
-    rw (textOf-refused (a .wide-b) (now (a .b)) (sym (c .before .before .before .is-refused .ensures) ∙ c .if5 .taken))
-    (textOf-empty (a .wide-a) (now (a .a)) (sym (c .before .before .is-refused2 .ensures) ∙ c .before .if3 .left) .0)
+    let a = c .before .before .before .before .before .before .before .before .before .before .before .args in
+    rw (
+      textOf-refused (a .wide-a) (now (a .a)) (sym (c .before .before .is-refused2 .ensures) ∙ c .before .if5 .taken),
+      textOf-refused (a .wide-b) (now (a .b)) (sym (c .before .before .before .is-refused .ensures) ∙ c .if6 .taken),
+    ) (c .if6 .taken)
+
+returns-5 : tie.Need-returns-5
+returns-5 c =
+    let a = c .before .before .before .before .before .before .before .before .before .before .before .args in
+    rw (textOf-refused (a .wide-a) (now (a .a)) (sym (c .before .before .is-refused2 .ensures) ∙ c .before .if5 .taken))
+    (textOf-empty (a .wide-b) (now (a .b)) (sym (c .before .before .before .is-refused .ensures) ∙ c .if6 .left) .1)
+
+returns-6 : tie.Need-returns-6
+returns-6 c =
+    let a = c .before .before .before .before .before .before .before .before .before .before .before .args in
+    rw (textOf-refused (a .wide-b) (now (a .b)) (sym (c .before .before .before .is-refused .ensures) ∙ c .if7 .taken))
+    (textOf-empty (a .wide-a) (now (a .a)) (sym (c .before .before .is-refused2 .ensures) ∙ c .before .if5 .left) .0)
 
 same-steps-requires : tie.Need-same-steps-requires
 same-steps-requires c κs = search needs
 
-returns-5 : tie.Need-returns-5
-returns-5 c =
-    let a = c .before .before .before .before .before .before .before .before .args in
+returns-7 : tie.Need-returns-7
+returns-7 c =
+    let a = c .before .before .before .before .before .before .before .before .before .before .before .before .args in
     rw (
-      textOf-kept (a .wide-a) (now (a .a)) (sym (c .before .before .before .is-refused2 .ensures) ∙ c .before .before .if3 .left),
-      textOf-kept (a .wide-b) (now (a .b)) (sym (c .before .before .before .before .is-refused .ensures) ∙ c .before .if5 .left),
+      textOf-kept (a .wide-a) (now (a .a)) (sym (c .before .before .before .is-refused2 .ensures) ∙ c .before .before .if5 .left),
+      textOf-kept (a .wide-b) (now (a .b)) (sym (c .before .before .before .before .is-refused .ensures) ∙ c .before .if7 .left),
     ) (c .same-steps .ensures)
 
 pub same-text-spec : {M : Type 1} → statement M
@@ -57,10 +69,14 @@ same-text-spec =
     (tie.spec
     same-wide-requires
     returns
+    is-far-longer-requires
+    returns-2
+    is-far-longer-requires-2
+    returns-3
     is-refused-requires
     is-refused-requires-2
-    returns-2
-    returns-3
     returns-4
+    returns-5
+    returns-6
     same-steps-requires
-    returns-5)
+    returns-7)
