@@ -19,3 +19,5 @@ pub mod States
 pub mod PlainLaws
 pub mod Ascii
 pub mod Blocks
+pub mod AsciiText
+pub mod SameBlocks

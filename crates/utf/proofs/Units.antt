@@ -141,7 +141,7 @@ spelt-two a b s ha hb h e =
     (λ x y. ap (λ (l : List ℕ). l ++ s) (spell-unit a b ha hb))
     refl refl e
 
-step16-two : (a b : ℕ) (s : List ℕ) → step16 (a ∷ b ∷ s) ≡ pairOf (a + b * 256) (getD s 0 0 + getD s 1 0 * 256)
+pub step16-two : (a b : ℕ) (s : List ℕ) → step16 (a ∷ b ∷ s) ≡ pairOf (a + b * 256) (getD s 0 0 + getD s 1 0 * 256)
 unfolding step16 unit
 step16-two a b s = rw (lt-ltb 1 (suc (suc (length s))) (omega arith))
 

@@ -2,12 +2,15 @@
 //
 // Mirrors what the Rust takes from std: String::from_utf8_lossy, char::decode_utf16 (any error is the empty text), and `==` of two texts.
 // Definitions: specs/Text.antt over specs/Utf8.antt and specs/Utf16.antt. `wide` is UTF-16, and otherwise the bytes are UTF-8.
+pub mod ascii_text;
 pub mod damage;
 pub mod same;
 pub mod span;
 pub mod utf16;
 pub mod utf8;
 
+pub use ascii_text::ascii_into;
+pub use ascii_text::is_ascii_text;
 pub use damage::replaced_of;
 pub use damage::state_of;
 pub use same::is_plain;
@@ -254,10 +257,8 @@ pub fn text_len(wide: bool, s: &[u8]) -> usize
     bytes_len(wide, s)
 }
 
-// Writes the text as UTF-8 if `out` holds it whole, and returns its length as `text_len` does; the rest of `out` stays as it was, and all of one
-// that is too short. A byte makes at most 4: with that much room nothing is measured first.
-// Ruled out: a `?` in place of U+FFFD; a byte of `out` changed behind the text, or where the text does not fit.
-pub fn text_into(wide: bool, s: &[u8], out: &mut [u8]) -> usize
+// What `text_into` does, for any text: step by step. A byte makes at most 4: with that much room nothing is measured first.
+fn steps_into(wide: bool, s: &[u8], out: &mut [u8]) -> usize
     ensures { λ r. ⌜ (r ≡ min (length (textOf wide (now (s .entry)))) 0xffffffffffffffff)
         × (now (out .exit) ≡ putText (textOf wide (now (s .entry))) (now (out .entry))) ⌝ }
 {
@@ -272,4 +273,17 @@ pub fn text_into(wide: bool, s: &[u8], out: &mut [u8]) -> usize
         return n;
     }
     bytes_into(wide, s, out)
+}
+
+// Writes the text as UTF-8 if `out` holds it whole, and returns its length as `text_len` does; the rest of `out` stays as it was, and all of one
+// that is too short. A text of ASCII is copied (ascii_text.rt).
+// Ruled out: a `?` in place of U+FFFD; a byte of `out` changed behind the text, or where the text does not fit.
+pub fn text_into(wide: bool, s: &[u8], out: &mut [u8]) -> usize
+    ensures { λ r. ⌜ (r ≡ min (length (textOf wide (now (s .entry)))) 0xffffffffffffffff)
+        × (now (out .exit) ≡ putText (textOf wide (now (s .entry))) (now (out .entry))) ⌝ }
+{
+    if is_ascii_text(wide, s) {
+        return ascii_into(wide, s, out);
+    }
+    steps_into(wide, s, out)
 }

@@ -4,11 +4,13 @@
 // Two in UTF-16 are told by their bytes, since a sound text has one spelling; only the empty text has many, all that are refused.
 use super::is_refused;
 use super::next_of;
+use super::span::greater;
 use super::span::is_ascii;
 ghost use mathlib.Core.Path.{_≡_};
-ghost use mathlib.Core.Bool.{Bool, true, false};
+ghost use mathlib.Core.Bool.{Bool, true, false, cond};
 ghost use mathlib.Core.List.{[]};
-ghost use Prim.Native.Nat.{_<_};
+ghost use Prim.Native.Nat.{_≤_, _<_};
+ghost use lib.Dec.{eqb};
 ghost use lib.ListN.{length};
 ghost use Rattle.utf.specs.Text.{stepsOf, bytesOf, textOf, eqBytes};
 ghost use Rattle.utf.specs.Inner.Told.{Paired};
@@ -73,13 +75,64 @@ fn same_steps(wide_a: bool, a: &[u8], wide_b: bool, b: &[u8]) -> bool
 
 // ---- by their bytes
 
-// Whether the bytes are the same. Names that differ mostly do so in their length or at their end.
+// 1 for two bytes that differ.
+fn differ_mark(x: u8, y: u8) -> u8
+    ensures { λ r. ⌜ r ≡ cond (eqb x y) 0 1 ⌝ }
+{
+    if x == y {
+        return 0;
+    }
+    1
+}
+
+// Whether bytes of one length are the same: all of them are looked at, with no early way out, and the greatest mark decides.
+fn same_block(a: &[u8], b: &[u8]) -> bool
+    requires { ⌜ length (now a) ≡ length (now b) ⌝ }
+    ensures { λ r. ⌜ r ≡ eqBytes (now (a .entry)) (now (b .entry)) ⌝ }
+{
+    let mut most: u8 = 0;
+    let mut i: usize = 0;
+    while i < a.len() {
+        most = greater(most, differ_mark(a[i], b[i]));
+        i += 1;
+    }
+    most < 1
+}
+
+// The same in blocks of 64 bytes, of which there is one at least: the last byte, the last block, and then from the front, up to the first block
+// that differs.
+fn same_blocks(a: &[u8], b: &[u8]) -> bool
+    requires { ⌜ (64 ≤ length (now a)) × (length (now a) ≡ length (now b)) ⌝ }
+    ensures { λ r. ⌜ r ≡ eqBytes (now (a .entry)) (now (b .entry)) ⌝ }
+{
+    let n = a.len();
+    if a[n - 1] != b[n - 1] {
+        return false;
+    }
+    let last = n - 64;
+    if !same_block(&a[last..last + 64], &b[last..last + 64]) {
+        return false;
+    }
+    let mut i: usize = 0;
+    while i < last {
+        if !same_block(&a[i..i + 64], &b[i..i + 64]) {
+            return false;
+        }
+        i += 64;
+    }
+    true
+}
+
+// Whether the bytes are the same. Names that differ mostly do so in their length or at their end; a short one is looked at byte by byte from there.
 // Ruled out: true of bytes and of more that begin with them; true of two that differ in the last alone.
 pub fn same_bytes(a: &[u8], b: &[u8]) -> bool
     ensures { λ r. ⌜ r ≡ eqBytes (now (a .entry)) (now (b .entry)) ⌝ }
 {
     if a.len() != b.len() {
         return false;
+    }
+    if 64 <= a.len() {
+        return same_blocks(a, b);
     }
     let mut i = a.len();
     while 0 < i {
