@@ -1,4 +1,5 @@
 -- File S and its relatives, computed: docs/FORMAT.md, L4, L5.
+pub mod Computing
 pub mod Table
 pub mod CasesOfRead
 pub mod InsertionParts

@@ -5,28 +5,14 @@ use native.Mathlib.Omega.{arith}
 use mathlib.Core.Path.{_≡_, refl, sym, _∙_, ap}
 use mathlib.Core.List.{List, [], _∷_}
 use lib.ListN.{length, getD}
-use Rattle.field.specs.Le.{u16le, u32le}
-use Rattle.common.specs.Header.{headerOf}
-use Rattle.common.specs.ValueType.{valueTypeOf, valueTypeNumber, isReference}
-use Rattle.utf.specs.Utf8.{matched, isWhole, longest, anyWhole, spelt, encode, step8}
-use Rattle.utf.specs.Text.{stepsAfter, bytesOf, allSound, textOf, eqBytes}
-use Rattle.res_string_pool.specs.Pool.{countOf, numbered, endOf, poolFrom, behindGarbage, poolOf, offsetOf}
-use Rattle.res_string_pool.specs.Content.{split8, split16}
-use Rattle.resource_map.specs.Map.{idsIn, idsBy, mapOf, idOf}
-use Rattle.utf.specs.Plain.{isAscii}
-use Rattle.system_types.specs.Names.{lends, isGood, namesFrom, nameOf}
-use Rattle.errors.specs.Refusal.{numberOf, valueOf, firstNumbersOf, pairNumbersOf}
-use Rattle.errors.specs.declared.ManyAnswer.{ManyAnswer}
+use Rattle.system_types.specs.Names.{lends}
 use Rattle.errors.specs.declared.ManyAnswer.the-variants.{Answered}
 use Rattle.errors.proofs.Laws.{pairNumbersOf-unique}
-use Rattle.text.specs.Content.{systemOf, stringAt, stringOf, contentOf}
-use Rattle.head.specs.Head.{tablesOf, openedOf}
-use Rattle.head.specs.Entry.{lengthCheck}
-use Rattle.head.specs.Ask.{openOf}
-use Rattle.first_value.specs.Question.{androidName, runsFrom, fitOf, findNode, findValue, sharedOf, firstAnswer}
-use Rattle.first_values.specs.Pairs.{pairsFrom, pairsOf, answersFrom, manyAnswer, answersAfter, ManyReads}
-use Rattle.claims.specs.Askers.{Ask, Asked, Asker, MeetsAll, TwelveToAll}
-use Rattle.claims.proofs.Cases.Table.{fileS, headS, startS, endS, firstNode, lead}
+use Rattle.first_value.specs.Question.{androidName}
+use Rattle.first_values.specs.Pairs.{manyAnswer, answersAfter}
+use Rattle.claims.specs.Askers.{Ask, Asker, MeetsAll, TwelveToAll}
+use Rattle.claims.proofs.Cases.Table.{fileS, firstNode, lead}
+use Rattle.claims.proofs.Cases.Computing.{computing}
 
 abbrev onePair : List ℕ
 onePair = 0 ∷ 1 ∷ 1 ∷ 7 ∷ []
@@ -38,21 +24,15 @@ abbrev itsList : List ℕ
 itsList = 0 ∷ 0 ∷ 0 ∷ 0 ∷ []
 
 s-answer : manyAnswer fileS (lends [] []) firstNode lead 1 1 onePair itsArea 4 ≡ Answered 1
-unfolding fileS headS startS endS u16le u32le headerOf valueTypeOf valueTypeNumber isReference matched isWhole longest anyWhole spelt
-    encode step8 stepsAfter bytesOf allSound textOf eqBytes countOf numbered endOf poolFrom behindGarbage poolOf offsetOf split8 split16 idsIn
-    idsBy mapOf idOf isAscii isGood namesFrom nameOf systemOf stringAt stringOf contentOf tablesOf openedOf lengthCheck openOf runsFrom fitOf
-    findNode findValue sharedOf firstAnswer numberOf valueOf firstNumbersOf pairsFrom pairsOf answersFrom manyAnswer answersAfter
+unfolding fileS computing
 s-answer = refl
 
 s-list : answersAfter fileS (lends [] []) firstNode lead 1 1 onePair itsArea 4 ≡ 0 ∷ 3 ∷ 0 ∷ 0 ∷ []
-unfolding fileS headS startS endS u16le u32le headerOf valueTypeOf valueTypeNumber isReference matched isWhole longest anyWhole spelt
-    encode step8 stepsAfter bytesOf allSound textOf eqBytes countOf numbered endOf poolFrom behindGarbage poolOf offsetOf split8 split16 idsIn
-    idsBy mapOf idOf isAscii isGood namesFrom nameOf systemOf stringAt stringOf contentOf tablesOf openedOf lengthCheck openOf runsFrom fitOf
-    findNode findValue sharedOf firstAnswer numberOf valueOf firstNumbersOf pairsFrom pairsOf answersFrom manyAnswer answersAfter
+unfolding fileS computing
 s-list = refl
 
 s-ask : Ask fileS (lends [] []) firstNode lead onePair itsArea itsList 1 1
-unfolding fileS headS startS endS
+unfolding fileS
 s-ask =
     record {
       file = record { below = refl; short = omega arith };

@@ -9,30 +9,15 @@ use mathlib.Core.Path.{_≡_, refl, sym, _∙_}
 use mathlib.Core.Bool.{true}
 use mathlib.Core.List.{List, [], _∷_, flatMap}
 use lib.ListN.{length}
-use Rattle.field.specs.Le.{u16le, u32le}
-use Rattle.common.specs.Header.{headerOf}
-use Rattle.common.specs.ValueType.{valueTypeOf}
-use Rattle.utf.specs.Utf8.{matched, isWhole, longest, anyWhole, spelt, encode, step8}
-use Rattle.utf.specs.Text.{stepsAfter, bytesOf, allSound, textOf, eqBytes}
-use Rattle.utf.specs.Plain.{isAscii}
-use Rattle.res_string_pool.specs.Pool.{countOf, numbered, endOf, poolFrom, behindGarbage, poolOf, offsetOf}
-use Rattle.res_string_pool.specs.Content.{split8, split16}
-use Rattle.resource_map.specs.Map.{idsIn, idsBy, mapOf, idOf}
-use Rattle.system_types.specs.Names.{lends, isGood, namesFrom, nameOf}
-use Rattle.text.specs.Content.{systemOf, stringAt, stringOf, contentOf}
-use Rattle.head.specs.Head.{tablesOf, openedOf, tablesIn}
-use Rattle.head.specs.Entry.{lengthCheck}
+use Rattle.system_types.specs.Names.{lends}
+use Rattle.head.specs.Head.{openedOf, tablesIn}
 use Rattle.head.specs.declared.OpenRead.the-variants.{Open}
-use Rattle.items.specs.Items.{itemAt, itemsFrom, isName, isNew, isGood as isGoodItem, ruleFrom, tableOf, namedIn}
-use Rattle.items.specs.Values.{attrText, uncoveredOf}
-use Rattle.first_value.specs.Question.{runsFrom, fitOf}
-use Rattle.value_text.specs.Value.{plainBy, namedValue, valueOf, valueOpen}
-use Rattle.many_texts.specs.Many.{attributeAt}
 use Rattle.main_activities.specs.declared.MainAnswer.the-variants.{Found}
-use Rattle.main_activities.specs.Activities.{treeOf, childrenFrom, anyOf, attributeFrom, says, isMain, isLauncher, isFilter, isEnabled, starts}
-use Rattle.main_activities.specs.Activities.{given, inApplication, mainActivities, mainOpen, mainAnswer, listAfter}
+use Rattle.main_activities.specs.Activities.{treeOf}
+use Rattle.main_activities.specs.Activities.{mainOpen, mainAnswer, listAfter}
 use Rattle.main_activities.proofs.Unique.{mainNumbersOf-unique}
 use Rattle.claims.specs.Screens.{Ask, Teller, MeetsAll, NamedActivity, EveryOne}
+use Rattle.claims.proofs.Cases.Computing.{computing}
 
 -- a head whose strings are application, activity, name, intent-filter, action, category, and the texts of the main action and the launcher's category
 unfoldable pub head : List ℕ
@@ -58,44 +43,24 @@ abbrev attributes : List ℕ
 attributes = 2 ∷ 1 ∷ 2 ∷ 3 ∷ 1 ∷ 0 ∷ 4 ∷ 1 ∷ 2 ∷ 3 ∷ 6 ∷ 0 ∷ 5 ∷ 1 ∷ 2 ∷ 3 ∷ 7 ∷ 0 ∷ []
 
 pub one-starts : mainAnswer head (lends [] []) [] [] nodes attributes 6 3 2 ≡ Found 1
-unfolding head u16le u32le headerOf valueTypeOf matched isWhole longest anyWhole spelt encode step8 stepsAfter bytesOf allSound textOf eqBytes isAscii
-    countOf numbered endOf poolFrom behindGarbage poolOf offsetOf split8 split16 idsIn idsBy mapOf idOf isGood namesFrom nameOf systemOf stringAt stringOf
-    contentOf tablesOf openedOf lengthCheck itemAt itemsFrom isName isNew isGoodItem ruleFrom tableOf namedIn attrText uncoveredOf plainBy namedValue valueOf
-    valueOpen runsFrom fitOf attributeAt childrenFrom anyOf attributeFrom says isMain isLauncher isFilter isEnabled starts given inApplication mainActivities
-    mainOpen mainAnswer listAfter flatMap NamedActivity
+unfolding head computing
 one-starts = refl
 
 pub its-name : listAfter head (lends [] []) [] [] nodes attributes 6 3 2 ≡ 0 ∷ 0 ∷ []
-unfolding head u16le u32le headerOf valueTypeOf matched isWhole longest anyWhole spelt encode step8 stepsAfter bytesOf allSound textOf eqBytes isAscii
-    countOf numbered endOf poolFrom behindGarbage poolOf offsetOf split8 split16 idsIn idsBy mapOf idOf isGood namesFrom nameOf systemOf stringAt stringOf
-    contentOf tablesOf openedOf lengthCheck itemAt itemsFrom isName isNew isGoodItem ruleFrom tableOf namedIn attrText uncoveredOf plainBy namedValue valueOf
-    valueOpen runsFrom fitOf attributeAt childrenFrom anyOf attributeFrom says isMain isLauncher isFilter isEnabled starts given inApplication mainActivities
-    mainOpen mainAnswer listAfter flatMap NamedActivity
+unfolding head computing
 its-name = refl
 
 -- of the first three nodes none starts
 none-starts : mainAnswer head (lends [] []) [] [] nodes attributes 3 3 1 ≡ Found 0
-unfolding head u16le u32le headerOf valueTypeOf matched isWhole longest anyWhole spelt encode step8 stepsAfter bytesOf allSound textOf eqBytes isAscii
-    countOf numbered endOf poolFrom behindGarbage poolOf offsetOf split8 split16 idsIn idsBy mapOf idOf isGood namesFrom nameOf systemOf stringAt stringOf
-    contentOf tablesOf openedOf lengthCheck itemAt itemsFrom isName isNew isGoodItem ruleFrom tableOf namedIn attrText uncoveredOf plainBy namedValue valueOf
-    valueOpen runsFrom fitOf attributeAt childrenFrom anyOf attributeFrom says isMain isLauncher isFilter isEnabled starts given inApplication mainActivities
-    mainOpen mainAnswer listAfter flatMap NamedActivity
+unfolding head computing
 none-starts = refl
 
 opened : mainOpen head (lends [] []) [] [] nodes attributes 3 3 ≡ Open (openedOf head .head)
-unfolding head u16le u32le headerOf valueTypeOf matched isWhole longest anyWhole spelt encode step8 stepsAfter bytesOf allSound textOf eqBytes isAscii
-    countOf numbered endOf poolFrom behindGarbage poolOf offsetOf split8 split16 idsIn idsBy mapOf idOf isGood namesFrom nameOf systemOf stringAt stringOf
-    contentOf tablesOf openedOf lengthCheck itemAt itemsFrom isName isNew isGoodItem ruleFrom tableOf namedIn attrText uncoveredOf plainBy namedValue valueOf
-    valueOpen runsFrom fitOf attributeAt childrenFrom anyOf attributeFrom says isMain isLauncher isFilter isEnabled starts given inApplication mainActivities
-    mainOpen mainAnswer listAfter flatMap NamedActivity
+unfolding head computing
 opened = refl
 
 has-one : NamedActivity (treeOf (openedOf head .head) (tablesIn head (openedOf head .head)) (lends [] []) [] [] nodes attributes 3) ≡ true
-unfolding head u16le u32le headerOf valueTypeOf matched isWhole longest anyWhole spelt encode step8 stepsAfter bytesOf allSound textOf eqBytes isAscii
-    countOf numbered endOf poolFrom behindGarbage poolOf offsetOf split8 split16 idsIn idsBy mapOf idOf isGood namesFrom nameOf systemOf stringAt stringOf
-    contentOf tablesOf openedOf lengthCheck itemAt itemsFrom isName isNew isGoodItem ruleFrom tableOf namedIn attrText uncoveredOf plainBy namedValue valueOf
-    valueOpen runsFrom fitOf attributeAt childrenFrom anyOf attributeFrom says isMain isLauncher isFilter isEnabled starts given inApplication mainActivities
-    mainOpen mainAnswer listAfter flatMap NamedActivity
+unfolding head computing
 has-one = refl
 
 asks : Ask head (lends [] []) [] [] nodes attributes (7 ∷ []) 3 3

@@ -11,24 +11,18 @@ use mathlib.Core.Path.{_≡_, refl}
 use mathlib.Core.List.{List, [], _∷_, _++_}
 use lib.ListN.{length, take}
 use Rattle.anomaly.specs.declared.ResAnomaly.the-variants.{NonXmlChunk, XmlNodeHeaderSize}
-use Rattle.anomaly.specs.Note.{kindIndex}
-use Rattle.anomaly.specs.Kept.{keptFrom, keptNotes}
-use Rattle.field.specs.Le.{u16le, u32le}
-use Rattle.common.specs.Header.{headerOf}
-use Rattle.chunk.specs.Sort.{isXml, sortOf, contentOf as contentLen, foreignLen}
-use Rattle.chunk.specs.Walk.{walk, walkFrom}
-use Rattle.res_string_pool.specs.Pool.{countOf, numbered, endOf, poolFrom, behindGarbage, poolOf}
-use Rattle.resource_map.specs.Map.{idsIn, idsBy, mapOf}
-use Rattle.head.specs.Head.{tablesOf, openedOf}
-use Rattle.xml_elements.specs.Chunk.{startOf, startTurn, xmlTurn, numberOf, turnOf}
-use Rattle.claims.specs.Insertion.{ForeignChunk, chunksOf, restOf, placesOf, placesIn, inserted, insertedFile, placeNotes}
+use Rattle.anomaly.specs.Kept.{keptNotes}
+use Rattle.chunk.specs.Sort.{isXml, sortOf}
+use Rattle.xml_elements.specs.Chunk.{numberOf}
+use Rattle.claims.specs.Insertion.{ForeignChunk, placesIn, insertedFile, placeNotes}
 use Rattle.claims.proofs.Cases.Table.{fileS, headS, startS, endS, foreignChunk}
+use Rattle.claims.proofs.Cases.Computing.{computing}
 
 -- ---- seven foreign chunks
 
 -- type 0x105, header size 8, size 8: not XML
 unfoldable pub f105 : ForeignChunk
-unfolding headerOf sortOf isXml u16le u32le
+unfolding computing
 f105 = record {
   bytes = foreignChunk;
   header = record { kind = 0x105; «header_size» = 8; size = 8 };
@@ -39,7 +33,7 @@ f105 = record {
 
 -- type 0x102, header size 8, size 9: XML with a wrong header size
 unfoldable pub f102 : ForeignChunk
-unfolding headerOf sortOf isXml u16le u32le
+unfolding computing
 f102 = record {
   bytes = 0x02 ∷ 0x01 ∷ 0x08 ∷ 0x00 ∷ 0x09 ∷ 0x00 ∷ 0x00 ∷ 0x00 ∷ 0x4d ∷ [];
   header = record { kind = 0x102; «header_size» = 8; size = 9 };
@@ -55,27 +49,24 @@ some = (f105 ∷ f105 ∷ []) ∷ (f102 ∷ f105 ∷ f105 ∷ f102 ∷ []) ∷ (
 
 -- the end of S is cut where its last 5 bytes are gone
 pub s-places : (placesIn fileS ≡ 3) × (placesIn (take 107 fileS) ≡ 2) × (placesIn (fileS ++ (0 ∷ [])) ≡ 2)
-unfolding fileS headS startS endS placesOf chunksOf restOf walk walkFrom turnOf xmlTurn startTurn startOf numberOf headerOf isXml sortOf contentLen
-    foreignLen u16le u32le openedOf tablesOf countOf numbered endOf poolFrom behindGarbage poolOf idsIn idsBy mapOf
+unfolding fileS computing
 s-places = (refl, refl, refl)
 
 pub s-longer : insertedFile some fileS
     ≡ headS ++ (foreignChunk ++ foreignChunk ++ startS ++ f102 .bytes ++ foreignChunk ++ foreignChunk ++ f102 .bytes ++ endS ++ foreignChunk)
-unfolding fileS headS startS endS insertedFile inserted chunksOf restOf walk walkFrom turnOf xmlTurn startTurn startOf numberOf headerOf isXml sortOf
-    contentLen foreignLen u16le u32le openedOf tablesOf countOf numbered endOf poolFrom behindGarbage poolOf idsIn idsBy mapOf f105 f102
+unfolding fileS f105 f102 computing
 s-longer = refl
 
 pub s-limit : length (insertedFile some fileS) ≡ 170
-unfolding fileS headS startS endS insertedFile inserted chunksOf restOf walk walkFrom turnOf xmlTurn startTurn startOf numberOf headerOf isXml sortOf
-    contentLen foreignLen u16le u32le openedOf tablesOf countOf numbered endOf poolFrom behindGarbage poolOf idsIn idsBy mapOf f105 f102
+unfolding fileS f105 f102 computing
 s-limit = refl
 
 -- ---- notes
 
 pub s-notes : placeNotes some ≡ NonXmlChunk 261 ∷ XmlNodeHeaderSize 8 ∷ NonXmlChunk 261 ∷ XmlNodeHeaderSize 8 ∷ NonXmlChunk 261 ∷ []
-unfolding numberOf sortOf isXml f105 f102
+unfolding f105 f102 numberOf sortOf isXml
 s-notes = refl
 
 pub s-kept : keptNotes 2 (placeNotes some) ≡ NonXmlChunk 261 ∷ XmlNodeHeaderSize 8 ∷ NonXmlChunk 261 ∷ XmlNodeHeaderSize 8 ∷ []
-unfolding keptFrom kindIndex numberOf sortOf isXml f105 f102
+unfolding f105 f102 computing
 s-kept = refl

@@ -7,31 +7,13 @@ use mathlib.Core.Path.{_≡_, refl}
 use mathlib.Core.List.{List, [], _∷_, _++_, map}
 use lib.ListN.{length, take}
 use Rattle.anomaly.specs.declared.Note.{Note}
-use Rattle.anomaly.specs.Note.{noteOf, kindIndex}
 use Rattle.errors.specs.declared.ReadAnswer.the-variants.{Done}
 use Rattle.errors.specs.declared.ReadAnswer.{ReadAnswer}
-use Rattle.field.specs.Le.{u16le, u32le}
-use Rattle.common.specs.Header.{headerOf}
-use Rattle.chunk.specs.Sort.{isXml, sortOf, contentOf as contentLen, foreignLen}
-use Rattle.chunk.specs.Walk.{walk, walkFrom, trace, traceFrom}
-use Rattle.utf.specs.Utf8.{matched, isWhole, longest, anyWhole, spelt, encode, step8}
-use Rattle.utf.specs.Text.{stepsAfter, bytesOf, allSound, textOf, damageOf, eqBytes}
-use Rattle.xml.specs.NCName.{inRanges, isStart, isChar, sortOf as nameSort, allChar, nameOf as isNameOf, validName}
-use Rattle.res_string_pool.specs.Pool.{countOf, numbered, endOf, poolFrom, behindGarbage, poolOf, offsetOf, outsideOf}
-use Rattle.res_string_pool.specs.Content.{split8, split16}
-use Rattle.resource_map.specs.Map.{idsIn, idsBy, mapOf, idOf}
-use Rattle.utf.specs.Plain.{isAscii}
-use Rattle.system_types.specs.Names.{lends, isGood, namesFrom, nameOf}
-use Rattle.text.specs.Content.{systemOf, stringAt, stringOf, contentOf}
-use Rattle.head.specs.Head.{tablesOf, openedOf, outsideIn}
-use Rattle.head.specs.Entry.{lengthCheck}
-use Rattle.xml_elements.specs.Chunk.{startOf, attributeAt, startTurn, xmlTurn, numberOf, turnOf}
-use Rattle.events.specs.Events.{attributeEvent, attributesOf, fromLead, fromOpen, fromNamed, fromName, fromTrailing, fromSize, fromGap, eventsOn, bodyEvents, fileEvents}
-use Rattle.records.specs.Repeats.{repeatsOne}
-use Rattle.walk.specs.Settle.{settle}
+use Rattle.system_types.specs.Names.{lends}
 use Rattle.walk.specs.Reading.{reading, zeroNote}
-use Rattle.claims.specs.Lost.{Mark, start, end, marksIn, comesEnd, startNames, stillOpen, beforeLost, keptOf}
+use Rattle.claims.specs.Lost.{Mark, start, end, marksIn, startNames, stillOpen, keptOf}
 use Rattle.claims.proofs.Cases.Table.{startS, endS, headS, fileS, room, note, none}
+use Rattle.claims.proofs.Cases.Computing.{computing}
 
 pub record Told : Type 0 where
   pub starts : ℕ
@@ -60,7 +42,7 @@ pub marks-told : map toldOf (
     (s ∷ s ∷ end ∷ end ∷ s ∷ end ∷ []) ∷
     (s ∷ end ∷ end ∷ s ∷ s ∷ end ∷ []) ∷ [])
     ≡ told 0 0 0 ∷ told 1 1 1 ∷ told 1 1 0 ∷ told 3 1 2 ∷ told 2 1 2 ∷ told 2 1 1 ∷ told 3 2 2 ∷ told 3 3 0 ∷ told 3 1 1 ∷ []
-unfolding comesEnd startNames stillOpen beforeLost keptOf
+unfolding computing
 marks-told = refl
 
 -- ---- files
@@ -68,7 +50,7 @@ marks-told = refl
 -- S; without its end; with an end more; with a start more; without its end and with a start more; with a start and an end more; start, start,
 -- start, end; end, start, start
 unfoldable pub files : List (List ℕ)
-unfolding fileS headS startS endS
+unfolding fileS
 files =
     fileS ∷
     take 88 fileS ∷
@@ -81,9 +63,7 @@ files =
 
 pub files-told : map (λ (f : List ℕ). toldOf (marksIn f)) files
     ≡ told 1 1 0 ∷ told 1 1 1 ∷ told 1 1 0 ∷ told 2 1 1 ∷ told 2 1 2 ∷ told 2 2 0 ∷ told 3 1 2 ∷ told 2 1 2 ∷ []
-unfolding files fileS headS startS endS u16le u32le headerOf isXml sortOf contentLen foreignLen walk walkFrom trace traceFrom countOf numbered
-    endOf poolFrom behindGarbage poolOf offsetOf outsideOf idsIn idsBy mapOf idOf tablesOf openedOf outsideIn startOf attributeAt startTurn xmlTurn
-    numberOf turnOf comesEnd startNames stillOpen beforeLost keptOf
+unfolding files computing
 files-told = refl
 
 pub record Left : Type 0 where
@@ -103,10 +83,5 @@ only n = note 12 n ∷ zeroNote ∷ zeroNote ∷ zeroNote ∷ []
 pub files-read : map leftOf files
     ≡ left 1 1 0 none ∷ left 1 1 1 (only 1) ∷ left 1 1 0 none ∷ left 2 1 1 (only 1) ∷ left 2 1 1 (only 2) ∷ left 2 2 0 none ∷ left 3 1 1 (only 2) ∷
     left 2 1 1 (only 2) ∷ []
-unfolding files fileS headS startS endS reading settle u16le u32le headerOf isXml sortOf contentLen foreignLen walk walkFrom trace traceFrom
-    countOf numbered endOf poolFrom behindGarbage poolOf offsetOf outsideOf split8 split16 idsIn idsBy mapOf idOf isAscii isGood namesFrom
-    nameOf systemOf stringAt stringOf contentOf tablesOf openedOf outsideIn lengthCheck startOf attributeAt startTurn xmlTurn numberOf
-    turnOf attributeEvent attributesOf fromLead fromOpen fromNamed fromName fromTrailing fromSize fromGap eventsOn bodyEvents fileEvents repeatsOne
-    kindIndex noteOf matched isWhole longest anyWhole spelt encode step8 stepsAfter bytesOf allSound textOf damageOf eqBytes inRanges isStart isChar
-    nameSort allChar isNameOf validName
+unfolding files computing
 files-read = refl

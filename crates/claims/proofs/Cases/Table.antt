@@ -10,31 +10,14 @@ use mathlib.Core.Path.{_≡_, refl}
 use mathlib.Core.List.{List, [], _∷_, _++_}
 use lib.ListN.{take, drop, replicate}
 use Rattle.anomaly.specs.declared.Note.{Note}
-use Rattle.anomaly.specs.Note.{noteOf, kindIndex}
 use Rattle.errors.specs.declared.Refusal.the-variants.{TooSmallError, StringPoolHeader}
 use Rattle.errors.specs.declared.ReadAnswer.the-variants.{Done, Refused}
 use Rattle.errors.specs.declared.ReadAnswer.{ReadAnswer}
-use Rattle.field.specs.Le.{u16le, u32le}
-use Rattle.common.specs.Header.{headerOf}
-use Rattle.chunk.specs.Sort.{isXml, sortOf, contentOf as contentLen, foreignLen}
-use Rattle.chunk.specs.Walk.{walk, walkFrom, trace, traceFrom}
-use Rattle.utf.specs.Utf8.{matched, isWhole, longest, anyWhole, spelt, encode, step8}
-use Rattle.utf.specs.Text.{stepsAfter, bytesOf, allSound, badCount, textOf, damageOf, eqBytes}
-use Rattle.xml.specs.NCName.{inRanges, isStart, isChar, sortOf as nameSort, allChar, nameOf as isNameOf, validName}
-use Rattle.res_string_pool.specs.Pool.{countOf, numbered, endOf, poolFrom, behindGarbage, poolOf, offsetOf, outsideOf}
-use Rattle.res_string_pool.specs.Content.{split8, split16}
-use Rattle.resource_map.specs.Map.{idsIn, idsBy, mapOf, idOf}
-use Rattle.utf.specs.Plain.{isAscii}
-use Rattle.system_types.specs.Names.{lends, isGood, namesFrom, nameOf}
-use Rattle.text.specs.Content.{systemOf, stringAt, stringOf, contentOf}
-use Rattle.head.specs.Head.{tablesOf, openedOf, outsideIn}
-use Rattle.head.specs.Entry.{lengthCheck}
-use Rattle.xml_elements.specs.Chunk.{startOf, attributeAt, startTurn, xmlTurn, numberOf, turnOf}
-use Rattle.events.specs.Events.{attributeEvent, attributesOf, fromLead, fromOpen, fromNamed, fromName, fromTrailing, fromSize, fromGap, eventsOn, bodyEvents, fileEvents}
+use Rattle.system_types.specs.Names.{lends}
 use Rattle.records.specs.Words.{nodeWidth, nodeWords, noParent, attributeWidth, attributeWords, merged}
-use Rattle.records.specs.Repeats.{repeatsOne}
-use Rattle.walk.specs.Settle.{Room, settle}
+use Rattle.walk.specs.Settle.{Room}
 use Rattle.walk.specs.Reading.{Reading, reading, zeroNote}
+use Rattle.claims.proofs.Cases.Computing.{computing}
 
 -- ---- the files
 
@@ -57,6 +40,7 @@ headS =
     0x80 ∷ 0x01 ∷ 0x08 ∷ 0x00 ∷ 0x08 ∷ 0x00 ∷ 0x00 ∷ 0x00 ∷ []
 
 unfoldable pub fileS : List ℕ
+unfolding headS startS endS
 fileS = headS ++ (startS ++ endS)
 
 -- type 0x105, sizes 8 and 8
@@ -135,7 +119,7 @@ row f r = record { file = f; result = r }
 -- ---- the table
 
 unfoldable pub cases : List Case
-unfolding fileS headS startS endS startL endL headR headC
+unfolding fileS startL endL headR headC
 cases =
     row fileS (oneNode 1 0 none) ∷
     row (take 7 fileS) (refusal (Refused (TooSmallError 7))) ∷
@@ -173,10 +157,5 @@ results [] = []
 results (c ∷ cs) = c .result ∷ results cs
 
 pub cases-right : readings cases ≡ results cases
-unfolding cases fileS headS startS endS startL endL headR headC reading settle u16le u32le headerOf isXml sortOf contentLen foreignLen walk walkFrom trace traceFrom
-    countOf numbered endOf poolFrom behindGarbage poolOf offsetOf outsideOf split8 split16 idsIn idsBy mapOf idOf isAscii isGood namesFrom
-    nameOf systemOf stringAt stringOf contentOf tablesOf openedOf outsideIn lengthCheck startOf attributeAt startTurn xmlTurn numberOf
-    turnOf attributeEvent attributesOf fromLead fromOpen fromNamed fromName fromTrailing fromSize fromGap eventsOn bodyEvents fileEvents repeatsOne
-    kindIndex noteOf matched isWhole longest anyWhole spelt encode step8 stepsAfter bytesOf allSound badCount textOf damageOf eqBytes inRanges isStart
-    isChar nameSort allChar isNameOf validName
+unfolding cases computing
 cases-right = refl
