@@ -4,5 +4,6 @@ pub mod ForeignRow
 pub mod InsertedBody
 pub mod InsertedFile
 pub mod ForeignChunks
+pub mod SameTree
 pub mod Theorem
 pub mod Questions

@@ -11,4 +11,3 @@ pub mod OpenElements
 pub mod NoteTwelve
 pub mod Theorem
 pub mod TreeOrder
-pub mod Depth

@@ -8,7 +8,6 @@ use mathlib.Core.List.{List, [], _∷_, _++_, map, cons≢nil}
 use mathlib.Core.Bool.{Bool, true, false, cond}
 use borrow.Author.Tests.{eqb-true, eqb-false, eq-eqb, ne-eqb}
 use lib.ListN.{length, take, getD, length-map, length-take}
-use lib.Seq.{take-at}
 use lib.Dec.{eqb}
 use Rattle.anomaly.specs.Note.{kinds, kindIndex, noteOf}
 use Rattle.anomaly.specs.Kept.{isDue, counted, none, keptFrom, keptNotes, ofKind}
@@ -19,35 +18,26 @@ use Rattle.anomaly.proofs.Numbers.{kind-place}
 use Rattle.errors.specs.declared.ReadAnswer.the-variants.{Done}
 use Rattle.errors.specs.declared.ReadCounts.{ReadCounts}
 use Rattle.records.specs.Limits.{fileLimit}
-use Rattle.records.specs.Words.{nodeWidth, attributeWidth}
 use Rattle.system_types.specs.Names.{Lent}
 use Rattle.head.specs.declared.HeadEnd.the-variants.{Whole}
-use Rattle.head.specs.declared.Opened.{Opened}
 use Rattle.head.specs.Head.{openedOf, tablesIn, bodyIn}
-use Rattle.head.specs.Entry.{isMode}
 use Rattle.xml_elements.specs.Chunk.{index}
 use Rattle.events.specs.declared.Event.{Event}
-use Rattle.events.specs.Events.{Names, namesIn, fileEvents}
-use Rattle.walk.specs.Settle.{Room, Tables, Out, going, refused, settle, nothingYet}
-use Rattle.walk.specs.Reading.{Reading, secondOf, succeeds, finalOf, settledIn, reading}
+use Rattle.events.specs.Events.{Names, fileEvents}
+use Rattle.walk.specs.Settle.{Room}
+use Rattle.walk.specs.Reading.{reading}
 use Rattle.claims.specs.Insertion.{ForeignChunk, placesIn, inserted, insertedFile, placeNotes, withNotes}
 use Rattle.claims.specs.Room.{HasRoom}
 use Rattle.claims.specs.Counts.{notesIn}
 use Rattle.claims.specs.Damaged.{damagePlace, besides, OnlyDamage}
-use Rattle.claims.specs.Readers.{eventsOf}
+use Rattle.claims.specs.Readers.{namesFor, eventsOf}
 use Rattle.claims.specs.Shape.{ofKind as ofNumber}
 use Rattle.claims.proofs.Events.NotesAndOthers.{othersIn, nil-right}
-use Rattle.claims.proofs.Settle.TableGrowth.{bare, grown, grown-others}
-use Rattle.claims.proofs.Structure.Depth.{deep, grown-stack, second-none}
-use Rattle.claims.proofs.Structure.Tables.{Shaped, settled-shaped, kept-in}
-use Rattle.claims.proofs.Settle.StoreAll.{Settles, empty, settled, Comes, settle-beside}
-use Rattle.claims.proofs.Insertion.InsertedFile.{longer-opened, longer-tables, longer-body, whole-of, deep-file, longer-others, longer-notes}
-use Rattle.claims.proofs.Settle.Success.{Success, KeptThere, success, reading-of, succeeds-beside}
+use Rattle.claims.proofs.Insertion.InsertedFile.{longer-others, longer-notes}
+use Rattle.claims.proofs.Insertion.SameTree as both
+use Rattle.claims.proofs.Settle.Success.{success}
 use Rattle.claims.proofs.Events.KeptNotes.{number-of}
 use Rattle.claims.proofs.Damaged.WithoutDamage.{quiet, Quieted, file-quieted, damagesOf, damages-others}
-
-true-false : true ≡ false → ⊥
-true-false e = let z : _≡_ {A = ℕ} 0 1 = cc in omega arith
 
 -- ---- the other kinds are counted apart
 
@@ -173,128 +163,67 @@ only-damage cap h l only = none-besides damagePlace l go
 
 module _ (r : Room) (f : List ℕ) (lent : Lent) (c : ReadCounts) (done : reading r f lent .answer ≡ Done c)
     (only : OnlyDamage (take (c .notes) (reading r f lent .notes))) where
-  abbrev s : Success r f lent c
-  s = success r f lent c done
-
-  abbrev o : Opened
-  o = openedOf f
+  abbrev N : Names
+  N = namesFor (r .mode) f lent
 
   abbrev t : List ℕ
-  t = tablesIn f (o .head)
-
-  abbrev N : Names
-  N = namesIn (r .mode) (o .head) t lent
+  t = tablesIn f (openedOf f .head)
 
   abbrev l : List ℕ
-  l = bodyIn f (o .head)
+  l = bodyIn f (openedOf f .head)
 
   abbrev es : List Event
-  es = fileEvents N o t l
+  es = eventsOf (r .mode) f lent
 
-  -- the same without notes 32
-  abbrev quieter : List Event
-  quieter = fileEvents (quiet N) o t l
+  said : Quieted N es (fileEvents (quiet N) (openedOf f) t l)
+  said = file-quieted N (openedOf f) t l
 
-  said : Quieted N es quieter
-  said = file-quieted N o t l
-
-  told : Settles (N .repeats) r empty es (s .tables)
-  told = settled (N .repeats) r es (s .tables) (s .settles)
-
-  -- the notes of the reading
-  many : c .notes ≡ length (s .tables .notes)
-  many = ap (λ (d : ReadCounts). d .notes) (sym (s .counts))
-
-  pub noted : take (c .notes) (reading r f lent .notes) ≡ map noteOf (keptNotes (r .cap) (notesIn es))
-  noted =
-      ap (λ (n : ℕ). take n (reading r f lent .notes)) many ∙ ap (take (length (s .tables .notes))) (ap (λ (x : Reading). x .notes) (s .whole))
-      ∙ take-at (s .tables .notes) _ (length (s .tables .notes)) refl ∙ told .notes
+  noted : take (c .notes) (reading r f lent .notes) ≡ map noteOf (keptNotes (r .cap) (notesIn es))
+  noted = both.noted r f lent c done
 
   no-other : besides damagePlace (notesIn es) ≡ []
-  no-other = only-damage (r .cap) (s .cap) (notesIn es) (λ k n. ap (ofNumber k) (sym noted) ∙ only k n)
+  no-other = only-damage (r .cap) (success r f lent c done .cap) (notesIn es) (λ k n. ap (ofNumber k) (sym noted) ∙ only k n)
 
-  -- so the quieter file has none
-  no-notes : notesIn quieter ≡ []
+  -- so without damage it makes no note
+  no-notes : notesIn (fileEvents (quiet N) (openedOf f) t l) ≡ []
   no-notes = sym (said .notes) ∙ no-other
 
-  head-whole : o .end ≡ Whole
-  head-whole = whole-of N o t l (told .stay)
-
-  same-grown : grown (N .repeats) (bare empty) es ≡ grown (N .repeats) (bare empty) quieter
-  same-grown =
-      grown-others (N .repeats) (bare empty) es ∙ ap (grown (N .repeats) (bare empty)) (said .others) ∙ sym (grown-others (N .repeats) (bare empty) quieter)
-
-  -- nothing is dropped
-  no-second : secondOf (s .tables .stack) ≡ 0
-  no-second =
-      let e : grown (N .repeats) (bare empty) quieter .stack ≡ s .tables .stack = ap (λ (u : Tables). u .stack) (sym same-grown ∙ sym (told .tree)) in
-      let d : deep quieter 0 ≡ 0 = deep-file (quiet N) o t head-whole l no-notes in
-      let h : length (grown (N .repeats) (bare empty) quieter .stack) ≤ deep quieter 0 + 1 = grown-stack (N .repeats) quieter (bare empty) 0 (omega arith) in
-      second-none (s .tables .stack) (rw (← e) (omega (arith, d, h)))
+  head-whole : openedOf f .end ≡ Whole
+  head-whole = both.head-whole r f lent c done
 
   pub nothing-dropped : c .nodes ≡ c .starts
-  nothing-dropped = rw (← s .counts, no-second)
-
-  there : KeptThere (s .tables)
-  there =
-      let shaped : Shaped r (s .tables) = rw (s .settles) at (settled-shaped r (N .repeats) es) in
-      let k = kept-in r (s .tables) shaped in
-      record { nodes = omega (arith, k .nodes, shaped .nodes); attributes = omega (arith, k .attributes, shaped .attributes) }
+  nothing-dropped = both.all-kept r f lent c done (only 12 (λ e. omega arith))
 
   module _ (places : List (List ForeignChunk)) (few : length places ≤ placesIn f) (limit : length (insertedFile places f) ≤ fileLimit) (r′ : Room)
       (one : 1 ≤ r′ .cap) (alike : r′ .mode ≡ r .mode) where
     abbrev es′ : List Event
-    es′ = fileEvents N o t (inserted places l)
+    es′ = fileEvents N (openedOf f) t (inserted places l)
 
-    said′ : Quieted N es′ (fileEvents (quiet N) o t (inserted places l))
-    said′ = file-quieted N o t (inserted places l)
+    said′ : Quieted N es′ (fileEvents (quiet N) (openedOf f) t (inserted places l))
+    said′ = file-quieted N (openedOf f) t (inserted places l)
 
     abbrev ns : List ResAnomaly
     ns = keptNotes (r′ .cap) (notesIn (eventsOf (r .mode) (insertedFile places f) lent))
 
     longer-is : eventsOf (r .mode) (insertedFile places f) lent ≡ es′
-    longer-is =
-        rw (
-          longer-opened f (s .short) head-whole places,
-          longer-tables f (s .short) head-whole places,
-          longer-body f (s .short) head-whole places,
-        )
-
-    longer : reading r′ (insertedFile places f) lent ≡ finalOf r′ (settle (N .repeats) r′ nothingYet es′)
-    longer = reading-of r′ (insertedFile places f) lent limit one (s .good) (ap isMode alike ∙ s .mode) ∙ ap (finalOf r′) same
-      where
-        same : settledIn r′ (insertedFile places f) lent (openedOf (insertedFile places f)) ≡ settle (N .repeats) r′ nothingYet es′
-        same =
-            rw (
-              alike,
-              longer-opened f (s .short) head-whole places,
-              longer-tables f (s .short) head-whole places,
-              longer-body f (s .short) head-whole places,
-            )
+    longer-is = both.events-longer r f lent c done places limit r′ one alike
 
     others : othersIn es′ ≡ othersIn es
-    others = said′ .others ∙ longer-others (quiet N) o t head-whole l no-notes places few ∙ sym (said .others)
+    others = said′ .others ∙ longer-others (quiet N) (openedOf f) t head-whole l no-notes places few ∙ sym (said .others)
 
     -- THE THEOREM: the tree stays
     pub insertion-damaged : HasRoom (reading r′ (insertedFile places f) lent .answer)
         → reading r′ (insertedFile places f) lent ≡ withNotes r′ (reading r f lent) c ns
     insertion-damaged room =
-        go (settle (N .repeats) r′ nothingYet es′) longer (settle-beside (N .repeats) r es (s .tables) (s .settles) r′ es′ others)
-      where
-        go : (x : Out) → reading r′ (insertedFile places f) lent ≡ finalOf r′ x → Comes (N .repeats) r es (s .tables) (s .settles) r′ es′ others x
-            → reading r′ (insertedFile places f) lent ≡ withNotes r′ (reading r f lent) c ns
-        go (refused x) e full = absurd (true-false (sym full ∙ (rw e at room)))
-        go (going u) e b =
-            e ∙ succeeds-beside r r′ (s .tables) u ns (b .tree)
-            (b .notes ∙ ap (λ (m : List Event). map noteOf (keptNotes (r′ .cap) (notesIn m))) (sym longer-is)) there
-            ∙ ap (λ (d : ReadCounts). withNotes r′ (succeeds r (s .tables)) d ns) (s .counts) ∙ ap (λ (x : Reading). withNotes r′ x c ns) (sym (s .whole))
+        both.same-tree r f lent c done places limit r′ one alike others room
+        ∙ ap (λ (m : List Event). withNotes r′ (reading r f lent) c (keptNotes (r′ .cap) (notesIn m))) (sym longer-is)
 
     -- all other notes are those of the chunks
     pub insertion-damaged-others : besides damagePlace ns ≡ keptNotes (r′ .cap) (placeNotes places)
     insertion-damaged-others =
         besides-kept (r′ .cap) damagePlace (notesIn (eventsOf (r .mode) (insertedFile places f) lent))
         ∙ ap (λ (m : List Event). keptNotes (r′ .cap) (besides damagePlace (notesIn m))) longer-is
-        ∙ ap (keptNotes (r′ .cap)) (said′ .notes ∙ longer-notes (quiet N) o t head-whole l no-notes places few)
+        ∙ ap (keptNotes (r′ .cap)) (said′ .notes ∙ longer-notes (quiet N) (openedOf f) t head-whole l no-notes places few)
 
     -- and the file's own are there, the first as many as the cap says
     pub insertion-damaged-kept : ofKind damagePlace ns ≡ take (r′ .cap) (notesIn (eventsOf (r .mode) f lent))

@@ -1,10 +1,9 @@
--- The notes that events leave are exactly their anomalies, of each kind the first as many as the cap says: docs/FORMAT.md, B12 to B14.
--- For proofs/Structure/Theorem.antt and proofs/Broken/Readers.antt. No contract cites this file.
+-- The notes that a cap keeps, of each kind the first as many as it says: docs/FORMAT.md, B12 to B14. No contract cites this file.
 --
---   settled-notes   `map noteOf (keptNotes cap ..)` of the anomalies among the events
---   kept-le         a cap keeps no more than there are; All, all-append, kept-all: what holds of all anomalies holds of those that it keeps
---   number-of       as many notes have the number of a kind as anomalies have its place
---   kept-number     so of each number at most `cap` are kept
+--   All, all-append, all-of   what holds of all anomalies of a list; kept-all: it holds of those that a cap keeps
+--   kept-le                   a cap keeps no more than there are
+--   number-of                 as many notes have the number of a kind as anomalies have its place
+--   kept-number               so of each number at most `cap` are kept
 use Prim.Native.Nat.{ℕ, _+_, _≤_}
 use native.Mathlib.Omega.{arith}
 use mathlib.Core.Path.{_≡_, refl}
@@ -18,16 +17,7 @@ use Rattle.anomaly.specs.Kept.{isDue, counted, keptFrom, keptNotes, ofKind as o
 use Rattle.anomaly.specs.declared.ResAnomaly.{ResAnomaly}
 use Rattle.anomaly.proofs.Laws.{keptFrom-due, keptFrom-past, keptNotes-of-kind-le}
 use Rattle.anomaly.proofs.Numbers.{kind-place}
-use Rattle.records.specs.Repeats.{Rule}
-use Rattle.events.specs.declared.Event.{Event}
-use Rattle.walk.specs.Settle.{Room, Tables, going, settle, nothingYet}
-use Rattle.claims.specs.Counts.{notesIn}
 use Rattle.claims.specs.Shape.{ofKind}
-use Rattle.claims.proofs.Settle.StoreAll.{settled}
-
-pub settled-notes : (rule : Rule) (r : Room) (es : List Event) (t : Tables) → settle rule r nothingYet es ≡ going t
-    → t .notes ≡ map noteOf (keptNotes (r .cap) (notesIn es))
-settled-notes rule r es t e = settled rule r es t e .notes
 
 -- ---- all anomalies, and those that are kept
 

@@ -27,7 +27,6 @@ use Rattle.claims.proofs.Insertion.BodyChunks.{inserted-none}
 use Rattle.claims.specs.Counts.{notesIn}
 use Rattle.claims.proofs.Events.NotesAndOthers.{othersIn, othersIn-append, notesIn-append, nil-left, nil-right}
 use Rattle.claims.proofs.Insertion.InsertedBody.{woven-all}
-use Rattle.claims.proofs.Structure.Depth.{deep, deep-append, deep-end}
 use Rattle.claims.proofs.Settle.StoreCases.{AllStay, stay-right}
 
 -- ---- a whole head lies in its file
@@ -119,25 +118,6 @@ module _ (N : Names) (o : Opened) (t : List ℕ) where
       go (PoolShort e) q s = let s′ = rw q at s in absurd (s′ .0)
       go (TooSmall n) q s = let s′ = rw q at s in absurd (s′ .0)
       go (HeaderSize n) q s = let s′ = rw q at s in absurd (s′ .0)
-
-  -- a file without notes ends at the depth 0
-  pub deep-file : o .end ≡ Whole → (l : List ℕ) → notesIn (fileEvents N o t l) ≡ [] → deep (fileEvents N o t l) 0 ≡ 0
-  unfolding bodyEvents
-  deep-file w l none =
-      let e = fileEvents-whole w l in
-      let z : notesIn front ++ notesIn (bodyEvents N l) ≡ [] = sym (ap notesIn e ∙ notesIn-append front (bodyEvents N l)) ∙ none in
-      let p : Spot = record { run = 2; depth = 0; starts = 0 } in
-      rw (e, deep-append front (bodyEvents N l) 0, deep-front) (deep-end N l p (nil-right (notesIn front) (notesIn (bodyEvents N l)) z))
-    where
-      notes : (ns : List ResAnomaly) (d : ℕ) → deep (notesOf ns) d ≡ d
-      notes [] d = refl
-      notes (x ∷ ns) d = notes ns d
-
-      deep-front : deep front 0 ≡ 0
-      deep-front =
-          deep-append (notesOf (garbageNotes o)) _ 0
-          ∙ rw (notes (garbageNotes o) 0, deep-append (notesOf (countNotes o)) (notesOf (offsetNotes t o)) 0, notes (countNotes o) 0)
-          (notes (offsetNotes t o) 0)
 
   -- THE LAW of a file's events
   module _ (w : o .end ≡ Whole) (l : List ℕ) (none : notesIn (fileEvents N o t l) ≡ []) (places : List (List ForeignChunk))

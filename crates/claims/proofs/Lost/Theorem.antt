@@ -19,7 +19,6 @@ use Rattle.anomaly.specs.declared.ResAnomaly.the-variants.{UnclosedElements}
 use Rattle.common.specs.declared.StringIndex.{StringIndex}
 use Rattle.errors.specs.declared.ReadAnswer.the-variants.{Done}
 use Rattle.errors.specs.declared.ReadCounts.{ReadCounts}
-use Rattle.errors.proofs.Laws.{numbersOf-unique}
 use Rattle.head.specs.Head.{openedOf, tablesIn, bodyIn}
 use Rattle.events.specs.declared.Event.{Event}
 use Rattle.events.specs.declared.Event.the-variants as event
@@ -39,7 +38,6 @@ use Rattle.claims.proofs.Structure.Done.{done-by, done-shaped}
 use Rattle.claims.proofs.Structure.WalkDepth.{WalkedFile}
 use Rattle.claims.proofs.Structure.OpenElements.{near-second}
 use Rattle.claims.proofs.Structure.Theorem as tree
-use Rattle.claims.proofs.Settle.Success.{success}
 use Rattle.claims.proofs.Lost.Matching.{spare, depth-open, open-above, keptBy, kept-end, kept-start}
 use Rattle.claims.proofs.Lost.Marks.{eventMark, eventMarks, file-marks, events-depth, events-names, events-lines, events-starts}
 use Rattle.claims.proofs.Lost.LastNote.{walked-last}
@@ -134,7 +132,7 @@ module _ (f : List ℕ) (lent : Lent) (ns ats : List ℕ) (os : List Note) (cap 
   all-starts = shape .starts ∙ events-starts es ∙ ap (λ (x : List Mark). length (startNames x)) marks
 
   one : 1 ≤ cap
-  one = success (roomIn ns ats os cap mode) f lent c (sym (numbersOf-unique (Done c) (reading (roomIn ns ats os cap mode) f lent .answer) (reads .answer))) .cap
+  one = done-by f lent ns ats os cap mode c ns′ ats′ os′ reads .cap
 
   pub nothing-lost : NothingLost ms c ns′ os′
   nothing-lost = record {

@@ -5,6 +5,7 @@
 --   Goes        what a law has to show, event by event, where the tables go on: I speaks of the events to come and of the tables
 --   Stops       and where it is refused: S speaks of the refusal
 --   settle-by   then it holds in the end; settle-in: of a law that says nothing of refusals
+--   settle-keeps   what an element, an end, a kept attribute and a kept note keep, all events keep
 use Prim.Native.Nat.{ℕ, _+_, _/_, _≤_, _<_}
 use mathlib.Core.Path.{_≡_, refl}
 use mathlib.Core.List.{List, [], _∷_}
@@ -129,3 +130,22 @@ settle-in rule r I goes o es h =
       attributes = λ t es p a g h. tt;
       notes = λ t es x d g h. tt;
     }) o es h
+
+-- ---- where the events to come play no part
+
+module _ (rule : Rule) (r : Room) (P : Tables → Type 0)
+    (opens : (t : Tables) (name fixed line : ℕ) → length (t .nodes) + nodeWidth ≤ r .nodes → P t → P (opened t name fixed line))
+    (closes : (t : Tables) → P t → P (closed t))
+    (keeps : (t : Tables) (p : ℕ) (a : XmlAttributeElement) → (length (t .nodes) ≡ 0 → ⊥) → length (t .attributes) + attributeWidth ≤ r .attributes → P t
+    → P (kept t p a))
+    (notes : (t : Tables) (x : ResAnomaly) → length (t .notes) < r .notes → P t → P (noted t x)) where
+  pub settle-keeps : (o : Out) (es : List Event) → InTables P o → InTables P (settle rule r o es)
+  settle-keeps =
+      settle-in rule r (λ es t. P t) (record {
+        idles = λ t e es i h. h;
+        closes = λ t es h. closes t h;
+        opens = λ t es n f l g h. opens t (n .0) f l g h;
+        keeps = λ t es p a some g h. keeps t p a some g h;
+        notes = λ t es x d g h. notes t x g h;
+        past = λ t es x d h. h;
+      })

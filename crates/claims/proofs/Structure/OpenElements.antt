@@ -3,11 +3,15 @@
 --   settled-near     as many elements are open as the depth says, or one more
 --   near-second      so with depth 0 there is no second open element, and from depth 2 on there is one
 --   settled-walked   where events leave tables, they are those of a whole walk: none of them refuses
+--   second-none      where no note 12 is kept, no second element is open in the end
 use Prim.Native.Nat.{ℕ, _+_, _-_, _≤_, _<_}
 use native.Mathlib.Omega.{arith}
 use mathlib.Core.Path.{_≡_, refl, sym, _∙_, ap}
 use mathlib.Core.List.{List, [], _∷_, _++_}
+use mathlib.Core.Bool.{Bool, true, false}
+use borrow.Author.Tests.{eqb-true, eqb-false}
 use lib.ListN.{length}
+use lib.Dec.{eqb}
 use Rattle.errors.specs.declared.Refusal.{Refusal}
 use Rattle.records.specs.Repeats.{Rule}
 use Rattle.events.specs.declared.Event.{Event}
@@ -15,10 +19,12 @@ use Rattle.events.specs.declared.Event.the-variants.{Refuse}
 use Rattle.walk.specs.Settle.{Room, Tables, Out, going, refused, push, settle, nothingYet, closedIn}
 use Rattle.walk.specs.Reading.{secondOf}
 use Rattle.claims.specs.Counts.{depthFrom}
-use Rattle.claims.proofs.Settle.StoreAll.{empty}
+use Rattle.claims.specs.Shape.{ofKind}
+use Rattle.claims.proofs.Settle.StoreAll.{empty, settled}
 use Rattle.claims.proofs.Settle.ByEvent.{idle-still, Goes, settle-in}
 use Rattle.claims.proofs.Structure.Shape.{Falls}
 use Rattle.claims.proofs.Structure.WalkDepth.{WalkedFile, Ending, refusedAt, walkedTo}
+use Rattle.claims.proofs.Structure.NoteTwelve.{walked-twelve}
 
 -- ---- what is open
 
@@ -87,3 +93,16 @@ module _ (rule : Rule) (r : Room) where
   pub settled-walked : (es : List Event) (t : Tables) → Ending es → settle rule r nothingYet es ≡ going t → WalkedFile es
   settled-walked es t (refusedAt a x q) e = absurd (refuse-ends nothingYet a x t (sym (ap (λ (y : List Event). settle rule r nothingYet y) q) ∙ e))
   settled-walked es t (walkedTo w) e = w
+
+-- ---- without note 12
+
+module _ (rule : Rule) (r : Room) (es : List Event) (t : Tables) (ends : Ending es) (out : settle rule r nothingYet es ≡ going t) where
+  pub second-none : 0 < r .cap → _≡_ {A = ℕ} (ofKind 12 (t .notes)) 0 → _≡_ {A = ℕ} (secondOf (t .stack)) 0
+  second-none one none = go (eqb (depthFrom 0 es) 0) refl
+    where
+      go : (b : Bool) → eqb (depthFrom 0 es) 0 ≡ b → _≡_ {A = ℕ} (secondOf (t .stack)) 0
+      go true e = near-none (t .stack) (rw (eqb-true (depthFrom 0 es) 0 e) at (settled-near rule r es t out))
+      go false e =
+          let kept = ap (ofKind 12) (settled rule r es t out .notes) in
+          let some = walked-twelve es (settled-walked rule r es t ends out) (r .cap) one (eqb-false (depthFrom 0 es) 0 e) in
+          absurd (let y : ⊥ = omega (arith, none, kept, some) in y)

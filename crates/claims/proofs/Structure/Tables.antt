@@ -20,8 +20,8 @@ use Rattle.records.specs.Repeats.{Rule}
 use Rattle.walk.specs.Settle.{Room, Tables, settle, nothingYet, opened, closed, kept, noted, parentIn}
 use Rattle.walk.specs.Reading.{secondOf, nodesKept, attributesKept}
 use Rattle.claims.specs.Shape.{Descends, begin, end, Runs, Owns}
-use Rattle.claims.proofs.Settle.ByEvent.{InTables}
-use Rattle.claims.proofs.Structure.Words.{settle-keeps, word-new}
+use Rattle.claims.proofs.Settle.ByEvent.{InTables, settle-keeps}
+use Rattle.claims.proofs.Structure.Words.{word-new}
 use Rattle.claims.proofs.Structure.Shape.{Falls, second-lt, falls-opened, falls-closed, run-le, runs-cut}
 use Rattle.claims.proofs.Structure.Shape.{opens-parents, opens-runs, opens-owns, kept-parents, kept-begin, kept-runs, kept-owns}
 

@@ -35,7 +35,7 @@ use Rattle.claims.proofs.Structure.Shape.{second-lt, run-le, covered}
 use Rattle.claims.proofs.Structure.Tables.{Shaped, kept-in, pos}
 use Rattle.claims.proofs.Structure.Done.{DoneBy, done-by, done-shaped}
 use Rattle.claims.proofs.Structure.StartCount.{settled-starts}
-use Rattle.claims.proofs.Events.KeptNotes.{settled-notes, kept-number}
+use Rattle.claims.proofs.Events.KeptNotes.{kept-number}
 use Rattle.claims.proofs.Settle.StoreCases.{AllStay}
 use Rattle.claims.proofs.Settle.StoreAll.{settled}
 use Rattle.claims.proofs.Structure.NodeOrder.{settled-names, settled-fixed, settled-lines}
@@ -131,7 +131,7 @@ module _ (f : List ℕ) (lent : Lent) (ns ats : List ℕ) (os : List Note) (cap 
   ks = keptNotes cap (notesIn es)
 
   told : t .notes ≡ map noteOf ks
-  told = settled-notes rule r es t (d .out)
+  told = settled rule r es t (d .out) .notes
 
   pub notes-many : c .notes ≡ length ks
   notes-many = d .notes ∙ ap length told ∙ length-map ks noteOf

@@ -26,8 +26,8 @@ use Rattle.main_activities.specs.Activities.{childrenFrom, parentOf}
 use Rattle.claims.specs.Readers.{namesFor, eventsOf}
 use Rattle.claims.specs.Shape.{nodeWord, Descends}
 use Rattle.claims.specs.Screens.{withParent}
-use Rattle.claims.proofs.Settle.ByEvent.{InTables}
-use Rattle.claims.proofs.Structure.Words.{settle-keeps, word-old, word-new, word-other}
+use Rattle.claims.proofs.Settle.ByEvent.{InTables, settle-keeps}
+use Rattle.claims.proofs.Structure.Words.{word-old, word-new, word-other}
 use Rattle.claims.proofs.Structure.Shape.{Falls, falls-opened, falls-closed, split-lt}
 use Rattle.claims.proofs.Structure.Tables.{Shaped, kept-in}
 use Rattle.claims.proofs.Structure.Done.{room, outOf, DoneBy, done-by, done-shaped}

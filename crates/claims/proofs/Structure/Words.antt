@@ -1,7 +1,6 @@
--- What holds of the tables whatever events are put away, and words of records at their places. For proofs/Structure/Theorem.antt.
+-- The words of records at their places, in tables that grow: docs/FORMAT.md, B9 to B11. For proofs/Structure/Shape.antt and others.
 --
---   settle-keeps   what an element, an end, a kept attribute and a kept note keep, all events keep
---   place-lt      a word of one of n records stands in the table
+--   place-lt   a word of one of n records stands in the table
 --   word-old, word-new, word-other, word-same   the words of records behind new ones, and where the count of a node is written
 use Prim.Native.Nat.{ℕ, suc, _+_, _*_, _≤_, _<_}
 use native.Mathlib.Omega.{arith}
@@ -10,35 +9,8 @@ use mathlib.Core.Path.{_≡_, sym, _∙_, ap}
 use mathlib.Core.List.{List, _++_}
 use lib.ListN.{length, set, getD, List·getD-append}
 use lib.Seq.{getD-append-add, getD-set-same, getD-set-other}
-use Rattle.anomaly.specs.declared.ResAnomaly.{ResAnomaly}
-use Rattle.xml_elements.specs.declared.XmlAttributeElement.{XmlAttributeElement}
-use Rattle.events.specs.declared.Event.{Event}
-use Rattle.records.specs.Words.{nodeWidth, nodeCount, attributeWidth}
-use Rattle.records.specs.Repeats.{Rule}
-use Rattle.walk.specs.Settle.{Room, Tables, Out, settle, opened, closed, kept, noted}
+use Rattle.records.specs.Words.{nodeWidth, nodeCount}
 use Rattle.claims.specs.Shape.{word, nodeWord}
-use Rattle.claims.proofs.Settle.ByEvent.{InTables, settle-in}
-
--- ---- events put away
-
-module _ (rule : Rule) (r : Room) (P : Tables → Type 0)
-    (opens : (t : Tables) (name fixed line : ℕ) → length (t .nodes) + nodeWidth ≤ r .nodes → P t → P (opened t name fixed line))
-    (closes : (t : Tables) → P t → P (closed t))
-    (keeps : (t : Tables) (p : ℕ) (a : XmlAttributeElement) → (length (t .nodes) ≡ 0 → ⊥) → length (t .attributes) + attributeWidth ≤ r .attributes → P t
-    → P (kept t p a))
-    (notes : (t : Tables) (x : ResAnomaly) → length (t .notes) < r .notes → P t → P (noted t x)) where
-  pub settle-keeps : (o : Out) (es : List Event) → InTables P o → InTables P (settle rule r o es)
-  settle-keeps =
-      settle-in rule r (λ es t. P t) (record {
-        idles = λ t e es i h. h;
-        closes = λ t es h. closes t h;
-        opens = λ t es n f l g h. opens t (n .0) f l g h;
-        keeps = λ t es p a some g h. keeps t p a some g h;
-        notes = λ t es x d g h. notes t x g h;
-        past = λ t es x d h. h;
-      })
-
--- ---- words
 
 -- a word of one of n records stands in the table
 pub place-lt : (width n i k : ℕ) → i < n → k < width → width * i + k < width * n
