@@ -1,3 +1,2 @@
 -- A part of the head that is short: docs/FORMAT.md, H15, P6.
-pub mod Refusals
 pub mod Theorem

@@ -1,6 +1,6 @@
 -- Many pairs at once: an asker that says 12 to all breaks the promise, and the promise can be met (docs/FORMAT.md, P5). No contract cites this file.
 -- The witness is file S with the tables of its reading, asked for `android` on `a`.
-use Prim.Native.Nat.{ℕ, _≤_}
+use Prim.Native.Nat.{ℕ}
 use native.Mathlib.Omega.{arith}
 use mathlib.Core.Path.{_≡_, refl, sym, _∙_, ap}
 use mathlib.Core.List.{List, [], _∷_}

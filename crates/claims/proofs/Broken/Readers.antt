@@ -41,7 +41,7 @@ use Rattle.claims.specs.Insertion.{left}
 use Rattle.claims.specs.Readers.{allBelow, Call, Reader, Meets, eventsOf, kindsOf, RefusesAll, Constant, ConstantOnRead, StopsAtStart}
 use Rattle.claims.specs.Readers.{LeavesNodes, LeavesAttributes, LeavesNotes, ClearsNodes, ClearsAttributes, ClearsNotes}
 use Rattle.claims.specs.Counts.{opensIn, notesIn}
-use Rattle.claims.proofs.Cases.Table.{fileS, headS, startS, endS, noNodes, noAttributes, none, note, oneNode, firstNode, lead}
+use Rattle.claims.proofs.Cases.Table.{fileS, headS, startS, endS, noNodes, noAttributes, none, note, oneNode}
 use Rattle.claims.proofs.Calls.Readings.{left-reading}
 use Rattle.claims.proofs.Structure.Theorem.{starts-right, notes-many, notes-kept}
 use Rattle.claims.proofs.Broken.Witnesses.{call-S, call-88, call-with-end, call-without}

@@ -5,9 +5,9 @@
 --   every-one-broken    without it a teller that gives every activity is wrong
 use Prim.Native.Nat.{ℕ}
 use native.Mathlib.Omega.{arith}
-use mathlib.Core.Path.{_≡_, refl, sym, _∙_}
+use mathlib.Core.Path.{_≡_, refl, _∙_}
 use mathlib.Core.Bool.{true}
-use mathlib.Core.List.{List, [], _∷_, flatMap}
+use mathlib.Core.List.{List, [], _∷_}
 use lib.ListN.{length}
 use Rattle.system_types.specs.Names.{lends}
 use Rattle.head.specs.Head.{openedOf, tablesIn}

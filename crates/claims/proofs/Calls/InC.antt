@@ -2,7 +2,7 @@
 -- In order: words of notes; what the numbers of an answer say of it; a reading as a call of `read` (`as-reads`); zeros; insertion; the questions.
 use Prim.Native.Nat.{ℕ, zero, suc, _+_, _-_, _*_, _/_, _%_, _≤_}
 use native.Mathlib.Omega.{arith}
-use mathlib.Core.Path.{_≡_, refl, sym, _∙_, ap, subst}
+use mathlib.Core.Path.{_≡_, refl, sym, _∙_, ap}
 use mathlib.Core.List.{List, [], _∷_, _++_, map}
 use mathlib.Core.Bool.{false, true≢false}
 use borrow.Author.Tests.{eq-eqb}
@@ -34,7 +34,6 @@ use Rattle.c_api.specs.Answers.{textAnswerOf, firstAnswerOf, AsksText}
 use Rattle.c_api.specs.declared.AxmlAnswer.{AxmlAnswer}
 use Rattle.c_api.specs.declared.AxmlTextAnswer.{AxmlTextAnswer}
 use Rattle.c_api.specs.declared.AxmlFirstAnswer.{AxmlFirstAnswer}
-use Rattle.claims.specs.Cleared.{ZeroBehind}
 use Rattle.claims.specs.Insertion.{ForeignChunk, placesIn, insertedFile, placeNotes, withNotes}
 use Rattle.claims.specs.Room.{isFullNumber, HasRoom}
 use Rattle.claims.specs.InC.{LeftInC, leftInC, withNotesInC, RefusedInC, DoneInC, TextRefusedInC, TextDoneInC, FirstRefusedInC}

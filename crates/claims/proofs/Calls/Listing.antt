@@ -1,18 +1,17 @@
 -- The claims of the listing's function, `listed::list_into`: docs/FORMAT.md, L1, L2, B7, B8, P1. No contract cites this file.
 -- In order: zeros in the buffer; zeros in the tables; the room of a listing suffices.
-use Prim.Native.Nat.{ℕ, _-_, _*_, _≤_}
+use Prim.Native.Nat.{ℕ, _*_}
 use native.Mathlib.Omega.{arith}
 use mathlib.Core.Path.{_≡_, refl, sym, _∙_, ap, subst}
-use mathlib.Core.List.{List, [], _++_}
-use mathlib.Core.Bool.{Bool, true, false, cond}
+use mathlib.Core.List.{List, []}
+use mathlib.Core.Bool.{Bool, true, false}
 use borrow.Author.Tests.{leb-true, ltb-false}
 use lib.ListN.{length, replicate}
 use lib.Dec.{ltb, leb}
 use Rattle.digits.specs.Written.{fitted}
-use Rattle.errors.specs.Refusal.{numberOf, numbersOf, linesNumbersOf}
+use Rattle.errors.specs.Refusal.{numberOf, numbersOf}
 use Rattle.errors.specs.declared.Refusal.{Refusal}
 use Rattle.errors.specs.declared.Refusal.the-variants.{TooLargeError, TextShort}
-use Rattle.errors.specs.declared.ReadAnswer.{ReadAnswer}
 use Rattle.errors.specs.declared.ReadAnswer.the-variants.{Done, Refused}
 use Rattle.errors.specs.declared.ReadCounts.{ReadCounts}
 use Rattle.errors.specs.declared.LinesAnswer.the-variants as linesIs

@@ -5,11 +5,11 @@ use native.Mathlib.Omega.{arith}
 use native.Mathlib.Nat.{mul-zero, sub-zero}
 use mathlib.Core.Path.{_≡_, refl, sym, _∙_, ap, subst}
 use mathlib.Core.List.{List, [], _∷_, _++_, append-nil}
-use mathlib.Core.Bool.{Bool, true, false, cond, not, _&&_}
+use mathlib.Core.Bool.{Bool, true, false, not}
 use borrow.Author.Tests.{le-ltb, le-leb, ltb-true, ltb-false}
 use lib.ListN.{length, take, replicate, length-replicate, length-take, take-append-drop}
 use lib.Seq.{take-append-seam}
-use lib.Dec.{ltb, leb, eqb}
+use lib.Dec.{ltb, eqb}
 use Rattle.anomaly.specs.declared.Note.{Note}
 use Rattle.digits.specs.Written.{fitted}
 use Rattle.errors.specs.Refusal.{numberOf, valueOf, numbersOf, linesNumbersOf}
@@ -28,7 +28,7 @@ use Rattle.errors.proofs.Laws.{numbersOf-unique}
 use Rattle.records.specs.Words.{nodeWidth, attributeWidth, noteWidth, noteWords, merged}
 use Rattle.records.specs.Limits.{listedFile, listedNodes, listedAttributes, listedNotes, listedCap}
 use Rattle.system_types.specs.Names.{lends}
-use Rattle.walk.specs.Reading.{Reading, zeroNote, reading, refuses}
+use Rattle.walk.specs.Reading.{Reading, zeroNote}
 use Rattle.listing_text.specs.Listing.{Line, linesText, headLines, nodeLines, attributeLines, recordLines, noteLines, listing, listingText}
 use Rattle.walk.specs.Inner.Outcome.{cleared}
 use Rattle.listed.specs.Lists.{listedRoom, listed, listedText, Lists}
@@ -44,7 +44,7 @@ use Rattle.listing_back.proofs.Strays.{listed-over}
 use Rattle.listing_back.proofs.Steps.{anyOver-cons, no-over}
 use Rattle.listing_back.proofs.Heads.{headList, Tested}
 use Rattle.listing_back.proofs.Whole.{Leading, Printable, filled-le, relisting-trimmed, relisting-said}
-use Rattle.claims.specs.Cleared.{ZeroBehind, DoneZero}
+use Rattle.claims.specs.Cleared.{ZeroBehind}
 use Rattle.claims.specs.Readers.{allBelow}
 use Rattle.claims.specs.Relisted.{listedWords, saidBy}
 use Rattle.claims.proofs.Calls.Readings.{reading-left}

@@ -4,7 +4,7 @@
 --   month-kinds   for every reading that succeeds, what `kinds_in` counts in its note table is how many of the kept notes are of each kind from 0 to 12
 --   month-kept    their sum is how many of the kept notes are of these kinds
 --   month-grid    over any month of calls of which none meets 29, the grid's sum is the kept notes of kinds 0 to 12 of the files that were read
-use Prim.Native.Nat.{ℕ, zero, suc, _+_, _/_, _≤_, min}
+use Prim.Native.Nat.{ℕ, zero, suc, _/_, _≤_, min}
 use native.Mathlib.Omega.{arith}
 use native.Mathlib.Nat.{min-eq-left}
 use mathlib.Core.Path.{_≡_, refl, sym, _∙_, ap}

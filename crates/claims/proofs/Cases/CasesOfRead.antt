@@ -4,14 +4,14 @@
 --   AllGive     that of each case of a list
 --   cases-read  `read` gives them all
 use Prim.Native.Nat.{ℕ}
-use mathlib.Core.Path.{_≡_, sym, _∙_, ap}
+use mathlib.Core.Path.{_≡_, _∙_, ap}
 use mathlib.Core.List.{List, [], _∷_}
 use lib.ListN.{length}
 use Rattle.anomaly.specs.declared.Note.{Note}
 use Rattle.errors.specs.declared.ReadAnswer.{ReadAnswer}
 use Rattle.system_types.specs.Names.{lends}
 use Rattle.walk.specs.Settle.{Room}
-use Rattle.walk.specs.Reading.{Reading, reading, roomIn, Reads}
+use Rattle.walk.specs.Reading.{Reading, reading, Reads}
 use Rattle.claims.specs.Insertion.{left}
 use Rattle.claims.proofs.Calls.Readings.{left-reading}
 use Rattle.claims.proofs.Cases.Table.{Case, room, cases, readings, results, cases-right}

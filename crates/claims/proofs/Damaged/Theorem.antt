@@ -1,13 +1,13 @@
 -- Notes of kind 32 beside all others (docs/FORMAT.md, B13, P3). No contract cites this file.
 -- In order: what a cap keeps of the other kinds is what it keeps of them alone (`besides-kept`); a file of which no other kind was noted (`only-damage`);
 -- foreign chunks put into such a file (`insertion-damaged` and what follows it).
-use Prim.Native.Nat.{ℕ, suc, _+_, _-_, _*_, _≤_, _<_, min}
+use Prim.Native.Nat.{ℕ, _+_, _≤_, _<_}
 use native.Mathlib.Omega.{arith}
 use mathlib.Core.Path.{_≡_, refl, sym, _∙_, ap}
-use mathlib.Core.List.{List, [], _∷_, _++_, map, cons≢nil}
+use mathlib.Core.List.{List, [], _∷_, map, cons≢nil}
 use mathlib.Core.Bool.{Bool, true, false, cond}
-use borrow.Author.Tests.{eqb-true, eqb-false, eq-eqb, ne-eqb}
-use lib.ListN.{length, take, getD, length-map, length-take}
+use borrow.Author.Tests.{eqb-true, eqb-false, eq-eqb}
+use lib.ListN.{length, take, getD, length-take}
 use lib.Dec.{eqb}
 use Rattle.anomaly.specs.Note.{kinds, kindIndex, noteOf}
 use Rattle.anomaly.specs.Kept.{isDue, counted, none, keptFrom, keptNotes, ofKind}

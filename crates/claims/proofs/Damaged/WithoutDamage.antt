@@ -5,24 +5,21 @@
 use Prim.Native.Nat.{ℕ, zero, suc}
 use mathlib.Core.Path.{_≡_, refl, sym, _∙_, ap}
 use mathlib.Core.List.{List, [], _∷_, _++_, append-assoc}
-use mathlib.Core.Bool.{Bool, true, false, cond, not, _&&_}
-use lib.ListN.{length, drop}
-use lib.Dec.{eqb, ltb}
-use Rattle.chunk.specs.Walk.{turn, traceFrom, trace}
+use mathlib.Core.Bool.{Bool, true, false, cond, not}
+use lib.ListN.{drop}
+use lib.Dec.{eqb}
 use Rattle.common.specs.declared.StringIndex.{StringIndex}
 use Rattle.anomaly.specs.Note.{kindIndex}
 use Rattle.anomaly.specs.Kept.{ofKind}
 use Rattle.anomaly.specs.declared.ResAnomaly.{ResAnomaly}
-use Rattle.anomaly.specs.declared.ResAnomaly.the-variants.{StringPoolGarbageChunk, StringCountMismatch, StringOffsetsOutOfBounds, NonXmlChunk, XmlNodeHeaderSize}
-use Rattle.anomaly.specs.declared.ResAnomaly.the-variants.{AttributeStartShifted, AttributeSizeMismatch, ElementTrailingBytes, InvalidElementName}
-use Rattle.anomaly.specs.declared.ResAnomaly.the-variants.{InvalidAttributeName, DamagedElementName, TruncatedXml, UnclosedElements, UnknownChunk}
+use Rattle.anomaly.specs.declared.ResAnomaly.the-variants.{NonXmlChunk, XmlNodeHeaderSize}
+use Rattle.anomaly.specs.declared.ResAnomaly.the-variants.{InvalidElementName}
+use Rattle.anomaly.specs.declared.ResAnomaly.the-variants.{DamagedElementName, TruncatedXml, UnclosedElements, UnknownChunk}
 use Rattle.errors.specs.declared.Refusal.the-variants.{MissingRoot}
 use Rattle.text.specs.declared.NameState.{NameState}
 use Rattle.text.specs.declared.NameState.the-variants.{NoText, Invalid, Valid}
-use Rattle.head.specs.declared.HeadEnd.{HeadEnd}
-use Rattle.head.specs.declared.HeadEnd.the-variants.{Whole, TooSmall, HeaderSize, PoolShort, MapShort}
 use Rattle.head.specs.declared.Opened.{Opened}
-use Rattle.head.specs.Head.{outsideIn, garbageNotes, countNotes, offsetNotes, whenNote, refusalOf}
+use Rattle.head.specs.Head.{refusalOf}
 use Rattle.xml_elements.specs.declared.XmlStartElement.{XmlStartElement}
 use Rattle.xml_elements.specs.declared.XmlAttributeElement.{XmlAttributeElement}
 use Rattle.xml_elements.specs.declared.Chunk.{Chunk}
@@ -31,15 +28,17 @@ use Rattle.xml_elements.specs.declared.CutChunk.{CutChunk}
 use Rattle.xml_elements.specs.declared.CutChunk.the-variants.{CutLine, CutHead, CutGap, CutAttributes, CutTrailing, CutEnd, CutOther}
 use Rattle.xml_elements.specs.declared.Turn.{Turn}
 use Rattle.xml_elements.specs.declared.Turn.the-variants.{Stop, Foreign, Met, Cut}
-use Rattle.xml_elements.specs.Chunk.{strideOf, attributesAt, trailingOf, attributeAt, turnOf}
+use Rattle.xml_elements.specs.Chunk.{strideOf, attributesAt, attributeAt, turnOf}
 use Rattle.events.specs.declared.Event.{Event}
 use Rattle.events.specs.declared.Event.the-variants.{Nothing, Open, Attribute, LeftOut, Close, Note, Refuse, Finish}
 use Rattle.events.specs.Events.{Names, when, isValid, hasOne, fixedOf, leading, attributeBy, attributeEvent, attributesOf, cutShort}
-use Rattle.events.specs.Events.{fromLead, fromOpen, fromNamed, fromName, fromTrailing, fromSize, fromGap, Spot, chunkYield, cutYield, yieldOf, foreignNote}
-use Rattle.events.specs.Events.{lastOf, fromRoot, used, out, next, eventsOn, bodyEvents, notesOf, afterPool, fileEvents}
+use Rattle.events.specs.Events.{fromLead, fromOpen, fromNamed, fromName, Spot, chunkYield, cutYield, yieldOf, foreignNote}
+use Rattle.events.specs.Events.{lastOf, fromRoot, out, bodyEvents, fileEvents}
 use Rattle.claims.specs.Counts.{noted, notesIn}
 use Rattle.claims.specs.Damaged.{damagePlace, besides}
-use Rattle.claims.proofs.Events.NotesAndOthers.{other, othersIn, othersIn-append, notesIn-append}
+use Rattle.claims.proofs.Events.NotesAndOthers.{othersIn, othersIn-append, notesIn-append}
+use Rattle.claims.proofs.Events.EventCases.{StartNote, shifted, sized, trailing, startNote, start-whole, cut-gap, cut-attributes, cut-trailing}
+use Rattle.claims.proofs.Events.EventCases.{body-by, HeadNote, garbage, count, offsets, headNote, file-by}
 
 -- ---- lists by kind
 
@@ -169,10 +168,6 @@ module _ (N : Names) where
         ∙ ap (λ (l : List ResAnomaly). damagesOf N a ++ l) (q .damages) ∙ sym (damages-append a b);
   }
 
-  quieted-cond : (c : Bool) (a a′ b b′ : List Event) → Quieted a a′ → Quieted b b′ → Quieted (cond c a b) (cond c a′ b′)
-  quieted-cond true a a′ b b′ p q = p
-  quieted-cond false a a′ b b′ p q = q
-
   -- a note of another kind before both
   behind-note : (b : Bool) (x : ResAnomaly) (es es′ : List Event) → eqb (kindIndex x) damagePlace ≡ false → Quieted es es′
       → Quieted (when b (Note x) ++ es) (when b (Note x) ++ es′)
@@ -285,29 +280,21 @@ module _ (N : Names) where
       damages = damage-told (eqb (N .damage (s .name .0)) 0) refl;
     }
 
-    short-quieted : Quieted cutShort cutShort
+    start-other : (n : StartNote) → eqb (kindIndex (startNote s n)) damagePlace ≡ false
     unfolding kindIndex
-    short-quieted = still-quieted cutShort (still-note TruncatedXml refl)
+    start-other shifted = refl
+    start-other sized = refl
+    start-other trailing = refl
 
-    trailing-quieted : (reach : ℕ) → Quieted (fromTrailing N s reach k l) (fromTrailing (quiet N) s reach k l)
-    unfolding fromTrailing kindIndex
-    trailing-quieted reach =
-        behind-note (not (eqb (trailingOf s) 0)) (ElementTrailingBytes (trailingOf s)) _ _ refl
-        (quieted-cond (eqb reach 3) (fromName N s k l) (fromName (quiet N) s k l) cutShort cutShort name-quieted short-quieted)
-
-    size-quieted : (reach : ℕ) → Quieted (fromSize N s reach k l) (fromSize (quiet N) s reach k l)
-    unfolding fromSize kindIndex
-    size-quieted reach =
-        behind-note (not (eqb (s .«attribute_count») 0) && ltb 20 (s .«attribute_size»)) (AttributeSizeMismatch (s .«attribute_size»)) _ _ refl
-        (quieted-cond (ltb reach 2) cutShort cutShort (fromTrailing N s reach k l) (fromTrailing (quiet N) s reach k l) short-quieted (trailing-quieted reach))
-
-    gap-quieted : (reach : ℕ) → Quieted (fromGap N s reach k l) (fromGap (quiet N) s reach k l)
-    unfolding fromGap kindIndex
-    gap-quieted reach =
-        behind-note (ltb 20 (s .«attribute_start»)) (AttributeStartShifted (s .«attribute_start»)) _ _ refl
-        (quieted-cond (eqb reach 0) cutShort cutShort (fromSize N s reach k l) (fromSize (quiet N) s reach k l) short-quieted (size-quieted reach))
+    behind : (whole b : Bool) (n : StartNote) (ds es : List Event) → Quieted ds es
+        → Quieted (when b (Note (startNote s n)) ++ ds) (when b (Note (startNote s n)) ++ es)
+    behind whole b n ds es h = behind-note b (startNote s n) ds es (start-other n) h
 
   -- ---- a turn
+
+  short-quieted : Quieted cutShort cutShort
+  unfolding kindIndex
+  short-quieted = still-quieted cutShort (still-note TruncatedXml refl)
 
   nothing-quieted : Quieted [] []
   nothing-quieted = still-quieted [] still-none
@@ -318,18 +305,17 @@ module _ (N : Names) where
   module _ (l : List ℕ) (p : Spot) where
     chunk-quieted : (c : Chunk) → Quieted (chunkYield N l p c) (chunkYield (quiet N) l p c)
     unfolding kindIndex
-    chunk-quieted (Start s) = gap-quieted s (p .starts) l 3
+    chunk-quieted (Start s) = start-whole N (quiet N) s (p .starts) l (λ w. Quieted) (behind s (p .starts) l) (name-quieted s (p .starts) l)
     chunk-quieted End = close-quieted
     chunk-quieted (Other n) = nothing-quieted
     chunk-quieted Last = still-quieted _ (still-note (UnknownChunk 0x17f) refl)
 
     cut-quieted : (c : CutChunk) → Quieted (cutYield N l p c) (cutYield (quiet N) l p c)
-    unfolding kindIndex
-    cut-quieted CutLine = still-quieted cutShort (still-note TruncatedXml refl)
-    cut-quieted CutHead = still-quieted cutShort (still-note TruncatedXml refl)
-    cut-quieted (CutGap s) = gap-quieted s (p .starts) l 0
-    cut-quieted (CutAttributes s) = gap-quieted s (p .starts) l 1
-    cut-quieted (CutTrailing s) = gap-quieted s (p .starts) l 2
+    cut-quieted CutLine = short-quieted
+    cut-quieted CutHead = short-quieted
+    cut-quieted (CutGap s) = cut-gap N (quiet N) s (p .starts) l (λ w. Quieted) (behind s (p .starts) l) short-quieted
+    cut-quieted (CutAttributes s) = cut-attributes N (quiet N) s (p .starts) l (λ w. Quieted) (behind s (p .starts) l) short-quieted
+    cut-quieted (CutTrailing s) = cut-trailing N (quiet N) s (p .starts) l (λ w. Quieted) (behind s (p .starts) l) short-quieted
     cut-quieted CutEnd = close-quieted
     cut-quieted CutOther = nothing-quieted
 
@@ -350,61 +336,23 @@ module _ (N : Names) where
       behind-note (not (eqb (p .depth) 0)) (UnclosedElements (p .depth)) (fromRoot p) (fromRoot p) refl
       (still-quieted (fromRoot p) (still-if (eqb (p .starts) 0) (Refuse MissingRoot) refl refl))
 
-  -- ---- a walk
-
-  module _ {S : Type 0} (used′ : List ℕ → S → ℕ) (out₁ out₂ : List ℕ → S → List Event) (next′ : List ℕ → S → S) (last : S → List Event)
-      (outs : (l : List ℕ) (s : S) → Quieted (out₁ l s) (out₂ l s)) (lasts : (s : S) → Quieted (last s) (last s)) where
-    traceFrom-quieted : (l : List ℕ) (n : ℕ) (s : S) → Quieted (traceFrom used′ out₁ next′ last l n s) (traceFrom used′ out₂ next′ last l n s)
-    unfolding traceFrom
-    traceFrom-quieted [] n s = quieted-append (out₁ [] s) (out₂ [] s) (last s) (last s) (outs [] s) (lasts s)
-    traceFrom-quieted (x ∷ l) (suc n) s = traceFrom-quieted l n s
-    traceFrom-quieted (x ∷ l) zero s =
-        quieted-append (out₁ (x ∷ l) s) (out₂ (x ∷ l) s) _ _ (outs (x ∷ l) s) (go (used′ (x ∷ l) s) (λ n. traceFrom-quieted l n (next′ (x ∷ l) s)))
-      where
-        go : (u : ℕ)
-            → ((n : ℕ) → Quieted (traceFrom used′ out₁ next′ last l n (next′ (x ∷ l) s)) (traceFrom used′ out₂ next′ last l n (next′ (x ∷ l) s)))
-            → Quieted (turn u (last s) (λ n. traceFrom used′ out₁ next′ last l n (next′ (x ∷ l) s)))
-            (turn u (last s) (λ n. traceFrom used′ out₂ next′ last l n (next′ (x ∷ l) s)))
-        go zero ih = lasts s
-        go (suc n) ih = ih n
-
-    trace-quieted : (l : List ℕ) (s : S) → Quieted (trace used′ out₁ next′ last l s) (trace used′ out₂ next′ last l s)
-    unfolding trace
-    trace-quieted l s = traceFrom-quieted l 0 s
+  -- ---- a body
 
   body-quieted : (b : List ℕ) → Quieted (bodyEvents N b) (bodyEvents (quiet N) b)
-  unfolding bodyEvents eventsOn
+  unfolding bodyEvents
   body-quieted b =
-      trace-quieted used (out N) (out (quiet N)) next lastOf (λ l p. turn-quieted l p (turnOf l)) last-quieted b (record { run = 2; depth = 0; starts = 0 })
+      body-by N (quiet N) (λ l p. Quieted) (λ l p e. last-quieted p)
+      (λ l p m e h ds es r. quieted-append (out N l p) (out (quiet N) l p) ds es (turn-quieted l p (turnOf l)) r) b (record { run = 2; depth = 0; starts = 0 })
 
   -- ---- the file
 
-  notes-still : (b : Bool) (x : ResAnomaly) → eqb (kindIndex x) damagePlace ≡ false → Still (notesOf (whenNote b x))
-  notes-still true x e = still-note x e
-  notes-still false x e = still-none
+  head-other : (o : Opened) (t : List ℕ) (n : HeadNote) → eqb (kindIndex (headNote o t n)) damagePlace ≡ false
+  unfolding kindIndex
+  head-other o t garbage = refl
+  head-other o t count = refl
+  head-other o t offsets = refl
 
-  module _ (o : Opened) (t b : List ℕ) where
-    offsets-still : Still (notesOf (offsetNotes t o))
-    unfolding kindIndex
-    offsets-still = notes-still (not (eqb (outsideIn t (o .head)) 0)) (StringOffsetsOutOfBounds (outsideIn t (o .head))) refl
-
-    refuse-still : (e : HeadEnd) → Still (Refuse (refusalOf e) ∷ [])
-    refuse-still e = still-one (Refuse (refusalOf e)) refl refl
-
-    pool-quieted : (e : HeadEnd) → Quieted (afterPool N o t b e) (afterPool (quiet N) o t b e)
-    pool-quieted Whole =
-        quieted-append (notesOf (offsetNotes t o)) (notesOf (offsetNotes t o)) (bodyEvents N b) (bodyEvents (quiet N) b) (still-quieted _ offsets-still) (body-quieted b)
-    pool-quieted (MapShort m) = still-quieted _ (still-append (notesOf (offsetNotes t o)) _ offsets-still (refuse-still (MapShort m)))
-    pool-quieted (PoolShort e) = still-quieted _ (refuse-still (PoolShort e))
-    pool-quieted (TooSmall n) = still-quieted _ (refuse-still (TooSmall n))
-    pool-quieted (HeaderSize n) = still-quieted _ (refuse-still (HeaderSize n))
-
-    -- THE LAW
-    pub file-quieted : Quieted (fileEvents N o t b) (fileEvents (quiet N) o t b)
-    unfolding fileEvents kindIndex
-    file-quieted =
-        quieted-append (notesOf (garbageNotes o)) (notesOf (garbageNotes o)) _ _
-        (still-quieted _ (notes-still (o .garbage .found) (StringPoolGarbageChunk (o .garbage .kind) (o .garbage .skipped)) refl))
-        (quieted-append (notesOf (countNotes o)) (notesOf (countNotes o)) (afterPool N o t b (o .end)) (afterPool (quiet N) o t b (o .end))
-        (still-quieted _ (notes-still (not (eqb (o .declared) (o .head .count))) (StringCountMismatch (o .declared) (o .head .count)) refl))
-        (pool-quieted (o .end)))
+  pub file-quieted : (o : Opened) (t b : List ℕ) → Quieted (fileEvents N o t b) (fileEvents (quiet N) o t b)
+  file-quieted o t b =
+      file-by N (quiet N) o t b Quieted (λ c n ds es h. behind-note c (headNote o t n) ds es (head-other o t n) h)
+      (λ e q. still-quieted _ (still-one (Refuse (refusalOf e)) refl refl)) (λ q. body-quieted b)

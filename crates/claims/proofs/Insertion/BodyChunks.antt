@@ -1,7 +1,7 @@
 -- The chunks that the walk takes, and what it leaves: laws of `chunksOf` and `restOf`. No contract cites this file.
 -- In order: the two equations of each (`-stop`, `-step`), a chunk at the front (`chunksOf-front`), a body put together again
 -- (`inserted-none`), what is left is no chunk (`restOf-few`).
-use Prim.Native.Nat.{ℕ, zero, suc, _+_, _-_, _≤_, _<_}
+use Prim.Native.Nat.{ℕ, zero, suc, _≤_, _<_}
 use native.Mathlib.Omega.{arith}
 use mathlib.Core.Path.{_≡_, refl, sym, _∙_, ap}
 use mathlib.Core.List.{List, [], _∷_, _++_, append-assoc, append-nil}

@@ -1,7 +1,7 @@
 -- Foreign chunks in a row before a body: they make their notes, one for each stretch, and then the body makes what it made (`eventsOn-place`).
 -- No contract cites this file. In order: a chunk at the front (`eventsOn-front`), a row (`eventsOn-row`), a chunk that is not foreign makes the same
 -- whatever chunk stood before it (`eventsOn-run`).
-use Prim.Native.Nat.{ℕ, _+_, _<_}
+use Prim.Native.Nat.{ℕ, _<_}
 use native.Mathlib.Omega.{arith}
 use mathlib.Core.Path.{_≡_, refl, sym, _∙_, ap}
 use mathlib.Core.List.{List, [], _∷_, _++_, append-assoc}

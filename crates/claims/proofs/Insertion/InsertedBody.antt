@@ -1,6 +1,6 @@
 -- A body that makes no note, and the body with foreign chunks at its places: all other events are the same, and the notes are those of the
 -- places (`woven`). No contract cites this file. In order: what two bodies have in common (`Woven`), a place, a whole chunk, a cut one, the end.
-use Prim.Native.Nat.{ℕ, suc, _+_, _≤_, _<_}
+use Prim.Native.Nat.{ℕ, suc, _≤_, _<_}
 use native.Mathlib.Omega.{arith}
 use mathlib.Core.Path.{_≡_, refl, sym, _∙_, ap, subst}
 use mathlib.Core.List.{List, [], _∷_, _++_, append-nil, cons≢nil}

@@ -1,7 +1,7 @@
 -- A file with foreign chunks put in behind its head: the head is untouched, and what the file makes differs in its notes alone. No contract cites this file.
 -- In order: a whole head lies in its file (`head-fits`); head, tables and body of the longer file (`longer-opened`, `-tables`, `-body`); what a file makes
 -- behind a whole head (`fileEvents-whole`), and that nothing of it refuses where the head is whole (`whole-of`); both files' events (`longer-events`).
-use Prim.Native.Nat.{ℕ, _+_, _-_, _≤_}
+use Prim.Native.Nat.{ℕ, _+_, _≤_}
 use native.Mathlib.Omega.{arith}
 use native.Mathlib.Nat.{min-le-right}
 use mathlib.Core.Path.{_≡_, refl, sym, _∙_, ap, subst}
@@ -11,7 +11,6 @@ use borrow.Author.Tests.{ltb-true, ltb-false}
 use lib.ListN.{length, take, drop, length-drop, length-take, take-append-drop}
 use lib.Seq.{length-take-le, take-at, drop-at}
 use lib.Dec.{ltb}
-use Rattle.anomaly.specs.declared.ResAnomaly.{ResAnomaly}
 use Rattle.records.specs.Limits.{fileLimit}
 use Rattle.head.specs.declared.HeadEnd.{HeadEnd}
 use Rattle.head.specs.declared.HeadEnd.the-variants.{Whole, TooSmall, HeaderSize, PoolShort, MapShort}
@@ -27,7 +26,8 @@ use Rattle.claims.proofs.Insertion.BodyChunks.{inserted-none}
 use Rattle.claims.specs.Counts.{notesIn}
 use Rattle.claims.proofs.Events.NotesAndOthers.{othersIn, othersIn-append, notesIn-append, nil-left, nil-right}
 use Rattle.claims.proofs.Insertion.InsertedBody.{woven-all}
-use Rattle.claims.proofs.Settle.StoreCases.{AllStay, stay-right}
+use Rattle.claims.proofs.Events.Refusals.{refuse-right}
+use Rattle.claims.proofs.Settle.StoreCases.{AllStay}
 
 -- ---- a whole head lies in its file
 
@@ -110,11 +110,11 @@ module _ (N : Names) (o : Opened) (t : List ℕ) where
   -- where nothing refuses, the head is whole
   pub whole-of : (l : List ℕ) → AllStay (fileEvents N o t l) → o .end ≡ Whole
   unfolding fileEvents
-  whole-of l s = go (o .end) refl (stay-right (notesOf (countNotes o)) _ (stay-right (notesOf (garbageNotes o)) _ s))
+  whole-of l s = go (o .end) refl (refuse-right (λ x. ⊥) (notesOf (countNotes o)) _ (refuse-right (λ x. ⊥) (notesOf (garbageNotes o)) _ s))
     where
       go : (e : HeadEnd) → o .end ≡ e → AllStay (afterPool N o t l (o .end)) → o .end ≡ Whole
       go Whole q s = q
-      go (MapShort m) q s = absurd (stay-right (notesOf (offsetNotes t o)) (Refuse (refusalOf (MapShort m)) ∷ []) (rw q at s) .0)
+      go (MapShort m) q s = absurd (refuse-right (λ x. ⊥) (notesOf (offsetNotes t o)) (Refuse (refusalOf (MapShort m)) ∷ []) (rw q at s) .0)
       go (PoolShort e) q s = let s′ = rw q at s in absurd (s′ .0)
       go (TooSmall n) q s = let s′ = rw q at s in absurd (s′ .0)
       go (HeaderSize n) q s = let s′ = rw q at s in absurd (s′ .0)

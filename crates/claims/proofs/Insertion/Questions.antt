@@ -25,7 +25,7 @@ use Rattle.first_value.specs.Question as first
 use Rattle.first_value.specs.Question.{fitOf, sharedOf, firstAnswer, FirstReads}
 use Rattle.first_value.specs.declared.Fit.{Fit}
 use Rattle.first_value.specs.declared.Fit.the-variants.{Fitting, Unfit}
-use Rattle.first_values.specs.Pairs.{pairsOf, asks, manyAskedBy, listBy, answersFrom, manyAnswer, answersAfter, ManyReads}
+use Rattle.first_values.specs.Pairs.{asks, answersFrom, manyAnswer, answersAfter, ManyReads}
 use Rattle.first_values.proofs.Laws.{answersFrom-same}
 use Rattle.walk.specs.Settle.{Room}
 use Rattle.walk.specs.Reading.{reading}

@@ -8,11 +8,11 @@
 --   events-longer           what the longer file makes
 --   same-tree               where both make the same but for notes, the longer file's reading is that of the file, with its own notes
 --   same-room               places for the records that were kept, and for the notes, are room
-use Prim.Native.Nat.{ℕ, _+_, _-_, _*_, _≤_}
+use Prim.Native.Nat.{ℕ, _+_, _*_, _≤_}
 use native.Mathlib.Omega.{arith}
 use mathlib.Core.Path.{_≡_, refl, sym, _∙_, ap}
 use mathlib.Core.List.{List, map}
-use mathlib.Core.Bool.{true, false, true≢false}
+use mathlib.Core.Bool.{true≢false}
 use lib.ListN.{length, take}
 use lib.Seq.{take-at}
 use Rattle.anomaly.specs.Note.{noteOf}

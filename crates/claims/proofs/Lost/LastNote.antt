@@ -8,9 +8,8 @@ use mathlib.Core.Path.{_≡_, refl, sym, _∙_, ap}
 use mathlib.Core.List.{List, [], _∷_, _++_}
 use mathlib.Core.Bool.{Bool, true, false, not}
 use borrow.Author.Tests.{lt-ltb, ne-eqb, eqb-false}
-use lib.ListN.{getD, replicate}
+use lib.ListN.{getD}
 use lib.Seq.{getD-set-other}
-use lib.Dec.{eqb}
 use Rattle.anomaly.specs.Note.{kinds, kindIndex, noteOf}
 use Rattle.anomaly.specs.Kept.{isDue, counted, none, keptFrom, keptNotes}
 use Rattle.anomaly.specs.declared.ResAnomaly.{ResAnomaly}

@@ -3,25 +3,22 @@
 --   eventMarks    an element that opens is a start, an element that closes an end; all other events are none
 --   file-marks    where a file's events hold no refusal, their marks are those of the file: a start that was read whole opens one element, an end closes one
 --   events-depth, events-names, events-lines   depth, name indices and lines of events are those of their marks
-use Prim.Native.Nat.{ℕ, zero, suc, _+_, _≤_}
+use Prim.Native.Nat.{ℕ, zero, suc, _≤_}
 use native.Mathlib.Omega.{arith}
 use mathlib.Core.Path.{_≡_, refl, sym, _∙_, ap}
 use mathlib.Core.List.{List, [], _∷_, _++_, append-assoc}
-use mathlib.Core.Bool.{Bool, true, false, not, _&&_, cond}
+use mathlib.Core.Bool.{Bool, true, false, not, cond}
 use lib.ListN.{length, drop}
-use lib.Dec.{ltb, eqb}
+use lib.Dec.{eqb}
 use Rattle.anomaly.specs.declared.ResAnomaly.{ResAnomaly}
-use Rattle.anomaly.specs.declared.ResAnomaly.the-variants.{AttributeStartShifted, AttributeSizeMismatch, ElementTrailingBytes, InvalidElementName, DamagedElementName}
+use Rattle.anomaly.specs.declared.ResAnomaly.the-variants.{InvalidElementName, DamagedElementName}
 use Rattle.anomaly.specs.declared.ResAnomaly.the-variants.{UnclosedElements}
 use Rattle.chunk.proofs.Walk.{walk-ind, trace-stop, trace-step}
 use Rattle.errors.specs.declared.Refusal.{Refusal}
 use Rattle.errors.specs.declared.Refusal.the-variants.{MissingRoot}
 use Rattle.text.specs.declared.NameState.{NameState}
 use Rattle.text.specs.declared.NameState.the-variants.{NoText, Invalid, Valid}
-use Rattle.head.specs.declared.HeadEnd.{HeadEnd}
-use Rattle.head.specs.declared.HeadEnd.the-variants.{Whole, TooSmall, HeaderSize, PoolShort, MapShort}
 use Rattle.head.specs.declared.Opened.{Opened}
-use Rattle.head.specs.Head.{garbageNotes, countNotes, offsetNotes}
 use Rattle.xml_elements.specs.declared.XmlStartElement.{XmlStartElement}
 use Rattle.xml_elements.specs.declared.XmlAttributeElement.{XmlAttributeElement}
 use Rattle.xml_elements.specs.declared.Chunk.{Chunk}
@@ -30,16 +27,18 @@ use Rattle.xml_elements.specs.declared.CutChunk.{CutChunk}
 use Rattle.xml_elements.specs.declared.CutChunk.the-variants.{CutLine, CutHead, CutGap, CutAttributes, CutTrailing, CutEnd, CutOther}
 use Rattle.xml_elements.specs.declared.Turn.{Turn}
 use Rattle.xml_elements.specs.declared.Turn.the-variants.{Stop, Foreign, Met, Cut}
-use Rattle.xml_elements.specs.Chunk.{strideOf, attributesAt, trailingOf, attributeAt, turnOf, usedOf}
+use Rattle.xml_elements.specs.Chunk.{strideOf, attributesAt, attributeAt, turnOf, usedOf}
 use Rattle.xml_elements.proofs.Laws.{turnOf-told, usedOf-le}
 use Rattle.events.specs.declared.Event.{Event}
 use Rattle.events.specs.declared.Event.the-variants.{Nothing, Open, Attribute, LeftOut, Close, Note, Refuse, Finish}
-use Rattle.events.specs.Events.{Names, Spot, when, isValid, hasOne, leading, foreignNote, cutShort, attributeBy, attributesOf, attributeEvent, fromLead, fromOpen, fromNamed, fromName, fromTrailing}
-use Rattle.events.specs.Events.{fromSize, fromGap, chunkYield, cutYield, yieldOf, used, out, next, lastOf, eventsOn, bodyEvents, notesOf, afterPool, fileEvents}
-use Rattle.claims.specs.Counts.{opensIn, openNames, openLines, stepped, depthFrom}
+use Rattle.events.specs.Events.{Names, Spot, when, isValid, hasOne, leading, foreignNote, attributeBy, attributesOf, attributeEvent, fromLead, fromOpen, fromNamed, fromName}
+use Rattle.events.specs.Events.{fromGap, chunkYield, cutYield, yieldOf, used, out, next, lastOf, eventsOn, bodyEvents, fileEvents}
+use Rattle.claims.specs.Counts.{opensIn, openNames, openLines, depthFrom}
 use Rattle.claims.specs.Lost.{Mark, start, end, chunkMarks, cutMarks, turnMarks, marksOf, startNames, startLines}
-use Rattle.claims.proofs.Settle.StoreCases.{AllStay, stay-right}
+use Rattle.claims.proofs.Settle.StoreCases.{AllStay}
 use Rattle.claims.proofs.Lost.Matching.{depthBehind}
+use Rattle.claims.proofs.Events.Refusals.{refuse-right}
+use Rattle.claims.proofs.Events.EventCases.{StartNote, startNote, start-whole, cut-gap, cut-attributes, cut-trailing, headNote, file-by}
 
 abbrev pub eventMark : Event → List Mark
 eventMark (Open name fixed line) = start (name .0) line ∷ []
@@ -76,10 +75,6 @@ attributes-marks N zero stride l = refl
 attributes-marks N (suc n) stride l =
     rw (attribute-marks N (attributeAt l) (N .state (attributeAt l .name .0))) (attributes-marks N n stride (drop stride l))
 
-notes-marks : (ns : List ResAnomaly) (es : List Event) → eventMarks (notesOf ns ++ es) ≡ eventMarks es
-notes-marks [] es = refl
-notes-marks (x ∷ ns) es = notes-marks ns es
-
 -- ---- a start
 
 -- these events have these marks
@@ -105,40 +100,25 @@ module _ (N : Names) (s : XmlStartElement) (k : ℕ) (l : List ℕ) where
   unfolding fromName
   name-marks = record { told = noted-marks (not (eqb (N .damage (s .name .0)) 0)) (DamagedElementName (s .name) (N .damage (s .name .0))) (fromNamed N s k l) ∙ named-marks .told }
 
-  cut-told : Told cutShort []
-  cut-told = record { told = refl }
-
-  -- behind the notes 6, 7 and 8
-  shift-told : (es : List Event) (ms : List Mark) → Told es ms
-      → Told (when (ltb 20 (s .«attribute_start»)) (Note (AttributeStartShifted (s .«attribute_start»))) ++ es) ms
-  shift-told es ms h = record { told = noted-marks (ltb 20 (s .«attribute_start»)) (AttributeStartShifted (s .«attribute_start»)) es ∙ h .told }
-
-  size-told : (es : List Event) (ms : List Mark) → Told es ms
-      → Told (when (not (eqb (s .«attribute_count») 0) && ltb 20 (s .«attribute_size»)) (Note (AttributeSizeMismatch (s .«attribute_size»))) ++ es) ms
-  size-told es ms h = record {
-    told = noted-marks (not (eqb (s .«attribute_count») 0) && ltb 20 (s .«attribute_size»)) (AttributeSizeMismatch (s .«attribute_size»)) es ∙ h .told;
-  }
-
-  trailing-told : (es : List Event) (ms : List Mark) → Told es ms
-      → Told (when (not (eqb (trailingOf s) 0)) (Note (ElementTrailingBytes (trailingOf s))) ++ es) ms
-  trailing-told es ms h = record { told = noted-marks (not (eqb (trailingOf s) 0)) (ElementTrailingBytes (trailingOf s)) es ∙ h .told }
-
   -- read whole it is one, cut it is none
+  abbrev ToldStart : Bool → List Event → List Event → Type 0
+  ToldStart whole ds es = Told ds (cond whole (start (s .name .0) (s .line) ∷ []) [])
+
+  behind : (whole b : Bool) (n : StartNote) (ds es : List Event) → ToldStart whole ds es
+      → ToldStart whole (when b (Note (startNote s n)) ++ ds) (when b (Note (startNote s n)) ++ es)
+  behind whole b n ds es h = record { told = noted-marks b (startNote s n) ds ∙ h .told }
+
   start-told : Told (fromGap N s 3 k l) (start (s .name .0) (s .line) ∷ [])
-  unfolding fromGap fromSize fromTrailing
-  start-told = shift-told _ _ (size-told _ _ (trailing-told _ _ name-marks))
+  start-told = start-whole N N s k l ToldStart behind name-marks
 
   gap-cut-told : Told (fromGap N s 0 k l) []
-  unfolding fromGap
-  gap-cut-told = shift-told _ _ cut-told
+  gap-cut-told = cut-gap N N s k l ToldStart behind (record { told = refl })
 
   attributes-cut-told : Told (fromGap N s 1 k l) []
-  unfolding fromGap fromSize
-  attributes-cut-told = shift-told _ _ (size-told _ _ cut-told)
+  attributes-cut-told = cut-attributes N N s k l ToldStart behind (record { told = refl })
 
   trailing-cut-told : Told (fromGap N s 2 k l) []
-  unfolding fromGap fromSize fromTrailing
-  trailing-cut-told = shift-told _ _ (size-told _ _ (trailing-told _ _ cut-told))
+  trailing-cut-told = cut-trailing N N s k l ToldStart behind (record { told = refl })
 
 -- ---- a turn
 
@@ -209,19 +189,11 @@ module _ (N : Names) where
 
   -- ---- a file
 
-  module _ (o : Opened) (t b : List ℕ) where
-    after-marks : (e : HeadEnd) → AllStay (afterPool N o t b e) → eventMarks (afterPool N o t b e) ≡ marksOf b
-    after-marks Whole h = notes-marks (offsetNotes t o) (bodyEvents N b) ∙ body-marks b
-    after-marks (MapShort m) h = absurd (stay-right (notesOf (offsetNotes t o)) _ h .0)
-    after-marks (PoolShort e) h = absurd (h .0)
-    after-marks (TooSmall n) h = absurd (h .0)
-    after-marks (HeaderSize n) h = absurd (h .0)
-
-    pub file-marks : AllStay (fileEvents N o t b) → eventMarks (fileEvents N o t b) ≡ marksOf b
-    unfolding fileEvents
-    file-marks h =
-        notes-marks (garbageNotes o) _ ∙ notes-marks (countNotes o) _
-        ∙ after-marks (o .end) (stay-right (notesOf (countNotes o)) _ (stay-right (notesOf (garbageNotes o)) _ h))
+  pub file-marks : (o : Opened) (t b : List ℕ) → AllStay (fileEvents N o t b) → eventMarks (fileEvents N o t b) ≡ marksOf b
+  file-marks o t b =
+      file-by N N o t b (λ ds es. AllStay ds → eventMarks ds ≡ marksOf b)
+      (λ c n ds es h s. noted-marks c (headNote o t n) ds ∙ h (refuse-right (λ x. ⊥) (when c (Note (headNote o t n))) ds s)) (λ e q s. absurd (s .0))
+      (λ q s. body-marks b)
 
 -- ---- what marks tell of events
 

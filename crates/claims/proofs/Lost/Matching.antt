@@ -2,14 +2,14 @@
 -- In order: the ends that are the end of no start among some marks (`spare`), which tell whether a start before them gets its end
 -- (`getsEnd-spare`); the depth is the number of starts that never get their end (`depth-open`, `open-above`); how many are kept in the end, told from the open
 -- elements and the marks to come (`keptBy`), stays the same where an end closes the innermost and a start goes on top (`kept-end`, `kept-start`).
-use Prim.Native.Nat.{ℕ, zero, suc, _+_, _-_, _≤_, _<_}
+use Prim.Native.Nat.{ℕ, suc, _+_, _-_, _≤_, _<_}
 use native.Mathlib.Omega.{arith}
 use mathlib.Core.Path.{_≡_, refl, sym, ap, _∙_}
-use mathlib.Core.List.{List, [], _∷_, _++_}
+use mathlib.Core.List.{List, [], _∷_}
 use mathlib.Core.Bool.{Bool, true, false, cond}
 use borrow.Author.Tests.{lt-ltb, le-ltb, le-leb, lt-leb, ltb-true, ltb-false, leb-true, leb-false}
 use lib.ListN.{length}
-use lib.Dec.{ltb, leb, eqb}
+use lib.Dec.{ltb, leb}
 use Rattle.walk.specs.Settle.{closedIn}
 use Rattle.walk.specs.Reading.{secondOf}
 use Rattle.claims.specs.Lost.{Mark, start, end, comesEnd, getsEnd, startNames, stillOpen, behindFirst, beforeLost, keptOf}

@@ -3,34 +3,32 @@
 --   nothing-lost   the kept nodes are the starts before the first, other than the very first, that never gets its end; where a start is dropped, the last
 --                  note is 12 (specs/Lost.antt, `NothingLost`)
 --   whole-kept     without note 12 all starts are kept
-use Prim.Native.Nat.{ℕ, _+_, _-_, _*_, _/_, _≤_, _<_}
+use Prim.Native.Nat.{ℕ, _+_, _-_, _*_, _/_, _≤_}
 use native.Mathlib.Omega.{arith}
 use mathlib.Core.Path.{_≡_, refl, sym, _∙_, ap}
 use mathlib.Core.List.{List, [], _∷_, _++_, map, map-append}
-use mathlib.Core.Bool.{Bool, cond}
-use borrow.Author.Tests.{eq-eqb, ne-eqb, le-leb, lt-leb}
+use mathlib.Core.Bool.{cond}
+use borrow.Author.Tests.{ne-eqb, lt-leb}
 use lib.ListN.{length, take, getD, length-append, length-set}
-use lib.Dec.{eqb, leb}
+use lib.Dec.{eqb}
 use Rattle.anomaly.specs.Note.{made, noteOf}
 use Rattle.anomaly.specs.Kept.{keptNotes}
 use Rattle.anomaly.specs.declared.Note.{Note}
-use Rattle.anomaly.specs.declared.ResAnomaly.{ResAnomaly}
 use Rattle.anomaly.specs.declared.ResAnomaly.the-variants.{UnclosedElements}
-use Rattle.common.specs.declared.StringIndex.{StringIndex}
 use Rattle.errors.specs.declared.ReadAnswer.the-variants.{Done}
 use Rattle.errors.specs.declared.ReadCounts.{ReadCounts}
 use Rattle.head.specs.Head.{openedOf, tablesIn, bodyIn}
 use Rattle.events.specs.declared.Event.{Event}
 use Rattle.events.specs.declared.Event.the-variants as event
-use Rattle.records.specs.Words.{nodeWidth, nodeName}
+use Rattle.records.specs.Words.{nodeWidth}
 use Rattle.records.specs.Repeats.{Rule}
 use Rattle.system_types.specs.Names.{Lent}
-use Rattle.walk.specs.Settle.{Room, Tables, going, settle, nothingYet, opened}
-use Rattle.walk.specs.Reading.{reading, secondOf, nodesKept, roomIn, Reads}
-use Rattle.claims.specs.Counts.{opensIn, openNames, notesIn, depthFrom}
+use Rattle.walk.specs.Settle.{Room, Tables, going, settle, nothingYet}
+use Rattle.walk.specs.Reading.{secondOf, nodesKept, Reads}
+use Rattle.claims.specs.Counts.{notesIn, depthFrom}
 use Rattle.claims.specs.Readers.{namesFor, eventsOf}
-use Rattle.claims.specs.Shape.{nodeWord, ofKind, Structured}
-use Rattle.claims.specs.Lost.{Mark, marksIn, startNames, startLines, stillOpen, keptOf, beforeLost, EndsWith, NothingLost}
+use Rattle.claims.specs.Shape.{ofKind, Structured}
+use Rattle.claims.specs.Lost.{Mark, marksIn, startNames, startLines, stillOpen, keptOf, beforeLost, NothingLost}
 use Rattle.claims.proofs.Settle.StoreAll.{empty}
 use Rattle.claims.proofs.Settle.ByEvent.{Idle, Goes, settle-in}
 use Rattle.claims.proofs.Structure.Shape.{Falls}

@@ -9,8 +9,8 @@ use native.Mathlib.Omega.{arith}
 use mathlib.Core.Path.{_≡_, refl, sym, _∙_, ap, subst}
 use mathlib.Core.List.{List, [], _∷_, _++_}
 use mathlib.Core.Bool.{Bool, true, false, cond, _&&_, _||_, true≢false}
-use borrow.Author.Tests.{eq-eqb, ne-eqb, eqb-true, eqb-false}
-use lib.ListN.{length, take, drop, set, getD, replicate, length-append, length-set, length-drop}
+use borrow.Author.Tests.{eq-eqb, eqb-true, eqb-false}
+use lib.ListN.{length, take, drop, getD, length-append, length-set, length-drop}
 use lib.Seq.{take-append-le, drop-append-le, take-length, drop-length, take-at, length-take-le}
 use lib.Dec.{eqb}
 use Rattle.utf.specs.Text.{eqBytes}
@@ -29,7 +29,7 @@ use Rattle.events.specs.declared.Event.the-variants.{Nothing, Open, Attribute, 
 use Rattle.events.specs.Events.{namesIn, fileEvents}
 use Rattle.records.specs.Words.{nodeWidth, nodeFirst, nodeWords, attributeWidth, attributeWords, ownPrefix, merged, apart}
 use Rattle.records.specs.Repeats.{Rule, byPrefix, sameSpace, repeatsOne, isRepeat}
-use Rattle.walk.specs.Settle.{Room, Tables, Out, settle, nothingYet, opened, closed, kept, lastNode, recordOf, repeated, parentIn, closedIn}
+use Rattle.walk.specs.Settle.{Room, Tables, opened, closed, kept, lastNode, recordOf, repeated, parentIn, closedIn}
 use Rattle.walk.specs.Reading.{Reading, secondOf, attributesKept, reading, roomIn, Reads}
 use Rattle.claims.specs.Shape.{begin}
 use Rattle.claims.specs.Modes.{mergedPrefix, Merges, none, both, lost}
@@ -40,7 +40,7 @@ use Rattle.claims.proofs.Structure.Shape.{Falls, second-lt}
 use Rattle.claims.proofs.Structure.Tables.{Shaped, settled-shaped, kept-in, pos}
 use Rattle.claims.proofs.Settle.Success.{Success, success}
 use Rattle.claims.proofs.Calls.Readings.{left-reading}
-use Rattle.claims.proofs.Modes.MergedEvents.{mergeEvent, mergeAll, merged-events}
+use Rattle.claims.proofs.Modes.MergedEvents.{mergeAll, merged-events}
 
 -- ---- repeats
 

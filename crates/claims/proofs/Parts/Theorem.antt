@@ -40,11 +40,11 @@ use Rattle.head.proofs.Shorts.{ShortBy, OpenedCut, opened-cut}
 use Rattle.xml_elements.proofs.Laws.{cond-by}
 use Rattle.events.specs.declared.Event.{Event}
 use Rattle.events.specs.Events.{Names, namesIn, notesOf, afterPool, fileEvents}
-use Rattle.walk.specs.Settle.{Room, Tables, Out, going, refused, settle, nothingYet}
-use Rattle.walk.specs.Reading.{Reading, reading, readingBy, finalOf, settledIn}
+use Rattle.walk.specs.Settle.{Room, Out, going, refused, settle, nothingYet}
+use Rattle.walk.specs.Reading.{reading, readingBy, finalOf, settledIn}
 use Rattle.claims.specs.Parts.{isPart}
 use Rattle.claims.proofs.Settle.ByEvent.{InOut, Goes, Stops, settle-by}
-use Rattle.claims.proofs.Parts.Refusals.{AllRefuse, file-refuses}
+use Rattle.claims.proofs.Events.Refusals.{AllRefuse, file-refuses}
 
 no-part : {b : Bool} → b ≡ true → b ≡ false → ⊥
 no-part p q = let e = sym p ∙ q in let z : _≡_ {A = ℕ} 0 1 = cc in omega arith

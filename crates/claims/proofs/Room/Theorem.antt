@@ -6,11 +6,11 @@
 --   read-listed-suffices   so `read_listed`, as a listing calls it, is never without a place
 --
 -- Why: `file-few` (proofs/Room/FileCounts.antt) for nodes and attributes; `keptNotes-length-le` (anomaly) for notes.
-use Prim.Native.Nat.{ℕ, _+_, _-_, _*_, _/_, _≤_, _<_}
+use Prim.Native.Nat.{ℕ, _+_, _-_, _*_, _≤_, _<_}
 use native.Mathlib.Omega.{arith}
 use mathlib.Core.Path.{_≡_, refl, sym, subst}
 use mathlib.Core.List.{List, [], _∷_}
-use mathlib.Core.Bool.{Bool, true, false}
+use mathlib.Core.Bool.{true, false}
 use borrow.Author.Tests.{lt-ltb}
 use lib.ListN.{length, getD, length-drop, length-append, length-set, replicate, length-replicate}
 use lib.Dec.{ltb, eqb}
@@ -29,7 +29,7 @@ use Rattle.system_types.specs.Names.{Lent, lends, namesFrom, namesOf}
 use Rattle.system_types.specs.declared.NamesRead.{NamesRead}
 use Rattle.system_types.specs.declared.NamesRead.the-variants.{Good, Bad}
 use Rattle.head.specs.declared.Opened.{Opened}
-use Rattle.head.specs.Head.{openedOf, tablesIn, bodyIn, headLen}
+use Rattle.head.specs.Head.{openedOf, tablesIn, bodyIn, headLen, poolRefusal, mapRefusal, refusalOf}
 use Rattle.head.specs.declared.Asker.{Asker}
 use Rattle.head.specs.declared.Asker.the-variants as askers
 use Rattle.head.specs.Entry.{readingAt, Check, passes, fails, firstOf, lengthCheck, keepsNone, capCheck, namesCheckBy, modeOf, isMode, modeCheck, entryChecks}
@@ -40,24 +40,32 @@ use Rattle.walk.specs.Settle.{Room, Tables, Out, going, refused, nothingYet}
 use Rattle.records.specs.Words.{nodeWidth, attributeWidth}
 use Rattle.walk.specs.Reading.{reading, readingBy, settledIn, roomIn, zeroNote, Reads}
 use Rattle.listing_back.specs.Back.{isListed}
+use Rattle.errors.specs.declared.ReadCounts.{ReadCounts}
+use Rattle.errors.specs.declared.Refusal.the-variants.{MissingRoot}
+use Rattle.head.specs.declared.HeadEnd.{HeadEnd}
+use Rattle.head.specs.declared.HeadEnd.the-variants.{Whole, TooSmall, HeaderSize, PoolShort, MapShort}
+use Rattle.head.specs.declared.PoolPart.{PoolPart}
+use Rattle.head.specs.declared.PoolPart.the-variants.{Skipped, Header, Offsets, Styles, Data}
+use Rattle.head.specs.declared.MapPart.{MapPart}
+use Rattle.head.specs.declared.MapPart.the-variants.{MapHeader, MapIds}
 use Rattle.claims.specs.Counts.{opensIn, attributesIn, notesIn}
 use Rattle.claims.specs.Room.{isFull, HasRoom, nodesFor, attributesFor, placesFor, listingRoom}
 use Rattle.claims.proofs.Settle.ByEvent.{InOut, idle-still, Goes, Stops, settle-by}
-use Rattle.claims.proofs.Room.StartCounts.{Fine}
 use Rattle.claims.proofs.Room.FileCounts.{file-few}
+use Rattle.claims.proofs.Events.Refusals.{AllRefuse, file-refuses}
 
 -- ---- events put away
+
+-- no want of a place, and a listing can say it
+abbrev Fine : Refusal → Type 0
+Fine x = (isFull x ≡ false) × (isListed (numberOf x) ≡ true)
 
 -- there is room for all that is to come
 record Enough (r : Room) (es : List Event) (t : Tables) : Type 0 where
   nodes : length (t .nodes) + nodeWidth * opensIn es ≤ r .nodes
   attributes : length (t .attributes) + attributeWidth * attributesIn es ≤ r .attributes
-  fine : Fine es
+  fine : AllRefuse Fine es
   notes : length (t .notes) + length (keptFrom (r .cap) (t .counts) (notesIn es)) ≤ r .notes
-
--- not for want of a place
-abbrev Other : Refusal → Type 0
-Other x = isFull x ≡ false
 
 -- a note that is due is one of those to come
 due-length : (r : Room) (t : Tables) (x : ResAnomaly) (es : List Event) → getD (t .counts) (kindIndex x) 0 < r .cap
@@ -99,164 +107,141 @@ goes r = record {
   };
 }
 
-stops : (r : Room) → Stops r (Enough r) Other
-stops r = record {
-  refuses = λ t es x h. h .fine .0 .0;
+stops : (r : Room) (S : Refusal → Type 0) → ((x : Refusal) → Fine x → S x) → Stops r (Enough r) S
+stops r S fine = record {
+  refuses = λ t es x h. fine x (h .fine .0);
   nodes = λ t es n f l g h. absurd (let z : ⊥ = omega (arith, h .nodes) in z);
   attributes = λ t es p a g h. absurd (let z : ⊥ = omega (arith, h .attributes) in z);
   notes = λ t es x d g h. absurd (let z : ⊥ = omega (arith, due-length r t x es d, h .notes) in z);
 }
 
+-- ---- the refusals of a file are such
+
+pool-fine : (e : PoolPart) → Fine (poolRefusal e)
+unfolding numberOf
+pool-fine (Skipped at) = (refl, refl)
+pool-fine (Header at) = (refl, refl)
+pool-fine (Offsets at) = (refl, refl)
+pool-fine (Styles at) = (refl, refl)
+pool-fine (Data at) = (refl, refl)
+
+map-fine : (e : MapPart) → Fine (mapRefusal e)
+unfolding numberOf
+map-fine (MapHeader at) = (refl, refl)
+map-fine (MapIds at) = (refl, refl)
+
+head-fine : (e : HeadEnd) → Fine (refusalOf e)
+unfolding numberOf
+head-fine Whole = (refl, refl)
+head-fine (MapShort e) = map-fine e
+head-fine (PoolShort e) = pool-fine e
+head-fine (TooSmall n) = (refl, refl)
+head-fine (HeaderSize n) = (refl, refl)
+
+root-fine : Fine MissingRoot
+unfolding numberOf
+root-fine = (refl, refl)
+
 -- ---- a reading
 
-abbrev Under : Check → Type 0
-Under passes = Unit {0}
-Under (fails x) = Other x
+-- where it is refused by an entry check
+abbrev Under : (Refusal → Type 0) → Check → Type 0
+Under S passes = Unit {0}
+Under S (fails x) = S x
 
-length-under : (f : List ℕ) → Under (lengthCheck f)
+abbrev AllUnder : (Refusal → Type 0) → List Check → Type 0
+AllUnder S [] = Unit {0}
+AllUnder S (c ∷ cs) = Under S c × AllUnder S cs
+
+first-under : (S : Refusal → Type 0) (cs : List Check) → AllUnder S cs → Under S (firstOf cs)
+first-under S [] p = tt
+first-under S (passes ∷ cs) p = first-under S cs (p .1)
+first-under S (fails x ∷ cs) p = p .0
+
+-- A of every answer, where there is room: S of its refusals
+module _ (S : Refusal → Type 0) (A : ReadAnswer → Type 0) (done : (c : ReadCounts) → A (Done c)) (refuses : (x : Refusal) → S x → A (Refused x))
+    (fine : (x : Refusal) → Fine x → S x) where
+  final-under : (r : Room) (o : Out) (c : Check) → InOut (Enough r []) S o → Under S c → A (readingBy r o c .answer)
+  final-under r (going t) passes p q = done _
+  final-under r (refused y) passes p q = refuses y p
+  final-under r o (fails y) p q = refuses y q
+
+  module _ (r : Room) (f : List ℕ) (lent : Lent) (nodes : nodesFor (length f) ≤ r .nodes) (attributes : attributesFor (length f) ≤ r .attributes)
+      (notes : placesFor (r .cap) ≤ r .notes) where
+    settled : (o : Opened) → InOut (Enough r []) S (settledIn r f lent o)
+    settled o =
+        let t = tablesIn f (o .head) in
+        let N = namesIn (r .mode) (o .head) t lent in
+        let b = bodyIn f (o .head) in
+        let few = file-few N o t b in
+        let l : length b ≡ length f - (8 + headLen (o .head)) = length-drop (8 + headLen (o .head)) f in
+        settle-by (N .repeats) r (Enough r) S (goes r) (stops r S fine) nothingYet (fileEvents N o t b) (record {
+          nodes = omega (arith, few .opens);
+          attributes = omega (arith, few .attributes);
+          fine = file-refuses Fine N root-fine o t b (λ e q. head-fine e);
+          notes = omega (arith, keptNotes-length-le (r .cap) (notesIn (fileEvents N o t b)));
+        })
+
+    answered : Under S (firstOf (entryChecks f lent (readingAt (r .cap) (r .mode)))) → A (reading r f lent .answer)
+    unfolding reading
+    answered entry = final-under r (settledIn r f lent (openedOf f)) (firstOf (entryChecks f lent (readingAt (r .cap) (r .mode)))) (settled (openedOf f)) entry
+
+-- ---- it is not refused for want of a place
+
+abbrev Other : Refusal → Type 0
+Other x = isFull x ≡ false
+
+length-under : (f : List ℕ) → Under Other (lengthCheck f)
 unfolding lengthCheck numberOf
-length-under f = cond-by Under (ltb fileLimit (length f)) (λ e. refl) (λ e. tt)
+length-under f = cond-by (Under Other) (ltb fileLimit (length f)) (λ e. refl) (λ e. tt)
 
-cap-under : (a : Asker) → Under (capCheck a)
+cap-under : (a : Asker) → Under Other (capCheck a)
 unfolding numberOf
-cap-under a = cond-by Under (keepsNone a) (λ e. refl) (λ e. tt)
+cap-under a = cond-by (Under Other) (keepsNone a) (λ e. refl) (λ e. tt)
 
-mode-under : (a : Asker) → Under (modeCheck a)
+mode-under : (a : Asker) → Under Other (modeCheck a)
 unfolding numberOf
-mode-under a = cond-by Under (isMode (modeOf a)) (λ e. tt) (λ e. refl)
+mode-under a = cond-by (Under Other) (isMode (modeOf a)) (λ e. tt) (λ e. refl)
 
-names-under : (n : NamesRead) → Under (namesCheckBy n)
+names-under : (n : NamesRead) → Under Other (namesCheckBy n)
 unfolding numberOf
 names-under Good = tt
 names-under (Bad k) = refl
 
-abbrev AllUnder : List Check → Type 0
-AllUnder [] = Unit {0}
-AllUnder (c ∷ cs) = Under c × AllUnder cs
+pub suffices : (r : Room) (f : List ℕ) (lent : Lent) → nodesFor (length f) ≤ r .nodes → attributesFor (length f) ≤ r .attributes
+    → placesFor (r .cap) ≤ r .notes → HasRoom (reading r f lent .answer)
+suffices r f lent nodes attributes notes =
+    let a = askers.Reading (r .cap) (r .mode) in
+    answered Other HasRoom (λ c. tt) (λ x h. h) (λ x h. h .0) r f lent nodes attributes notes
+    (first-under Other (entryChecks f lent (readingAt (r .cap) (r .mode)))
+    (length-under f, (cap-under a, (names-under (namesOf lent), (mode-under a, (tt, tt))))))
 
-first-under : (cs : List Check) → AllUnder cs → Under (firstOf cs)
-first-under [] p = tt
-first-under (passes ∷ cs) p = first-under cs (p .1)
-first-under (fails x ∷ cs) p = p .0
-
--- a line for each check
-entry-under : (f : List ℕ) (lent : Lent) (cap mode : ℕ) → Under (firstOf (entryChecks f lent (readingAt cap mode)))
-entry-under f lent cap mode =
-    first-under (entryChecks f lent (readingAt cap mode)) (
-      length-under f,
-      (
-        cap-under (askers.Reading cap mode),
-        (
-          names-under (namesOf lent),
-          (
-            mode-under (askers.Reading cap mode),
-            (
-              tt,
-              tt,
-            ),
-          ),
-        ),
-      ),
-    )
-
-final-under : (r : Room) (o : Out) (c : Check) → InOut (Enough r []) Other o → Under c → HasRoom (readingBy r o c .answer)
-final-under r (going t) passes p q = tt
-final-under r (refused y) passes p q = p
-final-under r o (fails y) p q = q
-
-module _ (r : Room) (f : List ℕ) (lent : Lent) (nodes : nodesFor (length f) ≤ r .nodes) (attributes : attributesFor (length f) ≤ r .attributes)
-    (notes : placesFor (r .cap) ≤ r .notes) where
-  settled : (o : Opened) → InOut (Enough r []) Other (settledIn r f lent o)
-  settled o =
-      let t = tablesIn f (o .head) in
-      let N = namesIn (r .mode) (o .head) t lent in
-      let b = bodyIn f (o .head) in
-      let few = file-few N o t b in
-      let l : length b ≡ length f - (8 + headLen (o .head)) = length-drop (8 + headLen (o .head)) f in
-      settle-by (N .repeats) r (Enough r) Other (goes r) (stops r) nothingYet (fileEvents N o t b) (record {
-        nodes = omega (arith, few .opens);
-        attributes = omega (arith, few .attributes);
-        fine = few .fine;
-        notes = omega (arith, keptNotes-length-le (r .cap) (notesIn (fileEvents N o t b)));
-      })
-
-  pub suffices : HasRoom (reading r f lent .answer)
-  unfolding reading
-  suffices =
-      final-under r (settledIn r f lent (openedOf f)) (firstOf (entryChecks f lent (readingAt (r .cap) (r .mode)))) (settled (openedOf f)) (entry-under f lent (r .cap) (r .mode))
-
--- ---- what a reading with no names is refused with, where there is room: a listing can say each
+-- ---- with no names, a listing can say what it is refused with
 
 abbrev Listed : Refusal → Type 0
 Listed x = isListed (numberOf x) ≡ true
-
-listed-stops : (r : Room) → Stops r (Enough r) Listed
-listed-stops r = record {
-  refuses = λ t es x h. h .fine .0 .1;
-  nodes = λ t es n f l g h. absurd (let z : ⊥ = omega (arith, h .nodes) in z);
-  attributes = λ t es p a g h. absurd (let z : ⊥ = omega (arith, h .attributes) in z);
-  notes = λ t es x d g h. absurd (let z : ⊥ = omega (arith, due-length r t x es d, h .notes) in z);
-}
 
 abbrev pub SaidBy : ReadAnswer → Type 0
 SaidBy (Done c) = Unit {0}
 SaidBy (Refused x) = isListed (numberOf x) ≡ true
 
-abbrev UnderListed : Check → Type 0
-UnderListed passes = Unit {0}
-UnderListed (fails x) = Listed x
-
-length-listed : (f : List ℕ) → UnderListed (lengthCheck f)
+length-listed : (f : List ℕ) → Under Listed (lengthCheck f)
 unfolding lengthCheck numberOf
-length-listed f = cond-by UnderListed (ltb fileLimit (length f)) (λ e. refl) (λ e. tt)
+length-listed f = cond-by (Under Listed) (ltb fileLimit (length f)) (λ e. refl) (λ e. tt)
 
-abbrev AllListed : List Check → Type 0
-AllListed [] = Unit {0}
-AllListed (c ∷ cs) = UnderListed c × AllListed cs
-
-first-listed : (cs : List Check) → AllListed cs → UnderListed (firstOf cs)
-first-listed [] p = tt
-first-listed (passes ∷ cs) p = first-listed cs (p .1)
-first-listed (fails x ∷ cs) p = p .0
-
-cap-listed : (cap mode : ℕ) → eqb cap 0 ≡ false → UnderListed (capCheck (askers.Reading cap mode))
+cap-listed : (cap mode : ℕ) → eqb cap 0 ≡ false → Under Listed (capCheck (askers.Reading cap mode))
 cap-listed cap mode e = rw e tt
 
-mode-listed : (cap mode : ℕ) → isMode mode ≡ true → UnderListed (modeCheck (askers.Reading cap mode))
+mode-listed : (cap mode : ℕ) → isMode mode ≡ true → Under Listed (modeCheck (askers.Reading cap mode))
 mode-listed cap mode e = rw e tt
 
--- a line for each check: no names are lent
-entry-listed : (f : List ℕ) (cap mode : ℕ) → eqb cap 0 ≡ false → isMode mode ≡ true → UnderListed (firstOf (entryChecks f (lends [] []) (readingAt cap mode)))
+pub said-by : (r : Room) (f : List ℕ) → nodesFor (length f) ≤ r .nodes → attributesFor (length f) ≤ r .attributes → placesFor (r .cap) ≤ r .notes
+    → eqb (r .cap) 0 ≡ false → isMode (r .mode) ≡ true → SaidBy (reading r f (lends [] []) .answer)
 unfolding namesFrom
-entry-listed f cap mode some known =
-    first-listed (entryChecks f (lends [] []) (readingAt cap mode)) (length-listed f, (cap-listed cap mode some, (tt, (mode-listed cap mode known, (tt, tt)))))
-
-final-listed : (r : Room) (o : Out) (c : Check) → InOut (Enough r []) Listed o → UnderListed c → SaidBy (readingBy r o c .answer)
-final-listed r (going t) passes p q = tt
-final-listed r (refused y) passes p q = p
-final-listed r o (fails y) p q = q
-
-module _ (r : Room) (f : List ℕ) (nodes : nodesFor (length f) ≤ r .nodes) (attributes : attributesFor (length f) ≤ r .attributes)
-    (notes : placesFor (r .cap) ≤ r .notes) where
-  settled-listed : (o : Opened) → InOut (Enough r []) Listed (settledIn r f (lends [] []) o)
-  settled-listed o =
-      let t = tablesIn f (o .head) in
-      let N = namesIn (r .mode) (o .head) t (lends [] []) in
-      let b = bodyIn f (o .head) in
-      let few = file-few N o t b in
-      let l : length b ≡ length f - (8 + headLen (o .head)) = length-drop (8 + headLen (o .head)) f in
-      settle-by (N .repeats) r (Enough r) Listed (goes r) (listed-stops r) nothingYet (fileEvents N o t b) (record {
-        nodes = omega (arith, few .opens);
-        attributes = omega (arith, few .attributes);
-        fine = few .fine;
-        notes = omega (arith, keptNotes-length-le (r .cap) (notesIn (fileEvents N o t b)));
-      })
-
-  pub said-by : eqb (r .cap) 0 ≡ false → isMode (r .mode) ≡ true → SaidBy (reading r f (lends [] []) .answer)
-  unfolding reading
-  said-by some known =
-      final-listed r (settledIn r f (lends [] []) (openedOf f)) (firstOf (entryChecks f (lends [] []) (readingAt (r .cap) (r .mode)))) (settled-listed (openedOf f))
-      (entry-listed f (r .cap) (r .mode) some known)
+said-by r f nodes attributes notes some known =
+    answered Listed SaidBy (λ c. tt) (λ x h. h) (λ x h. h .1) r f (lends [] []) nodes attributes notes
+    (first-under Listed (entryChecks f (lends [] []) (readingAt (r .cap) (r .mode)))
+    (length-listed f, (cap-listed (r .cap) (r .mode) some, (tt, (mode-listed (r .cap) (r .mode) known, (tt, tt))))))
 
 -- ---- a call
 

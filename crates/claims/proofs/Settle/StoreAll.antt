@@ -20,8 +20,9 @@ use Rattle.walk.specs.Settle.{Room, Tables, Out, going, refused, push, settle, 
 use Rattle.walk.proofs.Settle.{settle-refused}
 use Rattle.claims.specs.Counts.{noted, notesIn}
 use Rattle.claims.proofs.Events.NotesAndOthers.{othersIn}
+use Rattle.claims.proofs.Events.Refusals.{refuse-others, others-refuse}
 use Rattle.claims.proofs.Settle.TableGrowth.{bare, grow, grown, grown-others, grown-more}
-use Rattle.claims.proofs.Settle.StoreCases.{Full, Stays, AllStay, stay-to, stay-from, keptOf, Pushed, Tells, push-tells, Going, push-roomy}
+use Rattle.claims.proofs.Settle.StoreCases.{Full, Stays, AllStay, keptOf, Pushed, Tells, push-tells, Going, push-roomy}
 
 -- one event's notes are not more than its notes and others
 kept-front : (cap : ℕ) (counts : List ℕ) (e : Event) (ns : List ResAnomaly)
@@ -137,7 +138,7 @@ module _ (rule : Rule) (r : Room) (es : List Event) (u : Tables) (base : settle 
     same-grown = grown-others rule (bare empty) es′ ∙ ap (grown rule (bare empty)) others ∙ sym (grown-others rule (bare empty) es)
 
     pub same-stay : AllStay es′
-    same-stay = stay-from es′ (rw others (stay-to es (settled .stay)))
+    same-stay = others-refuse (λ x. ⊥) es′ (rw others (refuse-others (λ x. ⊥) es (settled .stay)))
 
     abbrev pub Comes : Out → Type 0
     Comes (going u′) = Beside r′ es′ u u′

@@ -1,13 +1,13 @@
 -- What `push` makes of one event, taken apart: tables that are grown, the notes that the cap keeps, or a refusal. No contract cites this file.
 -- In order: which events refuse (`Stays`), and which refusals are for want of room (`Full`); what one event does (`Pushed`, `push-tells`); where there is
 -- room for it, it does not refuse (`push-roomy`). Not here: all events (proofs/Settle/StoreAll.antt).
-use Prim.Native.Nat.{ℕ, _+_, _-_, _≤_}
+use Prim.Native.Nat.{ℕ, _+_, _≤_}
 use native.Mathlib.Omega.{arith}
 use mathlib.Core.Path.{_≡_, refl, sym, _∙_}
 use mathlib.Core.List.{List, [], _∷_, _++_, append-nil, map}
 use mathlib.Core.Bool.{Bool, true, false}
 use borrow.Author.Tests.{lt-ltb, leb-true, le-leb}
-use lib.ListN.{length, drop, getD, length-append, length-set}
+use lib.ListN.{length, getD, length-append, length-set}
 use lib.Dec.{ltb, leb, eqb}
 use Rattle.anomaly.specs.Note.{kindIndex, noteOf}
 use Rattle.anomaly.specs.Kept.{keptFrom}
@@ -23,7 +23,7 @@ use Rattle.records.specs.Repeats.{Rule}
 use Rattle.walk.specs.Settle.{Room, Tables, Out, going, refused, opened, kept, push, repeated}
 use Rattle.claims.specs.Room.{isFull}
 use Rattle.claims.specs.Counts.{noted}
-use Rattle.claims.proofs.Events.NotesAndOthers.{othersIn}
+use Rattle.claims.proofs.Events.Refusals.{RefuseOf, AllRefuse}
 use Rattle.claims.proofs.Settle.TableGrowth.{bare, grow}
 
 -- refusals 8, 9, 10
@@ -32,45 +32,10 @@ Full x = isFull x ≡ true
 
 -- no event refuses
 abbrev pub Stays : Event → Type 0
-Stays Nothing = Unit {0}
-Stays (Open n x l) = Unit {0}
-Stays (Attribute p a) = Unit {0}
-Stays (LeftOut n) = Unit {0}
-Stays Close = Unit {0}
-Stays (Note x) = Unit {0}
-Stays (Refuse x) = ⊥
-Stays Finish = Unit {0}
+Stays e = RefuseOf (λ x. ⊥) e
 
 abbrev pub AllStay : List Event → Type 0
-AllStay [] = Unit {0}
-AllStay (e ∷ es) = Stays e × AllStay es
-
-pub stay-right : (ds es : List Event) → AllStay (ds ++ es) → AllStay es
-stay-right [] es h = h
-stay-right (d ∷ ds) es h = stay-right ds es (h .1)
-
--- notes play no part
-pub stay-to : (es : List Event) → AllStay es → AllStay (othersIn es)
-stay-to [] h = tt
-stay-to (Nothing ∷ es) h = (tt, stay-to es (h .1))
-stay-to (Open n x l ∷ es) h = (tt, stay-to es (h .1))
-stay-to (Attribute p a ∷ es) h = (tt, stay-to es (h .1))
-stay-to (LeftOut n ∷ es) h = (tt, stay-to es (h .1))
-stay-to (Close ∷ es) h = (tt, stay-to es (h .1))
-stay-to (Note x ∷ es) h = stay-to es (h .1)
-stay-to (Refuse x ∷ es) h = absurd (h .0)
-stay-to (Finish ∷ es) h = (tt, stay-to es (h .1))
-
-pub stay-from : (es : List Event) → AllStay (othersIn es) → AllStay es
-stay-from [] h = tt
-stay-from (Nothing ∷ es) h = (tt, stay-from es (h .1))
-stay-from (Open n x l ∷ es) h = (tt, stay-from es (h .1))
-stay-from (Attribute p a ∷ es) h = (tt, stay-from es (h .1))
-stay-from (LeftOut n ∷ es) h = (tt, stay-from es (h .1))
-stay-from (Close ∷ es) h = (tt, stay-from es (h .1))
-stay-from (Note x ∷ es) h = (tt, stay-from es h)
-stay-from (Refuse x ∷ es) h = absurd (h .0)
-stay-from (Finish ∷ es) h = (tt, stay-from es (h .1))
+AllStay es = AllRefuse (λ x. ⊥) es
 
 module _ (rule : Rule) (r : Room) where
   -- the notes that are kept of those to come

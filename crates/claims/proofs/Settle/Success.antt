@@ -1,7 +1,7 @@
 -- What a reading says that succeeds, and two of them beside each other. No contract cites this file.
 -- In order: a success and its tables (`Success`, `success`); tables that differ in their notes alone (`succeeds-beside`); with a cap of at least 1, no note
 -- kept is no note made (`none-kept`).
-use Prim.Native.Nat.{ℕ, zero, suc, _+_, _-_, _*_, _/_, _≤_}
+use Prim.Native.Nat.{ℕ, zero, suc, _-_, _*_, _/_, _≤_}
 use native.Mathlib.Omega.{arith}
 use mathlib.Core.Path.{_≡_, refl, sym, _∙_, ap, subst}
 use mathlib.Core.List.{List, [], _∷_, _++_, map}

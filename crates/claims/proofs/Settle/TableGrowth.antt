@@ -1,12 +1,12 @@
 -- What events make of tables, with no room and no notes: `grown`. No contract cites this file.
 -- In order: one event (`grow`) and all of them; notes play no part (`grown-others`); tables only grow (`grow-more`, `grown-more`).
-use Prim.Native.Nat.{ℕ, _≤_}
+use Prim.Native.Nat.{_≤_}
 use native.Mathlib.Omega.{arith}
 use native.Mathlib.Nat.{le-trans, le-refl}
 use mathlib.Core.Path.{_≡_, refl}
 use mathlib.Core.List.{List, [], _∷_}
-use mathlib.Core.Bool.{Bool, cond}
-use lib.ListN.{length, drop, length-append, length-set}
+use mathlib.Core.Bool.{cond}
+use lib.ListN.{length, length-append, length-set}
 use lib.Dec.{eqb}
 use Rattle.xml_elements.proofs.Laws.{cond-by}
 use Rattle.records.specs.Repeats.{Rule}

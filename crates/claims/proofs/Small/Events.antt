@@ -5,11 +5,11 @@
 --   Small        each number of some events fits: words of nodes and attributes, numbers of notes, values of refusals
 --   body-small   the events of a body: numbers that were read, and the depth, which grows by one for a chunk at most
 --   file-small   those of a file, with what its head says: counts and offsets that were read, and places in the file
-use Prim.Native.Nat.{ℕ, zero, suc, _+_, _-_, _*_, _/_, _≤_, _<_}
+use Prim.Native.Nat.{ℕ, zero, suc, _+_, _-_, _≤_, _<_}
 use native.Mathlib.Omega.{arith}
-use mathlib.Core.Path.{_≡_, refl}
+use mathlib.Core.Path.{_≡_}
 use mathlib.Core.List.{List, [], _∷_, _++_}
-use mathlib.Core.Bool.{Bool, true, false, cond, not, _&&_}
+use mathlib.Core.Bool.{Bool, true, false, cond, not}
 use borrow.Author.Tests.{ltb-true}
 use lib.ListN.{length, drop, getD, length-drop}
 use lib.Seq.{getD-drop}
@@ -19,18 +19,16 @@ use Rattle.field.specs.Le.{u16le, u32le}
 use Rattle.anomaly.specs.Note.{noteOf}
 use Rattle.anomaly.specs.declared.Note.{Note as NoteOf}
 use Rattle.anomaly.specs.declared.ResAnomaly.{ResAnomaly}
-use Rattle.anomaly.specs.declared.ResAnomaly.the-variants.{StringPoolGarbageChunk, StringCountMismatch, StringOffsetsOutOfBounds, NonXmlChunk}
-use Rattle.anomaly.specs.declared.ResAnomaly.the-variants.{XmlNodeHeaderSize, UnknownChunk, AttributeStartShifted, AttributeSizeMismatch}
-use Rattle.anomaly.specs.declared.ResAnomaly.the-variants.{ElementTrailingBytes, InvalidElementName, InvalidAttributeName, TruncatedXml, UnclosedElements, DamagedElementName}
+use Rattle.anomaly.specs.declared.ResAnomaly.the-variants.{NonXmlChunk}
+use Rattle.anomaly.specs.declared.ResAnomaly.the-variants.{XmlNodeHeaderSize, UnknownChunk}
+use Rattle.anomaly.specs.declared.ResAnomaly.the-variants.{InvalidElementName, TruncatedXml, UnclosedElements, DamagedElementName}
 use Rattle.errors.specs.Refusal.{valueOf}
-use Rattle.errors.specs.declared.Refusal.{Refusal}
 use Rattle.errors.specs.declared.Refusal.the-variants.{MissingRoot}
 use Rattle.common.specs.Header.{headerOf, contentSize}
 use Rattle.common.specs.declared.ResChunkHeader.{ResChunkHeader}
 use Rattle.common.specs.declared.HeaderRead.{HeaderRead}
 use Rattle.common.specs.declared.HeaderRead.the-variants.{Whole as WholeHeader, Short}
 use Rattle.chunk.specs.Sort.{sortOf}
-use Rattle.chunk.proofs.Walk.{walk-ind, trace-stop, trace-step}
 use Rattle.res_string_pool.specs.declared.Garbage.{Garbage}
 use Rattle.res_string_pool.specs.declared.Pool.{Pool}
 use Rattle.res_string_pool.specs.declared.PoolRead.{PoolRead}
@@ -42,10 +40,8 @@ use Rattle.resource_map.specs.declared.MapRead.{MapRead}
 use Rattle.resource_map.specs.declared.MapRead.the-variants.{Ids, HeaderShort as MapHeaderShort, IdsShort}
 use Rattle.text.specs.declared.NameState.{NameState}
 use Rattle.text.specs.declared.NameState.the-variants.{NoText, Invalid, Valid}
-use Rattle.head.specs.declared.HeadEnd.{HeadEnd}
-use Rattle.head.specs.declared.HeadEnd.the-variants.{Whole, TooSmall, HeaderSize, PoolShort, MapShort}
 use Rattle.head.specs.declared.Opened.{Opened}
-use Rattle.head.specs.Head.{mappedBy, pooledBy, tablesOf, openedOf, refusalOf, whenNote, garbageNotes, countNotes, outsideIn, offsetNotes}
+use Rattle.head.specs.Head.{mappedBy, pooledBy, tablesOf, openedOf, refusalOf, outsideIn}
 use Rattle.xml_elements.specs.declared.XmlStartElement.{XmlStartElement}
 use Rattle.xml_elements.specs.declared.XmlAttributeElement.{XmlAttributeElement}
 use Rattle.xml_elements.specs.declared.Chunk.{Chunk}
@@ -54,14 +50,16 @@ use Rattle.xml_elements.specs.declared.CutChunk.{CutChunk}
 use Rattle.xml_elements.specs.declared.CutChunk.the-variants.{CutLine, CutHead, CutGap, CutAttributes, CutTrailing, CutEnd, CutOther}
 use Rattle.xml_elements.specs.declared.Turn.{Turn}
 use Rattle.xml_elements.specs.declared.Turn.the-variants.{Stop, Foreign, Met, Cut}
-use Rattle.xml_elements.specs.Chunk.{startOf, strideOf, attributesAt, attributesEnd, trailingOf, startLen, attributeAt, startTurn, xmlTurn, numberOf, turnBy, turnOf}
-use Rattle.xml_elements.proofs.Laws.{cond-by, usedOf-le, turnOf-told}
+use Rattle.xml_elements.specs.Chunk.{startOf, strideOf, attributesAt, attributesEnd, startLen, attributeAt, startTurn, xmlTurn, numberOf, turnBy, turnOf}
+use Rattle.xml_elements.proofs.Laws.{cond-by}
 use Rattle.events.specs.declared.Event.{Event}
 use Rattle.events.specs.declared.Event.the-variants.{Nothing, Open, Attribute, LeftOut, Close, Note, Refuse, Finish}
-use Rattle.events.specs.Events.{Names, isValid, hasOne, fixedOf, when, leading, attributeBy, attributeEvent, attributesOf, cutShort, fromLead, fromOpen, fromNamed, fromName, fromTrailing}
-use Rattle.events.specs.Events.{fromSize, fromGap, Spot, foreignNote, chunkYield, cutYield, yieldOf, nextOf, chunkNext, cutNext, fromRoot, lastOf, used, out, next}
-use Rattle.events.specs.Events.{eventsOn, bodyEvents, notesOf, afterPool, fileEvents}
+use Rattle.events.specs.Events.{Names, isValid, hasOne, fixedOf, when, leading, attributeBy, attributeEvent, attributesOf, cutShort, fromLead, fromOpen, fromNamed, fromName}
+use Rattle.events.specs.Events.{Spot, foreignNote, chunkYield, cutYield, yieldOf, nextOf, chunkNext, cutNext, fromRoot, lastOf, out}
+use Rattle.events.specs.Events.{eventsOn, bodyEvents, fileEvents}
 use Rattle.claims.specs.Readers.{allBelow}
+use Rattle.claims.proofs.Events.EventCases.{StartNote, shifted, sized, trailing, startNote, start-whole, cut-gap, cut-attributes, cut-trailing}
+use Rattle.claims.proofs.Events.EventCases.{body-by, HeadNote, garbage, count, offsets, headNote, file-by}
 
 abbrev pub Fits : ℕ → Type 0
 Fits n = n < 4294967296
@@ -126,6 +124,10 @@ noted : (b : Bool) (x : ResAnomaly) → SmallNote (noteOf x) → Small (when b (
 noted true x h = (h, tt)
 noted false x h = tt
 
+behind-note : (b : Bool) (x : ResAnomaly) (es : List Event) → SmallNote (noteOf x) → Small es → Small (when b (Note x) ++ es)
+behind-note true x es p q = (p, q)
+behind-note false x es p q = q
+
 cut-note : SmallNote (noteOf TruncatedXml)
 unfolding noteOf
 cut-note = record { kind = omega arith; first = omega arith; second = omega arith }
@@ -188,17 +190,11 @@ module _ (N : Names) (prefixes : (i : ℕ) → Fits (N .prefixOf i)) (states : (
     unfolding noteOf
     damage-note = record { kind = omega arith; first = w .name; second = states (s .name .0) }
 
-    trailing-note : SmallNote (noteOf (ElementTrailingBytes (trailingOf s)))
+    start-note : (n : StartNote) → SmallNote (noteOf (startNote s n))
     unfolding noteOf
-    trailing-note = record { kind = omega arith; first = omega (arith, w .size); second = omega arith }
-
-    size-note : SmallNote (noteOf (AttributeSizeMismatch (s .«attribute_size»)))
-    unfolding noteOf
-    size-note = record { kind = omega arith; first = w .width; second = omega arith }
-
-    gap-note : SmallNote (noteOf (AttributeStartShifted (s .«attribute_start»)))
-    unfolding noteOf
-    gap-note = record { kind = omega arith; first = w .shift; second = omega arith }
+    start-note shifted = record { kind = omega arith; first = w .shift; second = omega arith }
+    start-note sized = record { kind = omega arith; first = w .width; second = omega arith }
+    start-note trailing = record { kind = omega arith; first = omega (arith, w .size); second = omega arith }
 
     lead-small : Small (fromLead N s k l)
     unfolding fromLead
@@ -210,41 +206,16 @@ module _ (N : Names) (prefixes : (i : ℕ) → Fits (N .prefixOf i)) (states : (
     unfolding fromOpen
     open-small = ((w .name, fixed-small (N .state (s .name .0)), w .line), lead-small)
 
-    named-small : Small (fromNamed N s k l)
-    unfolding fromNamed
-    named-small =
-        let state = N .state (s .name .0) in
-        both (when (not (isValid state)) (Note (InvalidElementName (s .name) (hasOne state)))) (fromOpen N s k l)
-        (noted (not (isValid state)) (InvalidElementName (s .name) (hasOne state)) (name-note state)) open-small
-
     name-small : Small (fromName N s k l)
-    unfolding fromName
+    unfolding fromName fromNamed
     name-small =
-        let state = N .damage (s .name .0) in
-        both (when (not (eqb state 0)) (Note (DamagedElementName (s .name) state))) (fromNamed N s k l)
-        (noted (not (eqb state 0)) (DamagedElementName (s .name) state) damage-note) named-small
+        let state = N .state (s .name .0) in
+        let damage = N .damage (s .name .0) in
+        behind-note (not (eqb damage 0)) (DamagedElementName (s .name) damage) (fromNamed N s k l) damage-note
+        (behind-note (not (isValid state)) (InvalidElementName (s .name) (hasOne state)) (fromOpen N s k l) (name-note state) open-small)
 
-    trailing-small : (reach : ℕ) → Small (fromTrailing N s reach k l)
-    unfolding fromTrailing
-    trailing-small reach =
-        both (when (not (eqb (trailingOf s) 0)) (Note (ElementTrailingBytes (trailingOf s)))) (cond (eqb reach 3) (fromName N s k l) cutShort)
-        (noted (not (eqb (trailingOf s) 0)) (ElementTrailingBytes (trailingOf s)) trailing-note)
-        (cond-by Small (eqb reach 3) {x = fromName N s k l} {y = cutShort} (λ e. name-small) (λ e. cut-small))
-
-    size-small : (reach : ℕ) → Small (fromSize N s reach k l)
-    unfolding fromSize
-    size-small reach =
-        let test = not (eqb (s .«attribute_count») 0) && ltb 20 (s .«attribute_size») in
-        both (when test (Note (AttributeSizeMismatch (s .«attribute_size»)))) (cond (ltb reach 2) cutShort (fromTrailing N s reach k l))
-        (noted test (AttributeSizeMismatch (s .«attribute_size»)) size-note)
-        (cond-by Small (ltb reach 2) {x = cutShort} {y = fromTrailing N s reach k l} (λ e. cut-small) (λ e. trailing-small reach))
-
-    gap-small : (reach : ℕ) → Small (fromGap N s reach k l)
-    unfolding fromGap
-    gap-small reach =
-        both (when (ltb 20 (s .«attribute_start»)) (Note (AttributeStartShifted (s .«attribute_start»)))) (cond (eqb reach 0) cutShort (fromSize N s reach k l))
-        (noted (ltb 20 (s .«attribute_start»)) (AttributeStartShifted (s .«attribute_start»)) gap-note)
-        (cond-by Small (eqb reach 0) {x = cutShort} {y = fromSize N s reach k l} (λ e. cut-small) (λ e. size-small reach))
+    behind : (whole b : Bool) (n : StartNote) (ds es : List Event) → Small ds → Small (when b (Note (startNote s n)) ++ ds)
+    behind whole b n ds es h = behind-note b (startNote s n) ds (start-note n) h
 
 -- ---- what stands at the front of bytes
 
@@ -359,15 +330,14 @@ root-small false = tt
 
 last-small : (p : Spot) → Fits (p .depth) → Small (lastOf p)
 last-small p d =
-    both (when (not (eqb (p .depth) 0)) (Note (UnclosedElements (p .depth)))) (fromRoot p)
-    (noted (not (eqb (p .depth) 0)) (UnclosedElements (p .depth)) (depth-note (p .depth) d)) (root-small (eqb (p .starts) 0))
+    behind-note (not (eqb (p .depth) 0)) (UnclosedElements (p .depth)) (fromRoot p) (depth-note (p .depth) d) (root-small (eqb (p .starts) 0))
 
 -- ---- a body
 
 module _ (N : Names) (prefixes : (i : ℕ) → Fits (N .prefixOf i)) (states : (i : ℕ) → Fits (N .damage i)) where
   module _ (l : List ℕ) (h : InBytes l) (p : Spot) where
     chunk-events : (c : Chunk) → SmallChunk c → Small (chunkYield N l p c)
-    chunk-events (Start s) w = gap-small N prefixes states s w (p .starts) l h 3
+    chunk-events (Start s) w = start-whole N N s (p .starts) l (λ w ds es. Small ds) (behind N prefixes states s w (p .starts) l h) (name-small N prefixes states s w (p .starts) l h)
     chunk-events End w = (tt, tt)
     chunk-events (Other n) w = tt
     chunk-events Last w = (last-note, tt)
@@ -375,9 +345,9 @@ module _ (N : Names) (prefixes : (i : ℕ) → Fits (N .prefixOf i)) (states : (
     cut-events : (c : CutChunk) → SmallCut c → Small (cutYield N l p c)
     cut-events CutLine w = cut-small
     cut-events CutHead w = cut-small
-    cut-events (CutGap s) w = gap-small N prefixes states s w (p .starts) l h 0
-    cut-events (CutAttributes s) w = gap-small N prefixes states s w (p .starts) l h 1
-    cut-events (CutTrailing s) w = gap-small N prefixes states s w (p .starts) l h 2
+    cut-events (CutGap s) w = cut-gap N N s (p .starts) l (λ w ds es. Small ds) (behind N prefixes states s w (p .starts) l h) cut-small
+    cut-events (CutAttributes s) w = cut-attributes N N s (p .starts) l (λ w ds es. Small ds) (behind N prefixes states s w (p .starts) l h) cut-small
+    cut-events (CutTrailing s) w = cut-trailing N N s (p .starts) l (λ w ds es. Small ds) (behind N prefixes states s w (p .starts) l h) cut-small
     cut-events CutEnd w = (tt, tt)
     cut-events CutOther w = tt
 
@@ -388,23 +358,11 @@ module _ (N : Names) (prefixes : (i : ℕ) → Fits (N .prefixOf i)) (states : (
     turn-events (Cut c) w = cut-events c w
 
   -- of a walk that has come to this depth
-  abbrev SmallFrom : List ℕ → Spot → Type 0
-  SmallFrom l p = InBytes l → Fits (p .depth + length l) → Small (eventsOn N l p)
-
-  body-from : (l : List ℕ) (p : Spot) → SmallFrom l p
-  unfolding eventsOn
-  body-from = walk-ind used next (λ l s. usedOf-le l (turnOf l) (turnOf-told l)) SmallFrom stop more
-    where
-      stop : (l : List ℕ) (p : Spot) → used l p ≡ 0 → SmallFrom l p
-      stop l p e h d =
-          rw (trace-stop used (out N) next lastOf l p e)
-          (both (out N l p) (lastOf p) (turn-events l h p (turnOf l) (turn-small l h)) (last-small p (omega (arith, d))))
-
-      more : (l : List ℕ) (p : Spot) (m : ℕ) → used l p ≡ suc m → suc m ≤ length l → SmallFrom (drop (suc m) l) (next l p) → SmallFrom l p
-      more l p m e g rest h d =
-          rw (trace-step used (out N) next lastOf l p m e g)
-          (both (out N l p) (eventsOn N (drop (suc m) l) (next l p)) (turn-events l h p (turnOf l) (turn-small l h))
-          (rest (drop-bytes (suc m) l h) (omega (arith, d, g, next-depth p (turnOf l), length-drop (suc m) l))))
+  body-from : (l : List ℕ) (p : Spot) → InBytes l → Fits (p .depth + length l) → Small (eventsOn N l p)
+  body-from =
+      body-by N N (λ l p ds es. InBytes l → Fits (p .depth + length l) → Small ds) (λ l p e h d. last-small p (omega (arith, d)))
+      (λ l p m e g ds es rest h d. both (out N l p) ds (turn-events l h p (turnOf l) (turn-small l h))
+      (rest (drop-bytes (suc m) l h) (omega (arith, d, g, next-depth p (turnOf l), length-drop (suc m) l))))
 
   pub body-small : (b : List ℕ) → InBytes b → Fits (length b) → Small (bodyEvents N b)
   unfolding bodyEvents
@@ -510,43 +468,19 @@ outside-le o size (suc n) =
     let one : cond (leb size (offsetOf o n)) 1 0 ≤ 1 = cond-by (λ (x : ℕ). x ≤ 1) (leb size (offsetOf o n)) (λ e. omega arith) (λ e. omega arith) in
     omega (arith, one, outside-le o size n)
 
-head-notes : (b : Bool) (x : ResAnomaly) → SmallNote (noteOf x) → Small (notesOf (whenNote b x))
-head-notes true x h = (h, tt)
-head-notes false x h = tt
-
 module _ (o : Opened) (w : SmallOpened o) (t : List ℕ) where
-  garbage-note : SmallNote (noteOf (StringPoolGarbageChunk (o .garbage .kind) (o .garbage .skipped)))
-  unfolding noteOf
-  garbage-note = record { kind = omega arith; first = w .garbage .kind; second = w .garbage .skipped }
-
-  count-note : SmallNote (noteOf (StringCountMismatch (o .declared) (o .head .count)))
-  unfolding noteOf
-  count-note = record { kind = omega arith; first = w .declared; second = w .count }
-
-  offset-note : SmallNote (noteOf (StringOffsetsOutOfBounds (outsideIn t (o .head))))
+  head-note : (n : HeadNote) → SmallNote (noteOf (headNote o t n))
   unfolding noteOf outsideIn
-  offset-note = record {
+  head-note garbage = record { kind = omega arith; first = w .garbage .kind; second = w .garbage .skipped }
+  head-note count = record { kind = omega arith; first = w .declared; second = w .count }
+  head-note offsets = record {
     kind = omega arith;
     first = omega (arith, w .count, outside-le (drop (o .head .offsets) t) (o .head .size) (o .head .count));
     second = omega arith;
   }
 
-  offsets-small : Small (notesOf (offsetNotes t o))
-  offsets-small = head-notes (not (eqb (outsideIn t (o .head)) 0)) (StringOffsetsOutOfBounds (outsideIn t (o .head))) offset-note
-
-  module _ (N : Names) (prefixes : (i : ℕ) → Fits (N .prefixOf i)) (states : (i : ℕ) → Fits (N .damage i)) (b : List ℕ) (h : InBytes b) (short : Fits (length b)) where
-    after-small : (e : HeadEnd) → Fits (valueOf (refusalOf e)) → Small (afterPool N o t b e)
-    after-small Whole v = both (notesOf (offsetNotes t o)) (bodyEvents N b) offsets-small (body-small N prefixes states b h short)
-    after-small (MapShort m) v = both (notesOf (offsetNotes t o)) (Refuse (refusalOf (MapShort m)) ∷ []) offsets-small (v, tt)
-    after-small (PoolShort e) v = (v, tt)
-    after-small (TooSmall n) v = (v, tt)
-    after-small (HeaderSize n) v = (v, tt)
-
-    pub file-small : Small (fileEvents N o t b)
-    unfolding fileEvents
-    file-small =
-        both (notesOf (garbageNotes o)) (notesOf (countNotes o) ++ afterPool N o t b (o .end))
-        (head-notes (o .garbage .found) (StringPoolGarbageChunk (o .garbage .kind) (o .garbage .skipped)) garbage-note)
-        (both (notesOf (countNotes o)) (afterPool N o t b (o .end))
-        (head-notes (not (eqb (o .declared) (o .head .count))) (StringCountMismatch (o .declared) (o .head .count)) count-note)
-        (after-small (o .end) (w .end)))
+  pub file-small : (N : Names) → ((i : ℕ) → Fits (N .prefixOf i)) → ((i : ℕ) → Fits (N .damage i)) → (b : List ℕ) → InBytes b → Fits (length b)
+      → Small (fileEvents N o t b)
+  file-small N prefixes states b h short =
+      file-by N N o t b (λ ds es. Small ds) (λ c n ds es r. behind-note c (headNote o t n) ds (head-note n) r) (λ e q. (rw q at (w .end), tt))
+      (λ q. body-small N prefixes states b h short)

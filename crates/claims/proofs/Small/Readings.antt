@@ -5,7 +5,7 @@
 --   listed-in32   so it is of every reading that the listing program makes, read or refused, of a file of bytes
 --
 -- The model's bytes are numbers without a bound, so that they are bytes is what the law asks of the file, and nothing else.
-use Prim.Native.Nat.{ℕ, zero, suc, _+_, _-_, _*_, _/_, _≤_, _<_}
+use Prim.Native.Nat.{ℕ, zero, suc, _+_, _-_, _*_, _/_, _≤_}
 use native.Mathlib.Omega.{arith}
 use mathlib.Core.Path.{_≡_, refl, sym, _∙_, ap, subst}
 use mathlib.Core.List.{List, [], _∷_, _++_}
@@ -18,17 +18,14 @@ use Rattle.anomaly.specs.declared.Note.{Note as NoteOf}
 use Rattle.errors.specs.Refusal.{valueOf, numbersOf}
 use Rattle.errors.specs.declared.Refusal.{Refusal}
 use Rattle.errors.specs.declared.Refusal.the-variants.{TooLargeError}
-use Rattle.errors.specs.declared.ReadAnswer.{ReadAnswer}
-use Rattle.errors.specs.declared.ReadAnswer.the-variants.{Done, Refused}
-use Rattle.records.specs.Limits.{fileLimit, listedFile, listedNotes, listedCap}
+use Rattle.records.specs.Limits.{fileLimit, listedFile}
 use Rattle.records.specs.Words.{nodeWidth, nodeFirst, attributeWidth, apart, ownPrefix}
-use Rattle.system_types.specs.Names.{Lent, lends, namesFrom}
+use Rattle.system_types.specs.Names.{lends, namesFrom}
 use Rattle.utf.specs.Text.{Damage, whole, replaced, unpaired, cut, stateNumber}
 use Rattle.text.specs.Content.{Content, contentOf, hasText, isAndroid, damageIn}
-use Rattle.head.specs.declared.Opened.{Opened}
 use Rattle.head.specs.declared.Asker.the-variants as askers
 use Rattle.head.specs.Head.{openedOf, tablesIn, bodyIn, headLen}
-use Rattle.head.specs.Entry.{readingAt, Check, passes, fails, firstOf, lengthCheck, keepsNone, capCheck, isMode, modeCheck, entryChecks}
+use Rattle.head.specs.Entry.{readingAt, Check, passes, fails, firstOf, lengthCheck, capCheck, isMode, modeCheck, entryChecks}
 use Rattle.xml_elements.proofs.Laws.{cond-by}
 use Rattle.events.specs.declared.Event.{Event}
 use Rattle.events.specs.Events.{prefixIn, namesIn, fileEvents}

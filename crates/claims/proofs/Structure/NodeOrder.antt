@@ -2,10 +2,10 @@
 --
 --   settled-column   a word that a node is put down with and that nothing changes later is, of all nodes in order, that of the elements in order
 --   settled-names, settled-fixed, settled-lines   so it is with the name index, the fixed word and the line
-use Prim.Native.Nat.{ℕ, _+_, _-_, _*_, _/_, _<_}
+use Prim.Native.Nat.{ℕ, _+_, _*_, _/_, _<_}
 use native.Mathlib.Omega.{arith}
 use mathlib.Core.Path.{_≡_, refl, sym, _∙_, ap}
-use mathlib.Core.List.{List, [], _∷_, _++_}
+use mathlib.Core.List.{List, _∷_, _++_}
 use lib.ListN.{length, drop, getD, length-append, length-set}
 use lib.Seq.{getD-drop, drop-drop}
 use Rattle.common.specs.declared.StringIndex.{StringIndex}

@@ -2,7 +2,7 @@
 --
 --   walked-said      of the notes that a cap keeps of a whole walk, a note 12 says the depth at its end
 --   walked-twelve    there is one where the depth is not 0 and the cap keeps one; walked-none: there is none where the depth is 0
-use Prim.Native.Nat.{ℕ, _+_, _<_}
+use Prim.Native.Nat.{ℕ, _<_}
 use native.Mathlib.Omega.{arith}
 use mathlib.Core.Path.{_≡_, refl, sym, _∙_, ap}
 use mathlib.Core.List.{List, [], _∷_, _++_, map, cons≢nil}

@@ -6,25 +6,25 @@ use Prim.Native.Nat.{ℕ, zero, suc, _+_}
 use native.Mathlib.Omega.{arith}
 use mathlib.Core.Path.{_≡_, refl, _∙_}
 use mathlib.Core.List.{List, [], _∷_, _++_}
-use mathlib.Core.Bool.{Bool, true, false, not, _&&_}
+use mathlib.Core.Bool.{Bool, true, false, not, cond}
 use lib.ListN.{drop}
-use lib.Dec.{ltb, eqb}
+use lib.Dec.{eqb}
 use Rattle.anomaly.specs.Note.{noteOf}
 use Rattle.anomaly.specs.declared.ResAnomaly.{ResAnomaly}
-use Rattle.anomaly.specs.declared.ResAnomaly.the-variants.{AttributeStartShifted, AttributeSizeMismatch, ElementTrailingBytes}
 use Rattle.anomaly.specs.declared.ResAnomaly.the-variants.{InvalidElementName, DamagedElementName, InvalidAttributeName, TruncatedXml}
 use Rattle.text.specs.declared.NameState.{NameState}
 use Rattle.text.specs.declared.NameState.the-variants.{NoText, Invalid, Valid}
 use Rattle.xml_elements.specs.declared.XmlStartElement.{XmlStartElement}
 use Rattle.xml_elements.specs.declared.XmlAttributeElement.{XmlAttributeElement}
-use Rattle.xml_elements.specs.Chunk.{strideOf, attributesAt, trailingOf, attributeAt}
+use Rattle.xml_elements.specs.Chunk.{strideOf, attributesAt, attributeAt}
 use Rattle.events.specs.declared.Event.{Event}
-use Rattle.events.specs.declared.Event.the-variants.{Nothing, Open, Attribute, LeftOut, Close, Note, Refuse, Finish}
+use Rattle.events.specs.declared.Event.the-variants.{Note}
 use Rattle.events.specs.Events.{Names, when, isValid, hasOne, leading, attributeBy, attributesOf, attributeEvent, fromLead, fromOpen, fromNamed, fromName}
-use Rattle.events.specs.Events.{fromTrailing, fromSize, fromGap}
+use Rattle.events.specs.Events.{fromGap, cutShort}
 use Rattle.claims.specs.Counts.{opensIn, stepped, depthFrom, notesIn}
 use Rattle.claims.proofs.Events.NotesAndOthers.{notesIn-append}
 use Rattle.claims.proofs.Events.KeptNotes.{All, all-append}
+use Rattle.claims.proofs.Events.EventCases.{StartNote, shifted, sized, trailing, startNote, start-whole, cut-gap, cut-attributes, cut-trailing}
 
 -- ---- lists of events
 
@@ -113,38 +113,31 @@ module _ (N : Names) (s : XmlStartElement) (k : ℕ) (l : List ℕ) where
       noted-moved (not (eqb (N .damage (s .name .0)) 0)) (DamagedElementName (s .name) (N .damage (s .name .0))) (fromNamed N s k l) 1 (λ e. omega arith) named-moved
 
   -- behind the notes 6, 7 and 8
-  shift-moved : (es : List Event) (n : ℕ) → Moved es n
-      → Moved (when (ltb 20 (s .«attribute_start»)) (Note (AttributeStartShifted (s .«attribute_start»))) ++ es) n
-  unfolding noteOf
-  shift-moved es n h = noted-moved (ltb 20 (s .«attribute_start»)) (AttributeStartShifted (s .«attribute_start»)) es n (λ e. omega arith) h
+  abbrev MovedStart : Bool → List Event → List Event → Type 0
+  MovedStart whole ds es = Moved ds (cond whole 1 0)
 
-  size-moved : (es : List Event) (n : ℕ) → Moved es n
-      → Moved (when (not (eqb (s .«attribute_count») 0) && ltb 20 (s .«attribute_size»)) (Note (AttributeSizeMismatch (s .«attribute_size»))) ++ es) n
+  note-plain : (n : StartNote) → NotTwelve (startNote s n)
   unfolding noteOf
-  size-moved es n h =
-      noted-moved (not (eqb (s .«attribute_count») 0) && ltb 20 (s .«attribute_size»)) (AttributeSizeMismatch (s .«attribute_size»)) es n (λ e. omega arith) h
+  note-plain shifted = λ e. omega arith
+  note-plain sized = λ e. omega arith
+  note-plain trailing = λ e. omega arith
 
-  trailing-moved : (es : List Event) (n : ℕ) → Moved es n
-      → Moved (when (not (eqb (trailingOf s) 0)) (Note (ElementTrailingBytes (trailingOf s))) ++ es) n
-  unfolding noteOf
-  trailing-moved es n h = noted-moved (not (eqb (trailingOf s) 0)) (ElementTrailingBytes (trailingOf s)) es n (λ e. omega arith) h
+  behind : (whole b : Bool) (n : StartNote) (ds es : List Event) → MovedStart whole ds es
+      → MovedStart whole (when b (Note (startNote s n)) ++ ds) (when b (Note (startNote s n)) ++ es)
+  behind whole b n ds es h = noted-moved b (startNote s n) ds (cond whole 1 0) (note-plain n) h
 
-  cut-moved : Moved (Note TruncatedXml ∷ []) 0
+  cut-moved : Moved cutShort 0
   unfolding noteOf
   cut-moved = moved-note TruncatedXml (λ e. omega arith)
 
   pub start-moved : Moved (fromGap N s 3 k l) 1
-  unfolding fromGap fromSize fromTrailing
-  start-moved = shift-moved _ _ (size-moved _ _ (trailing-moved _ _ name-moved))
+  start-moved = start-whole N N s k l MovedStart behind name-moved
 
   pub gap-cut-moved : Moved (fromGap N s 0 k l) 0
-  unfolding fromGap
-  gap-cut-moved = shift-moved _ _ cut-moved
+  gap-cut-moved = cut-gap N N s k l MovedStart behind cut-moved
 
   pub attributes-cut-moved : Moved (fromGap N s 1 k l) 0
-  unfolding fromGap fromSize
-  attributes-cut-moved = shift-moved _ _ (size-moved _ _ cut-moved)
+  attributes-cut-moved = cut-attributes N N s k l MovedStart behind cut-moved
 
   pub trailing-cut-moved : Moved (fromGap N s 2 k l) 0
-  unfolding fromGap fromSize fromTrailing
-  trailing-cut-moved = shift-moved _ _ (size-moved _ _ (trailing-moved _ _ cut-moved))
+  trailing-cut-moved = cut-trailing N N s k l MovedStart behind cut-moved

@@ -8,7 +8,7 @@ use native.Mathlib.Omega.{arith}
 use mathlib.Core.Path.{_≡_, refl, sym, _∙_, ap}
 use mathlib.Core.List.{List, [], _∷_, _++_}
 use mathlib.Core.Bool.{Bool, true, false, cond}
-use borrow.Author.Tests.{eq-eqb, ne-eqb, lt-ltb, le-ltb, ltb-true, ltb-false, eqb-true, eqb-false}
+use borrow.Author.Tests.{ne-eqb, ltb-true}
 use lib.ListN.{length, length-append, length-set}
 use lib.Dec.{ltb, eqb}
 use Rattle.anomaly.specs.declared.Note.{Note}
@@ -20,7 +20,7 @@ use Rattle.records.specs.Words.{nodeWidth, nodeParent, nodeWords, noParent, att
 use Rattle.records.specs.Repeats.{Rule}
 use Rattle.system_types.specs.Names.{Lent}
 use Rattle.xml_elements.specs.declared.XmlAttributeElement.{XmlAttributeElement}
-use Rattle.walk.specs.Settle.{Room, Tables, going, settle, nothingYet, opened, closed, kept, noted, parentIn, closedIn}
+use Rattle.walk.specs.Settle.{Room, Tables, settle, nothingYet, opened, closed, kept, noted, parentIn, closedIn}
 use Rattle.walk.specs.Reading.{Reading, reading, nodesKept, Reads}
 use Rattle.main_activities.specs.Activities.{childrenFrom, parentOf}
 use Rattle.claims.specs.Readers.{namesFor, eventsOf}
@@ -29,7 +29,7 @@ use Rattle.claims.specs.Screens.{withParent}
 use Rattle.claims.proofs.Settle.ByEvent.{InTables, settle-keeps}
 use Rattle.claims.proofs.Structure.Words.{word-old, word-new, word-other}
 use Rattle.claims.proofs.Structure.Shape.{Falls, falls-opened, falls-closed, split-lt}
-use Rattle.claims.proofs.Structure.Tables.{Shaped, kept-in}
+use Rattle.claims.proofs.Structure.Tables.{kept-in}
 use Rattle.claims.proofs.Structure.Done.{room, outOf, DoneBy, done-by, done-shaped}
 use Rattle.claims.proofs.Structure.Theorem as tree
 

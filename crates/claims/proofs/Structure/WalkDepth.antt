@@ -3,12 +3,11 @@
 --   Walked       the events of a walk are those of its turns, and behind them `lastOf` of a spot whose starts and depth they tell
 --   walked       so it is with every body
 --   file-ends    a file's events end with a refusal, or with what the end of the walk makes: note 12 with the depth, where it is not 0
-use Prim.Native.Nat.{ℕ, suc, _+_, _≤_, _<_}
+use Prim.Native.Nat.{ℕ, _+_, _<_}
 use native.Mathlib.Omega.{arith}
 use mathlib.Core.Path.{_≡_, refl, sym, _∙_, ap}
 use mathlib.Core.List.{List, [], _∷_, _++_, append-assoc}
 use mathlib.Core.Bool.{Bool, true, false, not}
-use lib.ListN.{length, drop}
 use borrow.Author.Tests.{eqb-false}
 use lib.Dec.{eqb}
 use Rattle.anomaly.specs.Note.{noteOf}
@@ -20,26 +19,24 @@ use Rattle.xml_elements.specs.declared.CutChunk.{CutChunk}
 use Rattle.xml_elements.specs.declared.CutChunk.the-variants.{CutLine, CutHead, CutGap, CutAttributes, CutTrailing, CutEnd, CutOther}
 use Rattle.xml_elements.specs.declared.Turn.{Turn}
 use Rattle.xml_elements.specs.declared.Turn.the-variants.{Stop, Foreign, Met, Cut}
-use Rattle.xml_elements.specs.Chunk.{turnOf, usedOf}
-use Rattle.xml_elements.proofs.Laws.{Told, turnOf-told, usedOf-le, cond-by}
-use Rattle.chunk.proofs.Walk.{walk-ind, trace-stop, trace-step}
+use Rattle.xml_elements.specs.Chunk.{turnOf}
+use Rattle.xml_elements.proofs.Laws.{cond-by}
 use Rattle.events.specs.declared.Event.{Event}
 use Rattle.events.specs.declared.Event.the-variants.{Close, Note, Refuse}
 use Rattle.events.specs.Events.{Names, Spot, when}
-use Rattle.events.specs.Events.{foreignNote, chunkYield, cutYield, yieldOf, chunkNext, cutNext, nextOf, used, out, next, lastOf}
+use Rattle.events.specs.Events.{foreignNote, chunkYield, cutYield, yieldOf, chunkNext, cutNext, nextOf, out, next, lastOf}
 use Rattle.events.specs.Events.{eventsOn}
 use Rattle.claims.specs.Counts.{opensIn, depthFrom}
 use Rattle.errors.specs.declared.Refusal.{Refusal}
 use Rattle.errors.specs.declared.Refusal.the-variants.{MissingRoot}
-use Rattle.head.specs.declared.HeadEnd.{HeadEnd}
-use Rattle.head.specs.declared.HeadEnd.the-variants.{Whole, TooSmall, HeaderSize, PoolShort, MapShort}
 use Rattle.head.specs.declared.Opened.{Opened}
-use Rattle.head.specs.Head.{outsideIn, refusalOf, garbageNotes, countNotes, offsetNotes, whenNote}
-use Rattle.anomaly.specs.declared.ResAnomaly.the-variants.{StringPoolGarbageChunk, StringCountMismatch, StringOffsetsOutOfBounds, UnclosedElements}
-use Rattle.events.specs.Events.{started, ended, bodyEvents, notesOf, afterPool, fileEvents}
-use Rattle.claims.proofs.Structure.StartDepth.{Plain, plain-append, opens-append, depth-append, Moved, moved-none, moved-note}
+use Rattle.head.specs.Head.{refusalOf}
+use Rattle.anomaly.specs.declared.ResAnomaly.the-variants.{UnclosedElements}
+use Rattle.events.specs.Events.{started, ended, bodyEvents, fileEvents}
+use Rattle.claims.proofs.Structure.StartDepth.{Plain, plain-append, opens-append, depth-append, Moved, moved-none, moved-note, NotTwelve}
 use Rattle.claims.proofs.Structure.Tables.{pos}
 use Rattle.claims.proofs.Structure.StartDepth.{start-moved, gap-cut-moved, attributes-cut-moved, trailing-cut-moved}
+use Rattle.claims.proofs.Events.EventCases.{body-by, HeadNote, garbage, count, offsets, headNote, file-by}
 
 -- ---- a turn
 
@@ -58,6 +55,10 @@ turned-still es p k h = turned-by es 0 p _ h (omega arith) (omega arith)
 
 closed-turned : (p : Spot) → Turned (Close ∷ []) p (ended p)
 closed-turned p = record { starts = omega arith; depth = refl; plain = tt }
+
+when-moved : (b : Bool) (x : ResAnomaly) → NotTwelve x → Moved (when b (Note x)) 0
+when-moved true x h = moved-note x h
+when-moved false x h = moved-none
 
 module _ (N : Names) (l : List ℕ) (p : Spot) where
   short-moved : Moved (Note TruncatedXml ∷ []) 0
@@ -84,60 +85,39 @@ module _ (N : Names) (l : List ℕ) (p : Spot) where
   unfolding noteOf
   foreign-plain k a = cond-by (λ (x : ResAnomaly). noteOf x .kind ≡ 12 → ⊥) (eqb k 0) (λ b e. omega arith) (λ b e. omega arith)
 
-  foreign-moved : (b : Bool) (x : ResAnomaly) → (noteOf x .kind ≡ 12 → ⊥) → Moved (when b (Note x)) 0
-  foreign-moved true x h = moved-note x h
-  foreign-moved false x h = moved-none
-
   turn-turned : (T : Turn) → Turned (yieldOf N l p T) p (nextOf p T)
   turn-turned Stop = record { starts = omega arith; depth = refl; plain = tt }
-  turn-turned (Foreign k a n) = turned-still _ p k (foreign-moved (not (eqb k (p .run))) (foreignNote k a) (foreign-plain k a))
+  turn-turned (Foreign k a n) = turned-still _ p k (when-moved (not (eqb k (p .run))) (foreignNote k a) (foreign-plain k a))
   turn-turned (Met c) = chunk-turned c
   turn-turned (Cut c) = cut-turned c
 
-  -- where the walk stops, the turn makes nothing
-  stop-none : (T : Turn) → Told l T → usedOf (length l) T ≡ 0 → yieldOf N l p T ≡ []
-  stop-none Stop h e = refl
-  stop-none (Foreign k a u) h e = absurd (let y : ⊥ = omega (arith, h .1) in y)
-  stop-none (Met c) h e = absurd (let y : ⊥ = omega (arith, h .0) in y)
-  stop-none (Cut c) h e = absurd (let y : ⊥ = omega (arith, h .0, h .1) in y)
-
 -- ---- a body
 
-pub record Walked (N : Names) (l : List ℕ) (p : Spot) : Type 0 where
+-- these events, from the spot p on
+pub record Walked (p : Spot) (es : List Event) : Type 0 where
   pub body : List Event
   pub last : Spot
-  pub split : eventsOn N l p ≡ body ++ lastOf last
+  pub split : es ≡ body ++ lastOf last
   pub starts : last .starts ≡ p .starts + opensIn body
   pub depth : last .depth ≡ depthFrom (p .depth) body
   pub plain : Plain body
 
-module _ (N : Names) where
-  pub walked : (l : List ℕ) (p : Spot) → Walked N l p
-  unfolding eventsOn
-  walked = walk-ind used next (λ l s. usedOf-le l (turnOf l) (turnOf-told l)) (Walked N) stop more
-    where
-      stop : (l : List ℕ) (p : Spot) → used l p ≡ 0 → Walked N l p
-      stop l p e = record {
-        body = [];
-        last = p;
-        split = trace-stop used (out N) next lastOf l p e ∙ ap (λ (x : List Event). x ++ lastOf p) (stop-none N l p (turnOf l) (turnOf-told l) e);
-        starts = omega arith;
-        depth = refl;
-        plain = tt;
-      }
-
-      more : (l : List ℕ) (p : Spot) (m : ℕ) → used l p ≡ suc m → suc m ≤ length l → Walked N (drop (suc m) l) (next l p) → Walked N l p
-      more l p m e h w =
-          let t = turn-turned N l p (turnOf l) in
-          let a = out N l p in record {
-            body = a ++ w .body;
-            last = w .last;
-            split = trace-step used (out N) next lastOf l p m e h ∙ ap (λ (x : List Event). a ++ x) (w .split)
-                ∙ sym (append-assoc a (w .body) (lastOf (w .last)));
-            starts = omega (arith, w .starts, t .starts, opens-append a (w .body));
-            depth = w .depth ∙ ap (λ (d : ℕ). depthFrom d (w .body)) (t .depth) ∙ sym (depth-append (p .depth) a (w .body));
-            plain = plain-append a (w .body) (t .plain) (w .plain);
-          }
+pub walked : (N : Names) (l : List ℕ) (p : Spot) → Walked p (eventsOn N l p)
+walked N =
+    body-by N N (λ l p ds es. Walked p ds)
+    (λ l p e. record { body = []; last = p; split = refl; starts = omega arith; depth = refl; plain = tt }) (λ l p m e h ds es w. more l p ds w)
+  where
+    more : (l : List ℕ) (p : Spot) (ds : List Event) → Walked (next l p) ds → Walked p (out N l p ++ ds)
+    more l p ds w =
+        let t = turn-turned N l p (turnOf l) in
+        let a = out N l p in record {
+          body = a ++ w .body;
+          last = w .last;
+          split = ap (λ (x : List Event). a ++ x) (w .split) ∙ sym (append-assoc a (w .body) (lastOf (w .last)));
+          starts = omega (arith, w .starts, t .starts, opens-append a (w .body));
+          depth = w .depth ∙ ap (λ (d : ℕ). depthFrom d (w .body)) (t .depth) ∙ sym (depth-append (p .depth) a (w .body));
+          plain = plain-append a (w .body) (t .plain) (w .plain);
+        }
 
 -- ---- a file
 
@@ -167,7 +147,7 @@ body-ends : (N : Names) (b : List ℕ) → Ending (bodyEvents N b)
 unfolding bodyEvents
 body-ends N b = go (eqb (w .last .starts) 0) refl
   where
-    w : Walked N b (record { run = 2; depth = 0; starts = 0 })
+    w : Walked (record { run = 2; depth = 0; starts = 0 }) (eventsOn N b (record { run = 2; depth = 0; starts = 0 }))
     w = walked N b (record { run = 2; depth = 0; starts = 0 })
 
     noted : List Event
@@ -197,29 +177,14 @@ behind-moved a es m (walkedTo w) = walkedTo (record {
   plain = plain-append a (w .body) (m .plain) (w .plain);
 })
 
-notes-moved : (b : Bool) (x : ResAnomaly) → (noteOf x .kind ≡ 12 → ⊥) → Moved (notesOf (whenNote b x)) 0
-notes-moved true x h = moved-note x h
-notes-moved false x h = moved-none
+head-plain : (o : Opened) (t : List ℕ) (n : HeadNote) → NotTwelve (headNote o t n)
+unfolding noteOf
+head-plain o t garbage = λ e. omega arith
+head-plain o t count = λ e. omega arith
+head-plain o t offsets = λ e. omega arith
 
-module _ (N : Names) (o : Opened) (t b : List ℕ) where
-  offsets-ends : (es : List Event) → Ending es → Ending (notesOf (offsetNotes t o) ++ es)
-  unfolding noteOf
-  offsets-ends es h =
-      behind-moved (notesOf (offsetNotes t o)) es
-      (notes-moved (not (eqb (outsideIn t (o .head)) 0)) (StringOffsetsOutOfBounds (outsideIn t (o .head))) (λ e. omega arith)) h
-
-  pool-ends : (e : HeadEnd) → Ending (afterPool N o t b e)
-  pool-ends Whole = offsets-ends (bodyEvents N b) (body-ends N b)
-  pool-ends (MapShort m) = offsets-ends _ (refusedAt [] (refusalOf (MapShort m)) refl)
-  pool-ends (PoolShort e) = refusedAt [] (refusalOf (PoolShort e)) refl
-  pool-ends (TooSmall n) = refusedAt [] (refusalOf (TooSmall n)) refl
-  pool-ends (HeaderSize n) = refusedAt [] (refusalOf (HeaderSize n)) refl
-
-  pub file-ends : Ending (fileEvents N o t b)
-  unfolding fileEvents noteOf
-  file-ends =
-      behind-moved (notesOf (garbageNotes o)) _
-      (notes-moved (o .garbage .found) (StringPoolGarbageChunk (o .garbage .kind) (o .garbage .skipped)) (λ e. omega arith))
-      (behind-moved (notesOf (countNotes o)) _
-      (notes-moved (not (eqb (o .declared) (o .head .count))) (StringCountMismatch (o .declared) (o .head .count)) (λ e. omega arith))
-      (pool-ends (o .end)))
+pub file-ends : (N : Names) (o : Opened) (t b : List ℕ) → Ending (fileEvents N o t b)
+file-ends N o t b =
+    file-by N N o t b (λ ds es. Ending ds)
+    (λ c n ds es h. behind-moved (when c (Note (headNote o t n))) ds (when-moved c (headNote o t n) (head-plain o t n)) h)
+    (λ e q. refusedAt [] (refusalOf e) refl) (λ q. body-ends N b)
