@@ -16,7 +16,7 @@
 -- Zeros (P1, B7, B8): refused-zeros, done-zeros, text-refused-zeros, text-done-zeros. Every success: structured, notes-kept.
 -- Damaged texts (T11): damage-utf8, damage-utf16: state 0 exactly if the text is the content, in its encoding; damage-table: how many characters were
 -- replaced, by Table 3-7; damage-own: none that stands in the file is counted; damage-some, damage-none, damage-empty: what each state tells.
--- Nothing lost without a note (P7): nothing-lost; unnoted-kept: without note 12 no start is dropped. Computed: proofs/LostCases.antt.
+-- Nothing lost without a note (P7): nothing-lost; unnoted-kept: without note 12 no start is dropped. Computed: proofs/Cases/LostCases.antt.
 -- The two modes (W22, W23, B16): mode-merged, the attributes of the first are those of the second without what it merges.
 -- Readers that break the promise (P5): refuses-all-broken to wrong-kinds-broken, each of every reader of its sort (specs/Readers.antt); meets-some.
 -- The C interface: c-read-unique to c-first-refused-zeros, the same of its words: one answer, insertion, zeros.
@@ -30,8 +30,8 @@
 -- Many pairs at once (M): many-unique, many-numbers-unique, c-many-unique: one answer; many-refused-zeros, many-done-zeros; many-asks: each answer is the single
 -- question's; many-found: it finds a value or says 12; twelve-to-all-broken, many-meets-some.
 -- Which screens start (S): main-unique, main-numbers-unique, c-main-unique: one answer; main-refused-zeros, main-done-zeros; main-children: on the tables of
--- a reading a child is a record whose parent word says so; every-one-broken, main-meets-some. Computed: proofs/Screened.antt.
--- The marked cases (L5): `cases-right` of proofs/Cases.antt, one table and one theorem; `cases-read` of proofs/Given.antt: `read` gives them.
+-- a reading a child is a record whose parent word says so; every-one-broken, main-meets-some. Computed: proofs/Broken/Tellers.antt.
+-- The marked cases (L5): `cases-right` of proofs/Cases/Table.antt, one table and one theorem; `cases-read` of proofs/Cases/CasesOfRead.antt: `read` gives them.
 -- Texts and names (P2): what ties them to Unicode's tables and to XML's ranges is named in ARCHITECTURE.md.
 use Prim.Native.Nat.{ℕ, _+_, _-_, _*_, _/_, _^_, _≤_, _<_}
 use mathlib.Core.Path.{_≡_, sym, _∙_}
@@ -94,23 +94,23 @@ use Rattle.claims.specs.Lost.{marksIn, startNames, NothingLost}
 use Rattle.claims.specs.Modes.{Merges}
 use Rattle.claims.specs.Readers.{allBelow, Call, Reader, Meets, eventsOf, kindsOf, RefusesAll, Constant, ConstantOnRead, StopsAtStart}
 use Rattle.claims.specs.Readers.{LeavesNodes, LeavesAttributes, LeavesNotes, ClearsNodes, ClearsAttributes, ClearsNotes}
-use Rattle.claims.proofs.Longer.{insertedFile-none}
-use Rattle.claims.proofs.Foreign.{foreign-of, foreign-bytes, stretch-one, placeNotes-room}
-use Rattle.claims.proofs.Insertion as proved
+use Rattle.claims.proofs.Insertion.InsertedFile.{insertedFile-none}
+use Rattle.claims.proofs.Insertion.ForeignChunks.{foreign-of, foreign-bytes, stretch-one, placeNotes-room}
+use Rattle.claims.proofs.Insertion.Theorem as proved
 use Rattle.claims.specs.Damaged.{damagePlace, besides, OnlyDamage}
-use Rattle.claims.proofs.Damaged as damaged
-use Rattle.claims.proofs.Calls as calls
-use Rattle.claims.proofs.Values as values
-use Rattle.claims.proofs.Suffices as room
-use Rattle.claims.proofs.Parts as parts
-use Rattle.claims.proofs.Zeros as zeros
-use Rattle.claims.proofs.Structure as tree
-use Rattle.claims.proofs.Lost as lost
-use Rattle.claims.proofs.Broken as broken
-use Rattle.claims.proofs.Modes as modes
-use Rattle.claims.proofs.InC as inC
-use Rattle.claims.proofs.Lists as lists
-use Rattle.claims.proofs.Relisted as relisted
+use Rattle.claims.proofs.Damaged.Theorem as damaged
+use Rattle.claims.proofs.Calls.Readings as calls
+use Rattle.claims.proofs.Insertion.Questions as values
+use Rattle.claims.proofs.Room.Theorem as room
+use Rattle.claims.proofs.Parts.Theorem as parts
+use Rattle.claims.proofs.Calls.Zeros as zeros
+use Rattle.claims.proofs.Structure.Theorem as tree
+use Rattle.claims.proofs.Lost.Theorem as lost
+use Rattle.claims.proofs.Broken.Readers as broken
+use Rattle.claims.proofs.Modes.Theorem as modes
+use Rattle.claims.proofs.Calls.InC as inC
+use Rattle.claims.proofs.Calls.Listing as lists
+use Rattle.claims.proofs.Calls.ListingBack as relisted
 use mathlib.Core.List.{List·Permᴰ}
 use lib.ListN.{getD, set}
 use Rattle.anomaly.specs.Note.{kindNumber}
@@ -158,7 +158,7 @@ use Rattle.many_texts.specs.Many.{attributeAt, ReadsValues, ReadsTexts}
 use Rattle.many_texts.specs.Single.{IsPart}
 use Rattle.many_texts.proofs.Claimed as manies
 use Rattle.claims.specs.Month as month
-use Rattle.claims.proofs.Month as months
+use Rattle.claims.proofs.Calls.Month as months
 use Rattle.errors.specs.Refusal.{pairNumbersOf}
 use Rattle.errors.specs.declared.ManyAnswer.{ManyAnswer}
 use Rattle.errors.specs.declared.ManyAnswer.the-variants as pairsIs
@@ -178,7 +178,7 @@ use Rattle.utf.proofs.States as states
 use Rattle.text.specs.Content as content
 use Rattle.text.proofs.Wholes as wholes
 use Rattle.claims.specs.Askers.{Asker, MeetsAll, TwelveToAll}
-use Rattle.claims.proofs.Many as many
+use Rattle.claims.proofs.Broken.Askers as many
 use Rattle.records.specs.Words.{noParent}
 use Rattle.main_activities.specs.declared.MainAnswer.{MainAnswer}
 use Rattle.main_activities.specs.declared.MainAnswer.the-variants as mainIs
@@ -187,8 +187,8 @@ use Rattle.main_activities.proofs.Unique as started
 use Rattle.c_api.specs.declared.starting.AxmlMainAnswer.{AxmlMainAnswer}
 use Rattle.c_api.specs.Starting.{AsksMain}
 use Rattle.claims.specs.Screens as screens
-use Rattle.claims.proofs.Nested as nests
-use Rattle.claims.proofs.Screened as screened
+use Rattle.claims.proofs.Structure.TreeOrder as nests
+use Rattle.claims.proofs.Broken.Tellers as screened
 
 module _ (f : List ℕ) (lent : Lent) (ns ats : List ℕ) (os : List Note) (cap mode : ℕ) where
   pub read-unique : (r r′ : ReadAnswer) (ns₁ ns₂ ats₁ ats₂ : List ℕ) (os₁ os₂ : List Note) → Reads f lent ns ats os cap mode r ns₁ ats₁ os₁
@@ -563,7 +563,7 @@ list-suffices = lists.list-suffices
 -- ---- a listing read back (L9)
 
 -- What the listing program prints, of a file that is read and of one that is refused alike: of every list of bytes, whatever its length. Nothing is asked of
--- the numbers of the reading: that 32 bits hold each follows from the bytes (proofs/Small.antt).
+-- the numbers of the reading: that 32 bits hold each follows from the bytes (proofs/Small/Readings.antt).
 pub relist-printed : (f ns ats : List ℕ) → allBelow 256 f ≡ true → length ns ≡ nodeWidth * listedNodes → length ats ≡ attributeWidth * listedAttributes
     → relisting (listedWords (length ns) (length ats)) (listedText f (length ns) (length ats)) ≡ found (saidBy (listed f (length ns) (length ats)))
 relist-printed = relisted.listed-back

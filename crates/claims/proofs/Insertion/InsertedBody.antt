@@ -1,0 +1,174 @@
+-- A body that makes no note, and the body with foreign chunks at its places: all other events are the same, and the notes are those of the
+-- places (`woven`). No contract cites this file. In order: what two bodies have in common (`Woven`), a place, a whole chunk, a cut one, the end.
+use Prim.Native.Nat.{ℕ, suc, _≤_, _<_}
+use native.Mathlib.Omega.{arith}
+use mathlib.Core.Path.{_≡_, refl, sym, _∙_, ap, subst}
+use mathlib.Core.List.{List, [], _∷_, _++_, append-nil, cons≢nil}
+use mathlib.Core.Bool.{false}
+use borrow.Author.Tests.{ne-eqb}
+use lib.ListN.{length, take, drop, take-append-drop}
+use lib.Seq.{length-take-le}
+use lib.Dec.{eqb}
+use Rattle.chunk.proofs.Walk.{walk-ind}
+use Rattle.anomaly.specs.declared.ResAnomaly.{ResAnomaly}
+use Rattle.xml_elements.specs.declared.Chunk.{Chunk}
+use Rattle.xml_elements.specs.declared.Chunk.the-variants.{Start, End, Other, Last}
+use Rattle.xml_elements.specs.declared.CutChunk.{CutChunk}
+use Rattle.xml_elements.specs.declared.Turn.{Turn}
+use Rattle.xml_elements.specs.declared.Turn.the-variants.{Stop, Foreign, Met, Cut}
+use Rattle.xml_elements.specs.Chunk.{turnOf, lenOf}
+use Rattle.xml_elements.proofs.Laws.{told}
+use Rattle.xml_elements.proofs.Local.{turnOf-append}
+use Rattle.events.specs.Events.{Names, Spot, chunkYield, chunkNext, used, next, eventsOn, notesOf}
+use Rattle.events.proofs.Model.{eventsOn-step}
+use Rattle.events.proofs.Local.{chunkYield-append}
+use Rattle.claims.specs.Insertion.{ForeignChunk, bytesOf, stretchNotes, chunksOf, restOf, placesOf, inserted, placeNotes}
+use Rattle.claims.proofs.Insertion.BodyChunks.{fits, nil-stop, stop-of, chunksOf-stop, restOf-stop, chunksOf-front}
+use Rattle.claims.specs.Counts.{notesIn}
+use Rattle.claims.proofs.Events.NotesAndOthers.{othersIn, othersIn-append, notesIn-append, othersIn-notes, notesIn-notes, nil-left, nil-right}
+use Rattle.claims.proofs.Insertion.ForeignRow.{Ordinary, eventsOn-front, eventsOn-place}
+
+chunkNext-run : (p : Spot) (x : Chunk) → chunkNext p x .run ≡ 2
+chunkNext-run p (Start s) = refl
+chunkNext-run p End = refl
+chunkNext-run p (Other n) = refl
+chunkNext-run p Last = refl
+
+module _ (N : Names) where
+  -- the body l′ makes what l makes, and beside it the notes ns
+  pub record Woven (p : Spot) (l l′ : List ℕ) (ns : List ResAnomaly) : Type 0 where
+    pub others : othersIn (eventsOn N l′ p) ≡ othersIn (eventsOn N l p)
+    pub notes : notesIn (eventsOn N l′ p) ≡ ns
+
+  -- ---- a place
+
+  woven-place : (fs : List ForeignChunk) (p : Spot) (l m : List ℕ) (ns : List ResAnomaly) → p .run ≡ 2 → Ordinary (turnOf m) → Woven p l m ns
+      → Woven p l (bytesOf fs ++ m) (stretchNotes fs ++ ns)
+  woven-place fs p l m ns r o w =
+      let ms = stretchNotes fs in
+      let e = eventsOn-place N fs m p r o in
+      record {
+        others = ap othersIn e ∙ othersIn-append (notesOf ms) (eventsOn N m p) ∙ rw (othersIn-notes ms) (w .others);
+        notes = ap notesIn e ∙ notesIn-append (notesOf ms) (eventsOn N m p) ∙ rw (notesIn-notes ms, w .notes);
+      }
+
+  -- ---- a whole chunk c before both
+
+  module _ (p : Spot) (c d d′ : List ℕ) (x : Chunk) (e : turnOf (c ++ d) ≡ Met x) (q : lenOf x ≡ length c) where
+    some : 0 < length c
+    some = omega (arith, told (c ++ d) e .0)
+
+    pub turn-same : turnOf (c ++ d′) ≡ Met x
+    turn-same = turnOf-append c d d′ x (omega arith) e
+
+    short : eventsOn N (c ++ d) p ≡ chunkYield N (c ++ d) p x ++ eventsOn N d (chunkNext p x)
+    short = eventsOn-front N c d p e q some
+
+    long : eventsOn N (c ++ d′) p ≡ chunkYield N (c ++ d) p x ++ eventsOn N d′ (chunkNext p x)
+    long = eventsOn-front N c d′ p turn-same q some ∙ rw (chunkYield-append N c d d′ p x (omega arith))
+
+    woven-whole : notesIn (eventsOn N (c ++ d) p) ≡ [] → (ns : List ResAnomaly) → Woven (chunkNext p x) d d′ ns → Woven p (c ++ d) (c ++ d′) ns
+    woven-whole z ns w =
+        let y = chunkYield N (c ++ d) p x in
+        let both : notesIn y ++ notesIn (eventsOn N d (chunkNext p x)) ≡ [] = sym (ap notesIn short ∙ notesIn-append y _) ∙ z in
+        record {
+          others =
+              ap othersIn long ∙ othersIn-append y _ ∙ rw (w .others) (sym (ap othersIn short ∙ othersIn-append y _));
+          notes = ap notesIn long ∙ notesIn-append y _ ∙ rw (nil-left (notesIn y) (notesIn (eventsOn N d (chunkNext p x))) both, w .notes);
+        }
+
+  -- ---- all places of a body
+
+  abbrev pub AllWoven : Spot → List ℕ → Type 0
+  AllWoven p l = (places : List (List ForeignChunk)) → length places ≤ placesOf l → Woven p l (inserted places l) (placeNotes places)
+
+  same : (p : Spot) (l : List ℕ) → notesIn (eventsOn N l p) ≡ [] → Woven p l l []
+  same p l z = record { others = refl; notes = z }
+
+  too-many : {A : Type 0} (n m : ℕ) → suc (suc n) ≤ m → m ≤ 1 → A
+  too-many n m h k = absurd (let y : ⊥ = omega arith in y)
+
+  module _ (p : Spot) (r : p .run ≡ 2) where
+    at-stop : (l : List ℕ) → turnOf l ≡ Stop → notesIn (eventsOn N l p) ≡ [] → AllWoven p l
+    unfolding inserted placesOf
+    at-stop l e z [] h = rw (chunksOf-stop l e, restOf-stop l e) (same p l z)
+    at-stop [] e z (fs ∷ []) h = rw (chunksOf-stop [] e, restOf-stop [] e) (woven-place fs p [] [] [] r (rw e tt) (same p [] z))
+    at-stop (x ∷ l) e z (fs ∷ []) h =
+        absurd (let k : 1 ≤ 0 = rw (chunksOf-stop (x ∷ l) e, restOf-stop (x ∷ l) e) at h in let y : ⊥ = omega arith in y)
+    at-stop [] e z (fs ∷ gs ∷ ps) h = too-many (length ps) _ (rw (chunksOf-stop [] e, restOf-stop [] e) at h) (omega arith)
+    at-stop (x ∷ l) e z (fs ∷ gs ∷ ps) h = too-many (length ps) _ (rw (chunksOf-stop (x ∷ l) e, restOf-stop (x ∷ l) e) at h) (omega arith)
+
+    at-whole : (c d : List ℕ) (x : Chunk) → turnOf (c ++ d) ≡ Met x → lenOf x ≡ length c → notesIn (eventsOn N (c ++ d) p) ≡ []
+        → AllWoven (chunkNext p x) d → AllWoven p (c ++ d)
+    unfolding inserted placesOf
+    at-whole c d x e q z rec places h = go places h
+      where
+        front : (chunksOf (c ++ d) ≡ c ∷ chunksOf d) × (restOf (c ++ d) ≡ restOf d)
+        front = chunksOf-front c d e q (some p c d d x e q)
+
+        alone : turnOf c ≡ Met x
+        alone = rw (append-nil c) at (turn-same p c d [] x e q)
+
+        go : (places : List (List ForeignChunk)) → length places ≤ placesOf (c ++ d) → Woven p (c ++ d) (inserted places (c ++ d)) (placeNotes places)
+        go [] h = rw (front .0, front .1) (woven-whole p c d (inserted [] d) x e q z [] (rec [] (omega arith)))
+        go (fs ∷ ps) h =
+            let d′ = inserted ps d in
+            let few : length ps ≤ placesOf d = omega (arith, rw (front .0, front .1, alone) at h) in
+            rw (front .0, front .1)
+            (woven-place fs p (c ++ d) (c ++ d′) (placeNotes ps) r (rw (turn-same p c d d′ x e q) tt)
+            (woven-whole p c d d′ x e q z (placeNotes ps) (rec ps few)))
+
+    at-cut : (l : List ℕ) (x : CutChunk) → turnOf l ≡ Cut x → notesIn (eventsOn N l p) ≡ [] → AllWoven p l
+    unfolding inserted placesOf
+    at-cut l x e z places h = go places h
+      where
+        front : (chunksOf l ≡ l ∷ []) × (restOf l ≡ [])
+        front =
+            let t = told l e in
+            let f = chunksOf-front l [] {T = Cut x} (rw append-nil e) (rw append-nil) (omega (arith, t .0, t .1)) in
+            (rw (append-nil, chunksOf-stop [] nil-stop) at (f .0), rw (append-nil, restOf-stop [] nil-stop) at (f .1))
+
+        go : (places : List (List ForeignChunk)) → length places ≤ placesOf l → Woven p l (inserted places l) (placeNotes places)
+        go [] h = rw (front .0, front .1, append-nil l) (same p l z)
+        go (fs ∷ []) h = rw (front .0, front .1, append-nil l) (woven-place fs p l l [] r (rw e tt) (same p l z))
+        go (fs ∷ gs ∷ ps) h = too-many (length ps) _ (rw (front .0, front .1, e) at h) (omega arith)
+
+    -- a body that makes no note has no foreign chunk
+    no-foreign : (l : List ℕ) (k a u : ℕ) → turnOf l ≡ Foreign k a u → notesIn (eventsOn N l p) ≡ [] → ⊥
+    no-foreign l k a u e z =
+        let t = told l e in
+        let f : eqb k (p .run) ≡ false = ne-eqb k (p .run) (λ y. omega (arith, t .0, y, r)) in
+        let s = eventsOn-step N l p u e refl (omega (arith, t .1)) in
+        cons≢nil (rw (s, f) at z)
+
+  -- THE LAW of a body
+  pub woven-all : (l : List ℕ) (p : Spot) → p .run ≡ 2 → notesIn (eventsOn N l p) ≡ [] → AllWoven p l
+  woven-all = walk-ind used next fits (λ l p. p .run ≡ 2 → notesIn (eventsOn N l p) ≡ [] → AllWoven p l)
+      (λ l p z r n. at-stop p r l (stop-of l z) n) more
+    where
+      more : (l : List ℕ) (p : Spot) (m : ℕ) → used l p ≡ suc m → suc m ≤ length l
+          → (next l p .run ≡ 2 → notesIn (eventsOn N (drop (suc m) l) (next l p)) ≡ [] → AllWoven (next l p) (drop (suc m) l))
+          → p .run ≡ 2 → notesIn (eventsOn N l p) ≡ [] → AllWoven p l
+      more l p m u f ih r z = go (turnOf l) refl
+        where
+          c : List ℕ
+          c = take (suc m) l
+
+          d : List ℕ
+          d = drop (suc m) l
+
+          both : c ++ d ≡ l
+          both = take-append-drop (suc m) l
+
+          go : (T : Turn) → turnOf l ≡ T → AllWoven p l
+          go Stop e = absurd (let k : 0 ≡ suc m = rw e at u in let y : ⊥ = omega arith in y)
+          go (Foreign k a w) e = absurd (no-foreign p r l k a w e z)
+          go (Cut x) e = at-cut p r l x e z
+          go (Met x) e =
+              let q : lenOf x ≡ suc m = rw e at u in
+              let s = eventsOn-step N l p (suc m) e q (omega arith) in
+              let y = chunkYield N l p x in
+              let n : notesIn (eventsOn N d (chunkNext p x)) ≡ [] = nil-right (notesIn y) _ (sym (ap notesIn s ∙ notesIn-append y _) ∙ z) in
+              let ih′ = rw e at ih in
+              subst (AllWoven p) both
+              (at-whole p r c d x (rw both e) (q ∙ sym (length-take-le (suc m) l f)) (rw both z) (ih′ (chunkNext-run p x) n))

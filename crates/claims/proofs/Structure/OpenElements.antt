@@ -1,0 +1,108 @@
+-- The depth and the open elements: docs/FORMAT.md, W25 to W29. For proofs/Structure/Theorem.antt.
+--
+--   settled-near     as many elements are open as the depth says, or one more
+--   near-second      so with depth 0 there is no second open element, and from depth 2 on there is one
+--   settled-walked   where events leave tables, they are those of a whole walk: none of them refuses
+--   second-none      where no note 12 is kept, no second element is open in the end
+use Prim.Native.Nat.{ℕ, _+_, _-_, _≤_, _<_}
+use native.Mathlib.Omega.{arith}
+use mathlib.Core.Path.{_≡_, refl, sym, _∙_, ap}
+use mathlib.Core.List.{List, [], _∷_, _++_}
+use mathlib.Core.Bool.{Bool, true, false}
+use borrow.Author.Tests.{eqb-true, eqb-false}
+use lib.ListN.{length}
+use lib.Dec.{eqb}
+use Rattle.errors.specs.declared.Refusal.{Refusal}
+use Rattle.records.specs.Repeats.{Rule}
+use Rattle.events.specs.declared.Event.{Event}
+use Rattle.events.specs.declared.Event.the-variants.{Refuse}
+use Rattle.walk.specs.Settle.{Room, Tables, Out, going, refused, push, settle, nothingYet, closedIn}
+use Rattle.walk.specs.Reading.{secondOf}
+use Rattle.claims.specs.Counts.{depthFrom}
+use Rattle.claims.specs.Shape.{ofKind}
+use Rattle.claims.proofs.Settle.StoreAll.{empty, settled}
+use Rattle.claims.proofs.Settle.ByEvent.{idle-still, Goes, settle-in}
+use Rattle.claims.proofs.Structure.Shape.{Falls}
+use Rattle.claims.proofs.Structure.WalkDepth.{WalkedFile, Ending, refusedAt, walkedTo}
+use Rattle.claims.proofs.Structure.NoteTwelve.{walked-twelve}
+
+-- ---- what is open
+
+pub record Near (d : ℕ) (s : List ℕ) : Type 0 where
+  pub low : d ≤ length s
+  pub high : length s ≤ d + 1
+
+near-closed : (d : ℕ) (s : List ℕ) → Near d s → Near (d - 1) (closedIn s)
+near-closed d [] h = record { low = omega (arith, h .low); high = omega arith }
+near-closed d (k ∷ []) h = record { low = omega (arith, h .low); high = omega (arith, h .high) }
+near-closed d (k ∷ j ∷ s) h = record { low = omega (arith, h .low); high = omega (arith, h .high) }
+
+pub near-none : (s : List ℕ) → Near 0 s → _≡_ {A = ℕ} (secondOf s) 0
+near-none [] h = refl
+near-none (k ∷ []) h = refl
+near-none (k ∷ j ∷ s) h = absurd (let y : ⊥ = omega (arith, h .high) in y)
+
+second-some : (n k j : ℕ) (s : List ℕ) → Falls n (k ∷ j ∷ s) → 0 < secondOf (k ∷ j ∷ s)
+second-some n k j [] f = f .1 .1
+second-some n k j (i ∷ s) f = second-some k j i s (f .1)
+
+pub near-second : (d n : ℕ) (s : List ℕ) → Near d s → 2 ≤ d → Falls n s → 0 < secondOf s
+near-second d n [] h g f = absurd (let y : ⊥ = omega (arith, h .low) in y)
+near-second d n (k ∷ []) h g f = absurd (let y : ⊥ = omega (arith, h .low) in y)
+near-second d n (k ∷ j ∷ s) h g f = second-some n k j s f
+
+-- the depth so far, which the events to come take to the last one
+record NearBy (last : ℕ) (es : List Event) (t : Tables) : Type 0 where
+  now : ℕ
+  then : depthFrom now es ≡ last
+  near : Near now (t .stack)
+
+module _ (rule : Rule) (r : Room) where
+  goes : (last : ℕ) → Goes r (NearBy last)
+  goes last = record {
+    idles = λ t e es i h. record {
+      now = h .now;
+      then = ap (λ (d : ℕ). depthFrom d es) (sym (idle-still e i .depth (h .now))) ∙ h .then;
+      near = h .near;
+    };
+    closes = λ t es h. record { now = h .now - 1; then = h .then; near = near-closed (h .now) (t .stack) (h .near) };
+    opens = λ t es n f l g h. record {
+      now = h .now + 1;
+      then = h .then;
+      near = record { low = omega (arith, h .near .low); high = omega (arith, h .near .high) };
+    };
+    keeps = λ t es p a some g h. record { now = h .now; then = h .then; near = h .near };
+    notes = λ t es x d g h. record { now = h .now; then = h .then; near = h .near };
+    past = λ t es x d h. record { now = h .now; then = h .then; near = h .near };
+  }
+
+  pub settled-near : (es : List Event) (t : Tables) → settle rule r nothingYet es ≡ going t → Near (depthFrom 0 es) (t .stack)
+  settled-near es t e =
+      let start : NearBy (depthFrom 0 es) es empty = record { now = 0; then = refl; near = record { low = omega arith; high = omega arith } } in
+      let h = rw e at (settle-in rule r (NearBy (depthFrom 0 es)) (goes (depthFrom 0 es)) nothingYet es start) in
+      rw (← h .then) (h .near)
+
+  -- ---- events that leave tables
+
+  refuse-ends : (o : Out) (a : List Event) (x : Refusal) (t : Tables) → settle rule r o (a ++ (Refuse x ∷ [])) ≡ going t → ⊥
+  unfolding settle
+  refuse-ends (going u) [] x t e = let z : _≡_ {A = ℕ} 0 1 = cc in omega arith
+  refuse-ends (refused y) [] x t e = let z : _≡_ {A = ℕ} 0 1 = cc in omega arith
+  refuse-ends o (d ∷ a) x t e = refuse-ends (push rule r o d) a x t e
+
+  pub settled-walked : (es : List Event) (t : Tables) → Ending es → settle rule r nothingYet es ≡ going t → WalkedFile es
+  settled-walked es t (refusedAt a x q) e = absurd (refuse-ends nothingYet a x t (sym (ap (λ (y : List Event). settle rule r nothingYet y) q) ∙ e))
+  settled-walked es t (walkedTo w) e = w
+
+-- ---- without note 12
+
+module _ (rule : Rule) (r : Room) (es : List Event) (t : Tables) (ends : Ending es) (out : settle rule r nothingYet es ≡ going t) where
+  pub second-none : 0 < r .cap → _≡_ {A = ℕ} (ofKind 12 (t .notes)) 0 → _≡_ {A = ℕ} (secondOf (t .stack)) 0
+  second-none one none = go (eqb (depthFrom 0 es) 0) refl
+    where
+      go : (b : Bool) → eqb (depthFrom 0 es) 0 ≡ b → _≡_ {A = ℕ} (secondOf (t .stack)) 0
+      go true e = near-none (t .stack) (rw (eqb-true (depthFrom 0 es) 0 e) at (settled-near rule r es t out))
+      go false e =
+          let kept = ap (ofKind 12) (settled rule r es t out .notes) in
+          let some = walked-twelve es (settled-walked rule r es t ends out) (r .cap) one (eqb-false (depthFrom 0 es) 0 e) in
+          absurd (let y : ⊥ = omega (arith, none, kept, some) in y)
