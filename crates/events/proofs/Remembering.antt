@@ -1,14 +1,15 @@
--- Laws of specs/Inner/Remembered.antt: a look told apart again (`look-state`, `look-step`); nothing is remembered at first (`remembers-none`), and one
--- index more (`remembers-more`). No contract cites this file.
+-- Laws of specs/Inner/Remembered.antt: a look told apart again (`look-state`, `look-step`); nothing is remembered at first (`remembers-none`), one
+-- index more (`remembers-more`), and one long string more (`remembers-long`). No contract cites this file.
 use Prim.Native.Nat.{ℕ, zero, suc, _+_, _*_, _/_, _%_, _≤_, _<_}
 use native.Mathlib.Omega.{arith}
 use mathlib.Core.Path.{_≡_, refl, sym, _∙_, ap}
 use mathlib.Core.Bool.{Bool, true, false, cond, _&&_, true≢false}
 use mathlib.Core.List.{List}
 use borrow.Author.Tests.{eqb-true, eqb-false, eq-eqb, ne-eqb, lt-ltb, le-ltb}
-use lib.ListN.{length, getD, set, replicate, length-set}
+use lib.ListN.{length, getD, set, replicate, take, drop, length-set}
 use lib.Seq.{getD-set-same, getD-set-other}
 use lib.Dec.{eqb, ltb}
+use Rattle.records.specs.Limits.{fileLimit}
 use Rattle.utf.specs.Text.{Damage, whole, replaced, unpaired, cut as cutText, stateNumber}
 use Rattle.system_types.specs.Names.{Lent}
 use Rattle.text.specs.Content.{Content, none, cut, some, contentOf, damageIn, hasText, isName, validBy, stateIn}
@@ -22,7 +23,7 @@ use Rattle.events.specs.declared.Phase.the-variants.{AtNamed, AtOpen}
 use Rattle.events.specs.declared.Cursor.{Cursor}
 use Rattle.events.specs.declared.Step.{Step}
 use Rattle.events.specs.Inner.Steps.{toStep, openStep, namedStep, nameStep}
-use Rattle.events.specs.Inner.Remembered.{lookBy, lookOf, stateBy, lookStep, markOf, places, Remembers}
+use Rattle.events.specs.Inner.Remembered.{lookBy, lookOf, stateBy, lookStep, markOf, placeOf, long, longOf, words, Remembers}
 
 -- ---- a look
 
@@ -39,6 +40,9 @@ look-most d Valid l = omega (arith, l)
 
 pub lookOf-most : (k : Content) → lookOf k ≤ 8
 lookOf-most k = look-most (stateNumber (damageIn k)) (stateIn k) (state-most (damageIn k))
+
+pub look-le : (n : ℕ) (k : Content) → n ≡ lookOf k → n ≤ 8
+look-le n k e = rw e (lookOf-most k)
 
 pub state-le : (n : ℕ) (k : Content) → n ≡ stateNumber (damageIn k) → n ≤ 3
 state-le n k e = rw e (state-most (damageIn k))
@@ -111,38 +115,104 @@ look-whole (some w s) e = go (stateNumber (damageIn (some w s))) (isName (some w
 
 -- ---- what is remembered
 
+-- the words of a long string are there
+pub long-place : (at n l : ℕ) → at + n ≤ l → l ≤ fileLimit → long ≤ n → longOf at + 1 < words
+long-place at n l i m b = omega (arith, i, m, b)
+
+pub long-second-place : (m : List ℕ) (at x : ℕ) → longOf at + 1 < words → length m ≡ words → longOf at + 1 < length (set m (longOf at) x)
+long-second-place m at x l r = rw (length-set m (longOf at) x) (omega (arith, l, r))
+
 getD-zeros : (n j : ℕ) → _≡_ {A = ℕ} (getD (replicate n 0) j 0) 0
 getD-zeros zero j = refl
 getD-zeros (suc n) zero = refl
 getD-zeros (suc n) (suc j) = getD-zeros n j
 
+-- the memory with a long string more: what stands in its two words, and elsewhere
+abbrev withLong : List ℕ → ℕ → ℕ → ℕ → List ℕ
+withLong m at n look = set (set m (longOf at) (16 * at + look)) (longOf at + 1) n
+
+module _ (m : List ℕ) (at n look : ℕ) where
+  long-other : (j : ℕ) → (j ≡ longOf at → ⊥) → (j ≡ longOf at + 1 → ⊥) → getD (withLong m at n look) j 0 ≡ getD m j 0
+  long-other j a b = getD-set-other (set m (longOf at) (16 * at + look)) (longOf at + 1) j n 0 b ∙ getD-set-other m (longOf at) j (16 * at + look) 0 a
+
+  long-first : longOf at < length m → getD (withLong m at n look) (longOf at) 0 ≡ 16 * at + look
+  long-first l =
+      getD-set-other (set m (longOf at) (16 * at + look)) (longOf at + 1) (longOf at) n 0 (λ z. let w : ⊥ = omega (arith, z) in w)
+      ∙ getD-set-same m (longOf at) (16 * at + look) 0 l
+
+  long-second : longOf at + 1 < length m → getD (withLong m at n look) (longOf at + 1) 0 ≡ n
+  long-second l = getD-set-same (set m (longOf at) (16 * at + look)) (longOf at + 1) n 0 (rw (length-set m (longOf at) (16 * at + look)) l)
+
 module _ (h : Head) (t : List ℕ) (lent : Lent) where
-  pub remembers-none : (n : ℕ) → n ≡ places → length (replicate {A = ℕ} n 0) ≡ n → Remembers h t lent (replicate n 0)
+  pub remembers-none : (n : ℕ) → n ≡ words → length (replicate {A = ℕ} n 0) ≡ n → Remembers h t lent (replicate n 0)
   remembers-none n e l = record {
     room = l ∙ e;
-    tells = λ j i q. absurd (let z : ⊥ = omega (arith, getD-zeros n j, q) in z);
+    tells = λ i q. absurd (let z : ⊥ = omega (arith, getD-zeros n (placeOf i), q) in z);
+    longs = λ at k m a q. absurd (let z : ⊥ = omega (arith, getD-zeros n (longOf at + 1), m, q) in z);
   }
 
-  pub remembers-more : (m : List ℕ) (place i look : ℕ) → place < length m → look ≡ lookOf (contentOf h t lent i) → Remembers h t lent m
-      → Remembers h t lent (set m place (markOf i look))
-  remembers-more m place i look p e r = record {
-    room = length-set m place (markOf i look) ∙ r .room;
-    tells = λ j k q. go j k (eqb j place) refl q;
+  -- an index more
+  pub remembers-more : (m : List ℕ) (i look : ℕ) → look ≡ lookOf (contentOf h t lent i) → Remembers h t lent m
+      → Remembers h t lent (set m (placeOf i) (markOf i look))
+  remembers-more m i look e r = record {
+    room = length-set m (placeOf i) (markOf i look) ∙ r .room;
+    tells = λ k q. go k (eqb (placeOf k) (placeOf i)) refl q;
+    longs = λ at n l a b.
+        let first = other (longOf at) (omega arith) in
+        let second = other (longOf at + 1) (omega arith) in
+        ap (λ (x : ℕ). x % 16) first ∙ r .longs at n l (ap (λ (x : ℕ). x / 16) (sym first) ∙ a) (sym second ∙ b);
   }
     where
       bound : look ≤ 8
       bound = rw e (lookOf-most (contentOf h t lent i))
 
-      mine : (j : ℕ) → eqb j place ≡ true → getD (set m place (markOf i look)) j 0 ≡ markOf i look
-      mine j b =
-          ap (λ (y : ℕ). getD (set m place (markOf i look)) y 0) (eqb-true j place b) ∙ getD-set-same m place (markOf i look) 0 p
+      other : (j : ℕ) → 1024 ≤ j → getD (set m (placeOf i) (markOf i look)) j 0 ≡ getD m j 0
+      other j l = getD-set-other m (placeOf i) j (markOf i look) 0 (λ q. let z : ⊥ = omega (arith, q, l) in z)
 
-      go : (j k : ℕ) (b : Bool) → eqb j place ≡ b → getD (set m place (markOf i look)) j 0 / 16 ≡ k + 1
-          → getD (set m place (markOf i look)) j 0 % 16 ≡ lookOf (contentOf h t lent k)
-      go j k true b q =
-          let same : i ≡ k = omega (arith, mine j b, q, bound) in
-          let low : getD (set m place (markOf i look)) j 0 % 16 ≡ look = omega (arith, mine j b, bound) in
+      mine : (k : ℕ) → placeOf k ≡ placeOf i → getD (set m (placeOf i) (markOf i look)) (placeOf k) 0 ≡ markOf i look
+      mine k q =
+          ap (λ (y : ℕ). getD (set m (placeOf i) (markOf i look)) y 0) q ∙ getD-set-same m (placeOf i) (markOf i look) 0 (omega (arith, r .room))
+
+      go : (k : ℕ) (b : Bool) → eqb (placeOf k) (placeOf i) ≡ b → getD (set m (placeOf i) (markOf i look)) (placeOf k) 0 / 16 ≡ k / 1024 + 1
+          → getD (set m (placeOf i) (markOf i look)) (placeOf k) 0 % 16 ≡ lookOf (contentOf h t lent k)
+      go k true b q =
+          let p : placeOf k ≡ placeOf i = eqb-true (placeOf k) (placeOf i) b in
+          let same : i ≡ k = omega (arith, mine k p, p, q, bound) in
+          let low : getD (set m (placeOf i) (markOf i look)) (placeOf k) 0 % 16 ≡ look = omega (arith, mine k p, bound) in
           low ∙ e ∙ ap (λ (y : ℕ). lookOf (contentOf h t lent y)) same
-      go j k false b q =
-          let other = getD-set-other m place j (markOf i look) 0 (eqb-false j place b) in
-          ap (λ (x : ℕ). x % 16) other ∙ r .tells j k (ap (λ (x : ℕ). x / 16) (sym other) ∙ q)
+      go k false b q =
+          let kept = getD-set-other m (placeOf i) (placeOf k) (markOf i look) 0 (eqb-false (placeOf k) (placeOf i) b) in
+          ap (λ (x : ℕ). x % 16) kept ∙ r .tells k (ap (λ (x : ℕ). x / 16) (sym kept) ∙ q)
+
+  -- a long string more
+  pub remembers-long : (m : List ℕ) (at n look : ℕ) → longOf at + 1 < words → look ≡ lookOf (some (h .wide) (take n (drop at t))) → Remembers h t lent m
+      → Remembers h t lent (withLong m at n look)
+  remembers-long m at n look p e r = record {
+    room = length-set (set m (longOf at) (16 * at + look)) (longOf at + 1) n ∙ length-set m (longOf at) (16 * at + look) ∙ r .room;
+    tells = λ i q.
+        let kept = long-other m at n look (placeOf i) (λ z. let w : ⊥ = omega (arith, z) in w) (λ z. let w : ⊥ = omega (arith, z) in w) in
+        ap (λ (x : ℕ). x % 16) kept ∙ r .tells i (ap (λ (x : ℕ). x / 16) (sym kept) ∙ q);
+    longs = λ a k l b d. go a k l (eqb (a / long) (at / long)) refl b d;
+  }
+    where
+      bound : look ≤ 8
+      bound = rw e (lookOf-most (some (h .wide) (take n (drop at t))))
+
+      go : (a k : ℕ) → long ≤ k → (b : Bool) → eqb (a / long) (at / long) ≡ b → getD (withLong m at n look) (longOf a) 0 / 16 ≡ a
+          → getD (withLong m at n look) (longOf a + 1) 0 ≡ k
+          → getD (withLong m at n look) (longOf a) 0 % 16 ≡ lookOf (some (h .wide) (take k (drop a t)))
+      go a k l true b x y =
+          let part : a / long ≡ at / long = eqb-true (a / long) (at / long) b in
+          let first : longOf a ≡ longOf at = omega (arith, part) in
+          let second : longOf a + 1 ≡ longOf at + 1 = omega (arith, part) in
+          let mine = ap (λ (j : ℕ). getD (withLong m at n look) j 0) first ∙ long-first m at n look (omega (arith, p, r .room)) in
+          let count = ap (λ (j : ℕ). getD (withLong m at n look) j 0) second ∙ long-second m at n look (omega (arith, p, r .room)) in
+          let here : at ≡ a = omega (arith, mine, x, bound) in
+          let much : n ≡ k = omega (arith, count, y) in
+          let low : getD (withLong m at n look) (longOf a) 0 % 16 ≡ look = omega (arith, mine, bound) in
+          low ∙ e ∙ ap (λ (z : ℕ). lookOf (some (h .wide) (take z (drop at t)))) much ∙ ap (λ (z : ℕ). lookOf (some (h .wide) (take k (drop z t)))) here
+      go a k l false b x y =
+          let apart : a / long ≡ at / long → ⊥ = eqb-false (a / long) (at / long) b in
+          let first = long-other m at n look (longOf a) (λ z. apart (omega (arith, z))) (λ z. let w : ⊥ = omega (arith, z) in w) in
+          let second = long-other m at n look (longOf a + 1) (λ z. let w : ⊥ = omega (arith, z) in w) (λ z. apart (omega (arith, z))) in
+          ap (λ (z : ℕ). z % 16) first ∙ r .longs a k l (ap (λ (z : ℕ). z / 16) (sym first) ∙ x) (sym second ∙ y)

@@ -138,7 +138,7 @@ pub fn step_at(
     o: Opened,
     b: &[u8],
     c: Cursor,
-    memory: &mut [u64],
+    memory: &mut [u32],
 ) -> Step
     requires { ⌜ Ready (now t) (lends (now names) (now area)) o × Within o (now b) c
         × Remembers (o .head) (now t) (lends (now names) (now area)) (now memory) ⌝ }

@@ -4,10 +4,13 @@
 // Mirrors axml.rs (apk-info 13770539b8): the names that `get_xml_tree` keeps as valid. Definitions: specs/Inner/Remembered.antt.
 // Differs from the Rust: indices are kept and not names, in fixed memory that the caller lends for a reading, and names that are not valid too.
 ghost use mathlib.Core.Path.{_≡_};
-ghost use Prim.Native.Nat.{_≤_};
+ghost use Prim.Native.Nat.{_+_, _≤_};
+ghost use lib.ListN.{length};
+ghost use Rattle.records.specs.Limits.{fileLimit};
 ghost use Rattle.system_types.specs.Names.{lends};
 ghost use Rattle.text.specs.Content.{contentOf, stateIn};
 ghost use Rattle.text.specs.Inner.Found.{Asks, Inside, partOf};
+ghost use Rattle.text.specs.declared.Found.the-variants.{Pool};
 ghost use Rattle.events.specs.Inner.Remembered.{lookBy, lookOf, stateBy, Remembers};
 use common::StringIndex;
 use text::Found;
@@ -19,7 +22,15 @@ use text::part::found_state;
 use text::state_of_found;
 
 // How many indices are kept, each at the place that the remainder of its number gives; a later one takes the place over.
-pub const MEMORY: usize = 1024;
+const INDICES: usize = 1024;
+
+// From how many bytes on a string of the pool is kept by its place in the file too: two such strings that do not overlap begin in different
+// parts of so many bytes.
+const LONG: usize = 32768;
+
+// The words of a memory: one for each index that is kept, and behind them two for each part of the file, where a long string may begin. A later one
+// takes them over.
+pub const MEMORY: usize = 2048;
 
 // A look as one number. Ruled out: one number for a whole text and a damaged one, and for a valid name and another.
 fn look_by(state: u32, name: NameState) -> u32
@@ -43,17 +54,94 @@ fn look_again(t: &[u8], area: &[u8], wide: bool, f: Found) -> u32
     look_by(state, name)
 }
 
-// The look at the text of an index. A valid name that is whole is passed over once.
+// The look at what was found. A valid name that is whole is passed over once.
 // Ruled out: 1 for FF in a UTF-8 pool, whose text is a valid name and not whole; 8 for a string that is cut, which is a text.
-fn look_at(t: &[u8], names: &[u32], area: &[u8], h: Head, index: StringIndex) -> u32
-    requires { ⌜ Asks (now t) (lends (now names) (now area)) h ⌝ }
-    ensures { λ r. ⌜ r ≡ lookOf (contentOf h (now (t .entry)) (lends (now (names .entry)) (now (area .entry))) (index .0)) ⌝ }
+fn look_found(t: &[u8], area: &[u8], wide: bool, f: Found) -> u32
+    requires { ⌜ Inside (now t) (now area) f ⌝ }
+    ensures { λ r. ⌜ r ≡ lookOf (partOf wide (now (t .entry)) (now (area .entry)) f) ⌝ }
 {
-    let f = find(t, names, area, h, index);
-    if found_whole(t, area, h.wide, f) {
+    if found_whole(t, area, wide, f) {
         return 1;
     }
-    look_again(t, area, h.wide, f)
+    look_again(t, area, wide, f)
+}
+
+// The look at a string of the pool, by what is remembered where it is long and came before, whatever its index was.
+// Ruled out: what is known of a string that begins at the same place and is shorter, and of another in the same part of the file.
+fn look_pool(
+    t: &[u8],
+    names: &[u32],
+    area: &[u8],
+    h: Head,
+    at: usize,
+    n: usize,
+    memory: &mut [u32],
+) -> u32
+    requires { ⌜ (length (now t) ≤ fileLimit) × (at + n ≤ length (now t)) × Remembers h (now t) (lends (now names) (now area)) (now memory) ⌝ }
+    ensures { λ r. ⌜ (r ≡ lookOf (partOf (h .wide) (now (t .entry)) (now (area .entry)) (Pool at n)))
+        × Remembers h (now (t .entry)) (lends (now (names .entry)) (now (area .entry))) (now (memory .exit)) ⌝ }
+{
+    if n < LONG {
+        return look_found(t, area, h.wide, Found::Pool(at, n));
+    }
+    let place = INDICES + 2 * (at / LONG);
+    let seen = memory[place];
+    if seen / 16 == at as u32 {
+        if memory[place + 1] == n as u32 {
+            return seen % 16;
+        }
+    }
+    let look = look_found(t, area, h.wide, Found::Pool(at, n));
+    memory[place] = 16 * (at as u32) + look;
+    memory[place + 1] = n as u32;
+    look
+}
+
+// The look at what was found, where it may be a long string of the pool.
+// Ruled out: what is known of the pool's string for a system name.
+fn look_long(t: &[u8], names: &[u32], area: &[u8], h: Head, f: Found, memory: &mut [u32]) -> u32
+    requires { ⌜ (length (now t) ≤ fileLimit) × Inside (now t) (now area) f × Remembers h (now t) (lends (now names) (now area)) (now memory) ⌝ }
+    ensures { λ r. ⌜ (r ≡ lookOf (partOf (h .wide) (now (t .entry)) (now (area .entry)) f))
+        × Remembers h (now (t .entry)) (lends (now (names .entry)) (now (area .entry))) (now (memory .exit)) ⌝ }
+{
+    match f {
+        Found::Nothing => 8,
+        Found::Cut => 6,
+        Found::System(at, n) => look_found(t, area, h.wide, Found::System(at, n)),
+        Found::Pool(at, n) => look_pool(t, names, area, h, at, n, memory),
+    }
+}
+
+// Whether what was found is a long string of the pool. It decides where a look is sought and not what it tells, so that nothing is promised of it:
+// most strings are short, and for these no more is done than a look.
+fn is_long(f: Found) -> bool {
+    match f {
+        Found::Nothing => false,
+        Found::Cut => false,
+        Found::System(_, _) => false,
+        Found::Pool(_, n) => LONG <= n,
+    }
+}
+
+// The look at the text of an index that is not kept.
+// Ruled out: a text looked for in the pool where the index has a system name, and a string that is cut taken for no text.
+fn look_at(
+    t: &[u8],
+    names: &[u32],
+    area: &[u8],
+    h: Head,
+    index: StringIndex,
+    memory: &mut [u32],
+) -> u32
+    requires { ⌜ Asks (now t) (lends (now names) (now area)) h × Remembers h (now t) (lends (now names) (now area)) (now memory) ⌝ }
+    ensures { λ r. ⌜ (r ≡ lookOf (contentOf h (now (t .entry)) (lends (now (names .entry)) (now (area .entry))) (index .0)))
+        × Remembers h (now (t .entry)) (lends (now (names .entry)) (now (area .entry))) (now (memory .exit)) ⌝ }
+{
+    let f = find(t, names, area, h, index);
+    if is_long(f) {
+        return look_long(t, names, area, h, f, memory);
+    }
+    look_found(t, area, h.wide, f)
 }
 
 // The look at the text of an index, by what is remembered where the index came before.
@@ -64,20 +152,20 @@ pub fn known_look(
     area: &[u8],
     h: Head,
     index: StringIndex,
-    memory: &mut [u64],
+    memory: &mut [u32],
 ) -> u32
     requires { ⌜ Asks (now t) (lends (now names) (now area)) h × Remembers h (now t) (lends (now names) (now area)) (now memory) ⌝ }
     ensures { λ r. ⌜ (r ≡ lookOf (contentOf h (now (t .entry)) (lends (now (names .entry)) (now (area .entry))) (index .0)))
         × Remembers h (now (t .entry)) (lends (now (names .entry)) (now (area .entry))) (now (memory .exit)) ⌝ }
 {
-    let place = index.0 as usize % MEMORY;
-    let own = index.0 as u64 + 1;
+    let place = index.0 as usize % INDICES;
+    let own = index.0 / 1024 + 1;
     let seen = memory[place];
     if seen / 16 == own {
-        return (seen % 16) as u32;
+        return seen % 16;
     }
-    let look = look_at(t, names, area, h, index);
-    memory[place] = 16 * own + look as u64;
+    let look = look_at(t, names, area, h, index, memory);
+    memory[place] = 16 * own + look;
     look
 }
 
@@ -102,7 +190,7 @@ pub fn known_state(
     area: &[u8],
     h: Head,
     index: StringIndex,
-    memory: &mut [u64],
+    memory: &mut [u32],
 ) -> NameState
     requires { ⌜ Asks (now t) (lends (now names) (now area)) h × Remembers h (now t) (lends (now names) (now area)) (now memory) ⌝ }
     ensures { λ r. ⌜ (r ≡ stateIn (contentOf h (now (t .entry)) (lends (now (names .entry)) (now (area .entry))) (index .0)))

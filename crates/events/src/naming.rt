@@ -103,7 +103,7 @@ pub fn name_step(
     area: &[u8],
     h: Head,
     c: Cursor,
-    memory: &mut [u64],
+    memory: &mut [u32],
 ) -> Step
     requires { ⌜ (Asks (now t) (lends (now names) (now area)) h × (c .at ≤ fileLimit) × (c .depth ≤ fileLimit) × (c .starts ≤ fileLimit))
         × Remembers h (now t) (lends (now names) (now area)) (now memory) ⌝ }
@@ -124,7 +124,7 @@ pub fn named_step(
     area: &[u8],
     h: Head,
     c: Cursor,
-    memory: &mut [u64],
+    memory: &mut [u32],
 ) -> Step
     requires { ⌜ (Asks (now t) (lends (now names) (now area)) h × (c .at ≤ fileLimit) × (c .depth ≤ fileLimit) × (c .starts ≤ fileLimit))
         × Remembers h (now t) (lends (now names) (now area)) (now memory) ⌝ }
@@ -218,7 +218,7 @@ fn attribute_event(
     h: Head,
     mode: u32,
     a: XmlAttributeElement,
-    memory: &mut [u64],
+    memory: &mut [u32],
 ) -> Event
     requires { ⌜ Asks (now t) (lends (now names) (now area)) h × Remembers h (now t) (lends (now names) (now area)) (now memory) ⌝ }
     ensures { λ r. ⌜ (r ≡ attributeBy (namesIn mode h (now (t .entry)) (lends (now (names .entry)) (now (area .entry)))) a
@@ -242,7 +242,7 @@ pub fn attribute_step(
     mode: u32,
     b: &[u8],
     c: Cursor,
-    memory: &mut [u64],
+    memory: &mut [u32],
 ) -> Step
     requires { ⌜ (Asks (now t) (lends (now names) (now area)) h × (c .at + 20 ≤ length (now b)) × (length (now b) ≤ fileLimit) × (0 < c .left))
         × Remembers h (now t) (lends (now names) (now area)) (now memory) ⌝ }

@@ -163,7 +163,7 @@ fn read_on(
 {
     let opened = st.opened;
     let notes = st.notes;
-    let mut memory = [0u64; MEMORY];
+    let mut memory = [0u32; MEMORY];
     let mut cur = st.cur;
     let mut tree = st.tree;
     loop {

@@ -155,7 +155,7 @@ pub fn run(
     b: &[u8],
     nodes: &mut [u32],
     attributes: &mut [u32],
-    memory: &mut [u64],
+    memory: &mut [u32],
     c: Cursor,
     tree: Tree,
 ) -> Halt
@@ -212,7 +212,7 @@ pub fn run_in(
     o: Opened,
     nodes: &mut [u32],
     attributes: &mut [u32],
-    memory: &mut [u64],
+    memory: &mut [u32],
     c: Cursor,
     tree: Tree,
 ) -> Halt

@@ -1,21 +1,26 @@
--- What is remembered of indices while a file is read: what a look at the text of an index tells of a name. Not part of what a reader must believe.
+-- What is remembered while a file is read: what a look at the text of an index, or at a long string of the pool, tells of a name. Not part of what a
+-- reader must believe.
 --
 --   lookBy      state of the text and sort of name as one number: 8 for no text, else twice the state, and 1 more for a valid name. So 1 is a valid name
 --               whose text is whole, as most are
 --   lookOf      that number of what an index stands for
 --   stateBy     the sort of name that a look tells
 --   lookStep    the step at an element's name, by a look at it
---   markOf      what is kept of an index and a look: 16 times the index and one more, and the look; 0 says nothing
---   Remembers   1,024 such marks: an index whose mark stands anywhere has the look that it says
-use Prim.Native.Nat.{ℕ, _+_, _*_, _/_, _%_}
+--   markOf      what is kept of an index and a look, at the place of the index: its quotient by 1,024 and one more, 16 times, and the look; 0 says nothing
+--   placeOf     the place of an index, its remainder by 1,024
+--   longOf      the place of a long string that begins at `at` in t: two words, the second of which is the one behind it. Behind 1,024 places of
+--               indices there are 512, one for each 32,768 bytes of a file
+--   Remembers   2,048 words: an index whose mark stands at its place has the look that it says; and where the second word of a part of the file is n,
+--               32,768 or more, and the first is 16 times `at` and a look, the n bytes from `at` on have that look
+use Prim.Native.Nat.{ℕ, _+_, _*_, _/_, _%_, _≤_}
 use mathlib.Core.Path.{_≡_}
 use mathlib.Core.List.{List}
 use mathlib.Core.Bool.{cond}
-use lib.ListN.{length, getD}
+use lib.ListN.{length, getD, take, drop}
 use lib.Dec.{eqb, ltb}
 use Rattle.utf.specs.Text.{stateNumber}
 use Rattle.system_types.specs.Names.{Lent}
-use Rattle.text.specs.Content.{Content, contentOf, damageIn, stateIn}
+use Rattle.text.specs.Content.{Content, some, contentOf, damageIn, stateIn}
 use Rattle.text.specs.declared.Head.{Head}
 use Rattle.text.specs.declared.NameState.{NameState}
 use Rattle.text.specs.declared.NameState.the-variants.{NoText, Invalid, Valid}
@@ -45,12 +50,24 @@ lookStep c n =
     (toStep c (Note (DamagedElementName (c .start .name) (n / 2))) AtNamed)))
 
 abbrev pub markOf : ℕ → ℕ → ℕ
-markOf i look = 16 * (i + 1) + look
+markOf i look = 16 * (i / 1024 + 1) + look
 
--- how many are kept
-abbrev pub places : ℕ
-places = 1024
+abbrev pub placeOf : ℕ → ℕ
+placeOf i = i % 1024
+
+-- how many bytes a long string has at least
+abbrev pub long : ℕ
+long = 32768
+
+abbrev pub longOf : ℕ → ℕ
+longOf at = 1024 + 2 * (at / long)
+
+-- how many words are kept
+abbrev pub words : ℕ
+words = 2048
 
 pub record Remembers (h : Head) (t : List ℕ) (lent : Lent) (memory : List ℕ) : Type 0 where
-  pub room : length memory ≡ places
-  pub tells : (j i : ℕ) → getD memory j 0 / 16 ≡ i + 1 → getD memory j 0 % 16 ≡ lookOf (contentOf h t lent i)
+  pub room : length memory ≡ words
+  pub tells : (i : ℕ) → getD memory (placeOf i) 0 / 16 ≡ i / 1024 + 1 → getD memory (placeOf i) 0 % 16 ≡ lookOf (contentOf h t lent i)
+  pub longs : (at n : ℕ) → long ≤ n → getD memory (longOf at) 0 / 16 ≡ at → getD memory (longOf at + 1) 0 ≡ n
+      → getD memory (longOf at) 0 % 16 ≡ lookOf (some (h .wide) (take n (drop at t)))

@@ -33,7 +33,7 @@ loop-holds c =
     let at-start = c .before .before .before .before .before .before .before .before .before in
     let a = at-start .args in
     let head = a .st .opened .head in
-    (refl, refl, (λ g. read-first _ _ _ _ _ g (at-start .pre .1)), remembers-none head (tablesIn (a .file .now) head) (lends (a .names .now) (a .area .now)) 1024 refl refl)
+    (refl, refl, (λ g. read-first _ _ _ _ _ g (at-start .pre .1)), remembers-none head (tablesIn (a .file .now) head) (lends (a .names .now) (a .area .now)) 2048 refl refl)
 
 slice-aggregate-run-in : tie.Need-slice-aggregate-run-in Inv-loop μ-loop
 slice-aggregate-run-in c = search needs
