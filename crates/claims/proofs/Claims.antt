@@ -111,6 +111,7 @@ use Rattle.claims.proofs.Modes.Theorem as modes
 use Rattle.claims.proofs.Calls.InC as inC
 use Rattle.claims.proofs.Calls.Listing as lists
 use Rattle.claims.proofs.Calls.ListingBack as relisted
+use Rattle.claims.proofs.Calls.ListingCalls as relists
 use mathlib.Core.List.{List·Permᴰ}
 use lib.ListN.{getD, set}
 use Rattle.anomaly.specs.Note.{kindNumber}
@@ -575,7 +576,7 @@ pub relist-calls : (f ns ats before : List ℕ) → allBelow 256 f ≡ true → 
     → (r : Relisted) (ns₃ ats₃ os₃ : List ℕ) → Relists (take (linesNumbersOf a .length) after) ns₂ ats₂ os r ns₃ ats₃ os₃
     → (r .answer ≡ listed f (length ns) (length ats) .answer) × (r .cap ≡ listedCap) × (ns₃ ≡ ns₁) × (ats₃ ≡ ats₁)
     × (os₃ ≡ wordsOf (listed f (length ns) (length ats) .notes))
-relist-calls = relisted.calls-back
+relist-calls = relists.calls-back
 
 -- what is read is what would be printed, so two texts that say the same are one
 pub relist-only : (w : Words) (t t′ : List ℕ) (x : Relisting) → relisting w t ≡ found x → (relistText x ≡ t) × (relisting w t′ ≡ found x → t ≡ t′)
@@ -585,7 +586,7 @@ module _ (text ns ats os : List ℕ) where
   pub relist-unique : (r r′ : Relisted) (ns₁ ns₂ ats₁ ats₂ os₁ os₂ : List ℕ) → Relists text ns ats os r ns₁ ats₁ os₁ → Relists text ns ats os r′ ns₂ ats₂ os₂
       → (r ≡ r′) × (ns₁ ≡ ns₂) × (ats₁ ≡ ats₂) × (os₁ ≡ os₂)
   relist-unique r r′ ns₁ ns₂ ats₁ ats₂ os₁ os₂ p q = (
-    relisted.relisted-by r r′ (numbersOf-unique (r .answer) (r′ .answer) (p .answer ∙ sym (q .answer))) (p .capped ∙ sym (q .capped)),
+    relists.relisted-by r r′ (numbersOf-unique (r .answer) (r′ .answer) (p .answer ∙ sym (q .answer))) (p .capped ∙ sym (q .capped)),
     p .nodes ∙ sym (q .nodes),
     p .attributes ∙ sym (q .attributes),
     p .notes ∙ sym (q .notes),
@@ -594,11 +595,11 @@ module _ (text ns ats os : List ℕ) where
   module _ (r : Relisted) (ns′ ats′ os′ : List ℕ) (h : Relists text ns ats os r ns′ ats′ os′) where
     pub relist-refused-zeros : (n v : ℕ) → relisting (record { nodes = length ns; attributes = length ats; notes = length os }) text ≡ fault n v
         → (r .cap ≡ 0) × (ns′ ≡ replicate (length ns) 0) × (ats′ ≡ replicate (length ats) 0) × (os′ ≡ replicate (length os) 0)
-    relist-refused-zeros = relisted.relist-refused text ns ats os r ns′ ats′ os′ h
+    relist-refused-zeros = relists.relist-refused text ns ats os r ns′ ats′ os′ h
 
     pub relist-done-zeros : (x : Relisting) → relisting (record { nodes = length ns; attributes = length ats; notes = length os }) text ≡ found x
         → ZeroBehind 0 (length (x .nodes)) ns ns′ × ZeroBehind 0 (length (x .attributes)) ats ats′ × ZeroBehind 0 (length (x .notes)) os os′
-    relist-done-zeros = relisted.relist-done text ns ats os r ns′ ats′ os′ h
+    relist-done-zeros = relists.relist-done text ns ats os r ns′ ats′ os′ h
 
 -- ---- readers that break the promise (P5)
 

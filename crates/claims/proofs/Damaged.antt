@@ -1,3 +1,3 @@
--- The same of a file whose names are damaged: docs/FORMAT.md, B13, P3.
+-- Foreign chunks put into a file with damaged names: docs/FORMAT.md, B13, P3.
 pub mod WithoutDamage
 pub mod Theorem

@@ -1,4 +1,4 @@
--- Lists of events: their notes, and the events a start or a file makes.
+-- Lists of events: what a file makes, its notes, its refusals.
 pub mod NotesAndOthers
 pub mod KeptNotes
 pub mod EventCases

@@ -1,5 +1,8 @@
 -- Many pairs at once: an asker that says 12 to all breaks the promise, and the promise can be met (docs/FORMAT.md, P5). No contract cites this file.
--- The witness is file S with the tables of its reading, asked for `android` on `a`.
+--
+--   s-answer, s-list, s-ask   the witness: file S with the tables of its reading, asked for `android` on `a`
+--   twelve-to-all-broken      an asker that says 12 to all
+--   many-meets-some           the definition itself meets the promise
 use Prim.Native.Nat.{ℕ}
 use native.Mathlib.Omega.{arith}
 use mathlib.Core.Path.{_≡_, refl, sym, _∙_, ap}

@@ -41,7 +41,7 @@ use Rattle.claims.specs.Insertion.{left}
 use Rattle.claims.specs.Readers.{allBelow, Call, Reader, Meets, eventsOf, kindsOf, RefusesAll, Constant, ConstantOnRead, StopsAtStart}
 use Rattle.claims.specs.Readers.{LeavesNodes, LeavesAttributes, LeavesNotes, ClearsNodes, ClearsAttributes, ClearsNotes}
 use Rattle.claims.specs.Counts.{opensIn, notesIn}
-use Rattle.claims.proofs.Cases.Table.{fileS, headS, startS, endS, noNodes, noAttributes, none, note, oneNode}
+use Rattle.claims.proofs.Cases.Table.{fileS, headS, startS, endS, noNodes, noAttributes, none, note, oneNode, room}
 use Rattle.claims.proofs.Calls.Readings.{left-reading}
 use Rattle.claims.proofs.Structure.Theorem.{starts-right, notes-many, notes-kept}
 use Rattle.claims.proofs.Broken.Witnesses.{call-S, call-88, call-with-end, call-without}
@@ -95,25 +95,32 @@ module _ (f : List ℕ) (lent : Lent) (ns ats : List ℕ) (os : List Note) (cap 
 -- ---- the readers
 
 module _ (R : Reader) (meets : Meets R) where
-  -- of S, and of S without its end
-  of-S : R fileS (lends [] []) (noNodes 3) (noAttributes 3) none 8 merged ≡ oneNode 1 0 none
-  of-S = left-reading fileS (lends [] []) (noNodes 3) (noAttributes 3) none 8 merged _ _ _ _ (meets fileS (lends [] []) (noNodes 3) (noAttributes 3) none 8 merged call-S) ∙ read-S
+  -- asked with tables of zeros, as the witnesses are
+  abbrev asked : List ℕ → Reading
+  asked f = R f (lends [] []) (noNodes 3) (noAttributes 3) none 8 merged
 
-  of-88 : R (take 88 fileS) (lends [] []) (noNodes 3) (noAttributes 3) none 8 merged ≡ oneNode 1 1 (note 12 1 ∷ zeroNote ∷ zeroNote ∷ zeroNote ∷ [])
-  of-88 = left-reading (take 88 fileS) (lends [] []) (noNodes 3) (noAttributes 3) none 8 merged _ _ _ _ (meets (take 88 fileS) (lends [] []) (noNodes 3) (noAttributes 3) none 8 merged call-88) ∙ read-88
+  asked-reading : (f : List ℕ) → Call f (lends [] []) (noNodes 3) (noAttributes 3) none 8 merged → asked f ≡ reading room f (lends [] [])
+  asked-reading f c = left-reading f (lends [] []) (noNodes 3) (noAttributes 3) none 8 merged _ _ _ _ (meets f (lends [] []) (noNodes 3) (noAttributes 3) none 8 merged c)
+
+  -- of S, and of S without its end
+  of-S : asked fileS ≡ oneNode 1 0 none
+  of-S = asked-reading fileS call-S ∙ read-S
+
+  of-88 : asked (take 88 fileS) ≡ oneNode 1 1 (note 12 1 ∷ zeroNote ∷ zeroNote ∷ zeroNote ∷ [])
+  of-88 = asked-reading (take 88 fileS) call-88 ∙ read-88
 
   pub refuses-all-broken : RefusesAll R → ⊥
   unfolding numbersOf
   refuses-all-broken h = h fileS (lends [] []) (noNodes 3) (noAttributes 3) none 8 merged call-S (ap (λ (x : Reading). numbersOf (x .answer) .refusal) of-S)
 
   -- none of the witnesses' tables holds zeros alone afterwards, as it did before
-  nodes-stored : R fileS (lends [] []) (noNodes 3) (noAttributes 3) none 8 merged .nodes ≡ noNodes 3 → ⊥
+  nodes-stored : asked fileS .nodes ≡ noNodes 3 → ⊥
   nodes-stored h = let z = ap (λ (l : List ℕ). getD l nodeParent 0) (sym h ∙ ap (λ (x : Reading). x .nodes) of-S) in omega arith
 
-  attributes-stored : R fileS (lends [] []) (noNodes 3) (noAttributes 3) none 8 merged .attributes ≡ noAttributes 3 → ⊥
+  attributes-stored : asked fileS .attributes ≡ noAttributes 3 → ⊥
   attributes-stored h = let z = ap (λ (l : List ℕ). getD l attributePrefix 0) (sym h ∙ ap (λ (x : Reading). x .attributes) of-S) in omega arith
 
-  notes-stored : R (take 88 fileS) (lends [] []) (noNodes 3) (noAttributes 3) none 8 merged .notes ≡ none → ⊥
+  notes-stored : asked (take 88 fileS) .notes ≡ none → ⊥
   notes-stored h = let z = ap (λ (l : List Note). getD l 0 zeroNote .kind) (sym h ∙ ap (λ (x : Reading). x .notes) of-88) in omega arith
 
   pub leaves-nodes-broken : LeavesNodes R → ⊥
@@ -170,9 +177,9 @@ module _ (R : Reader) (meets : Meets R) where
   unfolding numbersOf
   first-start-broken h =
       let same = h (headS ++ startS) endS [] (lends [] []) (noNodes 3) (noAttributes 3) none 8 merged call-with-end call-without ends-S in
-      let a = meets ((headS ++ startS) ++ endS) (lends [] []) (noNodes 3) (noAttributes 3) none 8 merged call-with-end .answer ∙ ap (λ (x : Reading). numbersOf (x .answer)) read-with-end in
-      let b = meets ((headS ++ startS) ++ []) (lends [] []) (noNodes 3) (noAttributes 3) none 8 merged call-without .answer ∙ ap (λ (x : Reading). numbersOf (x .answer)) read-without in
-      let e = ap (λ (x : Numbers). x .notes) (sym a ∙ ap (λ (x : Reading). numbersOf (x .answer)) same ∙ b) in
+      let a = asked-reading ((headS ++ startS) ++ endS) call-with-end ∙ read-with-end in
+      let b = asked-reading ((headS ++ startS) ++ []) call-without ∙ read-without in
+      let e = ap (λ (x : Reading). numbersOf (x .answer) .notes) (sym a ∙ same ∙ b) in
       omega arith
 
   -- some file: one that has fewer than it is given, or notes of other kinds

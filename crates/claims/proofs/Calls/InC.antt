@@ -1,5 +1,10 @@
 -- The claims of the C interface: docs/FORMAT.md, P1, P3, P4. Each is that of the promise, its notes as words. No contract cites this file.
--- In order: words of notes; what the numbers of an answer say of it; a reading as a call of `read` (`as-reads`); zeros; insertion; the questions.
+--
+--   done-of                     what the numbers of an answer say of it
+--   room, places, as-reads      a reading in C as a call of `read`; many: how many notes its words hold
+--   refused-zeros, done-zeros   zeros behind what a call leaves
+--   insertion, insertion-same, insertion-room   foreign chunks put into a file
+--   text-refused-zeros, text-done-zeros, first-refused-zeros   the questions
 use Prim.Native.Nat.{ℕ, zero, suc, _+_, _-_, _*_, _/_, _%_, _≤_}
 use native.Mathlib.Omega.{arith}
 use mathlib.Core.Path.{_≡_, refl, sym, _∙_, ap}

@@ -1,5 +1,9 @@
 -- The claims of the listing's function, `listed::list_into`: docs/FORMAT.md, L1, L2, B7, B8, P1. No contract cites this file.
--- In order: zeros in the buffer; zeros in the tables; the room of a listing suffices.
+--
+--   printed-refused, printed-done   zeros in the buffer
+--   listed-long, listed-short       a file that is too long for a listing is not read; of another its reading is listed
+--   unread-zeros, read-zeros        zeros in the tables
+--   list-suffices                   the room of a listing suffices
 use Prim.Native.Nat.{ℕ, _*_}
 use native.Mathlib.Omega.{arith}
 use mathlib.Core.Path.{_≡_, refl, sym, _∙_, ap, subst}

@@ -1,6 +1,9 @@
--- The insertion theorem of calls: whatever two results the promise `Reads` allows for a file and the longer one. No contract cites this file.
--- In order: what a call left, as a reading (`left-reading`), and a reading as what a call left (`reading-left`); the theorem (`insertion-read`), tables of
--- the same lengths, when there is room.
+-- What a call of `read` left, as a reading, and the insertion theorem of calls: docs/FORMAT.md, P3. No contract cites this file.
+--
+--   left-reading     what a call left is the reading; reading-left: a reading is what a call left
+--   insertion-read   THE THEOREM, of whatever two results the promise `Reads` allows for a file and the longer one
+--   insertion-read-same   in tables of the same lengths, the tables are the same, whole
+--   insertion-read-room   places for the records that the first call kept, and for twice the cap of notes, are room
 use Prim.Native.Nat.{ℕ, _*_, _≤_}
 use native.Mathlib.Nat.{le-trans}
 use mathlib.Core.Path.{_≡_, refl, sym, _∙_, ap, subst}

@@ -1,6 +1,10 @@
--- Notes of kind 32 beside all others (docs/FORMAT.md, B13, P3). No contract cites this file.
--- In order: what a cap keeps of the other kinds is what it keeps of them alone (`besides-kept`); a file of which no other kind was noted (`only-damage`);
--- foreign chunks put into such a file (`insertion-damaged` and what follows it).
+-- Foreign chunks put into a file whose only notes are of kind 32: docs/FORMAT.md, B13, P3. No contract cites this file.
+--
+--   besides-kept        what a cap keeps of the other kinds is what it keeps of them alone
+--   only-damage         where only notes 32 are kept, only such are made
+--   nothing-dropped     all starts of such a file are kept
+--   insertion-damaged   THE THEOREM: the tree stays
+--   insertion-damaged-others, insertion-damaged-kept, insertion-damaged-same   its other notes are those of the chunks, and its own are there
 use Prim.Native.Nat.{ℕ, _+_, _≤_, _<_}
 use native.Mathlib.Omega.{arith}
 use mathlib.Core.Path.{_≡_, refl, sym, _∙_, ap}
@@ -37,7 +41,7 @@ use Rattle.claims.proofs.Insertion.InsertedFile.{longer-others, longer-
 use Rattle.claims.proofs.Insertion.SameTree as both
 use Rattle.claims.proofs.Settle.Success.{success}
 use Rattle.claims.proofs.Events.KeptNotes.{number-of}
-use Rattle.claims.proofs.Damaged.WithoutDamage.{quiet, Quieted, file-quieted, damagesOf, damages-others}
+use Rattle.claims.proofs.Damaged.WithoutDamage.{withoutDamage, DamageApart, file-apart, damagesOf, damages-others}
 
 -- ---- the other kinds are counted apart
 
@@ -175,8 +179,8 @@ module _ (r : Room) (f : List ℕ) (lent : Lent) (c : ReadCounts) (done : readin
   abbrev es : List Event
   es = eventsOf (r .mode) f lent
 
-  said : Quieted N es (fileEvents (quiet N) (openedOf f) t l)
-  said = file-quieted N (openedOf f) t l
+  said : DamageApart N es (fileEvents (withoutDamage N) (openedOf f) t l)
+  said = file-apart N (openedOf f) t l
 
   noted : take (c .notes) (reading r f lent .notes) ≡ map noteOf (keptNotes (r .cap) (notesIn es))
   noted = both.noted r f lent c done
@@ -185,7 +189,7 @@ module _ (r : Room) (f : List ℕ) (lent : Lent) (c : ReadCounts) (done : readin
   no-other = only-damage (r .cap) (success r f lent c done .cap) (notesIn es) (λ k n. ap (ofNumber k) (sym noted) ∙ only k n)
 
   -- so without damage it makes no note
-  no-notes : notesIn (fileEvents (quiet N) (openedOf f) t l) ≡ []
+  no-notes : notesIn (fileEvents (withoutDamage N) (openedOf f) t l) ≡ []
   no-notes = sym (said .notes) ∙ no-other
 
   head-whole : openedOf f .end ≡ Whole
@@ -199,8 +203,8 @@ module _ (r : Room) (f : List ℕ) (lent : Lent) (c : ReadCounts) (done : readin
     abbrev es′ : List Event
     es′ = fileEvents N (openedOf f) t (inserted places l)
 
-    said′ : Quieted N es′ (fileEvents (quiet N) (openedOf f) t (inserted places l))
-    said′ = file-quieted N (openedOf f) t (inserted places l)
+    said′ : DamageApart N es′ (fileEvents (withoutDamage N) (openedOf f) t (inserted places l))
+    said′ = file-apart N (openedOf f) t (inserted places l)
 
     abbrev ns : List ResAnomaly
     ns = keptNotes (r′ .cap) (notesIn (eventsOf (r .mode) (insertedFile places f) lent))
@@ -209,7 +213,7 @@ module _ (r : Room) (f : List ℕ) (lent : Lent) (c : ReadCounts) (done : readin
     longer-is = both.events-longer r f lent c done places limit r′ one alike
 
     others : othersIn es′ ≡ othersIn es
-    others = said′ .others ∙ longer-others (quiet N) (openedOf f) t head-whole l no-notes places few ∙ sym (said .others)
+    others = said′ .others ∙ longer-others (withoutDamage N) (openedOf f) t head-whole l no-notes places few ∙ sym (said .others)
 
     -- THE THEOREM: the tree stays
     pub insertion-damaged : HasRoom (reading r′ (insertedFile places f) lent .answer)
@@ -223,7 +227,7 @@ module _ (r : Room) (f : List ℕ) (lent : Lent) (c : ReadCounts) (done : readin
     insertion-damaged-others =
         besides-kept (r′ .cap) damagePlace (notesIn (eventsOf (r .mode) (insertedFile places f) lent))
         ∙ ap (λ (m : List Event). keptNotes (r′ .cap) (besides damagePlace (notesIn m))) longer-is
-        ∙ ap (keptNotes (r′ .cap)) (said′ .notes ∙ longer-notes (quiet N) (openedOf f) t head-whole l no-notes places few)
+        ∙ ap (keptNotes (r′ .cap)) (said′ .notes ∙ longer-notes (withoutDamage N) (openedOf f) t head-whole l no-notes places few)
 
     -- and the file's own are there, the first as many as the cap says
     pub insertion-damaged-kept : ofKind damagePlace ns ≡ take (r′ .cap) (notesIn (eventsOf (r .mode) f lent))

@@ -1,7 +1,11 @@
--- What a file makes, beside what it would make if no text were damaged: the same but for its notes 32, and these are told by the elements that open
--- (`file-quieted`). No contract cites this file.
--- In order: lists taken apart by kind; the names without damage (`quiet`); events that have no part in it (`Still`); what is said of both lists
--- (`Quieted`): a start, a turn, a walk, the file.
+-- What a file makes, beside what it would make if no text were damaged: the same but for its notes 32, and these are told by the elements that open.
+-- docs/FORMAT.md, W18, B13. For proofs/Damaged/Theorem.antt. No contract cites this file.
+--
+--   besides-append, ofKind-append   lists of anomalies by kind
+--   withoutDamage   the names of a file, none of them damaged
+--   damagesOf       the notes 32 of the elements that open among some events; damages-others: notes play no part
+--   Undamaged       events without a note 32 and without an element
+--   DamageApart     what is said of both lists; file-apart: so it is with the events of a file
 use Prim.Native.Nat.{ℕ, zero, suc}
 use mathlib.Core.Path.{_≡_, refl, sym, _∙_, ap}
 use mathlib.Core.List.{List, [], _∷_, _++_, append-assoc}
@@ -57,8 +61,8 @@ ofKind-append k (x ∷ a) b =
 
 -- ---- names
 
-abbrev pub quiet : Names → Names
-quiet N = record { state = N .state; damage = λ i. 0; prefixOf = N .prefixOf; repeats = N .repeats }
+abbrev pub withoutDamage : Names → Names
+withoutDamage N = record { state = N .state; damage = λ i. 0; prefixOf = N .prefixOf; repeats = N .repeats }
 
 -- the note 32 of a name
 abbrev damageOf : Names → StringIndex → List ResAnomaly
@@ -99,14 +103,14 @@ module _ (N : Names) where
 
   -- ---- events without a note 32 and without an element
 
-  record Still (es : List Event) : Type 0 where
+  record Undamaged (es : List Event) : Type 0 where
     kept : besides damagePlace (notesIn es) ≡ notesIn es
     none : ofKind damagePlace (notesIn es) ≡ []
     shut : damagesOf N es ≡ []
 
-  still-none : Still []
+  undamaged-none : Undamaged []
   unfolding ofKind
-  still-none = record { kept = refl; none = refl; shut = refl }
+  undamaged-none = record { kept = refl; none = refl; shut = refl }
 
   kept-append : (a b : List Event) → besides damagePlace (notesIn a) ≡ notesIn a → besides damagePlace (notesIn b) ≡ notesIn b
       → besides damagePlace (notesIn (a ++ b)) ≡ notesIn (a ++ b)
@@ -119,42 +123,42 @@ module _ (N : Names) where
       ap (ofKind damagePlace) (notesIn-append a b) ∙ ofKind-append damagePlace (notesIn a) (notesIn b)
       ∙ ap (λ (l : List ResAnomaly). l ++ ofKind damagePlace (notesIn b)) p ∙ q
 
-  still-append : (a b : List Event) → Still a → Still b → Still (a ++ b)
-  still-append a b p q = record {
+  undamaged-append : (a b : List Event) → Undamaged a → Undamaged b → Undamaged (a ++ b)
+  undamaged-append a b p q = record {
     kept = kept-append a b (p .kept) (q .kept);
     none = none-append a b (p .none) (q .none);
     shut = damages-append a b ∙ ap (λ (l : List ResAnomaly). l ++ damagesOf N b) (p .shut) ∙ q .shut;
   }
 
   -- a note of another kind
-  still-note : (x : ResAnomaly) → eqb (kindIndex x) damagePlace ≡ false → Still (Note x ∷ [])
+  undamaged-note : (x : ResAnomaly) → eqb (kindIndex x) damagePlace ≡ false → Undamaged (Note x ∷ [])
   unfolding ofKind
-  still-note x e = record { kept = rw e; none = rw e; shut = refl }
+  undamaged-note x e = record { kept = rw e; none = rw e; shut = refl }
 
-  still-when : (b : Bool) (x : ResAnomaly) → eqb (kindIndex x) damagePlace ≡ false → Still (when b (Note x))
-  still-when true x e = still-note x e
-  still-when false x e = still-none
+  undamaged-when : (b : Bool) (x : ResAnomaly) → eqb (kindIndex x) damagePlace ≡ false → Undamaged (when b (Note x))
+  undamaged-when true x e = undamaged-note x e
+  undamaged-when false x e = undamaged-none
 
-  still-one : (e : Event) → noted e ≡ [] → opened N e ≡ [] → Still (e ∷ [])
+  undamaged-one : (e : Event) → noted e ≡ [] → opened N e ≡ [] → Undamaged (e ∷ [])
   unfolding ofKind
-  still-one e n o = record { kept = rw n; none = rw n; shut = rw o }
+  undamaged-one e n o = record { kept = rw n; none = rw n; shut = rw o }
 
-  still-if : (b : Bool) (e : Event) → noted e ≡ [] → opened N e ≡ [] → Still (when b e)
-  still-if true e n o = still-one e n o
-  still-if false e n o = still-none
+  undamaged-if : (b : Bool) (e : Event) → noted e ≡ [] → opened N e ≡ [] → Undamaged (when b e)
+  undamaged-if true e n o = undamaged-one e n o
+  undamaged-if false e n o = undamaged-none
 
   -- ---- what is said of both lists
 
-  pub record Quieted (es quieter : List Event) : Type 0 where
-    pub others : othersIn es ≡ othersIn quieter
-    pub notes : besides damagePlace (notesIn es) ≡ notesIn quieter
+  pub record DamageApart (es without : List Event) : Type 0 where
+    pub others : othersIn es ≡ othersIn without
+    pub notes : besides damagePlace (notesIn es) ≡ notesIn without
     pub damages : ofKind damagePlace (notesIn es) ≡ damagesOf N es
 
-  still-quieted : (es : List Event) → Still es → Quieted es es
-  still-quieted es s = record { others = refl; notes = s .kept; damages = s .none ∙ sym (s .shut) }
+  undamaged-apart : (es : List Event) → Undamaged es → DamageApart es es
+  undamaged-apart es s = record { others = refl; notes = s .kept; damages = s .none ∙ sym (s .shut) }
 
-  quieted-append : (a a′ b b′ : List Event) → Quieted a a′ → Quieted b b′ → Quieted (a ++ b) (a′ ++ b′)
-  quieted-append a a′ b b′ p q = record {
+  apart-append : (a a′ b b′ : List Event) → DamageApart a a′ → DamageApart b b′ → DamageApart (a ++ b) (a′ ++ b′)
+  apart-append a a′ b b′ p q = record {
     others =
         othersIn-append a b ∙ ap (λ (l : List Event). l ++ othersIn b) (p .others) ∙ ap (λ (l : List Event). othersIn a′ ++ l) (q .others)
         ∙ sym (othersIn-append a′ b′);
@@ -169,83 +173,83 @@ module _ (N : Names) where
   }
 
   -- a note of another kind before both
-  behind-note : (b : Bool) (x : ResAnomaly) (es es′ : List Event) → eqb (kindIndex x) damagePlace ≡ false → Quieted es es′
-      → Quieted (when b (Note x) ++ es) (when b (Note x) ++ es′)
-  behind-note b x es es′ e q = quieted-append _ _ es es′ (still-quieted _ (still-when b x e)) q
+  behind-note : (b : Bool) (x : ResAnomaly) (es es′ : List Event) → eqb (kindIndex x) damagePlace ≡ false → DamageApart es es′
+      → DamageApart (when b (Note x) ++ es) (when b (Note x) ++ es′)
+  behind-note b x es es′ e q = apart-append _ _ es es′ (undamaged-apart _ (undamaged-when b x e)) q
 
   -- ---- a start
 
-  attribute-still : (a : XmlAttributeElement) (s : NameState) → Still (attributeBy N a s ∷ [])
+  attribute-undamaged : (a : XmlAttributeElement) (s : NameState) → Undamaged (attributeBy N a s ∷ [])
   unfolding kindIndex
-  attribute-still a NoText = still-one _ refl refl
-  attribute-still a Invalid = still-note _ refl
-  attribute-still a Valid = still-one _ refl refl
+  attribute-undamaged a NoText = undamaged-one _ refl refl
+  attribute-undamaged a Invalid = undamaged-note _ refl
+  attribute-undamaged a Valid = undamaged-one _ refl refl
 
-  attributes-still : (n stride : ℕ) (l : List ℕ) → Still (attributesOf N n stride l)
+  attributes-undamaged : (n stride : ℕ) (l : List ℕ) → Undamaged (attributesOf N n stride l)
   unfolding attributesOf attributeEvent
-  attributes-still zero stride l = still-none
-  attributes-still (suc n) stride l =
-      still-append (attributeEvent N l ∷ []) _ (attribute-still (attributeAt l) (N .state (attributeAt l .name .0))) (attributes-still n stride (drop stride l))
+  attributes-undamaged zero stride l = undamaged-none
+  attributes-undamaged (suc n) stride l =
+      undamaged-append (attributeEvent N l ∷ []) _ (attribute-undamaged (attributeAt l) (N .state (attributeAt l .name .0))) (attributes-undamaged n stride (drop stride l))
 
-  by-quiet : (a : XmlAttributeElement) (s : NameState) → attributeBy N a s ≡ attributeBy (quiet N) a s
-  by-quiet a NoText = refl
-  by-quiet a Invalid = refl
-  by-quiet a Valid = refl
+  attribute-same : (a : XmlAttributeElement) (s : NameState) → attributeBy N a s ≡ attributeBy (withoutDamage N) a s
+  attribute-same a NoText = refl
+  attribute-same a Invalid = refl
+  attribute-same a Valid = refl
 
-  attributes-quiet : (n stride : ℕ) (l : List ℕ) → attributesOf N n stride l ≡ attributesOf (quiet N) n stride l
+  attributes-same : (n stride : ℕ) (l : List ℕ) → attributesOf N n stride l ≡ attributesOf (withoutDamage N) n stride l
   unfolding attributesOf attributeEvent
-  attributes-quiet zero stride l = refl
-  attributes-quiet (suc n) stride l =
-      ap (λ (e : Event). e ∷ attributesOf N n stride (drop stride l)) (by-quiet (attributeAt l) (N .state (attributeAt l .name .0)))
-      ∙ ap (λ (es : List Event). attributeBy (quiet N) (attributeAt l) (N .state (attributeAt l .name .0)) ∷ es) (attributes-quiet n stride (drop stride l))
+  attributes-same zero stride l = refl
+  attributes-same (suc n) stride l =
+      ap (λ (e : Event). e ∷ attributesOf N n stride (drop stride l)) (attribute-same (attributeAt l) (N .state (attributeAt l .name .0)))
+      ∙ ap (λ (es : List Event). attributeBy (withoutDamage N) (attributeAt l) (N .state (attributeAt l .name .0)) ∷ es) (attributes-same n stride (drop stride l))
 
   module _ (s : XmlStartElement) (k : ℕ) (l : List ℕ) where
-    lead-still : Still (fromLead N s k l)
+    lead-undamaged : Undamaged (fromLead N s k l)
     unfolding fromLead
-    lead-still =
-        still-append (when (eqb k 0) leading) _ (still-if (eqb k 0) leading refl refl)
-        (attributes-still (s .«attribute_count») (strideOf s) (drop (attributesAt s) l))
+    lead-undamaged =
+        undamaged-append (when (eqb k 0) leading) _ (undamaged-if (eqb k 0) leading refl refl)
+        (attributes-undamaged (s .«attribute_count») (strideOf s) (drop (attributesAt s) l))
 
-    named-quiet : fromNamed N s k l ≡ fromNamed (quiet N) s k l
+    named-same : fromNamed N s k l ≡ fromNamed (withoutDamage N) s k l
     unfolding fromNamed fromOpen fromLead
-    named-quiet =
+    named-same =
         ap (λ (es : List Event). when (not (isValid (N .state (s .name .0)))) (Note (InvalidElementName (s .name) (hasOne (N .state (s .name .0))))) ++
         (Open (s .name) (fixedOf (N .state (s .name .0))) (s .line) ∷ (when (eqb k 0) leading ++ es)))
-        (attributes-quiet (s .«attribute_count») (strideOf s) (drop (attributesAt s) l))
+        (attributes-same (s .«attribute_count») (strideOf s) (drop (attributesAt s) l))
 
     -- the element has no note 32 of its own behind its name
     open-kept : besides damagePlace (notesIn (fromOpen N s k l)) ≡ notesIn (fromOpen N s k l)
     unfolding fromOpen
-    open-kept = lead-still .kept
+    open-kept = lead-undamaged .kept
 
     open-none : ofKind damagePlace (notesIn (fromOpen N s k l)) ≡ []
     unfolding fromOpen
-    open-none = lead-still .none
+    open-none = lead-undamaged .none
 
     open-damages : damagesOf N (fromOpen N s k l) ≡ damageOf N (s .name) ++ []
     unfolding fromOpen
-    open-damages = ap (λ (m : List ResAnomaly). damageOf N (s .name) ++ m) (lead-still .shut)
+    open-damages = ap (λ (m : List ResAnomaly). damageOf N (s .name) ++ m) (lead-undamaged .shut)
 
     abbrev nine : ResAnomaly
     nine = InvalidElementName (s .name) (hasOne (N .state (s .name .0)))
 
-    nine-still : Still (when (not (isValid (N .state (s .name .0)))) (Note nine))
+    nine-undamaged : Undamaged (when (not (isValid (N .state (s .name .0)))) (Note nine))
     unfolding kindIndex
-    nine-still = still-when (not (isValid (N .state (s .name .0)))) nine refl
+    nine-undamaged = undamaged-when (not (isValid (N .state (s .name .0)))) nine refl
 
     named-kept : besides damagePlace (notesIn (fromNamed N s k l)) ≡ notesIn (fromNamed N s k l)
     unfolding fromNamed
-    named-kept = kept-append (when (not (isValid (N .state (s .name .0)))) (Note nine)) (fromOpen N s k l) (nine-still .kept) open-kept
+    named-kept = kept-append (when (not (isValid (N .state (s .name .0)))) (Note nine)) (fromOpen N s k l) (nine-undamaged .kept) open-kept
 
     named-none : ofKind damagePlace (notesIn (fromNamed N s k l)) ≡ []
     unfolding fromNamed
-    named-none = none-append (when (not (isValid (N .state (s .name .0)))) (Note nine)) (fromOpen N s k l) (nine-still .none) open-none
+    named-none = none-append (when (not (isValid (N .state (s .name .0)))) (Note nine)) (fromOpen N s k l) (nine-undamaged .none) open-none
 
     named-damages : damagesOf N (fromNamed N s k l) ≡ damageOf N (s .name) ++ []
     unfolding fromNamed
     named-damages =
         damages-append (when (not (isValid (N .state (s .name .0)))) (Note nine)) (fromOpen N s k l)
-        ∙ ap (λ (m : List ResAnomaly). m ++ damagesOf N (fromOpen N s k l)) (nine-still .shut) ∙ open-damages
+        ∙ ap (λ (m : List ResAnomaly). m ++ damagesOf N (fromOpen N s k l)) (nine-undamaged .shut) ∙ open-damages
 
     abbrev damage : ResAnomaly
     damage = DamagedElementName (s .name) (N .damage (s .name .0))
@@ -272,11 +276,11 @@ module _ (N : Names) where
         let one : damageOf N (s .name) ++ [] ≡ damage ∷ [] = rw e in
         ap (λ (m : List ResAnomaly). damage ∷ m) named-none ∙ sym (named-damages ∙ one)
 
-    name-quieted : Quieted (fromName N s k l) (fromName (quiet N) s k l)
+    name-apart : DamageApart (fromName N s k l) (fromName (withoutDamage N) s k l)
     unfolding fromName
-    name-quieted = record {
-      others = damage-others (eqb (N .damage (s .name .0)) 0) (fromNamed N s k l) ∙ ap othersIn named-quiet;
-      notes = damage-kept (eqb (N .damage (s .name .0)) 0) (fromNamed N s k l) ∙ named-kept ∙ ap notesIn named-quiet;
+    name-apart = record {
+      others = damage-others (eqb (N .damage (s .name .0)) 0) (fromNamed N s k l) ∙ ap othersIn named-same;
+      notes = damage-kept (eqb (N .damage (s .name .0)) 0) (fromNamed N s k l) ∙ named-kept ∙ ap notesIn named-same;
       damages = damage-told (eqb (N .damage (s .name .0)) 0) refl;
     }
 
@@ -286,63 +290,63 @@ module _ (N : Names) where
     start-other sized = refl
     start-other trailing = refl
 
-    behind : (whole b : Bool) (n : StartNote) (ds es : List Event) → Quieted ds es
-        → Quieted (when b (Note (startNote s n)) ++ ds) (when b (Note (startNote s n)) ++ es)
+    behind : (whole b : Bool) (n : StartNote) (ds es : List Event) → DamageApart ds es
+        → DamageApart (when b (Note (startNote s n)) ++ ds) (when b (Note (startNote s n)) ++ es)
     behind whole b n ds es h = behind-note b (startNote s n) ds es (start-other n) h
 
   -- ---- a turn
 
-  short-quieted : Quieted cutShort cutShort
+  short-apart : DamageApart cutShort cutShort
   unfolding kindIndex
-  short-quieted = still-quieted cutShort (still-note TruncatedXml refl)
+  short-apart = undamaged-apart cutShort (undamaged-note TruncatedXml refl)
 
-  nothing-quieted : Quieted [] []
-  nothing-quieted = still-quieted [] still-none
+  nothing-apart : DamageApart [] []
+  nothing-apart = undamaged-apart [] undamaged-none
 
-  close-quieted : Quieted (Close ∷ []) (Close ∷ [])
-  close-quieted = still-quieted (Close ∷ []) (still-one Close refl refl)
+  close-apart : DamageApart (Close ∷ []) (Close ∷ [])
+  close-apart = undamaged-apart (Close ∷ []) (undamaged-one Close refl refl)
 
   module _ (l : List ℕ) (p : Spot) where
-    chunk-quieted : (c : Chunk) → Quieted (chunkYield N l p c) (chunkYield (quiet N) l p c)
+    chunk-apart : (c : Chunk) → DamageApart (chunkYield N l p c) (chunkYield (withoutDamage N) l p c)
     unfolding kindIndex
-    chunk-quieted (Start s) = start-whole N (quiet N) s (p .starts) l (λ w. Quieted) (behind s (p .starts) l) (name-quieted s (p .starts) l)
-    chunk-quieted End = close-quieted
-    chunk-quieted (Other n) = nothing-quieted
-    chunk-quieted Last = still-quieted _ (still-note (UnknownChunk 0x17f) refl)
+    chunk-apart (Start s) = start-whole N (withoutDamage N) s (p .starts) l (λ w. DamageApart) (behind s (p .starts) l) (name-apart s (p .starts) l)
+    chunk-apart End = close-apart
+    chunk-apart (Other n) = nothing-apart
+    chunk-apart Last = undamaged-apart _ (undamaged-note (UnknownChunk 0x17f) refl)
 
-    cut-quieted : (c : CutChunk) → Quieted (cutYield N l p c) (cutYield (quiet N) l p c)
-    cut-quieted CutLine = short-quieted
-    cut-quieted CutHead = short-quieted
-    cut-quieted (CutGap s) = cut-gap N (quiet N) s (p .starts) l (λ w. Quieted) (behind s (p .starts) l) short-quieted
-    cut-quieted (CutAttributes s) = cut-attributes N (quiet N) s (p .starts) l (λ w. Quieted) (behind s (p .starts) l) short-quieted
-    cut-quieted (CutTrailing s) = cut-trailing N (quiet N) s (p .starts) l (λ w. Quieted) (behind s (p .starts) l) short-quieted
-    cut-quieted CutEnd = close-quieted
-    cut-quieted CutOther = nothing-quieted
+    cut-apart : (c : CutChunk) → DamageApart (cutYield N l p c) (cutYield (withoutDamage N) l p c)
+    cut-apart CutLine = short-apart
+    cut-apart CutHead = short-apart
+    cut-apart (CutGap s) = cut-gap N (withoutDamage N) s (p .starts) l (λ w. DamageApart) (behind s (p .starts) l) short-apart
+    cut-apart (CutAttributes s) = cut-attributes N (withoutDamage N) s (p .starts) l (λ w. DamageApart) (behind s (p .starts) l) short-apart
+    cut-apart (CutTrailing s) = cut-trailing N (withoutDamage N) s (p .starts) l (λ w. DamageApart) (behind s (p .starts) l) short-apart
+    cut-apart CutEnd = close-apart
+    cut-apart CutOther = nothing-apart
 
     foreign-other : (k a : ℕ) (b : Bool) → eqb (kindIndex (cond b (NonXmlChunk a) (XmlNodeHeaderSize a))) damagePlace ≡ false
     unfolding kindIndex
     foreign-other k a true = refl
     foreign-other k a false = refl
 
-    turn-quieted : (x : Turn) → Quieted (yieldOf N l p x) (yieldOf (quiet N) l p x)
-    turn-quieted Stop = nothing-quieted
-    turn-quieted (Foreign k a n) = still-quieted _ (still-when (not (eqb k (p .run))) (foreignNote k a) (foreign-other k a (eqb k 0)))
-    turn-quieted (Met c) = chunk-quieted c
-    turn-quieted (Cut c) = cut-quieted c
+    turn-apart : (x : Turn) → DamageApart (yieldOf N l p x) (yieldOf (withoutDamage N) l p x)
+    turn-apart Stop = nothing-apart
+    turn-apart (Foreign k a n) = undamaged-apart _ (undamaged-when (not (eqb k (p .run))) (foreignNote k a) (foreign-other k a (eqb k 0)))
+    turn-apart (Met c) = chunk-apart c
+    turn-apart (Cut c) = cut-apart c
 
-  last-quieted : (p : Spot) → Quieted (lastOf p) (lastOf p)
+  last-apart : (p : Spot) → DamageApart (lastOf p) (lastOf p)
   unfolding kindIndex
-  last-quieted p =
+  last-apart p =
       behind-note (not (eqb (p .depth) 0)) (UnclosedElements (p .depth)) (fromRoot p) (fromRoot p) refl
-      (still-quieted (fromRoot p) (still-if (eqb (p .starts) 0) (Refuse MissingRoot) refl refl))
+      (undamaged-apart (fromRoot p) (undamaged-if (eqb (p .starts) 0) (Refuse MissingRoot) refl refl))
 
   -- ---- a body
 
-  body-quieted : (b : List ℕ) → Quieted (bodyEvents N b) (bodyEvents (quiet N) b)
+  body-apart : (b : List ℕ) → DamageApart (bodyEvents N b) (bodyEvents (withoutDamage N) b)
   unfolding bodyEvents
-  body-quieted b =
-      body-by N (quiet N) (λ l p. Quieted) (λ l p e. last-quieted p)
-      (λ l p m e h ds es r. quieted-append (out N l p) (out (quiet N) l p) ds es (turn-quieted l p (turnOf l)) r) b (record { run = 2; depth = 0; starts = 0 })
+  body-apart b =
+      body-by N (withoutDamage N) (λ l p. DamageApart) (λ l p e. last-apart p)
+      (λ l p m e h ds es r. apart-append (out N l p) (out (withoutDamage N) l p) ds es (turn-apart l p (turnOf l)) r) b (record { run = 2; depth = 0; starts = 0 })
 
   -- ---- the file
 
@@ -352,7 +356,7 @@ module _ (N : Names) where
   head-other o t count = refl
   head-other o t offsets = refl
 
-  pub file-quieted : (o : Opened) (t b : List ℕ) → Quieted (fileEvents N o t b) (fileEvents (quiet N) o t b)
-  file-quieted o t b =
-      file-by N (quiet N) o t b Quieted (λ c n ds es h. behind-note c (headNote o t n) ds es (head-other o t n) h)
-      (λ e q. still-quieted _ (still-one (Refuse (refusalOf e)) refl refl)) (λ q. body-quieted b)
+  pub file-apart : (o : Opened) (t b : List ℕ) → DamageApart (fileEvents N o t b) (fileEvents (withoutDamage N) o t b)
+  file-apart o t b =
+      file-by N (withoutDamage N) o t b DamageApart (λ c n ds es h. behind-note c (headNote o t n) ds es (head-other o t n) h)
+      (λ e q. undamaged-apart _ (undamaged-one (Refuse (refusalOf e)) refl refl)) (λ q. body-apart b)

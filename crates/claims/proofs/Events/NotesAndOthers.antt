@@ -1,5 +1,9 @@
--- Events taken apart: the notes among them (`notesIn`, specs/Counts.antt), and the others (`othersIn`). No contract cites this file.
--- In order: both of lists that are joined, of a list of notes alone (`-notes`); lists that join to nothing.
+-- Events taken apart: the notes among them (`notesIn`, specs/Counts.antt), and the others. docs/FORMAT.md, B12. No contract cites this file.
+--
+--   othersIn                         the events that are no notes
+--   othersIn-append, notesIn-append  both of lists that are joined
+--   othersIn-notes, notesIn-notes    both of a list of notes alone
+--   nil-left, nil-right              lists that join to nothing are nothing
 use mathlib.Core.Path.{_≡_, refl, sym, ap}
 use mathlib.Core.List.{List, [], _∷_, _++_, append-assoc, cons≢nil}
 use Rattle.anomaly.specs.declared.ResAnomaly.{ResAnomaly}

@@ -1,6 +1,10 @@
--- The chunks that the walk takes, and what it leaves: laws of `chunksOf` and `restOf`. No contract cites this file.
--- In order: the two equations of each (`-stop`, `-step`), a chunk at the front (`chunksOf-front`), a body put together again
--- (`inserted-none`), what is left is no chunk (`restOf-few`).
+-- The chunks that the walk takes, and what it leaves: laws of `chunksOf` and `restOf` (docs/FORMAT.md, W1 to W4, P3). No contract cites this file.
+--
+--   fits, nil-stop, stop-of          how many bytes a turn takes, and where the walk stops
+--   chunksOf-stop, chunksOf-step, restOf-stop, restOf-step   the two equations of each
+--   chunksOf-front                   a chunk at the front
+--   inserted-none                    a body put together again
+--   restOf-few                       what is left is no chunk
 use Prim.Native.Nat.{ℕ, zero, suc, _≤_, _<_}
 use native.Mathlib.Omega.{arith}
 use mathlib.Core.Path.{_≡_, refl, sym, _∙_, ap}

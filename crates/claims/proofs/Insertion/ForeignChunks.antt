@@ -1,6 +1,10 @@
--- What a reader of the insertion theorem may ask of its definitions. No contract cites this file.
--- In order: every complete foreign chunk (docs/FORMAT.md, W5) is a `ForeignChunk`, and no other (`foreign-of`, `foreign-least`, `foreign-told`); a stretch
--- makes one note (`stretch-one`); they are of two kinds, so that twice the cap suffices (`placeNotes-room`).
+-- What a reader of the insertion theorem may ask of its definitions: docs/FORMAT.md, W5, P3. No contract cites this file.
+--
+--   foreign-of, foreign-bytes     every complete foreign chunk is a `ForeignChunk`
+--   foreign-least, foreign-told   and no other
+--   stretch-one                   a stretch of one sort makes one note
+--   note-type, note-size          which number it has
+--   placeNotes-room               the notes are of two kinds, so that twice the cap suffices
 use Prim.Native.Nat.{ℕ, _+_, _*_, _≤_}
 use native.Mathlib.Omega.{arith}
 use mathlib.Core.Path.{_≡_, refl, _∙_, ap}

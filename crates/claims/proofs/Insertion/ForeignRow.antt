@@ -1,6 +1,10 @@
--- Foreign chunks in a row before a body: they make their notes, one for each stretch, and then the body makes what it made (`eventsOn-place`).
--- No contract cites this file. In order: a chunk at the front (`eventsOn-front`), a row (`eventsOn-row`), a chunk that is not foreign makes the same
--- whatever chunk stood before it (`eventsOn-run`).
+-- Foreign chunks in a row before a body: they make their notes, one for each stretch, and then the body makes what it made.
+-- docs/FORMAT.md, W5, W6, P3. For proofs/Insertion/InsertedBody.antt. No contract cites this file.
+--
+--   notesBehind-fresh   behind a chunk that is not foreign, every stretch begins
+--   eventsOn-front      a chunk at the front of a body
+--   eventsOn-run        a chunk that is not foreign (`Ordinary`) makes the same whatever chunk stood before it
+--   eventsOn-place      THE LAW of a row before a body
 use Prim.Native.Nat.{ℕ, _<_}
 use native.Mathlib.Omega.{arith}
 use mathlib.Core.Path.{_≡_, refl, sym, _∙_, ap}

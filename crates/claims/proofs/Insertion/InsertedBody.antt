@@ -1,5 +1,9 @@
--- A body that makes no note, and the body with foreign chunks at its places: all other events are the same, and the notes are those of the
--- places (`woven`). No contract cites this file. In order: what two bodies have in common (`Woven`), a place, a whole chunk, a cut one, the end.
+-- A body that makes no note, and the body with foreign chunks at its places: all other events are the same, and the notes are those of the places.
+-- docs/FORMAT.md, P3. For proofs/Insertion/InsertedFile.antt. No contract cites this file.
+--
+--   SameWithNotes   the longer body makes what the body makes, and beside it these notes
+--   AtAllPlaces     so it is with the chunks of all places
+--   inserted-body   THE LAW of a body: at a place, at a whole chunk, at a cut one, at the end
 use Prim.Native.Nat.{ℕ, suc, _≤_, _<_}
 use native.Mathlib.Omega.{arith}
 use mathlib.Core.Path.{_≡_, refl, sym, _∙_, ap, subst}
@@ -36,15 +40,15 @@ chunkNext-run p Last = refl
 
 module _ (N : Names) where
   -- the body l′ makes what l makes, and beside it the notes ns
-  pub record Woven (p : Spot) (l l′ : List ℕ) (ns : List ResAnomaly) : Type 0 where
+  pub record SameWithNotes (p : Spot) (l l′ : List ℕ) (ns : List ResAnomaly) : Type 0 where
     pub others : othersIn (eventsOn N l′ p) ≡ othersIn (eventsOn N l p)
     pub notes : notesIn (eventsOn N l′ p) ≡ ns
 
   -- ---- a place
 
-  woven-place : (fs : List ForeignChunk) (p : Spot) (l m : List ℕ) (ns : List ResAnomaly) → p .run ≡ 2 → Ordinary (turnOf m) → Woven p l m ns
-      → Woven p l (bytesOf fs ++ m) (stretchNotes fs ++ ns)
-  woven-place fs p l m ns r o w =
+  place-inserted : (fs : List ForeignChunk) (p : Spot) (l m : List ℕ) (ns : List ResAnomaly) → p .run ≡ 2 → Ordinary (turnOf m) → SameWithNotes p l m ns
+      → SameWithNotes p l (bytesOf fs ++ m) (stretchNotes fs ++ ns)
+  place-inserted fs p l m ns r o w =
       let ms = stretchNotes fs in
       let e = eventsOn-place N fs m p r o in
       record {
@@ -67,8 +71,8 @@ module _ (N : Names) where
     long : eventsOn N (c ++ d′) p ≡ chunkYield N (c ++ d) p x ++ eventsOn N d′ (chunkNext p x)
     long = eventsOn-front N c d′ p turn-same q some ∙ rw (chunkYield-append N c d d′ p x (omega arith))
 
-    woven-whole : notesIn (eventsOn N (c ++ d) p) ≡ [] → (ns : List ResAnomaly) → Woven (chunkNext p x) d d′ ns → Woven p (c ++ d) (c ++ d′) ns
-    woven-whole z ns w =
+    whole-before : notesIn (eventsOn N (c ++ d) p) ≡ [] → (ns : List ResAnomaly) → SameWithNotes (chunkNext p x) d d′ ns → SameWithNotes p (c ++ d) (c ++ d′) ns
+    whole-before z ns w =
         let y = chunkYield N (c ++ d) p x in
         let both : notesIn y ++ notesIn (eventsOn N d (chunkNext p x)) ≡ [] = sym (ap notesIn short ∙ notesIn-append y _) ∙ z in
         record {
@@ -79,27 +83,27 @@ module _ (N : Names) where
 
   -- ---- all places of a body
 
-  abbrev pub AllWoven : Spot → List ℕ → Type 0
-  AllWoven p l = (places : List (List ForeignChunk)) → length places ≤ placesOf l → Woven p l (inserted places l) (placeNotes places)
+  abbrev pub AtAllPlaces : Spot → List ℕ → Type 0
+  AtAllPlaces p l = (places : List (List ForeignChunk)) → length places ≤ placesOf l → SameWithNotes p l (inserted places l) (placeNotes places)
 
-  same : (p : Spot) (l : List ℕ) → notesIn (eventsOn N l p) ≡ [] → Woven p l l []
+  same : (p : Spot) (l : List ℕ) → notesIn (eventsOn N l p) ≡ [] → SameWithNotes p l l []
   same p l z = record { others = refl; notes = z }
 
   too-many : {A : Type 0} (n m : ℕ) → suc (suc n) ≤ m → m ≤ 1 → A
   too-many n m h k = absurd (let y : ⊥ = omega arith in y)
 
   module _ (p : Spot) (r : p .run ≡ 2) where
-    at-stop : (l : List ℕ) → turnOf l ≡ Stop → notesIn (eventsOn N l p) ≡ [] → AllWoven p l
+    at-stop : (l : List ℕ) → turnOf l ≡ Stop → notesIn (eventsOn N l p) ≡ [] → AtAllPlaces p l
     unfolding inserted placesOf
     at-stop l e z [] h = rw (chunksOf-stop l e, restOf-stop l e) (same p l z)
-    at-stop [] e z (fs ∷ []) h = rw (chunksOf-stop [] e, restOf-stop [] e) (woven-place fs p [] [] [] r (rw e tt) (same p [] z))
+    at-stop [] e z (fs ∷ []) h = rw (chunksOf-stop [] e, restOf-stop [] e) (place-inserted fs p [] [] [] r (rw e tt) (same p [] z))
     at-stop (x ∷ l) e z (fs ∷ []) h =
         absurd (let k : 1 ≤ 0 = rw (chunksOf-stop (x ∷ l) e, restOf-stop (x ∷ l) e) at h in let y : ⊥ = omega arith in y)
     at-stop [] e z (fs ∷ gs ∷ ps) h = too-many (length ps) _ (rw (chunksOf-stop [] e, restOf-stop [] e) at h) (omega arith)
     at-stop (x ∷ l) e z (fs ∷ gs ∷ ps) h = too-many (length ps) _ (rw (chunksOf-stop (x ∷ l) e, restOf-stop (x ∷ l) e) at h) (omega arith)
 
     at-whole : (c d : List ℕ) (x : Chunk) → turnOf (c ++ d) ≡ Met x → lenOf x ≡ length c → notesIn (eventsOn N (c ++ d) p) ≡ []
-        → AllWoven (chunkNext p x) d → AllWoven p (c ++ d)
+        → AtAllPlaces (chunkNext p x) d → AtAllPlaces p (c ++ d)
     unfolding inserted placesOf
     at-whole c d x e q z rec places h = go places h
       where
@@ -109,16 +113,16 @@ module _ (N : Names) where
         alone : turnOf c ≡ Met x
         alone = rw (append-nil c) at (turn-same p c d [] x e q)
 
-        go : (places : List (List ForeignChunk)) → length places ≤ placesOf (c ++ d) → Woven p (c ++ d) (inserted places (c ++ d)) (placeNotes places)
-        go [] h = rw (front .0, front .1) (woven-whole p c d (inserted [] d) x e q z [] (rec [] (omega arith)))
+        go : (places : List (List ForeignChunk)) → length places ≤ placesOf (c ++ d) → SameWithNotes p (c ++ d) (inserted places (c ++ d)) (placeNotes places)
+        go [] h = rw (front .0, front .1) (whole-before p c d (inserted [] d) x e q z [] (rec [] (omega arith)))
         go (fs ∷ ps) h =
             let d′ = inserted ps d in
             let few : length ps ≤ placesOf d = omega (arith, rw (front .0, front .1, alone) at h) in
             rw (front .0, front .1)
-            (woven-place fs p (c ++ d) (c ++ d′) (placeNotes ps) r (rw (turn-same p c d d′ x e q) tt)
-            (woven-whole p c d d′ x e q z (placeNotes ps) (rec ps few)))
+            (place-inserted fs p (c ++ d) (c ++ d′) (placeNotes ps) r (rw (turn-same p c d d′ x e q) tt)
+            (whole-before p c d d′ x e q z (placeNotes ps) (rec ps few)))
 
-    at-cut : (l : List ℕ) (x : CutChunk) → turnOf l ≡ Cut x → notesIn (eventsOn N l p) ≡ [] → AllWoven p l
+    at-cut : (l : List ℕ) (x : CutChunk) → turnOf l ≡ Cut x → notesIn (eventsOn N l p) ≡ [] → AtAllPlaces p l
     unfolding inserted placesOf
     at-cut l x e z places h = go places h
       where
@@ -128,9 +132,9 @@ module _ (N : Names) where
             let f = chunksOf-front l [] {T = Cut x} (rw append-nil e) (rw append-nil) (omega (arith, t .0, t .1)) in
             (rw (append-nil, chunksOf-stop [] nil-stop) at (f .0), rw (append-nil, restOf-stop [] nil-stop) at (f .1))
 
-        go : (places : List (List ForeignChunk)) → length places ≤ placesOf l → Woven p l (inserted places l) (placeNotes places)
+        go : (places : List (List ForeignChunk)) → length places ≤ placesOf l → SameWithNotes p l (inserted places l) (placeNotes places)
         go [] h = rw (front .0, front .1, append-nil l) (same p l z)
-        go (fs ∷ []) h = rw (front .0, front .1, append-nil l) (woven-place fs p l l [] r (rw e tt) (same p l z))
+        go (fs ∷ []) h = rw (front .0, front .1, append-nil l) (place-inserted fs p l l [] r (rw e tt) (same p l z))
         go (fs ∷ gs ∷ ps) h = too-many (length ps) _ (rw (front .0, front .1, e) at h) (omega arith)
 
     -- a body that makes no note has no foreign chunk
@@ -142,13 +146,13 @@ module _ (N : Names) where
         cons≢nil (rw (s, f) at z)
 
   -- THE LAW of a body
-  pub woven-all : (l : List ℕ) (p : Spot) → p .run ≡ 2 → notesIn (eventsOn N l p) ≡ [] → AllWoven p l
-  woven-all = walk-ind used next fits (λ l p. p .run ≡ 2 → notesIn (eventsOn N l p) ≡ [] → AllWoven p l)
+  pub inserted-body : (l : List ℕ) (p : Spot) → p .run ≡ 2 → notesIn (eventsOn N l p) ≡ [] → AtAllPlaces p l
+  inserted-body = walk-ind used next fits (λ l p. p .run ≡ 2 → notesIn (eventsOn N l p) ≡ [] → AtAllPlaces p l)
       (λ l p z r n. at-stop p r l (stop-of l z) n) more
     where
       more : (l : List ℕ) (p : Spot) (m : ℕ) → used l p ≡ suc m → suc m ≤ length l
-          → (next l p .run ≡ 2 → notesIn (eventsOn N (drop (suc m) l) (next l p)) ≡ [] → AllWoven (next l p) (drop (suc m) l))
-          → p .run ≡ 2 → notesIn (eventsOn N l p) ≡ [] → AllWoven p l
+          → (next l p .run ≡ 2 → notesIn (eventsOn N (drop (suc m) l) (next l p)) ≡ [] → AtAllPlaces (next l p) (drop (suc m) l))
+          → p .run ≡ 2 → notesIn (eventsOn N l p) ≡ [] → AtAllPlaces p l
       more l p m u f ih r z = go (turnOf l) refl
         where
           c : List ℕ
@@ -160,7 +164,7 @@ module _ (N : Names) where
           both : c ++ d ≡ l
           both = take-append-drop (suc m) l
 
-          go : (T : Turn) → turnOf l ≡ T → AllWoven p l
+          go : (T : Turn) → turnOf l ≡ T → AtAllPlaces p l
           go Stop e = absurd (let k : 0 ≡ suc m = rw e at u in let y : ⊥ = omega arith in y)
           go (Foreign k a w) e = absurd (no-foreign p r l k a w e z)
           go (Cut x) e = at-cut p r l x e z
@@ -170,5 +174,5 @@ module _ (N : Names) where
               let y = chunkYield N l p x in
               let n : notesIn (eventsOn N d (chunkNext p x)) ≡ [] = nil-right (notesIn y) _ (sym (ap notesIn s ∙ notesIn-append y _) ∙ z) in
               let ih′ = rw e at ih in
-              subst (AllWoven p) both
+              subst (AtAllPlaces p) both
               (at-whole p r c d x (rw both e) (q ∙ sym (length-take-le (suc m) l f)) (rw both z) (ih′ (chunkNext-run p x) n))

@@ -1,6 +1,11 @@
--- A file with foreign chunks put in behind its head: the head is untouched, and what the file makes differs in its notes alone. No contract cites this file.
--- In order: a whole head lies in its file (`head-fits`); head, tables and body of the longer file (`longer-opened`, `-tables`, `-body`); what a file makes
--- behind a whole head (`fileEvents-whole`), and that nothing of it refuses where the head is whole (`whole-of`); both files' events (`longer-events`).
+-- A file with foreign chunks put in behind its head: the head is untouched, and what the file makes differs in its notes alone.
+-- docs/FORMAT.md, P3. For proofs/Insertion/SameTree.antt. No contract cites this file.
+--
+--   whole-long, head-fits   a whole head lies in its file
+--   longer-opened, longer-tables, longer-body, longer-head   head, tables and body of the longer file
+--   insertedFile-none       with nothing put in it is the file
+--   whole-of                where nothing refuses, the head is whole
+--   longer-others, longer-notes   both files' events
 use Prim.Native.Nat.{ℕ, _+_, _≤_}
 use native.Mathlib.Omega.{arith}
 use native.Mathlib.Nat.{min-le-right}
@@ -25,7 +30,7 @@ use Rattle.claims.specs.Insertion.{ForeignChunk, placesOf, inserted, ins
 use Rattle.claims.proofs.Insertion.BodyChunks.{inserted-none}
 use Rattle.claims.specs.Counts.{notesIn}
 use Rattle.claims.proofs.Events.NotesAndOthers.{othersIn, othersIn-append, notesIn-append, nil-left, nil-right}
-use Rattle.claims.proofs.Insertion.InsertedBody.{woven-all}
+use Rattle.claims.proofs.Insertion.InsertedBody.{inserted-body}
 use Rattle.claims.proofs.Events.Refusals.{refuse-right}
 use Rattle.claims.proofs.Settle.StoreCases.{AllStay}
 
@@ -125,11 +130,11 @@ module _ (N : Names) (o : Opened) (t : List ℕ) where
     both-none : notesIn front ++ notesIn (bodyEvents N l) ≡ []
     both-none = sym (ap notesIn (fileEvents-whole w l) ∙ notesIn-append front (bodyEvents N l)) ∙ none
 
-    body-woven : (othersIn (bodyEvents N (inserted places l)) ≡ othersIn (bodyEvents N l)) × (notesIn (bodyEvents N (inserted places l)) ≡ placeNotes places)
+    both-bodies : (othersIn (bodyEvents N (inserted places l)) ≡ othersIn (bodyEvents N l)) × (notesIn (bodyEvents N (inserted places l)) ≡ placeNotes places)
     unfolding bodyEvents
-    body-woven =
+    both-bodies =
         let p : Spot = record { run = 2; depth = 0; starts = 0 } in
-        let v = woven-all N l p refl (nil-right (notesIn front) (notesIn (bodyEvents N l)) both-none) places few in
+        let v = inserted-body N l p refl (nil-right (notesIn front) (notesIn (bodyEvents N l)) both-none) places few in
         (v .others, v .notes)
 
     pub longer-others : othersIn (fileEvents N o t (inserted places l)) ≡ othersIn (fileEvents N o t l)
@@ -139,7 +144,7 @@ module _ (N : Names) (o : Opened) (t : List ℕ) where
           fileEvents-whole w l,
           othersIn-append front (bodyEvents N (inserted places l)),
           othersIn-append front (bodyEvents N l),
-          body-woven .0,
+          both-bodies .0,
         )
 
     pub longer-notes : notesIn (fileEvents N o t (inserted places l)) ≡ placeNotes places
@@ -148,5 +153,5 @@ module _ (N : Names) (o : Opened) (t : List ℕ) where
           fileEvents-whole w (inserted places l),
           notesIn-append front (bodyEvents N (inserted places l)),
           nil-left (notesIn front) (notesIn (bodyEvents N l)) both-none,
-          body-woven .1,
+          both-bodies .1,
         )

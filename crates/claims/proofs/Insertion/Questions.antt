@@ -1,5 +1,7 @@
--- The questions asked of a file with foreign chunks put in: text, content, first value and many of them are those of the file (docs/FORMAT.md, P3).
--- In order: the head is opened as that of the file (`open-same`); the questions, of any two results that their promises allow. No contract cites this file.
+-- The questions asked of a file with foreign chunks put in are answered as of the file: docs/FORMAT.md, P3. No contract cites this file.
+-- Of any two results that their promises allow; the head is opened as that of the file (`open-same`).
+--
+--   insertion-text, insertion-content, insertion-first, insertion-many   text, content, first value, and many of them
 use Prim.Native.Nat.{ℕ, _/_, _≤_}
 use mathlib.Core.Path.{_≡_, refl, sym, _∙_, ap}
 use mathlib.Core.List.{List}

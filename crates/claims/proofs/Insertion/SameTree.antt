@@ -35,9 +35,8 @@ use Rattle.claims.specs.Counts.{notesIn}
 use Rattle.claims.specs.Readers.{namesFor, eventsOf}
 use Rattle.claims.specs.Shape.{ofKind}
 use Rattle.claims.proofs.Events.NotesAndOthers.{othersIn}
-use Rattle.claims.proofs.Settle.StoreCases.{Going}
-use Rattle.claims.proofs.Settle.StoreAll.{Settles, empty, settled, Comes, settle-beside, beside-roomy}
-use Rattle.claims.proofs.Settle.Success.{Success, KeptThere, success, reading-of, succeeds-beside, keptNodes, keptAttributes, again-nodes, again-attributes}
+use Rattle.claims.proofs.Settle.StoreAll.{Going, Settles, empty, settled, SameOrFull, settle-same, same-roomy}
+use Rattle.claims.proofs.Settle.Success.{Success, KeptThere, success, reading-of, succeeds-same, keptNodes, keptAttributes, again-nodes, again-attributes}
 use Rattle.claims.proofs.Structure.Tables.{Shaped, settled-shaped, kept-in}
 use Rattle.claims.proofs.Structure.WalkDepth.{file-ends}
 use Rattle.claims.proofs.Structure.OpenElements.{second-none}
@@ -148,13 +147,13 @@ module _ (r : Room) (f : List ℕ) (lent : Lent) (c : ReadCounts) (done : readin
       pub same-tree : HasRoom (reading r′ (insertedFile places f) lent .answer)
           → reading r′ (insertedFile places f) lent ≡ withNotes r′ (reading r f lent) c (keptNotes (r′ .cap) (notesIn es′))
       same-tree room =
-          go (settle (N .repeats) r′ nothingYet es′) longer (settle-beside (N .repeats) r es (s .tables) (s .settles) r′ es′ others)
+          go (settle (N .repeats) r′ nothingYet es′) longer (settle-same (N .repeats) r es (s .tables) (s .settles) r′ es′ others)
         where
-          go : (x : Out) → reading r′ (insertedFile places f) lent ≡ finalOf r′ x → Comes (N .repeats) r es (s .tables) (s .settles) r′ es′ others x
+          go : (x : Out) → reading r′ (insertedFile places f) lent ≡ finalOf r′ x → SameOrFull (N .repeats) r es (s .tables) (s .settles) r′ es′ others x
               → reading r′ (insertedFile places f) lent ≡ withNotes r′ (reading r f lent) c (keptNotes (r′ .cap) (notesIn es′))
           go (refused x) e full = absurd (true≢false (sym full ∙ (rw e at room)))
           go (going u) e b =
-              e ∙ succeeds-beside r r′ (s .tables) u (keptNotes (r′ .cap) (notesIn es′)) (b .tree) (b .notes) there
+              e ∙ succeeds-same r r′ (s .tables) u (keptNotes (r′ .cap) (notesIn es′)) (b .tree) (b .notes) there
               ∙ ap (λ (d : ReadCounts). withNotes r′ (succeeds r (s .tables)) d (keptNotes (r′ .cap) (notesIn es′))) (s .counts)
               ∙ ap (λ (x : Reading). withNotes r′ x c (keptNotes (r′ .cap) (notesIn es′))) (sym (s .whole))
 
@@ -164,8 +163,8 @@ module _ (r : Room) (f : List ℕ) (lent : Lent) (c : ReadCounts) (done : readin
       same-room none n a m =
           rw longer
           (go (settle (N .repeats) r′ nothingYet es′)
-          (beside-roomy (N .repeats) r es (s .tables) (s .settles) r′ es′ others (rw (all-nodes none) n) (rw (all-attributes none) a) m))
+          (same-roomy (N .repeats) r es (s .tables) (s .settles) r′ es′ others (rw (all-nodes none) n) (rw (all-attributes none) a) m))
         where
-          go : (x : Out) → Going (N .repeats) r′ x → HasRoom (finalOf r′ x .answer)
+          go : (x : Out) → Going x → HasRoom (finalOf r′ x .answer)
           go (going u) g = tt
           go (refused x) g = absurd g

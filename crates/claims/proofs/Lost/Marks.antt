@@ -78,7 +78,7 @@ attributes-marks N (suc n) stride l =
 -- ---- a start
 
 -- these events have these marks
-record Told (es : List Event) (ms : List Mark) : Type 0 where
+record HaveMarks (es : List Event) (ms : List Mark) : Type 0 where
   told : eventMarks es ≡ ms
 
 module _ (N : Names) (s : XmlStartElement) (k : ℕ) (l : List ℕ) where
@@ -86,7 +86,7 @@ module _ (N : Names) (s : XmlStartElement) (k : ℕ) (l : List ℕ) where
   lead-marks true es = refl
   lead-marks false es = refl
 
-  named-marks : Told (fromNamed N s k l) (start (s .name .0) (s .line) ∷ [])
+  named-marks : HaveMarks (fromNamed N s k l) (start (s .name .0) (s .line) ∷ [])
   unfolding fromNamed fromOpen fromLead
   named-marks = record {
     told =
@@ -96,29 +96,29 @@ module _ (N : Names) (s : XmlStartElement) (k : ℕ) (l : List ℕ) where
         ∙ attributes-marks N (s .«attribute_count») (strideOf s) (drop (attributesAt s) l));
   }
 
-  name-marks : Told (fromName N s k l) (start (s .name .0) (s .line) ∷ [])
+  name-marks : HaveMarks (fromName N s k l) (start (s .name .0) (s .line) ∷ [])
   unfolding fromName
   name-marks = record { told = noted-marks (not (eqb (N .damage (s .name .0)) 0)) (DamagedElementName (s .name) (N .damage (s .name .0))) (fromNamed N s k l) ∙ named-marks .told }
 
   -- read whole it is one, cut it is none
-  abbrev ToldStart : Bool → List Event → List Event → Type 0
-  ToldStart whole ds es = Told ds (cond whole (start (s .name .0) (s .line) ∷ []) [])
+  abbrev StartMarks : Bool → List Event → List Event → Type 0
+  StartMarks whole ds es = HaveMarks ds (cond whole (start (s .name .0) (s .line) ∷ []) [])
 
-  behind : (whole b : Bool) (n : StartNote) (ds es : List Event) → ToldStart whole ds es
-      → ToldStart whole (when b (Note (startNote s n)) ++ ds) (when b (Note (startNote s n)) ++ es)
+  behind : (whole b : Bool) (n : StartNote) (ds es : List Event) → StartMarks whole ds es
+      → StartMarks whole (when b (Note (startNote s n)) ++ ds) (when b (Note (startNote s n)) ++ es)
   behind whole b n ds es h = record { told = noted-marks b (startNote s n) ds ∙ h .told }
 
-  start-told : Told (fromGap N s 3 k l) (start (s .name .0) (s .line) ∷ [])
-  start-told = start-whole N N s k l ToldStart behind name-marks
+  start-told : HaveMarks (fromGap N s 3 k l) (start (s .name .0) (s .line) ∷ [])
+  start-told = start-whole N N s k l StartMarks behind name-marks
 
-  gap-cut-told : Told (fromGap N s 0 k l) []
-  gap-cut-told = cut-gap N N s k l ToldStart behind (record { told = refl })
+  gap-cut-told : HaveMarks (fromGap N s 0 k l) []
+  gap-cut-told = cut-gap N N s k l StartMarks behind (record { told = refl })
 
-  attributes-cut-told : Told (fromGap N s 1 k l) []
-  attributes-cut-told = cut-attributes N N s k l ToldStart behind (record { told = refl })
+  attributes-cut-told : HaveMarks (fromGap N s 1 k l) []
+  attributes-cut-told = cut-attributes N N s k l StartMarks behind (record { told = refl })
 
-  trailing-cut-told : Told (fromGap N s 2 k l) []
-  trailing-cut-told = cut-trailing N N s k l ToldStart behind (record { told = refl })
+  trailing-cut-told : HaveMarks (fromGap N s 2 k l) []
+  trailing-cut-told = cut-trailing N N s k l StartMarks behind (record { told = refl })
 
 -- ---- a turn
 

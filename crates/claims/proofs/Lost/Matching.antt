@@ -1,7 +1,9 @@
 -- Starts and ends by counting, and by a stack of open elements: two ways to tell the same. docs/FORMAT.md, W25, W26, W29. For proofs/Lost/Theorem.antt.
--- In order: the ends that are the end of no start among some marks (`spare`), which tell whether a start before them gets its end
--- (`getsEnd-spare`); the depth is the number of starts that never get their end (`depth-open`, `open-above`); how many are kept in the end, told from the open
--- elements and the marks to come (`keptBy`), stays the same where an end closes the innermost and a start goes on top (`kept-end`, `kept-start`).
+--
+--   spare         how many ends are the end of no start among some marks; getsEnd-spare: they tell whether a start before them gets its end
+--   depthBehind   the depth behind some marks; depth-open, open-above: it is the number of starts that never get their end
+--   keptBy        how many are kept in the end, told from the open elements and the marks to come
+--   kept-end, kept-start   it stays the same where an end closes the innermost, and where a start goes on top
 use Prim.Native.Nat.{ℕ, suc, _+_, _-_, _≤_, _<_}
 use native.Mathlib.Omega.{arith}
 use mathlib.Core.Path.{_≡_, refl, sym, ap, _∙_}

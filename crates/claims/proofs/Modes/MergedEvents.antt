@@ -1,5 +1,7 @@
--- The events of a file in the first mode are those in the second, with prefix 1 for 3 (`merged-events`). No contract cites this file.
--- In order: one event (`mergeEvent`); a walk (`trace-map`); an attribute, a start, a chunk, a turn; the body and the file.
+-- The events of a file in the first mode are those in the second, with prefix 1 for 3: docs/FORMAT.md, W22, B16. No contract cites this file.
+--
+--   mergeEvent, mergeAll   an event, and a list of them, as the first mode makes it
+--   merged-events          so it is with the events of a file
 use Prim.Native.Nat.{ℕ, zero, suc}
 use mathlib.Core.Path.{_≡_, refl, _∙_, ap}
 use mathlib.Core.List.{List, [], _∷_, _++_}

@@ -1,14 +1,17 @@
 -- A part of the head that is short: docs/FORMAT.md, H15, P6. No contract cites this file.
--- In order: a refusal of a part is the head's (`reading-part`, `open-part`, `text-part`); its value is a place in the file (`part-offset`); the file cut there is read and
--- asked with the same answer (`part-cut`, `part-cut-text`).
+--
+--   PartOf                                a refusal of a part of the head
+--   reading-part, open-part, text-part    such a refusal of a reading or a question is the head's
+--   part-offset                           its value is a place in the file
+--   part-cut, part-cut-text               the file cut there is read and asked with the same answer
 use Prim.Native.Nat.{ℕ, _+_, _≤_}
 use native.Mathlib.Omega.{arith}
 use mathlib.Core.Path.{_≡_, refl, sym, _∙_, ap, subst}
-use mathlib.Core.List.{List, [], _∷_, _++_}
+use mathlib.Core.List.{List, [], _++_}
 use mathlib.Core.Bool.{Bool, true, false, cond}
 use lib.ListN.{length, take, drop, take-append-drop}
 use lib.Seq.{length-take-le}
-use lib.Dec.{ltb, leb}
+use lib.Dec.{leb}
 use Rattle.errors.specs.Refusal.{numberOf, valueOf}
 use Rattle.errors.specs.declared.Refusal.{Refusal}
 use Rattle.errors.specs.declared.ReadAnswer.{ReadAnswer}
@@ -17,11 +20,8 @@ use Rattle.errors.specs.declared.ReadAnswer.the-variants.{Done, Refused}
 use Rattle.errors.specs.declared.TextState.{TextState}
 use Rattle.errors.specs.declared.TextAnswer.{TextAnswer}
 use Rattle.errors.specs.declared.TextAnswer.the-variants as textIs
-use Rattle.records.specs.Limits.{fileLimit}
 use Rattle.records.specs.Repeats.{Rule}
-use Rattle.system_types.specs.Names.{Lent, namesOf}
-use Rattle.system_types.specs.declared.NamesRead.{NamesRead}
-use Rattle.system_types.specs.declared.NamesRead.the-variants.{Good, Bad}
+use Rattle.system_types.specs.Names.{Lent}
 use Rattle.text.specs.Content.{Content, none, cut, some, textIn, damageIn}
 use Rattle.head.specs.declared.HeadEnd.{HeadEnd}
 use Rattle.head.specs.declared.HeadEnd.the-variants.{Whole, TooSmall, HeaderSize, PoolShort, MapShort}
@@ -32,7 +32,7 @@ use Rattle.head.specs.Head.{openedOf, tablesIn, bodyIn, headLen, isWhole, refus
 use Rattle.head.specs.declared.Asker.{Asker}
 use Rattle.head.specs.declared.Asker.the-variants as askers
 use Rattle.head.specs.Inner.Entered.{askedBy}
-use Rattle.head.specs.Entry.{Check, passes, fails, firstOf, lengthCheck, keepsNone, capCheck, namesCheckBy, modeOf, isMode, modeCheck, entryChecks}
+use Rattle.head.specs.Entry.{Check, passes, fails, firstOf, entryChecks}
 use Rattle.head.specs.Ask.{openBy, openOf, stateTold, fitted, textBy, contentAsked, textAnswerBy, textAnswer}
 use Rattle.head.proofs.Entering.{Passed, passed, passes-all}
 use Rattle.head.proofs.Laws.{tablesIn-append}
@@ -45,6 +45,7 @@ use Rattle.walk.specs.Reading.{reading, readingBy, finalOf, settledIn}
 use Rattle.claims.specs.Parts.{isPart}
 use Rattle.claims.proofs.Settle.ByEvent.{InOut, Goes, Stops, settle-by}
 use Rattle.claims.proofs.Events.Refusals.{AllRefuse, file-refuses}
+use Rattle.claims.proofs.Settle.EntryChecks.{Under, entry-under}
 
 no-part : {b : Bool} → b ≡ true → b ≡ false → ⊥
 no-part p q = let e = sym p ∙ q in let z : _≡_ {A = ℕ} 0 1 = cc in omega arith
@@ -99,55 +100,9 @@ module _ (o : Opened) where
       weaker (refused x) h = h
 
 -- the entry checks refuse for no part
-abbrev NotPart : Check → Type 0
-NotPart passes = Unit {0}
-NotPart (fails x) = isPart x ≡ false
-
-abbrev AllNotPart : List Check → Type 0
-AllNotPart [] = Unit {0}
-AllNotPart (c ∷ cs) = NotPart c × AllNotPart cs
-
-first-not : (cs : List Check) → AllNotPart cs → NotPart (firstOf cs)
-first-not [] p = tt
-first-not (passes ∷ cs) p = first-not cs (p .1)
-first-not (fails x ∷ cs) p = p .0
-
-length-not : (f : List ℕ) → NotPart (lengthCheck f)
-unfolding lengthCheck numberOf
-length-not f = cond-by NotPart (ltb fileLimit (length f)) (λ e. refl) (λ e. tt)
-
-cap-not : (a : Asker) → NotPart (capCheck a)
+entry-not : (f : List ℕ) (lent : Lent) (a : Asker) → Under (λ x. isPart x ≡ false) (firstOf (entryChecks f lent (askedBy a)))
 unfolding numberOf
-cap-not a = cond-by NotPart (keepsNone a) (λ e. refl) (λ e. tt)
-
-mode-not : (a : Asker) → NotPart (modeCheck a)
-unfolding numberOf
-mode-not a = cond-by NotPart (isMode (modeOf a)) (λ e. tt) (λ e. refl)
-
-names-not : (n : NamesRead) → NotPart (namesCheckBy n)
-unfolding numberOf
-names-not Good = tt
-names-not (Bad k) = refl
-
--- a line for each check
-entry-not : (f : List ℕ) (lent : Lent) (a : Asker) → NotPart (firstOf (entryChecks f lent (askedBy a)))
-entry-not f lent a =
-    first-not (entryChecks f lent (askedBy a)) (
-      length-not f,
-      (
-        cap-not a,
-        (
-          names-not (namesOf lent),
-          (
-            mode-not a,
-            (
-              tt,
-              tt,
-            ),
-          ),
-        ),
-      ),
-    )
+entry-not f lent a = entry-under (λ x. isPart x ≡ false) f lent a refl refl (λ k. refl) refl
 
 abbrev IsRefused : Refusal → ReadAnswer → Type 0
 IsRefused x (Done c) = ⊥

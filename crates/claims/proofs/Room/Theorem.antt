@@ -13,7 +13,7 @@ use mathlib.Core.List.{List, [], _∷_}
 use mathlib.Core.Bool.{true, false}
 use borrow.Author.Tests.{lt-ltb}
 use lib.ListN.{length, getD, length-drop, length-append, length-set, replicate, length-replicate}
-use lib.Dec.{ltb, eqb}
+use lib.Dec.{eqb}
 use Rattle.anomaly.specs.Note.{kindIndex}
 use Rattle.anomaly.specs.Kept.{counted, keptFrom}
 use Rattle.anomaly.specs.declared.Note.{Note as NoteOf}
@@ -24,16 +24,12 @@ use Rattle.errors.specs.Refusal.{numberOf}
 use Rattle.errors.specs.declared.Refusal.{Refusal}
 use Rattle.errors.specs.declared.ReadAnswer.{ReadAnswer}
 use Rattle.errors.specs.declared.ReadAnswer.the-variants.{Done, Refused}
-use Rattle.records.specs.Limits.{fileLimit, listedFile}
-use Rattle.system_types.specs.Names.{Lent, lends, namesFrom, namesOf}
-use Rattle.system_types.specs.declared.NamesRead.{NamesRead}
-use Rattle.system_types.specs.declared.NamesRead.the-variants.{Good, Bad}
+use Rattle.records.specs.Limits.{listedFile}
+use Rattle.system_types.specs.Names.{Lent, lends, namesFrom}
 use Rattle.head.specs.declared.Opened.{Opened}
 use Rattle.head.specs.Head.{openedOf, tablesIn, bodyIn, headLen, poolRefusal, mapRefusal, refusalOf}
-use Rattle.head.specs.declared.Asker.{Asker}
 use Rattle.head.specs.declared.Asker.the-variants as askers
-use Rattle.head.specs.Entry.{readingAt, Check, passes, fails, firstOf, lengthCheck, keepsNone, capCheck, namesCheckBy, modeOf, isMode, modeCheck, entryChecks}
-use Rattle.xml_elements.proofs.Laws.{cond-by}
+use Rattle.head.specs.Entry.{readingAt, Check, passes, fails, firstOf, capCheck, isMode, modeCheck, entryChecks}
 use Rattle.events.specs.declared.Event.{Event}
 use Rattle.events.specs.Events.{namesIn, fileEvents}
 use Rattle.walk.specs.Settle.{Room, Tables, Out, going, refused, nothingYet}
@@ -53,6 +49,7 @@ use Rattle.claims.specs.Room.{isFull, HasRoom, nodesFor, attributesFor, 
 use Rattle.claims.proofs.Settle.ByEvent.{InOut, idle-still, Goes, Stops, settle-by}
 use Rattle.claims.proofs.Room.FileCounts.{file-few}
 use Rattle.claims.proofs.Events.Refusals.{AllRefuse, file-refuses}
+use Rattle.claims.proofs.Settle.EntryChecks.{Under, first-under, length-under, entry-under}
 
 -- ---- events put away
 
@@ -144,20 +141,6 @@ root-fine = (refl, refl)
 
 -- ---- a reading
 
--- where it is refused by an entry check
-abbrev Under : (Refusal → Type 0) → Check → Type 0
-Under S passes = Unit {0}
-Under S (fails x) = S x
-
-abbrev AllUnder : (Refusal → Type 0) → List Check → Type 0
-AllUnder S [] = Unit {0}
-AllUnder S (c ∷ cs) = Under S c × AllUnder S cs
-
-first-under : (S : Refusal → Type 0) (cs : List Check) → AllUnder S cs → Under S (firstOf cs)
-first-under S [] p = tt
-first-under S (passes ∷ cs) p = first-under S cs (p .1)
-first-under S (fails x ∷ cs) p = p .0
-
 -- A of every answer, where there is room: S of its refusals
 module _ (S : Refusal → Type 0) (A : ReadAnswer → Type 0) (done : (c : ReadCounts) → A (Done c)) (refuses : (x : Refusal) → S x → A (Refused x))
     (fine : (x : Refusal) → Fine x → S x) where
@@ -191,30 +174,12 @@ module _ (S : Refusal → Type 0) (A : ReadAnswer → Type 0) (done : (c : ReadC
 abbrev Other : Refusal → Type 0
 Other x = isFull x ≡ false
 
-length-under : (f : List ℕ) → Under Other (lengthCheck f)
-unfolding lengthCheck numberOf
-length-under f = cond-by (Under Other) (ltb fileLimit (length f)) (λ e. refl) (λ e. tt)
-
-cap-under : (a : Asker) → Under Other (capCheck a)
-unfolding numberOf
-cap-under a = cond-by (Under Other) (keepsNone a) (λ e. refl) (λ e. tt)
-
-mode-under : (a : Asker) → Under Other (modeCheck a)
-unfolding numberOf
-mode-under a = cond-by (Under Other) (isMode (modeOf a)) (λ e. tt) (λ e. refl)
-
-names-under : (n : NamesRead) → Under Other (namesCheckBy n)
-unfolding numberOf
-names-under Good = tt
-names-under (Bad k) = refl
-
 pub suffices : (r : Room) (f : List ℕ) (lent : Lent) → nodesFor (length f) ≤ r .nodes → attributesFor (length f) ≤ r .attributes
     → placesFor (r .cap) ≤ r .notes → HasRoom (reading r f lent .answer)
+unfolding numberOf
 suffices r f lent nodes attributes notes =
-    let a = askers.Reading (r .cap) (r .mode) in
     answered Other HasRoom (λ c. tt) (λ x h. h) (λ x h. h .0) r f lent nodes attributes notes
-    (first-under Other (entryChecks f lent (readingAt (r .cap) (r .mode)))
-    (length-under f, (cap-under a, (names-under (namesOf lent), (mode-under a, (tt, tt))))))
+    (entry-under Other f lent (askers.Reading (r .cap) (r .mode)) refl refl (λ k. refl) refl)
 
 -- ---- with no names, a listing can say what it is refused with
 
@@ -225,10 +190,6 @@ abbrev pub SaidBy : ReadAnswer → Type 0
 SaidBy (Done c) = Unit {0}
 SaidBy (Refused x) = isListed (numberOf x) ≡ true
 
-length-listed : (f : List ℕ) → Under Listed (lengthCheck f)
-unfolding lengthCheck numberOf
-length-listed f = cond-by (Under Listed) (ltb fileLimit (length f)) (λ e. refl) (λ e. tt)
-
 cap-listed : (cap mode : ℕ) → eqb cap 0 ≡ false → Under Listed (capCheck (askers.Reading cap mode))
 cap-listed cap mode e = rw e tt
 
@@ -237,11 +198,11 @@ mode-listed cap mode e = rw e tt
 
 pub said-by : (r : Room) (f : List ℕ) → nodesFor (length f) ≤ r .nodes → attributesFor (length f) ≤ r .attributes → placesFor (r .cap) ≤ r .notes
     → eqb (r .cap) 0 ≡ false → isMode (r .mode) ≡ true → SaidBy (reading r f (lends [] []) .answer)
-unfolding namesFrom
+unfolding namesFrom numberOf
 said-by r f nodes attributes notes some known =
     answered Listed SaidBy (λ c. tt) (λ x h. h) (λ x h. h .1) r f (lends [] []) nodes attributes notes
     (first-under Listed (entryChecks f (lends [] []) (readingAt (r .cap) (r .mode)))
-    (length-listed f, (cap-listed (r .cap) (r .mode) some, (tt, (mode-listed (r .cap) (r .mode) known, (tt, tt))))))
+    (length-under Listed f refl, (cap-listed (r .cap) (r .mode) some, (tt, (mode-listed (r .cap) (r .mode) known, (tt, tt))))))
 
 -- ---- a call
 

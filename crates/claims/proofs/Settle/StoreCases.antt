@@ -1,13 +1,16 @@
--- What `push` makes of one event, taken apart: tables that are grown, the notes that the cap keeps, or a refusal. No contract cites this file.
--- In order: which events refuse (`Stays`), and which refusals are for want of room (`Full`); what one event does (`Pushed`, `push-tells`); where there is
--- room for it, it does not refuse (`push-roomy`). Not here: all events (proofs/Settle/StoreAll.antt).
-use Prim.Native.Nat.{ℕ, _+_, _≤_}
+-- What `push` makes of one event, taken apart: docs/FORMAT.md, B3 to B6, B9 to B14. Of all events: proofs/Settle/StoreAll.antt. No contract cites this file.
+--
+--   Full, Stays    refusals 8, 9 and 10; an event that does not refuse
+--   Stored         what an event leaves that has its place: tables that are grown, and the notes that the cap keeps
+--   Fits           there is room for it
+--   push-tells     one event is stored; or it is refused, and if it did not refuse itself, then for want of room
+use Prim.Native.Nat.{_+_, _≤_}
 use native.Mathlib.Omega.{arith}
 use mathlib.Core.Path.{_≡_, refl, sym, _∙_}
 use mathlib.Core.List.{List, [], _∷_, _++_, append-nil, map}
 use mathlib.Core.Bool.{Bool, true, false}
-use borrow.Author.Tests.{lt-ltb, leb-true, le-leb}
-use lib.ListN.{length, getD, length-append, length-set}
+use borrow.Author.Tests.{leb-false, ltb-false}
+use lib.ListN.{length, getD, length-append}
 use lib.Dec.{ltb, leb, eqb}
 use Rattle.anomaly.specs.Note.{kindIndex, noteOf}
 use Rattle.anomaly.specs.Kept.{keptFrom}
@@ -20,7 +23,7 @@ use Rattle.events.specs.declared.Event.{Event}
 use Rattle.events.specs.declared.Event.the-variants.{Nothing, Open, Attribute, LeftOut, Close, Note, Refuse, Finish}
 use Rattle.records.specs.Words.{nodeWidth, attributeWidth}
 use Rattle.records.specs.Repeats.{Rule}
-use Rattle.walk.specs.Settle.{Room, Tables, Out, going, refused, opened, kept, push, repeated}
+use Rattle.walk.specs.Settle.{Room, Tables, Out, going, refused, opened, kept, push, repeated, closed}
 use Rattle.claims.specs.Room.{isFull}
 use Rattle.claims.specs.Counts.{noted}
 use Rattle.claims.proofs.Events.Refusals.{RefuseOf, AllRefuse}
@@ -44,53 +47,43 @@ module _ (rule : Rule) (r : Room) where
 
   -- ---- one event
 
-  pub record Pushed (t : Tables) (e : Event) (t′ : Tables) : Type 0 where
+  pub record Stored (t : Tables) (e : Event) (t′ : Tables) : Type 0 where
     pub tree : bare t′ ≡ grow rule (bare t) e
     pub notes : t′ .notes ≡ t .notes ++ map noteOf (keptOf t (noted e))
     pub counts : (ns : List ResAnomaly) → keptOf t (noted e ++ ns) ≡ keptOf t (noted e) ++ keptOf t′ ns
     pub stays : Stays e
-    pub nodes : length (t .nodes) ≤ r .nodes → length (t′ .nodes) ≤ r .nodes
-    pub attributes : length (t .attributes) ≤ r .attributes → length (t′ .attributes) ≤ r .attributes
+
+  -- there is room for it
+  pub record Fits (t : Tables) (e : Event) : Type 0 where
+    pub nodes : length (grow rule (bare t) e .nodes) ≤ r .nodes
+    pub attributes : length (grow rule (bare t) e .attributes) ≤ r .attributes
+    pub notes : length (t .notes) + length (keptOf t (noted e)) ≤ r .notes
 
   abbrev pub Tells : Tables → Event → Out → Type 0
-  Tells t e (going t′) = Pushed t e t′
-  Tells t e (refused x) = Stays e → Full x
+  Tells t e (going t′) = Stored t e t′
+  Tells t e (refused x) = Stays e → Full x × (Fits t e → ⊥)
 
-  -- an event that changes nothing
-  idle : (t : Tables) (e : Event) → bare t ≡ grow rule (bare t) e → noted e ≡ [] → Stays e → Pushed t e t
+  -- an event that is no note
+  silent : (t : Tables) (e : Event) (t′ : Tables) → bare t′ ≡ grow rule (bare t) e → t′ .notes ≡ t .notes → t′ .counts ≡ t .counts → noted e ≡ []
+      → Stays e → Stored t e t′
   unfolding keptFrom
-  idle t e g n s = record {
-    tree = g;
-    notes = rw n (sym (append-nil (t .notes)));
-    counts = λ ns. rw n;
-    stays = s;
-    nodes = λ h. h;
-    attributes = λ h. h;
-  }
-
-  push-open : (t : Tables) (name fixed line : ℕ) {e : Event} → grow rule (bare t) e ≡ opened (bare t) name fixed line → noted e ≡ [] → Stays e
-      → length (t .nodes) + nodeWidth ≤ r .nodes → Pushed t e (opened t name fixed line)
-  unfolding keptFrom
-  push-open t name fixed line g n s room = record {
-    tree = sym g;
-    notes = rw n (sym (append-nil (t .notes)));
-    counts = λ ns. rw n;
-    stays = s;
-    nodes = λ h. rw length-append (omega arith);
-    attributes = λ h. h;
-  }
+  silent t e t′ g o c n s = record { tree = g; notes = o ∙ rw n (sym (append-nil (t .notes))); counts = λ ns. rw (n, c); stays = s }
 
   pub push-tells : (t : Tables) (e : Event) → Tells t e (push rule r (going t) e)
   unfolding keptFrom numberOf
-  push-tells t Nothing = idle t Nothing refl refl tt
-  push-tells t Finish = idle t Finish refl refl tt
-  push-tells t (LeftOut n) = idle t (LeftOut n) refl refl tt
+  push-tells t Nothing = silent t Nothing t refl refl refl refl tt
+  push-tells t Finish = silent t Finish t refl refl refl refl tt
+  push-tells t (LeftOut n) = silent t (LeftOut n) t refl refl refl refl tt
   push-tells t (Refuse x) = λ s. absurd s
-  push-tells t Close =
-      record { tree = refl; notes = sym (append-nil (t .notes)); counts = λ ns. refl; stays = tt; nodes = λ h. h; attributes = λ h. h }
+  push-tells t Close = silent t Close (closed t) refl refl refl refl tt
   push-tells t (Open name fixed line) =
       cond-by (Tells t (Open name fixed line)) (leb (length (t .nodes) + nodeWidth) (r .nodes))
-      (λ e. push-open t (name .0) fixed line refl refl tt (leb-true _ _ e)) (λ e s. refl)
+      (λ e. silent t (Open name fixed line) (opened t (name .0) fixed line) refl refl refl refl tt) (λ e s. (refl, full e))
+    where
+      full : leb (length (t .nodes) + nodeWidth) (r .nodes) ≡ false → Fits t (Open name fixed line) → ⊥
+      full e f =
+          let more : length (t .nodes) + nodeWidth ≤ r .nodes = rw length-append at (f .nodes) in
+          omega (arith, more, leb-false (length (t .nodes) + nodeWidth) (r .nodes) e)
   push-tells t (Attribute p a) = none (eqb (length (t .nodes)) 0) refl
     where
       A : Event
@@ -99,27 +92,22 @@ module _ (rule : Rule) (r : Room) where
       key : Bool
       key = repeated rule t p a
 
-      stored : eqb (length (t .nodes)) 0 ≡ false → key ≡ false → length (t .attributes) + attributeWidth ≤ r .attributes → Pushed t A (kept t p a)
-      stored z k room = record {
-        tree = rw (z, k);
-        notes = sym (append-nil (t .notes));
-        counts = λ ns. refl;
-        stays = tt;
-        nodes = λ h. rw length-set h;
-        attributes = λ h. rw length-append (omega arith);
-      }
+      full : eqb (length (t .nodes)) 0 ≡ false → key ≡ false → leb (length (t .attributes) + attributeWidth) (r .attributes) ≡ false → Fits t A → ⊥
+      full z k e f =
+          let more : length (t .attributes) + attributeWidth ≤ r .attributes = rw (z, k, length-append) at (f .attributes) in
+          omega (arith, more, leb-false (length (t .attributes) + attributeWidth) (r .attributes) e)
 
       room : eqb (length (t .nodes)) 0 ≡ false → key ≡ false → (b : Bool) → leb (length (t .attributes) + attributeWidth) (r .attributes) ≡ b
           → Tells t A (push rule r (going t) A)
-      room z k true e = rw (z, k, e) (stored z k (leb-true _ _ e))
-      room z k false e = rw (z, k, e) (λ s. refl)
+      room z k true e = rw (z, k, e) (silent t A (kept t p a) (rw (z, k)) refl refl refl tt)
+      room z k false e = rw (z, k, e) (λ s. (refl, full z k e))
 
       there : eqb (length (t .nodes)) 0 ≡ false → (b : Bool) → key ≡ b → Tells t A (push rule r (going t) A)
-      there z true k = rw (z, k) (idle t A (rw (z, k)) refl tt)
+      there z true k = rw (z, k) (silent t A t (rw (z, k)) refl refl refl tt)
       there z false k = room z k (leb (length (t .attributes) + attributeWidth) (r .attributes)) refl
 
       none : (b : Bool) → eqb (length (t .nodes)) 0 ≡ b → Tells t A (push rule r (going t) A)
-      none true z = rw z (idle t A (rw z) refl tt)
+      none true z = rw z (silent t A t (rw z) refl refl refl tt)
       none false z = there z key refl
   push-tells t (Note x) = due (ltb (getD (t .counts) (kindIndex x) 0) (r .cap)) refl
     where
@@ -129,6 +117,11 @@ module _ (rule : Rule) (r : Room) where
       past : ltb (getD (t .counts) (kindIndex x) 0) (r .cap) ≡ false → keptOf t (x ∷ []) ≡ []
       past d = keptFrom-past (r .cap) (t .counts) x [] d
 
+      full : ltb (getD (t .counts) (kindIndex x) 0) (r .cap) ≡ true → ltb (length (t .notes)) (r .notes) ≡ false → Fits t (Note x) → ⊥
+      full d e f =
+          let more : length (t .notes) + 1 ≤ r .notes = rw (one d) at (f .notes) in
+          omega (arith, more, ltb-false (length (t .notes)) (r .notes) e)
+
       place : ltb (getD (t .counts) (kindIndex x) 0) (r .cap) ≡ true → (b : Bool) → ltb (length (t .notes)) (r .notes) ≡ b
           → Tells t (Note x) (push rule r (going t) (Note x))
       place d true e =
@@ -137,10 +130,8 @@ module _ (rule : Rule) (r : Room) where
             notes = rw (one d);
             counts = λ ns. keptFrom-due (r .cap) (t .counts) x ns d ∙ rw (one d);
             stays = tt;
-            nodes = λ h. h;
-            attributes = λ h. h;
           })
-      place d false e = rw (d, e) (λ s. refl)
+      place d false e = rw (d, e) (λ s. (refl, full d e))
 
       due : (b : Bool) → ltb (getD (t .counts) (kindIndex x) 0) (r .cap) ≡ b → Tells t (Note x) (push rule r (going t) (Note x))
       due true d = place d (ltb (length (t .notes)) (r .notes)) refl
@@ -150,47 +141,4 @@ module _ (rule : Rule) (r : Room) where
             notes = rw (past d) (sym (append-nil (t .notes)));
             counts = λ ns. keptFrom-past (r .cap) (t .counts) x ns d ∙ rw (past d);
             stays = tt;
-            nodes = λ h. h;
-            attributes = λ h. h;
           })
-
-  -- ---- room
-
-  abbrev pub Going : Out → Type 0
-  Going (going t) = Unit {0}
-  Going (refused x) = ⊥
-
-  pub push-roomy : (t : Tables) (e : Event) → Stays e → length (grow rule (bare t) e .nodes) ≤ r .nodes
-      → length (grow rule (bare t) e .attributes) ≤ r .attributes → length (t .notes) + length (keptOf t (noted e)) ≤ r .notes
-      → Going (push rule r (going t) e)
-  unfolding keptFrom
-  push-roomy t Nothing s n a o = tt
-  push-roomy t Finish s n a o = tt
-  push-roomy t (LeftOut i) s n a o = tt
-  push-roomy t (Refuse x) s n a o = absurd s
-  push-roomy t Close s n a o = tt
-  push-roomy t (Open name fixed line) s n a o = rw (le-leb (length (t .nodes) + nodeWidth) (r .nodes) (rw length-append at n)) tt
-  push-roomy t (Attribute p x) s n a o = none (eqb (length (t .nodes)) 0) refl
-    where
-      A : Event
-      A = Attribute p x
-
-      key : Bool
-      key = repeated rule t p x
-
-      there : eqb (length (t .nodes)) 0 ≡ false → (b : Bool) → key ≡ b → Going (push rule r (going t) A)
-      there z true k = rw (z, k) tt
-      there z false k =
-          let more : length (t .attributes) + attributeWidth ≤ r .attributes = rw (z, k, length-append) at a in
-          rw (z, k, le-leb (length (t .attributes) + attributeWidth) (r .attributes) more) tt
-
-      none : (b : Bool) → eqb (length (t .nodes)) 0 ≡ b → Going (push rule r (going t) A)
-      none true z = rw z tt
-      none false z = there z key refl
-  push-roomy t (Note x) s n a o = due (ltb (getD (t .counts) (kindIndex x) 0) (r .cap)) refl
-    where
-      due : (b : Bool) → ltb (getD (t .counts) (kindIndex x) 0) (r .cap) ≡ b → Going (push rule r (going t) (Note x))
-      due true d =
-          let room : length (t .notes) + 1 ≤ r .notes = rw (keptFrom-due (r .cap) (t .counts) x [] d) at o in
-          rw (d, lt-ltb (length (t .notes)) (r .notes) (omega arith)) tt
-      due false d = rw d tt

@@ -1,6 +1,10 @@
--- What a reading says that succeeds, and two of them beside each other. No contract cites this file.
--- In order: a success and its tables (`Success`, `success`); tables that differ in their notes alone (`succeeds-beside`); with a cap of at least 1, no note
--- kept is no note made (`none-kept`).
+-- What a reading says that succeeds, and two of them beside each other: docs/FORMAT.md, B15, P3. No contract cites this file.
+--
+--   Success, success   a success comes from tables that the events of its file leave; reading-of: where all entry checks pass
+--   KeptThere          what is kept of tables is there
+--   succeeds-same      what is kept of tables that differ in their notes alone
+--   keptNodes, keptAttributes, again-nodes, again-attributes   what was kept, in a table of another length, and of the same
+--   none-kept          with a cap of at least 1, no note kept is no note made
 use Prim.Native.Nat.{ℕ, zero, suc, _-_, _*_, _/_, _≤_}
 use native.Mathlib.Omega.{arith}
 use mathlib.Core.Path.{_≡_, refl, sym, _∙_, ap, subst}
@@ -94,9 +98,9 @@ pub record KeptThere (u : Tables) : Type 0 where
   pub attributes : attributeWidth * attributesKept u ≤ length (u .attributes)
 
 -- what is kept of u′ is what is kept of u
-pub succeeds-beside : (r r′ : Room) (u u′ : Tables) (ns : List ResAnomaly) → bare u′ ≡ bare u → u′ .notes ≡ map noteOf ns → KeptThere u
+pub succeeds-same : (r r′ : Room) (u u′ : Tables) (ns : List ResAnomaly) → bare u′ ≡ bare u → u′ .notes ≡ map noteOf ns → KeptThere u
     → succeeds r′ u′ ≡ withNotes r′ (succeeds r u) (countsOf u) ns
-succeeds-beside r r′ u u′ ns e o s =
+succeeds-same r r′ u u′ ns e o s =
     let n : u′ .nodes ≡ u .nodes = ap (λ (t : Tables). t .nodes) e in
     let a : u′ .attributes ≡ u .attributes = ap (λ (t : Tables). t .attributes) e in
     let k : u′ .stack ≡ u .stack = ap (λ (t : Tables). t .stack) e in

@@ -1,5 +1,9 @@
--- What events make of tables, with no room and no notes: `grown`. No contract cites this file.
--- In order: one event (`grow`) and all of them; notes play no part (`grown-others`); tables only grow (`grow-more`, `grown-more`).
+-- What events make of tables, whatever room there is, and without notes: docs/FORMAT.md, W19 to W26. No contract cites this file.
+--
+--   bare            tables without their notes
+--   grow, grown     one event, and all of them
+--   grown-others    notes play no part
+--   grow-more, grown-more   tables only grow
 use Prim.Native.Nat.{_≤_}
 use native.Mathlib.Omega.{arith}
 use native.Mathlib.Nat.{le-trans, le-refl}

@@ -1,21 +1,14 @@
--- The numbers of a file of bytes are below 2^32: docs/FORMAT.md, F1, B9 to B14. For proofs/Small/Readings.antt. No contract cites this file.
+-- The numbers of all events of a file of bytes are below 2^32: docs/FORMAT.md, B9 to B14. For proofs/Small/Readings.antt. No contract cites this file.
 --
---   Fits         below 2^32
---   InBytes      each entry of a list is below 256, by its place; below-bytes: by the test that is computed over the list
 --   Small        each number of some events fits: words of nodes and attributes, numbers of notes, values of refusals
 --   body-small   the events of a body: numbers that were read, and the depth, which grows by one for a chunk at most
 --   file-small   those of a file, with what its head says: counts and offsets that were read, and places in the file
-use Prim.Native.Nat.{ℕ, zero, suc, _+_, _-_, _≤_, _<_}
+use Prim.Native.Nat.{ℕ, zero, suc, _+_, _≤_}
 use native.Mathlib.Omega.{arith}
-use mathlib.Core.Path.{_≡_}
 use mathlib.Core.List.{List, [], _∷_, _++_}
 use mathlib.Core.Bool.{Bool, true, false, cond, not}
-use borrow.Author.Tests.{ltb-true}
-use lib.ListN.{length, drop, getD, length-drop}
-use lib.Seq.{getD-drop}
-use lib.Dec.{ltb, leb, eqb}
-use Rattle.utf.proofs.Tables.{both-true}
-use Rattle.field.specs.Le.{u16le, u32le}
+use lib.ListN.{length, drop, length-drop}
+use lib.Dec.{leb, eqb}
 use Rattle.anomaly.specs.Note.{noteOf}
 use Rattle.anomaly.specs.declared.Note.{Note as NoteOf}
 use Rattle.anomaly.specs.declared.ResAnomaly.{ResAnomaly}
@@ -24,24 +17,11 @@ use Rattle.anomaly.specs.declared.ResAnomaly.the-variants.{XmlNodeHeaderSize, U
 use Rattle.anomaly.specs.declared.ResAnomaly.the-variants.{InvalidElementName, TruncatedXml, UnclosedElements, DamagedElementName}
 use Rattle.errors.specs.Refusal.{valueOf}
 use Rattle.errors.specs.declared.Refusal.the-variants.{MissingRoot}
-use Rattle.common.specs.Header.{headerOf, contentSize}
-use Rattle.common.specs.declared.ResChunkHeader.{ResChunkHeader}
-use Rattle.common.specs.declared.HeaderRead.{HeaderRead}
-use Rattle.common.specs.declared.HeaderRead.the-variants.{Whole as WholeHeader, Short}
-use Rattle.chunk.specs.Sort.{sortOf}
-use Rattle.res_string_pool.specs.declared.Garbage.{Garbage}
-use Rattle.res_string_pool.specs.declared.Pool.{Pool}
-use Rattle.res_string_pool.specs.declared.PoolRead.{PoolRead}
-use Rattle.res_string_pool.specs.declared.PoolEnd.{PoolEnd}
-use Rattle.res_string_pool.specs.declared.PoolEnd.the-variants.{Complete, GarbageShort, HeaderShort, OffsetsShort, StylesShort, DataShort}
-use Rattle.res_string_pool.specs.Pool.{countOf, noGarbage, unread, numbered, poolFrom, secondBy, behindGarbage, poolBy, poolOf, offsetOf, outsideOf}
-use Rattle.resource_map.specs.Map.{mapOf}
-use Rattle.resource_map.specs.declared.MapRead.{MapRead}
-use Rattle.resource_map.specs.declared.MapRead.the-variants.{Ids, HeaderShort as MapHeaderShort, IdsShort}
+use Rattle.res_string_pool.specs.Pool.{offsetOf, outsideOf}
 use Rattle.text.specs.declared.NameState.{NameState}
 use Rattle.text.specs.declared.NameState.the-variants.{NoText, Invalid, Valid}
 use Rattle.head.specs.declared.Opened.{Opened}
-use Rattle.head.specs.Head.{mappedBy, pooledBy, tablesOf, openedOf, refusalOf, outsideIn}
+use Rattle.head.specs.Head.{outsideIn}
 use Rattle.xml_elements.specs.declared.XmlStartElement.{XmlStartElement}
 use Rattle.xml_elements.specs.declared.XmlAttributeElement.{XmlAttributeElement}
 use Rattle.xml_elements.specs.declared.Chunk.{Chunk}
@@ -50,44 +30,18 @@ use Rattle.xml_elements.specs.declared.CutChunk.{CutChunk}
 use Rattle.xml_elements.specs.declared.CutChunk.the-variants.{CutLine, CutHead, CutGap, CutAttributes, CutTrailing, CutEnd, CutOther}
 use Rattle.xml_elements.specs.declared.Turn.{Turn}
 use Rattle.xml_elements.specs.declared.Turn.the-variants.{Stop, Foreign, Met, Cut}
-use Rattle.xml_elements.specs.Chunk.{startOf, strideOf, attributesAt, attributesEnd, startLen, attributeAt, startTurn, xmlTurn, numberOf, turnBy, turnOf}
+use Rattle.xml_elements.specs.Chunk.{strideOf, attributesAt, attributeAt, turnOf}
 use Rattle.xml_elements.proofs.Laws.{cond-by}
 use Rattle.events.specs.declared.Event.{Event}
 use Rattle.events.specs.declared.Event.the-variants.{Nothing, Open, Attribute, LeftOut, Close, Note, Refuse, Finish}
 use Rattle.events.specs.Events.{Names, isValid, hasOne, fixedOf, when, leading, attributeBy, attributeEvent, attributesOf, cutShort, fromLead, fromOpen, fromNamed, fromName}
 use Rattle.events.specs.Events.{Spot, foreignNote, chunkYield, cutYield, yieldOf, nextOf, chunkNext, cutNext, fromRoot, lastOf, out}
 use Rattle.events.specs.Events.{eventsOn, bodyEvents, fileEvents}
-use Rattle.claims.specs.Readers.{allBelow}
 use Rattle.claims.proofs.Events.EventCases.{StartNote, shifted, sized, trailing, startNote, start-whole, cut-gap, cut-attributes, cut-trailing}
 use Rattle.claims.proofs.Events.EventCases.{body-by, HeadNote, garbage, count, offsets, headNote, file-by}
-
-abbrev pub Fits : ℕ → Type 0
-Fits n = n < 4294967296
-
--- ---- numbers of bytes
-
-abbrev pub InBytes : List ℕ → Type 0
-InBytes l = (i : ℕ) → getD l i 0 < 256
-
-pub below-bytes : (l : List ℕ) → allBelow 256 l ≡ true → InBytes l
-below-bytes [] h i = omega arith
-below-bytes (x ∷ l) h zero = ltb-true x 256 (both-true (ltb x 256) (allBelow 256 l) h .0)
-below-bytes (x ∷ l) h (suc i) = below-bytes l (both-true (ltb x 256) (allBelow 256 l) h .1) i
-
-pub drop-bytes : (n : ℕ) (l : List ℕ) → InBytes l → InBytes (drop n l)
-drop-bytes n l h i = rw (getD-drop n l i 0) (h (n + i))
-
-module _ (l : List ℕ) (h : InBytes l) where
-  u16-short : (at : ℕ) → u16le l at < 65536
-  unfolding u16le
-  u16-short at = omega (arith, h at, h (at + 1))
-
-  u16-fits : (at : ℕ) → Fits (u16le l at)
-  u16-fits at = omega (arith, u16-short at)
-
-  u32-fits : (at : ℕ) → Fits (u32le l at)
-  unfolding u32le
-  u32-fits at = omega (arith, u16-short at, u16-short (at + 2))
+use Rattle.claims.proofs.Small.Bytes.{Fits, InBytes, drop-bytes, SmallAttribute, SmallStart, attribute-small, SmallChunk, SmallCut, SmallTurn}
+use Rattle.claims.proofs.Small.Bytes.{turn-small}
+use Rattle.claims.proofs.Small.Head.{SmallOpened}
 
 -- ---- events
 
@@ -95,12 +49,6 @@ pub record SmallNote (n : NoteOf) : Type 0 where
   pub kind : Fits (n .kind)
   pub first : Fits (n .a)
   pub second : Fits (n .b)
-
-pub record SmallAttribute (a : XmlAttributeElement) : Type 0 where
-  pub space : Fits (a .«namespace_uri» .0)
-  pub name : Fits (a .name .0)
-  pub sort : Fits (a .«data_type»)
-  pub value : Fits (a .«data»)
 
 abbrev pub SmallOf : Event → Type 0
 SmallOf Nothing = Unit {0}
@@ -136,21 +84,6 @@ cut-small : Small cutShort
 cut-small = (cut-note, tt)
 
 -- ---- a start
-
-record SmallStart (s : XmlStartElement) : Type 0 where
-  size : Fits (s .size)
-  line : Fits (s .line)
-  name : Fits (s .name .0)
-  shift : Fits (s .«attribute_start»)
-  width : Fits (s .«attribute_size»)
-
-start-small : (l : List ℕ) → InBytes l → SmallStart (startOf l)
-unfolding startOf
-start-small l h = record { size = u32-fits l h 4; line = u32-fits l h 8; name = u32-fits l h 20; shift = u16-fits l h 24; width = u16-fits l h 26 }
-
-attribute-small : (l : List ℕ) → InBytes l → SmallAttribute (attributeAt l)
-unfolding attributeAt
-attribute-small l h = record { space = u32-fits l h 0; name = u32-fits l h 4; sort = omega (arith, h 15); value = u32-fits l h 16 }
 
 fixed-small : (s : NameState) → Fits (fixedOf s)
 fixed-small NoText = omega arith
@@ -216,74 +149,6 @@ module _ (N : Names) (prefixes : (i : ℕ) → Fits (N .prefixOf i)) (states : (
 
     behind : (whole b : Bool) (n : StartNote) (ds es : List Event) → Small ds → Small (when b (Note (startNote s n)) ++ ds)
     behind whole b n ds es h = behind-note b (startNote s n) ds (start-note n) h
-
--- ---- what stands at the front of bytes
-
-record SmallHeader (h : ResChunkHeader) : Type 0 where
-  kind : Fits (h .kind)
-  own : Fits (h .«header_size»)
-  size : Fits (h .size)
-
-abbrev SmallRead : HeaderRead → Type 0
-SmallRead Short = Unit {0}
-SmallRead (WholeHeader h) = SmallHeader h
-
-header-small : (l : List ℕ) → InBytes l → SmallRead (headerOf l)
-unfolding headerOf
-header-small l h = cond-by SmallRead (ltb (length l) 8) (λ e. tt) (λ e. record { kind = u16-fits l h 0; own = u16-fits l h 2; size = u32-fits l h 4 })
-
-abbrev SmallChunk : Chunk → Type 0
-SmallChunk (Start s) = SmallStart s
-SmallChunk End = Unit {0}
-SmallChunk (Other n) = Unit {0}
-SmallChunk Last = Unit {0}
-
-abbrev SmallCut : CutChunk → Type 0
-SmallCut CutLine = Unit {0}
-SmallCut CutHead = Unit {0}
-SmallCut (CutGap s) = SmallStart s
-SmallCut (CutAttributes s) = SmallStart s
-SmallCut (CutTrailing s) = SmallStart s
-SmallCut CutEnd = Unit {0}
-SmallCut CutOther = Unit {0}
-
-abbrev SmallTurn : Turn → Type 0
-SmallTurn Stop = Unit {0}
-SmallTurn (Foreign k a n) = Fits a
-SmallTurn (Met c) = SmallChunk c
-SmallTurn (Cut c) = SmallCut c
-
-module _ (l : List ℕ) (h : InBytes l) where
-  start-turn : SmallTurn (startTurn l)
-  unfolding startTurn
-  start-turn =
-      let w = start-small l h in
-      cond-by SmallTurn (ltb (length l) 36) (λ e. tt)
-      (λ e. cond-by SmallTurn (ltb (length l) (attributesAt (startOf l))) (λ e. w)
-      (λ e. cond-by SmallTurn (ltb (length l) (attributesEnd (startOf l))) (λ e. w)
-      (λ e. cond-by SmallTurn (ltb (length l) (startLen (startOf l))) (λ e. w) (λ e. w))))
-
-  xml-turn : (kind : ℕ) → SmallTurn (xmlTurn l kind)
-  unfolding xmlTurn
-  xml-turn kind =
-      cond-by SmallTurn (ltb (length l) 16) (λ e. tt)
-      (λ e. cond-by SmallTurn (eqb kind 0x17f) (λ e. tt)
-      (λ e. cond-by SmallTurn (eqb kind 0x102) (λ e. start-turn)
-      (λ e. cond-by SmallTurn (eqb kind 0x103) (λ e. cond-by SmallTurn (ltb (length l) 24) (λ e. tt) (λ e. tt))
-      (λ e. cond-by SmallTurn (eqb kind 0x104) (λ e. cond-by SmallTurn (ltb (length l) 28) (λ e. tt) (λ e. tt))
-      (λ e. cond-by SmallTurn (ltb (length l) 24) (λ e. tt) (λ e. tt))))))
-
-  number-small : (x : ResChunkHeader) → SmallHeader x → Fits (numberOf x)
-  unfolding numberOf
-  number-small x w = cond-by Fits (eqb (sortOf x) 0) (λ e. w .kind) (λ e. w .own)
-
-  turn-by : (x : HeaderRead) → SmallRead x → SmallTurn (turnBy l x)
-  turn-by Short w = tt
-  turn-by (WholeHeader x) w = cond-by SmallTurn (eqb (sortOf x) 2) (λ e. xml-turn (x .kind)) (λ e. number-small x w)
-
-  turn-small : SmallTurn (turnOf l)
-  unfolding turnOf
-  turn-small = turn-by (headerOf l) (header-small l h)
 
 -- ---- a turn
 
@@ -367,97 +232,6 @@ module _ (N : Names) (prefixes : (i : ℕ) → Fits (N .prefixOf i)) (states : (
   pub body-small : (b : List ℕ) → InBytes b → Fits (length b) → Small (bodyEvents N b)
   unfolding bodyEvents
   body-small b h d = body-from b (record { run = 2; depth = 0; starts = 0 }) h (omega (arith, d))
-
--- ---- the head
-
-pub record SmallGarbage (g : Garbage) : Type 0 where
-  pub kind : Fits (g .kind)
-  pub skipped : Fits (g .skipped)
-
-record SmallPool (p : Pool) : Type 0 where
-  declared : Fits (p .declared)
-  count : Fits (p .count)
-
-record SmallPoolRead (r : PoolRead) : Type 0 where
-  garbage : SmallGarbage (r .garbage)
-  pool : SmallPool (r .pool)
-
-no-garbage : SmallGarbage noGarbage
-no-garbage = record { kind = omega arith; skipped = omega arith }
-
-unread-small : (g : Garbage) (e : PoolEnd) → SmallGarbage g → SmallPoolRead (unread g e)
-unread-small g e w = record { garbage = w; pool = record { declared = omega arith; count = omega arith } }
-
-count-small : (start styles : ℕ) → Fits start → Fits (countOf start styles)
-unfolding countOf
-count-small start styles h = omega arith
-
-numbered-small : (at : ℕ) (x : ResChunkHeader) (m : List ℕ) → InBytes m → SmallPool (numbered at x m)
-unfolding numbered
-numbered-small at x m h = record { declared = u32-fits m h 8; count = count-small (u32le m 20) (u32le m 12) (u32-fits m h 20) }
-
-from-small : (g : Garbage) → SmallGarbage g → (at : ℕ) (x : ResChunkHeader) (m : List ℕ) → InBytes m → SmallPoolRead (poolFrom g at x m)
-unfolding poolFrom
-from-small g w at x m h =
-    cond-by SmallPoolRead (ltb (length m) 28) (λ e. unread-small g (HeaderShort (length m - 8)) w)
-    (λ e. record { garbage = w; pool = numbered-small at x m h })
-
-second-small : (g : Garbage) → SmallGarbage g → (at : ℕ) (m : List ℕ) → InBytes m → (x : HeaderRead) → SmallPoolRead (secondBy g at m x)
-second-small g w at m h Short = unread-small g (HeaderShort (length m)) w
-second-small g w at m h (WholeHeader x) = from-small g w at x m h
-
-garbage-small : (x : ResChunkHeader) → SmallHeader x → (l : List ℕ) → InBytes l → SmallPoolRead (behindGarbage x l)
-unfolding behindGarbage
-garbage-small x w l h =
-    let m = drop (8 + contentSize x) l in
-    cond-by SmallPoolRead (ltb (length l - 8) (contentSize x)) (λ e. unread-small noGarbage (GarbageShort (length l - 8)) no-garbage)
-    (λ e. second-small (record { found = true; kind = x .kind; skipped = contentSize x }) (record { kind = w .kind; skipped = omega (arith, w .size) })
-    (8 + contentSize x) m (drop-bytes (8 + contentSize x) l h) (headerOf m))
-
-pool-by : (l : List ℕ) → InBytes l → (x : HeaderRead) → SmallRead x → SmallPoolRead (poolBy l x)
-pool-by l h Short w = unread-small noGarbage (HeaderShort (length l)) no-garbage
-pool-by l h (WholeHeader x) w =
-    cond-by SmallPoolRead (eqb (x .kind) 1) (λ e. from-small noGarbage no-garbage 0 x l h) (λ e. garbage-small x w l h)
-
-pool-small : (l : List ℕ) → InBytes l → SmallPoolRead (poolOf l)
-unfolding poolOf
-pool-small l h = pool-by l h (headerOf l) (header-small l h)
-
-pub record SmallOpened (o : Opened) : Type 0 where
-  pub garbage : SmallGarbage (o .garbage)
-  pub declared : Fits (o .declared)
-  pub count : Fits (o .head .count)
-  pub end : Fits (valueOf (refusalOf (o .end)))
-
-module _ (t : List ℕ) (short : Fits (8 + length t)) (g : Garbage) (w : SmallGarbage g) (p : Pool) (q : SmallPool p) where
-  mapped-small : (m : MapRead) → SmallOpened (mappedBy t g p m)
-  unfolding valueOf
-  mapped-small (Ids n) = record { garbage = w; declared = q .declared; count = q .count; end = omega arith }
-  mapped-small (MapHeaderShort left) = record { garbage = w; declared = q .declared; count = q .count; end = omega (arith, short) }
-  mapped-small (IdsShort left) = record { garbage = w; declared = q .declared; count = q .count; end = omega (arith, short) }
-
-  pooled-small : (e : PoolEnd) → SmallOpened (pooledBy t g p e)
-  unfolding valueOf
-  pooled-small Complete = mapped-small (mapOf (drop (p .strings + p .size) t))
-  pooled-small (GarbageShort left) = record { garbage = w; declared = q .declared; count = q .count; end = omega (arith, short) }
-  pooled-small (HeaderShort left) = record { garbage = w; declared = q .declared; count = q .count; end = omega (arith, short) }
-  pooled-small (OffsetsShort left) = record { garbage = w; declared = q .declared; count = q .count; end = omega (arith, short) }
-  pooled-small (StylesShort left) = record { garbage = w; declared = q .declared; count = q .count; end = omega (arith, short) }
-  pooled-small (DataShort left) = record { garbage = w; declared = q .declared; count = q .count; end = omega (arith, short) }
-
-tables-small : (t : List ℕ) → InBytes t → Fits (8 + length t) → SmallOpened (tablesOf t)
-unfolding tablesOf
-tables-small t h short =
-    let r = pool-small t h in
-    pooled-small t short (poolOf t .garbage) (r .garbage) (poolOf t .pool) (r .pool) (poolOf t .end)
-
-pub opened-small : (f : List ℕ) → InBytes f → Fits (8 + length f) → SmallOpened (openedOf f)
-unfolding openedOf valueOf
-opened-small f h short =
-    cond-by SmallOpened (ltb (length f) 8)
-    (λ e. record { garbage = no-garbage; declared = omega arith; count = omega arith; end = omega (arith, short) })
-    (λ e. cond-by SmallOpened (eqb (u16le f 2) 8) (λ e. tables-small (drop 8 f) (drop-bytes 8 f h) (omega (arith, short, length-drop 8 f)))
-    (λ e. record { garbage = no-garbage; declared = omega arith; count = omega arith; end = u16-fits f h 2 }))
 
 -- ---- a file
 

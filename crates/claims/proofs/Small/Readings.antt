@@ -18,14 +18,14 @@ use Rattle.anomaly.specs.declared.Note.{Note as NoteOf}
 use Rattle.errors.specs.Refusal.{valueOf, numbersOf}
 use Rattle.errors.specs.declared.Refusal.{Refusal}
 use Rattle.errors.specs.declared.Refusal.the-variants.{TooLargeError}
-use Rattle.records.specs.Limits.{fileLimit, listedFile}
+use Rattle.records.specs.Limits.{listedFile}
 use Rattle.records.specs.Words.{nodeWidth, nodeFirst, attributeWidth, apart, ownPrefix}
 use Rattle.system_types.specs.Names.{lends, namesFrom}
 use Rattle.utf.specs.Text.{Damage, whole, replaced, unpaired, cut, stateNumber}
 use Rattle.text.specs.Content.{Content, contentOf, hasText, isAndroid, damageIn}
 use Rattle.head.specs.declared.Asker.the-variants as askers
 use Rattle.head.specs.Head.{openedOf, tablesIn, bodyIn, headLen}
-use Rattle.head.specs.Entry.{readingAt, Check, passes, fails, firstOf, lengthCheck, capCheck, isMode, modeCheck, entryChecks}
+use Rattle.head.specs.Entry.{readingAt, Check, passes, fails, firstOf, entryChecks}
 use Rattle.xml_elements.proofs.Laws.{cond-by}
 use Rattle.events.specs.declared.Event.{Event}
 use Rattle.events.specs.Events.{prefixIn, namesIn, fileEvents}
@@ -39,7 +39,10 @@ use Rattle.listing_back.proofs.Steps.{anyOver-cons, anyOver-append, no-over}
 use Rattle.claims.specs.Readers.{allBelow}
 use Rattle.claims.proofs.Calls.Listing.{listed-long, listed-short}
 use Rattle.claims.proofs.Settle.ByEvent.{InOut, Goes, Stops, settle-by}
-use Rattle.claims.proofs.Small.Events.{Fits, InBytes, below-bytes, drop-bytes, SmallNote, Small, opened-small, file-small}
+use Rattle.claims.proofs.Small.Bytes.{Fits, InBytes, below-bytes, drop-bytes}
+use Rattle.claims.proofs.Small.Head.{opened-small}
+use Rattle.claims.proofs.Small.Events.{SmallNote, Small, file-small}
+use Rattle.claims.proofs.Settle.EntryChecks.{Under, first-under, length-under, cap-under, mode-under}
 
 pub record In32 (g : Reading) : Type 0 where
   pub value : anyOver (numbersOf (g .answer) .value ∷ numbersOf (g .answer) .starts ∷ []) ≡ false
@@ -236,42 +239,19 @@ module _ (r : Room) (roomNodes : Fits (r .nodes)) (roomAttributes : Fits (r .att
     notes = notes-over _ (notes-both (t .notes) _ (h .notes) (notes-zeros (r .notes - length (t .notes))));
   }
 
-  abbrev UnderTold : Check → Type 0
-  UnderTold passes = Unit {0}
-  UnderTold (fails x) = Told x
-
-  final-in32 : (o : Out) (c : Check) → InOut (Fitting r []) Told o → UnderTold c → In32 (readingBy r o c)
+  final-in32 : (o : Out) (c : Check) → InOut (Fitting r []) Told o → Under Told c → In32 (readingBy r o c)
   final-in32 (going t) passes p q = done-in32 t p
   final-in32 (refused x) passes p q = refused-in32 x p
   final-in32 o (fails x) p q = refused-in32 x q
 
   -- the entry checks, with no names lent: what they refuse has the value 0, or the mode
   module _ (mode : Fits (r .mode)) where
-    length-told : (f : List ℕ) → UnderTold (lengthCheck f)
-    unfolding lengthCheck valueOf
-    length-told f = cond-by UnderTold (ltb fileLimit (length f)) (λ e. omega arith) (λ e. tt)
-
-    cap-told : UnderTold (capCheck (askers.Reading (r .cap) (r .mode)))
-    unfolding valueOf
-    cap-told = cond-by UnderTold (eqb (r .cap) 0) (λ e. omega arith) (λ e. tt)
-
-    mode-told : UnderTold (modeCheck (askers.Reading (r .cap) (r .mode)))
-    unfolding valueOf
-    mode-told = cond-by UnderTold (isMode (r .mode)) (λ e. tt) (λ e. mode)
-
-    abbrev AllTold : List Check → Type 0
-    AllTold [] = Unit {0}
-    AllTold (c ∷ cs) = UnderTold c × AllTold cs
-
-    first-told : (cs : List Check) → AllTold cs → UnderTold (firstOf cs)
-    first-told [] p = tt
-    first-told (passes ∷ cs) p = first-told cs (p .1)
-    first-told (fails x ∷ cs) p = p .0
-
-    entry-told : (f : List ℕ) → UnderTold (firstOf (entryChecks f (lends [] []) (readingAt (r .cap) (r .mode))))
-    unfolding namesFrom
+    entry-told : (f : List ℕ) → Under Told (firstOf (entryChecks f (lends [] []) (readingAt (r .cap) (r .mode))))
+    unfolding namesFrom valueOf
     entry-told f =
-        first-told (entryChecks f (lends [] []) (readingAt (r .cap) (r .mode))) (length-told f, (cap-told, (tt, (mode-told, (tt, tt)))))
+        let a = askers.Reading (r .cap) (r .mode) in
+        first-under Told (entryChecks f (lends [] []) (readingAt (r .cap) (r .mode)))
+        (length-under Told f (omega arith), (cap-under Told a (omega arith), (tt, (mode-under Told a mode, (tt, tt)))))
 
     prefix-fits : (c : Content) → Fits (prefixIn (r .mode) c)
     prefix-fits c =

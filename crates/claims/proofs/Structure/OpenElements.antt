@@ -7,16 +7,15 @@
 use Prim.Native.Nat.{ℕ, _+_, _-_, _≤_, _<_}
 use native.Mathlib.Omega.{arith}
 use mathlib.Core.Path.{_≡_, refl, sym, _∙_, ap}
-use mathlib.Core.List.{List, [], _∷_, _++_}
+use mathlib.Core.List.{List, [], _∷_}
 use mathlib.Core.Bool.{Bool, true, false}
 use borrow.Author.Tests.{eqb-true, eqb-false}
 use lib.ListN.{length}
 use lib.Dec.{eqb}
-use Rattle.errors.specs.declared.Refusal.{Refusal}
 use Rattle.records.specs.Repeats.{Rule}
 use Rattle.events.specs.declared.Event.{Event}
 use Rattle.events.specs.declared.Event.the-variants.{Refuse}
-use Rattle.walk.specs.Settle.{Room, Tables, Out, going, refused, push, settle, nothingYet, closedIn}
+use Rattle.walk.specs.Settle.{Room, Tables, going, settle, nothingYet, closedIn}
 use Rattle.walk.specs.Reading.{secondOf}
 use Rattle.claims.specs.Counts.{depthFrom}
 use Rattle.claims.specs.Shape.{ofKind}
@@ -25,6 +24,7 @@ use Rattle.claims.proofs.Settle.ByEvent.{idle-still, Goes, settle-in}
 use Rattle.claims.proofs.Structure.Shape.{Falls}
 use Rattle.claims.proofs.Structure.WalkDepth.{WalkedFile, Ending, refusedAt, walkedTo}
 use Rattle.claims.proofs.Structure.NoteTwelve.{walked-twelve}
+use Rattle.claims.proofs.Events.Refusals.{refuse-right}
 
 -- ---- what is open
 
@@ -84,14 +84,8 @@ module _ (rule : Rule) (r : Room) where
 
   -- ---- events that leave tables
 
-  refuse-ends : (o : Out) (a : List Event) (x : Refusal) (t : Tables) → settle rule r o (a ++ (Refuse x ∷ [])) ≡ going t → ⊥
-  unfolding settle
-  refuse-ends (going u) [] x t e = let z : _≡_ {A = ℕ} 0 1 = cc in omega arith
-  refuse-ends (refused y) [] x t e = let z : _≡_ {A = ℕ} 0 1 = cc in omega arith
-  refuse-ends o (d ∷ a) x t e = refuse-ends (push rule r o d) a x t e
-
   pub settled-walked : (es : List Event) (t : Tables) → Ending es → settle rule r nothingYet es ≡ going t → WalkedFile es
-  settled-walked es t (refusedAt a x q) e = absurd (refuse-ends nothingYet a x t (sym (ap (λ (y : List Event). settle rule r nothingYet y) q) ∙ e))
+  settled-walked es t (refusedAt a x q) e = absurd (refuse-right (λ x. ⊥) a (Refuse x ∷ []) (rw q at (settled rule r es t e .stay)) .0)
   settled-walked es t (walkedTo w) e = w
 
 -- ---- without note 12

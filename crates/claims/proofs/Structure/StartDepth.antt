@@ -1,7 +1,7 @@
 -- Depth and starts, told by the events of a start: docs/FORMAT.md, W18, W19, W25, W27, W28. For proofs/Structure/WalkDepth.antt.
 --
---   Moved    a list of events that opens n elements and closes none, and has no note 12; start-moved: a start read whole, n = 1
---   gap-cut-moved, attributes-cut-moved, trailing-cut-moved   a start that is cut opens none
+--   Opening    a list of events that opens n elements and closes none, and has no note 12; start-opening: a start read whole, n = 1
+--   gap-cut-opening, attributes-cut-opening, trailing-cut-opening   a start that is cut opens none
 use Prim.Native.Nat.{ℕ, zero, suc, _+_}
 use native.Mathlib.Omega.{arith}
 use mathlib.Core.Path.{_≡_, refl, _∙_}
@@ -33,11 +33,11 @@ abbrev pub NotTwelve : ResAnomaly → Type 0
 NotTwelve x = noteOf x .kind ≡ 12 → ⊥
 
 -- there is none among these
-abbrev pub Plain : List Event → Type 0
-Plain es = All NotTwelve (notesIn es)
+abbrev pub NoTwelve : List Event → Type 0
+NoTwelve es = All NotTwelve (notesIn es)
 
-pub plain-append : (a b : List Event) → Plain a → Plain b → Plain (a ++ b)
-plain-append a b p q = rw (notesIn-append a b) (all-append NotTwelve (notesIn a) (notesIn b) p q)
+pub no-twelve-append : (a b : List Event) → NoTwelve a → NoTwelve b → NoTwelve (a ++ b)
+no-twelve-append a b p q = rw (notesIn-append a b) (all-append NotTwelve (notesIn a) (notesIn b) p q)
 
 pub opens-append : (a b : List Event) → opensIn (a ++ b) ≡ opensIn a + opensIn b
 opens-append [] b = omega arith
@@ -47,74 +47,74 @@ pub depth-append : (d : ℕ) (a b : List Event) → depthFrom d (a ++ b) ≡ dep
 depth-append d [] b = refl
 depth-append d (e ∷ a) b = depth-append (stepped d e) a b
 
-pub record Moved (es : List Event) (n : ℕ) : Type 0 where
+pub record Opening (es : List Event) (n : ℕ) : Type 0 where
   pub opens : opensIn es ≡ n
   pub depth : (d : ℕ) → depthFrom d es ≡ d + n
-  pub plain : Plain es
+  pub plain : NoTwelve es
 
-moved-append : (a b : List Event) (n m : ℕ) → Moved a n → Moved b m → Moved (a ++ b) (n + m)
-moved-append a b n m p q = record {
+opening-append : (a b : List Event) (n m : ℕ) → Opening a n → Opening b m → Opening (a ++ b) (n + m)
+opening-append a b n m p q = record {
   opens = omega (arith, opens-append a b, p .opens, q .opens);
   depth = λ d. depth-append d a b ∙ q .depth (depthFrom d a) ∙ omega (arith, p .depth d);
-  plain = plain-append a b (p .plain) (q .plain);
+  plain = no-twelve-append a b (p .plain) (q .plain);
 }
 
-pub moved-none : Moved [] 0
-moved-none = record { opens = refl; depth = λ d. omega arith; plain = tt }
+pub opening-none : Opening [] 0
+opening-none = record { opens = refl; depth = λ d. omega arith; plain = tt }
 
-pub moved-note : (x : ResAnomaly) → (noteOf x .kind ≡ 12 → ⊥) → Moved (Note x ∷ []) 0
-moved-note x h = record { opens = omega arith; depth = λ d. omega arith; plain = (h, tt) }
+pub opening-note : (x : ResAnomaly) → (noteOf x .kind ≡ 12 → ⊥) → Opening (Note x ∷ []) 0
+opening-note x h = record { opens = omega arith; depth = λ d. omega arith; plain = (h, tt) }
 
 -- behind a note that a test lets pass
-pub noted-moved : (b : Bool) (x : ResAnomaly) (es : List Event) (n : ℕ) → (noteOf x .kind ≡ 12 → ⊥) → Moved es n → Moved (when b (Note x) ++ es) n
-noted-moved true x es n p h = record { opens = omega (arith, h .opens); depth = λ d. h .depth d; plain = (p, h .plain) }
-noted-moved false x es n p h = h
+pub noted-opening : (b : Bool) (x : ResAnomaly) (es : List Event) (n : ℕ) → (noteOf x .kind ≡ 12 → ⊥) → Opening es n → Opening (when b (Note x) ++ es) n
+noted-opening true x es n p h = record { opens = omega (arith, h .opens); depth = λ d. h .depth d; plain = (p, h .plain) }
+noted-opening false x es n p h = h
 
 -- ---- a start
 
-attribute-moved : (N : Names) (a : XmlAttributeElement) (s : NameState) → Moved (attributeBy N a s ∷ []) 0
+attribute-opening : (N : Names) (a : XmlAttributeElement) (s : NameState) → Opening (attributeBy N a s ∷ []) 0
 unfolding noteOf
-attribute-moved N a NoText = record { opens = omega arith; depth = λ d. omega arith; plain = tt }
-attribute-moved N a Invalid = moved-note (InvalidAttributeName (a .name)) (λ e. omega arith)
-attribute-moved N a Valid = record { opens = omega arith; depth = λ d. omega arith; plain = tt }
+attribute-opening N a NoText = record { opens = omega arith; depth = λ d. omega arith; plain = tt }
+attribute-opening N a Invalid = opening-note (InvalidAttributeName (a .name)) (λ e. omega arith)
+attribute-opening N a Valid = record { opens = omega arith; depth = λ d. omega arith; plain = tt }
 
-attributes-moved : (N : Names) (n stride : ℕ) (l : List ℕ) → Moved (attributesOf N n stride l) 0
+attributes-opening : (N : Names) (n stride : ℕ) (l : List ℕ) → Opening (attributesOf N n stride l) 0
 unfolding attributesOf attributeEvent
-attributes-moved N zero stride l = moved-none
-attributes-moved N (suc n) stride l =
-    moved-append (attributeEvent N l ∷ []) (attributesOf N n stride (drop stride l)) 0 0
-    (attribute-moved N (attributeAt l) (N .state (attributeAt l .name .0)))
-    (attributes-moved N n stride (drop stride l))
+attributes-opening N zero stride l = opening-none
+attributes-opening N (suc n) stride l =
+    opening-append (attributeEvent N l ∷ []) (attributesOf N n stride (drop stride l)) 0 0
+    (attribute-opening N (attributeAt l) (N .state (attributeAt l .name .0)))
+    (attributes-opening N n stride (drop stride l))
 
-leading-moved : (b : Bool) → Moved (when b leading) 0
-leading-moved true = record { opens = omega arith; depth = λ d. omega arith; plain = tt }
-leading-moved false = moved-none
+leading-opening : (b : Bool) → Opening (when b leading) 0
+leading-opening true = record { opens = omega arith; depth = λ d. omega arith; plain = tt }
+leading-opening false = opening-none
 
 module _ (N : Names) (s : XmlStartElement) (k : ℕ) (l : List ℕ) where
-  lead-moved : Moved (fromLead N s k l) 0
+  lead-opening : Opening (fromLead N s k l) 0
   unfolding fromLead
-  lead-moved =
-      moved-append (when (eqb k 0) leading) (attributesOf N (s .«attribute_count») (strideOf s) (drop (attributesAt s) l)) 0 0 (leading-moved (eqb k 0))
-      (attributes-moved N (s .«attribute_count») (strideOf s) (drop (attributesAt s) l))
+  lead-opening =
+      opening-append (when (eqb k 0) leading) (attributesOf N (s .«attribute_count») (strideOf s) (drop (attributesAt s) l)) 0 0 (leading-opening (eqb k 0))
+      (attributes-opening N (s .«attribute_count») (strideOf s) (drop (attributesAt s) l))
 
-  open-moved : Moved (fromOpen N s k l) 1
+  open-opening : Opening (fromOpen N s k l) 1
   unfolding fromOpen
-  open-moved = record { opens = omega (arith, lead-moved .opens); depth = λ d. omega (arith, lead-moved .depth (d + 1)); plain = lead-moved .plain }
+  open-opening = record { opens = omega (arith, lead-opening .opens); depth = λ d. omega (arith, lead-opening .depth (d + 1)); plain = lead-opening .plain }
 
-  named-moved : Moved (fromNamed N s k l) 1
+  named-opening : Opening (fromNamed N s k l) 1
   unfolding fromNamed noteOf
-  named-moved =
-      noted-moved (not (isValid (N .state (s .name .0)))) (InvalidElementName (s .name) (hasOne (N .state (s .name .0)))) (fromOpen N s k l) 1
-      (λ e. omega arith) open-moved
+  named-opening =
+      noted-opening (not (isValid (N .state (s .name .0)))) (InvalidElementName (s .name) (hasOne (N .state (s .name .0)))) (fromOpen N s k l) 1
+      (λ e. omega arith) open-opening
 
-  name-moved : Moved (fromName N s k l) 1
+  name-opening : Opening (fromName N s k l) 1
   unfolding fromName noteOf
-  name-moved =
-      noted-moved (not (eqb (N .damage (s .name .0)) 0)) (DamagedElementName (s .name) (N .damage (s .name .0))) (fromNamed N s k l) 1 (λ e. omega arith) named-moved
+  name-opening =
+      noted-opening (not (eqb (N .damage (s .name .0)) 0)) (DamagedElementName (s .name) (N .damage (s .name .0))) (fromNamed N s k l) 1 (λ e. omega arith) named-opening
 
   -- behind the notes 6, 7 and 8
-  abbrev MovedStart : Bool → List Event → List Event → Type 0
-  MovedStart whole ds es = Moved ds (cond whole 1 0)
+  abbrev OpeningStart : Bool → List Event → List Event → Type 0
+  OpeningStart whole ds es = Opening ds (cond whole 1 0)
 
   note-plain : (n : StartNote) → NotTwelve (startNote s n)
   unfolding noteOf
@@ -122,22 +122,22 @@ module _ (N : Names) (s : XmlStartElement) (k : ℕ) (l : List ℕ) where
   note-plain sized = λ e. omega arith
   note-plain trailing = λ e. omega arith
 
-  behind : (whole b : Bool) (n : StartNote) (ds es : List Event) → MovedStart whole ds es
-      → MovedStart whole (when b (Note (startNote s n)) ++ ds) (when b (Note (startNote s n)) ++ es)
-  behind whole b n ds es h = noted-moved b (startNote s n) ds (cond whole 1 0) (note-plain n) h
+  behind : (whole b : Bool) (n : StartNote) (ds es : List Event) → OpeningStart whole ds es
+      → OpeningStart whole (when b (Note (startNote s n)) ++ ds) (when b (Note (startNote s n)) ++ es)
+  behind whole b n ds es h = noted-opening b (startNote s n) ds (cond whole 1 0) (note-plain n) h
 
-  cut-moved : Moved cutShort 0
+  cut-opening : Opening cutShort 0
   unfolding noteOf
-  cut-moved = moved-note TruncatedXml (λ e. omega arith)
+  cut-opening = opening-note TruncatedXml (λ e. omega arith)
 
-  pub start-moved : Moved (fromGap N s 3 k l) 1
-  start-moved = start-whole N N s k l MovedStart behind name-moved
+  pub start-opening : Opening (fromGap N s 3 k l) 1
+  start-opening = start-whole N N s k l OpeningStart behind name-opening
 
-  pub gap-cut-moved : Moved (fromGap N s 0 k l) 0
-  gap-cut-moved = cut-gap N N s k l MovedStart behind cut-moved
+  pub gap-cut-opening : Opening (fromGap N s 0 k l) 0
+  gap-cut-opening = cut-gap N N s k l OpeningStart behind cut-opening
 
-  pub attributes-cut-moved : Moved (fromGap N s 1 k l) 0
-  attributes-cut-moved = cut-attributes N N s k l MovedStart behind cut-moved
+  pub attributes-cut-opening : Opening (fromGap N s 1 k l) 0
+  attributes-cut-opening = cut-attributes N N s k l OpeningStart behind cut-opening
 
-  pub trailing-cut-moved : Moved (fromGap N s 2 k l) 0
-  trailing-cut-moved = cut-trailing N N s k l MovedStart behind cut-moved
+  pub trailing-cut-opening : Opening (fromGap N s 2 k l) 0
+  trailing-cut-opening = cut-trailing N N s k l OpeningStart behind cut-opening

@@ -70,14 +70,14 @@ parentAt w i = nodeWord w i nodeParent
 abbrev pub Nested : List ℕ → ℕ → Type 0
 Nested w n = (p j k : ℕ) → p < j → j < k → k < n → parentAt w j < p → parentAt w k ≡ p → ⊥
 
-record Nest (t : Tables) : Type 0 where
+record InTreeOrder (t : Tables) : Type 0 where
   n : ℕ
   nodes : length (t .nodes) ≡ nodeWidth * n
   stack : Falls n (t .stack)
   left : (p j : ℕ) → p < j → j < n → parentAt (t .nodes) j < p → Off p (t .stack)
   later : Nested (t .nodes) n
 
-nest-none : InTables Nest nothingYet
+nest-none : InTables InTreeOrder nothingYet
 nest-none = record {
   n = 0;
   nodes = refl;
@@ -87,7 +87,7 @@ nest-none = record {
 }
 
 -- a node opens
-module _ (t : Tables) (name fixed line : ℕ) (h : Nest t) where
+module _ (t : Tables) (name fixed line : ℕ) (h : InTreeOrder t) where
   abbrev node : List ℕ
   node = nodeWords name fixed (parentIn (t .stack)) (length (t .attributes) / attributeWidth) 0 line
 
@@ -116,7 +116,7 @@ module _ (t : Tables) (name fixed line : ℕ) (h : Nest t) where
       top b d e =
           off-parent p (h .n) (t .stack) (h .stack) (omega (arith, l, b)) (h .left p j l b (omega (arith, old j b, d))) (sym new ∙ e)
 
-nest-opened : (r : Room) (t : Tables) (name fixed line : ℕ) → length (t .nodes) + nodeWidth ≤ r .nodes → Nest t → Nest (opened t name fixed line)
+nest-opened : (r : Room) (t : Tables) (name fixed line : ℕ) → length (t .nodes) + nodeWidth ≤ r .nodes → InTreeOrder t → InTreeOrder (opened t name fixed line)
 nest-opened r t name fixed line room h =
     let dn : length (t .nodes) / nodeWidth ≡ h .n = omega (arith, h .nodes) in
     rw dn (record {
@@ -127,7 +127,7 @@ nest-opened r t name fixed line room h =
       later = opened-later t name fixed line h;
     })
 
-nest-closed : (t : Tables) → Nest t → Nest (closed t)
+nest-closed : (t : Tables) → InTreeOrder t → InTreeOrder (closed t)
 nest-closed t h = record {
   n = h .n;
   nodes = h .nodes;
@@ -136,12 +136,12 @@ nest-closed t h = record {
   later = h .later;
 }
 
-nest-noted : (r : Room) (t : Tables) (x : ResAnomaly) → length (t .notes) < r .notes → Nest t → Nest (noted t x)
+nest-noted : (r : Room) (t : Tables) (x : ResAnomaly) → length (t .notes) < r .notes → InTreeOrder t → InTreeOrder (noted t x)
 nest-noted r t x l h = record { n = h .n; nodes = h .nodes; stack = h .stack; left = h .left; later = h .later }
 
 -- the count of a node is written, and no parent
 nest-kept : (r : Room) (t : Tables) (p : ℕ) (a : XmlAttributeElement) → (length (t .nodes) ≡ 0 → ⊥)
-    → length (t .attributes) + attributeWidth ≤ r .attributes → Nest t → Nest (kept t p a)
+    → length (t .attributes) + attributeWidth ≤ r .attributes → InTreeOrder t → InTreeOrder (kept t p a)
 nest-kept r t p a some room h =
     let last = length (t .nodes) / nodeWidth - 1 in
     let count = (length (t .attributes) + attributeWidth - t .first) / attributeWidth in
@@ -155,8 +155,8 @@ nest-kept r t p a some room h =
       later = λ q j k l g m d e. h .later q j k l g m (omega (arith, same j, d)) (sym (same k) ∙ e);
     }
 
-settled-nest : (r : Room) (rule : Rule) (es : List Event) → InTables Nest (settle rule r nothingYet es)
-settled-nest r rule es = settle-keeps rule r Nest (nest-opened r) nest-closed (nest-kept r) (nest-noted r) nothingYet es nest-none
+settled-nest : (r : Room) (rule : Rule) (es : List Event) → InTables InTreeOrder (settle rule r nothingYet es)
+settled-nest r rule es = settle-keeps rule r InTreeOrder (nest-opened r) nest-closed (nest-kept r) (nest-noted r) nothingYet es nest-none
 
 -- ---- a reading
 
@@ -169,7 +169,7 @@ module _ (f : List ℕ) (lent : Lent) (ns ats : List ℕ) (os : List Note) (cap 
   nested =
       let t = d .tables in
       let h = done-shaped f lent ns ats os cap mode t (d .out) in
-      let g : Nest t = rw (d .out) at (settled-nest (room f lent ns ats os cap mode) (namesFor mode f lent .repeats) (eventsOf mode f lent)) in
+      let g : InTreeOrder t = rw (d .out) at (settled-nest (room f lent ns ats os cap mode) (namesFor mode f lent .repeats) (eventsOf mode f lent)) in
       let k = kept-in (room f lent ns ats os cap mode) t h in
       let same = tree.kept-same nodeWidth (t .nodes) ns′ _ (nodesKept t) (omega (arith, k .nodes, h .nodes))
       (reads .nodes ∙ ap (λ (x : Reading). x .nodes) (d .whole)) in

@@ -33,9 +33,9 @@ use Rattle.head.specs.declared.Opened.{Opened}
 use Rattle.head.specs.Head.{refusalOf}
 use Rattle.anomaly.specs.declared.ResAnomaly.the-variants.{UnclosedElements}
 use Rattle.events.specs.Events.{started, ended, bodyEvents, fileEvents}
-use Rattle.claims.proofs.Structure.StartDepth.{Plain, plain-append, opens-append, depth-append, Moved, moved-none, moved-note, NotTwelve}
+use Rattle.claims.proofs.Structure.StartDepth.{NoTwelve, no-twelve-append, opens-append, depth-append, Opening, opening-none, opening-note, NotTwelve}
 use Rattle.claims.proofs.Structure.Tables.{pos}
-use Rattle.claims.proofs.Structure.StartDepth.{start-moved, gap-cut-moved, attributes-cut-moved, trailing-cut-moved}
+use Rattle.claims.proofs.Structure.StartDepth.{start-opening, gap-cut-opening, attributes-cut-opening, trailing-cut-opening}
 use Rattle.claims.proofs.Events.EventCases.{body-by, HeadNote, garbage, count, offsets, headNote, file-by}
 
 -- ---- a turn
@@ -44,42 +44,42 @@ use Rattle.claims.proofs.Events.EventCases.{body-by, HeadNote, garbage,
 record Turned (es : List Event) (p q : Spot) : Type 0 where
   starts : q .starts ≡ p .starts + opensIn es
   depth : q .depth ≡ depthFrom (p .depth) es
-  plain : Plain es
+  plain : NoTwelve es
 
 -- a turn that opens n elements
-turned-by : (es : List Event) (n : ℕ) (p q : Spot) → Moved es n → q .starts ≡ p .starts + n → q .depth ≡ p .depth + n → Turned es p q
+turned-by : (es : List Event) (n : ℕ) (p q : Spot) → Opening es n → q .starts ≡ p .starts + n → q .depth ≡ p .depth + n → Turned es p q
 turned-by es n p q h s d = record { starts = omega (arith, h .opens); depth = omega (arith, h .depth (p .depth)); plain = h .plain }
 
-turned-still : (es : List Event) (p : Spot) (k : ℕ) → Moved es 0 → Turned es p (record { run = k; depth = p .depth; starts = p .starts })
+turned-still : (es : List Event) (p : Spot) (k : ℕ) → Opening es 0 → Turned es p (record { run = k; depth = p .depth; starts = p .starts })
 turned-still es p k h = turned-by es 0 p _ h (omega arith) (omega arith)
 
 closed-turned : (p : Spot) → Turned (Close ∷ []) p (ended p)
 closed-turned p = record { starts = omega arith; depth = refl; plain = tt }
 
-when-moved : (b : Bool) (x : ResAnomaly) → NotTwelve x → Moved (when b (Note x)) 0
-when-moved true x h = moved-note x h
-when-moved false x h = moved-none
+when-opening : (b : Bool) (x : ResAnomaly) → NotTwelve x → Opening (when b (Note x)) 0
+when-opening true x h = opening-note x h
+when-opening false x h = opening-none
 
 module _ (N : Names) (l : List ℕ) (p : Spot) where
-  short-moved : Moved (Note TruncatedXml ∷ []) 0
+  short-opening : Opening (Note TruncatedXml ∷ []) 0
   unfolding noteOf
-  short-moved = moved-note TruncatedXml (λ e. omega arith)
+  short-opening = opening-note TruncatedXml (λ e. omega arith)
 
   chunk-turned : (c : Chunk) → Turned (chunkYield N l p c) p (chunkNext p c)
   unfolding noteOf
-  chunk-turned (Start s) = turned-by _ 1 p (started p) (start-moved N s (p .starts) l) refl refl
+  chunk-turned (Start s) = turned-by _ 1 p (started p) (start-opening N s (p .starts) l) refl refl
   chunk-turned End = closed-turned p
-  chunk-turned (Other n) = turned-still [] p 2 moved-none
-  chunk-turned Last = turned-still _ p 2 (moved-note (UnknownChunk 0x17f) (λ e. omega arith))
+  chunk-turned (Other n) = turned-still [] p 2 opening-none
+  chunk-turned Last = turned-still _ p 2 (opening-note (UnknownChunk 0x17f) (λ e. omega arith))
 
   cut-turned : (c : CutChunk) → Turned (cutYield N l p c) p (cutNext p c)
-  cut-turned CutLine = turned-still _ p 2 short-moved
-  cut-turned CutHead = turned-still _ p 2 short-moved
-  cut-turned (CutGap s) = turned-still _ p 2 (gap-cut-moved N s (p .starts) l)
-  cut-turned (CutAttributes s) = turned-still _ p 2 (attributes-cut-moved N s (p .starts) l)
-  cut-turned (CutTrailing s) = turned-still _ p 2 (trailing-cut-moved N s (p .starts) l)
+  cut-turned CutLine = turned-still _ p 2 short-opening
+  cut-turned CutHead = turned-still _ p 2 short-opening
+  cut-turned (CutGap s) = turned-still _ p 2 (gap-cut-opening N s (p .starts) l)
+  cut-turned (CutAttributes s) = turned-still _ p 2 (attributes-cut-opening N s (p .starts) l)
+  cut-turned (CutTrailing s) = turned-still _ p 2 (trailing-cut-opening N s (p .starts) l)
   cut-turned CutEnd = closed-turned p
-  cut-turned CutOther = turned-still [] p 2 moved-none
+  cut-turned CutOther = turned-still [] p 2 opening-none
 
   foreign-plain : (k a : ℕ) → noteOf (foreignNote k a) .kind ≡ 12 → ⊥
   unfolding noteOf
@@ -87,7 +87,7 @@ module _ (N : Names) (l : List ℕ) (p : Spot) where
 
   turn-turned : (T : Turn) → Turned (yieldOf N l p T) p (nextOf p T)
   turn-turned Stop = record { starts = omega arith; depth = refl; plain = tt }
-  turn-turned (Foreign k a n) = turned-still _ p k (when-moved (not (eqb k (p .run))) (foreignNote k a) (foreign-plain k a))
+  turn-turned (Foreign k a n) = turned-still _ p k (when-opening (not (eqb k (p .run))) (foreignNote k a) (foreign-plain k a))
   turn-turned (Met c) = chunk-turned c
   turn-turned (Cut c) = cut-turned c
 
@@ -100,7 +100,7 @@ pub record Walked (p : Spot) (es : List Event) : Type 0 where
   pub split : es ≡ body ++ lastOf last
   pub starts : last .starts ≡ p .starts + opensIn body
   pub depth : last .depth ≡ depthFrom (p .depth) body
-  pub plain : Plain body
+  pub plain : NoTwelve body
 
 pub walked : (N : Names) (l : List ℕ) (p : Spot) → Walked p (eventsOn N l p)
 walked N =
@@ -116,7 +116,7 @@ walked N =
           split = ap (λ (x : List Event). a ++ x) (w .split) ∙ sym (append-assoc a (w .body) (lastOf (w .last)));
           starts = omega (arith, w .starts, t .starts, opens-append a (w .body));
           depth = w .depth ∙ ap (λ (d : ℕ). depthFrom d (w .body)) (t .depth) ∙ sym (depth-append (p .depth) a (w .body));
-          plain = plain-append a (w .body) (t .plain) (w .plain);
+          plain = no-twelve-append a (w .body) (t .plain) (w .plain);
         }
 
 -- ---- a file
@@ -128,7 +128,7 @@ pub record WalkedFile (es : List Event) : Type 0 where
   pub split : es ≡ body ++ when (not (eqb depth 0)) (Note (UnclosedElements depth))
   pub told : depth ≡ depthFrom 0 body
   pub some : 0 < opensIn body
-  pub plain : Plain body
+  pub plain : NoTwelve body
 
 -- or a refusal at their end
 pub data Ending (es : List Event) : Type 0 where
@@ -166,15 +166,15 @@ body-ends N b = go (eqb (w .last .starts) 0) refl
     })
 
 -- behind notes of the head
-behind-moved : (a es : List Event) → Moved a 0 → Ending es → Ending (a ++ es)
-behind-moved a es m (refusedAt b x e) = refusedAt (a ++ b) x (ap (λ (y : List Event). a ++ y) e ∙ sym (append-assoc a b (Refuse x ∷ [])))
-behind-moved a es m (walkedTo w) = walkedTo (record {
+behind-opening : (a es : List Event) → Opening a 0 → Ending es → Ending (a ++ es)
+behind-opening a es m (refusedAt b x e) = refusedAt (a ++ b) x (ap (λ (y : List Event). a ++ y) e ∙ sym (append-assoc a b (Refuse x ∷ [])))
+behind-opening a es m (walkedTo w) = walkedTo (record {
   body = a ++ w .body;
   depth = w .depth;
   split = ap (λ (y : List Event). a ++ y) (w .split) ∙ sym (append-assoc a (w .body) (when (not (eqb (w .depth) 0)) (Note (UnclosedElements (w .depth)))));
   told = w .told ∙ ap (λ (d : ℕ). depthFrom d (w .body)) (sym (m .depth 0)) ∙ sym (depth-append 0 a (w .body));
   some = omega (arith, opens-append a (w .body), w .some);
-  plain = plain-append a (w .body) (m .plain) (w .plain);
+  plain = no-twelve-append a (w .body) (m .plain) (w .plain);
 })
 
 head-plain : (o : Opened) (t : List ℕ) (n : HeadNote) → NotTwelve (headNote o t n)
@@ -186,5 +186,5 @@ head-plain o t offsets = λ e. omega arith
 pub file-ends : (N : Names) (o : Opened) (t b : List ℕ) → Ending (fileEvents N o t b)
 file-ends N o t b =
     file-by N N o t b (λ ds es. Ending ds)
-    (λ c n ds es h. behind-moved (when c (Note (headNote o t n))) ds (when-moved c (headNote o t n) (head-plain o t n)) h)
+    (λ c n ds es h. behind-opening (when c (Note (headNote o t n))) ds (when-opening c (headNote o t n) (head-plain o t n)) h)
     (λ e q. refusedAt [] (refusalOf e) refl) (λ q. body-ends N b)
