@@ -27,7 +27,7 @@ use Rattle.head.specs.Head.{tablesOf, openedOf, outsideIn}
 use Rattle.head.specs.Entry.{lengthCheck}
 use Rattle.records.specs.Words.{merged}
 use Rattle.xml_elements.specs.Chunk.{startOf, attributeAt, startTurn, xmlTurn, numberOf, turnOf}
-use Rattle.events.specs.Events.{attributeEvent, attributesOf, fromLead, fromOpen, fromNamed, fromName, fromTrailing, fromSize, fromGap, eventsOn, bodyEvents, fileEvents}
+use Rattle.events.specs.Events.{attributeEvent, attributesOf, eventsOn, bodyEvents, fileEvents, startEvents}
 use Rattle.records.specs.Repeats.{repeatsOne}
 use Rattle.walk.specs.Settle.{settle}
 use Rattle.walk.specs.Reading.{Reading, reading, zeroNote}
@@ -47,7 +47,7 @@ no-start : _≡_ {A = ℕ} (opensIn (eventsOf merged headS (lends [] []))) 0
 unfolding fileS headS startS endS settle u16le u32le headerOf isXml sortOf contentLen foreignLen walk walkFrom trace traceFrom
     countOf numbered endOf poolFrom behindGarbage poolOf offsetOf outsideOf split8 split16 idsIn idsBy mapOf idOf isAscii isGood namesFrom
     nameOf systemOf stringAt stringOf contentOf tablesOf openedOf outsideIn lengthCheck startOf attributeAt startTurn xmlTurn numberOf
-    turnOf attributeEvent attributesOf fromLead fromOpen fromNamed fromName fromTrailing fromSize fromGap eventsOn bodyEvents fileEvents repeatsOne
+    turnOf attributeEvent attributesOf startEvents eventsOn bodyEvents fileEvents repeatsOne
     kindIndex noteOf matched isWhole longest anyWhole spelt encode step8 stepsAfter bytesOf allSound textOf damageOf eqBytes inRanges isStart isChar
     nameSort allChar isNameOf validName
 no-start = refl
@@ -56,7 +56,7 @@ one-start : _≡_ {A = ℕ} (opensIn (eventsOf merged (headS ++ startS) (lends [
 unfolding fileS headS startS endS settle u16le u32le headerOf isXml sortOf contentLen foreignLen walk walkFrom trace traceFrom
     countOf numbered endOf poolFrom behindGarbage poolOf offsetOf outsideOf split8 split16 idsIn idsBy mapOf idOf isAscii isGood namesFrom
     nameOf systemOf stringAt stringOf contentOf tablesOf openedOf outsideIn lengthCheck startOf attributeAt startTurn xmlTurn numberOf
-    turnOf attributeEvent attributesOf fromLead fromOpen fromNamed fromName fromTrailing fromSize fromGap eventsOn bodyEvents fileEvents repeatsOne
+    turnOf attributeEvent attributesOf startEvents eventsOn bodyEvents fileEvents repeatsOne
     kindIndex noteOf matched isWhole longest anyWhole spelt encode step8 stepsAfter bytesOf allSound textOf damageOf eqBytes inRanges isStart isChar
     nameSort allChar isNameOf validName
 one-start = refl
@@ -65,7 +65,7 @@ pub ends-S : FirstStart (lends [] []) (headS ++ startS)
 unfolding fileS headS startS endS settle u16le u32le headerOf isXml sortOf contentLen foreignLen walk walkFrom trace traceFrom
     countOf numbered endOf poolFrom behindGarbage poolOf offsetOf outsideOf split8 split16 idsIn idsBy mapOf idOf isAscii isGood namesFrom
     nameOf systemOf stringAt stringOf contentOf tablesOf openedOf outsideIn lengthCheck startOf attributeAt startTurn xmlTurn numberOf
-    turnOf attributeEvent attributesOf fromLead fromOpen fromNamed fromName fromTrailing fromSize fromGap eventsOn bodyEvents fileEvents repeatsOne
+    turnOf attributeEvent attributesOf startEvents eventsOn bodyEvents fileEvents repeatsOne
     kindIndex noteOf matched isWhole longest anyWhole spelt encode step8 stepsAfter bytesOf allSound textOf damageOf eqBytes inRanges isStart isChar
     nameSort allChar isNameOf validName
 ends-S = record { before = headS; chunk = startS; start = startOf startS; split = refl; none = no-start; one = one-start; reads = refl; long = refl }

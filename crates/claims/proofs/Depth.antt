@@ -26,9 +26,10 @@ use Rattle.xml_elements.proofs.Laws.{cond-by}
 use Rattle.records.specs.Repeats.{Rule}
 use Rattle.events.specs.declared.Event.{Event}
 use Rattle.events.specs.declared.Event.the-variants.{Nothing, Open, Attribute, LeftOut, Close, Note, Refuse, Finish}
-use Rattle.events.specs.Events.{Names, Spot, when, isValid, hasOne, attributeBy, attributeEvent, attributesOf, leading, fromLead, fromOpen, fromNamed, fromName}
-use Rattle.events.specs.Events.{fromTrailing, fromSize, fromGap, cutShort, foreignNote, chunkYield, cutYield, yieldOf, chunkNext, cutNext, nextOf}
-use Rattle.events.specs.Events.{lastOf, used, next, eventsOn}
+use Rattle.events.specs.Events.{Names, Spot, when, isValid, hasOne, attributeBy, attributeEvent, attributesOf, leading}
+use Rattle.events.specs.Events.{cutShort, foreignNote, chunkYield, cutYield, yieldOf, chunkNext, cutNext, nextOf}
+use Rattle.events.specs.Events.{lastOf, used, next, eventsOn, startEvents}
+use Rattle.events.specs.Inner.Starts.{fromLead, fromOpen, fromNamed, fromName, fromTrailing, fromSize}
 use Rattle.events.proofs.Model.{eventsOn-stop, eventsOn-step}
 use Rattle.walk.specs.Settle.{Tables, closedIn, repeated}
 use Rattle.walk.specs.Reading.{secondOf}
@@ -132,8 +133,8 @@ module _ (N : Names) where
     unfolding fromSize
     deep-size = deep-made (sizeNote s) (fromTrailing N s 3 k l) d ∙ deep-trailing
 
-    deep-start : deep (fromGap N s 3 k l) d ≡ d + 1
-    unfolding fromGap
+    deep-start : deep (startEvents N s k l) d ≡ d + 1
+    unfolding startEvents fromSize fromTrailing fromName fromNamed fromOpen fromLead
     deep-start = deep-made (gapNote s) (fromSize N s 3 k l) d ∙ deep-size
 
   deep-chunk : (l : List ℕ) (p : Spot) (x : Chunk) → deep (chunkYield N l p x) (p .depth) ≡ chunkNext p x .depth
@@ -147,16 +148,13 @@ module _ (N : Names) where
   note-last ds es h z = h (nil-right (notesIn ds) (notesIn es) (sym (notesIn-append ds es) ∙ z))
 
   module _ (s : XmlStartElement) (k : ℕ) (l : List ℕ) where
-    cut-gap : notesIn (fromGap N s 0 k l) ≡ [] → ⊥
-    unfolding fromGap
+    cut-gap : notesIn (made (gapNote s) ++ cutShort) ≡ [] → ⊥
     cut-gap = note-last (made (gapNote s)) cutShort cons≢nil
 
-    cut-attributes : notesIn (fromGap N s 1 k l) ≡ [] → ⊥
-    unfolding fromGap fromSize
+    cut-attributes : notesIn (made (gapNote s) ++ (made (sizeNote s) ++ cutShort)) ≡ [] → ⊥
     cut-attributes = note-last (made (gapNote s)) (made (sizeNote s) ++ cutShort) (note-last (made (sizeNote s)) cutShort cons≢nil)
 
-    cut-trailing : notesIn (fromGap N s 2 k l) ≡ [] → ⊥
-    unfolding fromGap fromSize fromTrailing
+    cut-trailing : notesIn (made (gapNote s) ++ (made (sizeNote s) ++ (made (trailingNote s) ++ cutShort))) ≡ [] → ⊥
     cut-trailing =
         note-last (made (gapNote s)) (made (sizeNote s) ++ (made (trailingNote s) ++ cutShort))
         (note-last (made (sizeNote s)) (made (trailingNote s) ++ cutShort) (note-last (made (trailingNote s)) cutShort cons≢nil))

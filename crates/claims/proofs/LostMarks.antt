@@ -34,8 +34,9 @@ use Rattle.xml_elements.specs.Chunk.{strideOf, attributesAt, trailingOf, attrib
 use Rattle.xml_elements.proofs.Laws.{turnOf-told, usedOf-le}
 use Rattle.events.specs.declared.Event.{Event}
 use Rattle.events.specs.declared.Event.the-variants.{Nothing, Open, Attribute, LeftOut, Close, Note, Refuse, Finish}
-use Rattle.events.specs.Events.{Names, Spot, when, isValid, hasOne, leading, foreignNote, cutShort, attributeBy, attributesOf, attributeEvent, fromLead, fromOpen, fromNamed, fromName, fromTrailing}
-use Rattle.events.specs.Events.{fromSize, fromGap, chunkYield, cutYield, yieldOf, used, out, next, lastOf, eventsOn, bodyEvents, notesOf, afterPool, fileEvents}
+use Rattle.events.specs.Events.{Names, Spot, when, isValid, hasOne, leading, foreignNote, cutShort, attributeBy, attributesOf, attributeEvent}
+use Rattle.events.specs.Events.{chunkYield, cutYield, yieldOf, used, out, next, lastOf, eventsOn, bodyEvents, notesOf, afterPool, fileEvents, startEvents, gapNote, sizeNote, trailingNote}
+use Rattle.events.specs.Inner.Starts.{fromLead, fromOpen, fromNamed, fromName}
 use Rattle.claims.specs.Counts.{opensIn, openNames, openLines, stepped, depthFrom}
 use Rattle.claims.specs.Lost.{Mark, start, end, chunkMarks, cutMarks, turnMarks, marksOf, startNames, startLines}
 use Rattle.claims.proofs.Pushed.{AllStay, stay-right}
@@ -124,20 +125,17 @@ module _ (N : Names) (s : XmlStartElement) (k : ℕ) (l : List ℕ) where
   trailing-told es ms h = record { told = noted-marks (not (eqb (trailingOf s) 0)) (ElementTrailingBytes (trailingOf s)) es ∙ h .told }
 
   -- read whole it is one, cut it is none
-  start-told : Told (fromGap N s 3 k l) (start (s .name .0) (s .line) ∷ [])
-  unfolding fromGap fromSize fromTrailing
+  start-told : Told (startEvents N s k l) (start (s .name .0) (s .line) ∷ [])
+  unfolding startEvents fromName fromNamed fromOpen fromLead
   start-told = shift-told _ _ (size-told _ _ (trailing-told _ _ name-marks))
 
-  gap-cut-told : Told (fromGap N s 0 k l) []
-  unfolding fromGap
+  gap-cut-told : Told (gapNote s ++ cutShort) []
   gap-cut-told = shift-told _ _ cut-told
 
-  attributes-cut-told : Told (fromGap N s 1 k l) []
-  unfolding fromGap fromSize
+  attributes-cut-told : Told (gapNote s ++ (sizeNote s ++ cutShort)) []
   attributes-cut-told = shift-told _ _ (size-told _ _ cut-told)
 
-  trailing-cut-told : Told (fromGap N s 2 k l) []
-  unfolding fromGap fromSize fromTrailing
+  trailing-cut-told : Told (gapNote s ++ (sizeNote s ++ (trailingNote s ++ cutShort))) []
   trailing-cut-told = shift-told _ _ (size-told _ _ (trailing-told _ _ cut-told))
 
 -- ---- a turn

@@ -1,12 +1,12 @@
 -- The events of a file in the first mode are those in the second, with prefix 1 for 3 (`merged-events`). No contract cites this file.
 -- In order: one event (`mergeEvent`); a walk (`trace-map`); an attribute, a start, a chunk, a turn; the body and the file.
-use Prim.Native.Nat.{ℕ, zero, suc}
+use Prim.Native.Nat.{ℕ, zero, suc, _-_}
 use mathlib.Core.Path.{_≡_, refl, sym, _∙_, ap}
 use mathlib.Core.List.{List, [], _∷_, _++_, map}
 use mathlib.Core.Bool.{Bool, true, false, cond, not, _&&_}
 use lib.ListN.{length, drop}
 use lib.Dec.{eqb, ltb}
-use Rattle.chunk.specs.Walk.{turn, traceFrom, trace}
+use Rattle.chunk.specs.Walk.{traceFrom, trace}
 use Rattle.anomaly.specs.declared.ResAnomaly.{ResAnomaly}
 use Rattle.anomaly.specs.declared.ResAnomaly.the-variants.{AttributeStartShifted, AttributeSizeMismatch, ElementTrailingBytes, InvalidElementName, DamagedElementName, UnclosedElements}
 use Rattle.records.specs.Words.{merged, apart}
@@ -32,8 +32,9 @@ use Rattle.xml_elements.specs.Chunk.{strideOf, attributesAt, trailingOf, attrib
 use Rattle.events.specs.declared.Event.{Event}
 use Rattle.events.specs.declared.Event.the-variants.{Nothing, Open, Attribute, LeftOut, Close, Note, Refuse, Finish}
 use Rattle.events.specs.Events.{Names, prefixIn, namesIn, when, isValid, hasOne, fixedOf, leading, attributeBy, attributeEvent, attributesOf, cutShort}
-use Rattle.events.specs.Events.{fromLead, fromOpen, fromNamed, fromName, fromTrailing, fromSize, fromGap, Spot, chunkYield, cutYield, yieldOf, foreignNote}
-use Rattle.events.specs.Events.{lastOf, fromRoot, used, out, next, eventsOn, bodyEvents, notesOf, afterPool, fileEvents}
+use Rattle.events.specs.Events.{Spot, chunkYield, cutYield, yieldOf, foreignNote}
+use Rattle.events.specs.Events.{lastOf, fromRoot, used, out, next, eventsOn, bodyEvents, notesOf, afterPool, fileEvents, startEvents}
+use Rattle.events.specs.Inner.Starts.{fromLead, fromOpen, fromNamed, fromName, fromTrailing, fromSize, fromGap}
 use Rattle.claims.specs.Modes.{mergedPrefix}
 
 -- ---- one event
@@ -81,14 +82,10 @@ module _ {S : Type 0} (used′ : List ℕ → S → ℕ) (out₁ out₂ : List �
   traceFrom-map [] n s = merge-parts (out₂ [] s) (last s) (outs [] s) (lasts s)
   traceFrom-map (x ∷ l) (suc n) s = traceFrom-map l n s
   traceFrom-map (x ∷ l) zero s =
-      merge-parts (out₂ (x ∷ l) s) (turn (used′ (x ∷ l) s) (last s) (λ n. traceFrom used′ out₂ next′ last l n (next′ (x ∷ l) s))) (outs (x ∷ l) s) (go (used′ (x ∷ l) s) (λ n. traceFrom-map l n (next′ (x ∷ l) s)))
-    where
-      go : (u : ℕ)
-          → ((n : ℕ) → mergeAll (traceFrom used′ out₂ next′ last l n (next′ (x ∷ l) s)) ≡ traceFrom used′ out₁ next′ last l n (next′ (x ∷ l) s))
-          → mergeAll (turn u (last s) (λ n. traceFrom used′ out₂ next′ last l n (next′ (x ∷ l) s)))
-          ≡ turn u (last s) (λ n. traceFrom used′ out₁ next′ last l n (next′ (x ∷ l) s))
-      go zero ih = lasts s
-      go (suc n) ih = ih n
+      let u = used′ (x ∷ l) s in
+      let more = traceFrom used′ out₂ next′ last l (u - 1) (next′ (x ∷ l) s) in
+      merge-parts (out₂ (x ∷ l) s) (cond (eqb u 0) (last s) more) (outs (x ∷ l) s)
+      (merge-cond (eqb u 0) (last s) more (lasts s) (traceFrom-map l (u - 1) (next′ (x ∷ l) s)))
 
   trace-map : (l : List ℕ) (s : S) → mergeAll (trace used′ out₂ next′ last l s) ≡ trace used′ out₁ next′ last l s
   unfolding trace
@@ -173,12 +170,14 @@ module _ (h : Head) (t : List ℕ) (lent : Lent) where
 
   module _ (l : List ℕ) (p : Spot) where
     chunk-map : (c : Chunk) → mergeAll (chunkYield N₂ l p c) ≡ chunkYield N₁ l p c
+    unfolding startEvents fromGap fromSize fromTrailing fromName fromNamed fromOpen fromLead
     chunk-map (Start s) = gap-map s (p .starts) l 3
     chunk-map End = refl
     chunk-map (Other n) = refl
     chunk-map Last = refl
 
     cut-map : (c : CutChunk) → mergeAll (cutYield N₂ l p c) ≡ cutYield N₁ l p c
+    unfolding fromGap fromSize fromTrailing
     cut-map CutLine = refl
     cut-map CutHead = refl
     cut-map (CutGap s) = gap-map s (p .starts) l 0

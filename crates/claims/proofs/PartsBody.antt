@@ -31,9 +31,10 @@ use Rattle.xml_elements.proofs.Laws.{cond-by, usedOf-le, turnOf-told}
 use Rattle.chunk.proofs.Walk.{walk-ind, trace-stop, trace-step}
 use Rattle.events.specs.declared.Event.{Event}
 use Rattle.events.specs.declared.Event.the-variants.{Nothing, Open, Attribute, LeftOut, Close, Note, Refuse, Finish}
-use Rattle.events.specs.Events.{Names, isValid, hasOne, fixedOf, when, leading, attributeBy, attributeEvent, attributesOf, cutShort, fromLead, fromOpen, fromNamed, fromName, fromTrailing}
-use Rattle.events.specs.Events.{fromSize, fromGap, Spot, foreignNote, chunkYield, cutYield, yieldOf, fromRoot, lastOf, used, out, next}
-use Rattle.events.specs.Events.{eventsOn, bodyEvents, notesOf, afterPool, fileEvents}
+use Rattle.events.specs.Events.{Names, isValid, hasOne, fixedOf, when, leading, attributeBy, attributeEvent, attributesOf, cutShort}
+use Rattle.events.specs.Events.{Spot, foreignNote, chunkYield, cutYield, yieldOf, fromRoot, lastOf, used, out, next}
+use Rattle.events.specs.Events.{eventsOn, bodyEvents, notesOf, afterPool, fileEvents, startEvents}
+use Rattle.events.specs.Inner.Starts.{fromLead, fromOpen, fromNamed, fromName, fromTrailing, fromSize, fromGap}
 
 module _ (Q : Refusal → Type 0) where
   abbrev pub RefuseOf : Event → Type 0
@@ -126,12 +127,14 @@ module _ (Q : Refusal → Type 0) where
 
     module _ (l : List ℕ) (p : Spot) where
       chunk-refuse : (c : Chunk) → AllRefuse (chunkYield N l p c)
+      unfolding startEvents fromGap fromSize fromTrailing fromName fromNamed fromOpen fromLead
       chunk-refuse (Start s) = gap-refuse s (p .starts) l 3
       chunk-refuse End = (tt, tt)
       chunk-refuse (Other n) = tt
       chunk-refuse Last = (tt, tt)
 
       cut-refuse : (c : CutChunk) → AllRefuse (cutYield N l p c)
+      unfolding fromGap fromSize fromTrailing
       cut-refuse CutLine = (tt, tt)
       cut-refuse CutHead = (tt, tt)
       cut-refuse (CutGap s) = gap-refuse s (p .starts) l 0

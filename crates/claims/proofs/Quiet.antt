@@ -2,13 +2,13 @@
 -- (`file-quieted`). No contract cites this file.
 -- In order: lists taken apart by kind; the names without damage (`quiet`); events that have no part in it (`Still`); what is said of both lists
 -- (`Quieted`): a start, a turn, a walk, the file.
-use Prim.Native.Nat.{ℕ, zero, suc}
+use Prim.Native.Nat.{ℕ, zero, suc, _-_}
 use mathlib.Core.Path.{_≡_, refl, sym, _∙_, ap}
 use mathlib.Core.List.{List, [], _∷_, _++_, append-assoc}
 use mathlib.Core.Bool.{Bool, true, false, cond, not, _&&_}
 use lib.ListN.{length, drop}
 use lib.Dec.{eqb, ltb}
-use Rattle.chunk.specs.Walk.{turn, traceFrom, trace}
+use Rattle.chunk.specs.Walk.{traceFrom, trace}
 use Rattle.common.specs.declared.StringIndex.{StringIndex}
 use Rattle.anomaly.specs.Note.{kindIndex}
 use Rattle.anomaly.specs.Kept.{ofKind}
@@ -35,8 +35,9 @@ use Rattle.xml_elements.specs.Chunk.{strideOf, attributesAt, trailingOf, attrib
 use Rattle.events.specs.declared.Event.{Event}
 use Rattle.events.specs.declared.Event.the-variants.{Nothing, Open, Attribute, LeftOut, Close, Note, Refuse, Finish}
 use Rattle.events.specs.Events.{Names, when, isValid, hasOne, fixedOf, leading, attributeBy, attributeEvent, attributesOf, cutShort}
-use Rattle.events.specs.Events.{fromLead, fromOpen, fromNamed, fromName, fromTrailing, fromSize, fromGap, Spot, chunkYield, cutYield, yieldOf, foreignNote}
-use Rattle.events.specs.Events.{lastOf, fromRoot, used, out, next, eventsOn, bodyEvents, notesOf, afterPool, fileEvents}
+use Rattle.events.specs.Events.{Spot, chunkYield, cutYield, yieldOf, foreignNote}
+use Rattle.events.specs.Events.{lastOf, fromRoot, used, out, next, eventsOn, bodyEvents, notesOf, afterPool, fileEvents, startEvents}
+use Rattle.events.specs.Inner.Starts.{fromLead, fromOpen, fromNamed, fromName, fromTrailing, fromSize, fromGap}
 use Rattle.claims.specs.Counts.{noted, notesIn}
 use Rattle.claims.specs.Damaged.{damagePlace, besides}
 use Rattle.claims.proofs.Erased.{other, othersIn, othersIn-append, notesIn-append}
@@ -317,14 +318,14 @@ module _ (N : Names) where
 
   module _ (l : List ℕ) (p : Spot) where
     chunk-quieted : (c : Chunk) → Quieted (chunkYield N l p c) (chunkYield (quiet N) l p c)
-    unfolding kindIndex
+    unfolding kindIndex startEvents fromGap fromSize fromTrailing fromName fromNamed fromOpen fromLead
     chunk-quieted (Start s) = gap-quieted s (p .starts) l 3
     chunk-quieted End = close-quieted
     chunk-quieted (Other n) = nothing-quieted
     chunk-quieted Last = still-quieted _ (still-note (UnknownChunk 0x17f) refl)
 
     cut-quieted : (c : CutChunk) → Quieted (cutYield N l p c) (cutYield (quiet N) l p c)
-    unfolding kindIndex
+    unfolding kindIndex fromGap fromSize fromTrailing
     cut-quieted CutLine = still-quieted cutShort (still-note TruncatedXml refl)
     cut-quieted CutHead = still-quieted cutShort (still-note TruncatedXml refl)
     cut-quieted (CutGap s) = gap-quieted s (p .starts) l 0
@@ -359,14 +360,10 @@ module _ (N : Names) where
     traceFrom-quieted [] n s = quieted-append (out₁ [] s) (out₂ [] s) (last s) (last s) (outs [] s) (lasts s)
     traceFrom-quieted (x ∷ l) (suc n) s = traceFrom-quieted l n s
     traceFrom-quieted (x ∷ l) zero s =
-        quieted-append (out₁ (x ∷ l) s) (out₂ (x ∷ l) s) _ _ (outs (x ∷ l) s) (go (used′ (x ∷ l) s) (λ n. traceFrom-quieted l n (next′ (x ∷ l) s)))
-      where
-        go : (u : ℕ)
-            → ((n : ℕ) → Quieted (traceFrom used′ out₁ next′ last l n (next′ (x ∷ l) s)) (traceFrom used′ out₂ next′ last l n (next′ (x ∷ l) s)))
-            → Quieted (turn u (last s) (λ n. traceFrom used′ out₁ next′ last l n (next′ (x ∷ l) s)))
-            (turn u (last s) (λ n. traceFrom used′ out₂ next′ last l n (next′ (x ∷ l) s)))
-        go zero ih = lasts s
-        go (suc n) ih = ih n
+        let u = used′ (x ∷ l) s in
+        quieted-append (out₁ (x ∷ l) s) (out₂ (x ∷ l) s) _ _ (outs (x ∷ l) s)
+        (quieted-cond (eqb u 0) (last s) (last s) (traceFrom used′ out₁ next′ last l (u - 1) (next′ (x ∷ l) s))
+        (traceFrom used′ out₂ next′ last l (u - 1) (next′ (x ∷ l) s)) (lasts s) (traceFrom-quieted l (u - 1) (next′ (x ∷ l) s)))
 
     trace-quieted : (l : List ℕ) (s : S) → Quieted (trace used′ out₁ next′ last l s) (trace used′ out₂ next′ last l s)
     unfolding trace

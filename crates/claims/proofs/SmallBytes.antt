@@ -58,9 +58,10 @@ use Rattle.xml_elements.specs.Chunk.{startOf, strideOf, attributesAt, attribute
 use Rattle.xml_elements.proofs.Laws.{cond-by, usedOf-le, turnOf-told}
 use Rattle.events.specs.declared.Event.{Event}
 use Rattle.events.specs.declared.Event.the-variants.{Nothing, Open, Attribute, LeftOut, Close, Note, Refuse, Finish}
-use Rattle.events.specs.Events.{Names, isValid, hasOne, fixedOf, when, leading, attributeBy, attributeEvent, attributesOf, cutShort, fromLead, fromOpen, fromNamed, fromName, fromTrailing}
-use Rattle.events.specs.Events.{fromSize, fromGap, Spot, foreignNote, chunkYield, cutYield, yieldOf, nextOf, chunkNext, cutNext, fromRoot, lastOf, used, out, next}
-use Rattle.events.specs.Events.{eventsOn, bodyEvents, notesOf, afterPool, fileEvents}
+use Rattle.events.specs.Events.{Names, isValid, hasOne, fixedOf, when, leading, attributeBy, attributeEvent, attributesOf, cutShort}
+use Rattle.events.specs.Events.{Spot, foreignNote, chunkYield, cutYield, yieldOf, nextOf, chunkNext, cutNext, fromRoot, lastOf, used, out, next}
+use Rattle.events.specs.Events.{eventsOn, bodyEvents, notesOf, afterPool, fileEvents, startEvents}
+use Rattle.events.specs.Inner.Starts.{fromLead, fromOpen, fromNamed, fromName, fromTrailing, fromSize, fromGap}
 use Rattle.claims.specs.Readers.{allBelow}
 
 abbrev pub Fits : ℕ → Type 0
@@ -367,12 +368,14 @@ last-small p d =
 module _ (N : Names) (prefixes : (i : ℕ) → Fits (N .prefixOf i)) (states : (i : ℕ) → Fits (N .damage i)) where
   module _ (l : List ℕ) (h : InBytes l) (p : Spot) where
     chunk-events : (c : Chunk) → SmallChunk c → Small (chunkYield N l p c)
+    unfolding startEvents fromGap fromSize fromTrailing fromName fromNamed fromOpen fromLead
     chunk-events (Start s) w = gap-small N prefixes states s w (p .starts) l h 3
     chunk-events End w = (tt, tt)
     chunk-events (Other n) w = tt
     chunk-events Last w = (last-note, tt)
 
     cut-events : (c : CutChunk) → SmallCut c → Small (cutYield N l p c)
+    unfolding fromGap fromSize fromTrailing
     cut-events CutLine w = cut-small
     cut-events CutHead w = cut-small
     cut-events (CutGap s) w = gap-small N prefixes states s w (p .starts) l h 0

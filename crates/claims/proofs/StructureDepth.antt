@@ -20,8 +20,8 @@ use Rattle.xml_elements.specs.declared.XmlAttributeElement.{XmlAttributeElement
 use Rattle.xml_elements.specs.Chunk.{strideOf, attributesAt, trailingOf, attributeAt}
 use Rattle.events.specs.declared.Event.{Event}
 use Rattle.events.specs.declared.Event.the-variants.{Nothing, Open, Attribute, LeftOut, Close, Note, Refuse, Finish}
-use Rattle.events.specs.Events.{Names, when, isValid, hasOne, leading, attributeBy, attributesOf, attributeEvent, fromLead, fromOpen, fromNamed, fromName}
-use Rattle.events.specs.Events.{fromTrailing, fromSize, fromGap}
+use Rattle.events.specs.Events.{Names, when, isValid, hasOne, leading, attributeBy, attributesOf, attributeEvent, startEvents, gapNote, sizeNote, trailingNote, cutShort}
+use Rattle.events.specs.Inner.Starts.{fromLead, fromOpen, fromNamed, fromName}
 use Rattle.claims.specs.Counts.{opensIn, stepped, depthFrom, notesIn}
 use Rattle.claims.proofs.Erased.{notesIn-append}
 use Rattle.claims.proofs.Noted.{All, all-append}
@@ -133,18 +133,15 @@ module _ (N : Names) (s : XmlStartElement) (k : ℕ) (l : List ℕ) where
   unfolding noteOf
   cut-moved = moved-note TruncatedXml (λ e. omega arith)
 
-  pub start-moved : Moved (fromGap N s 3 k l) 1
-  unfolding fromGap fromSize fromTrailing
+  pub start-moved : Moved (startEvents N s k l) 1
+  unfolding startEvents fromName fromNamed fromOpen fromLead
   start-moved = shift-moved _ _ (size-moved _ _ (trailing-moved _ _ name-moved))
 
-  pub gap-cut-moved : Moved (fromGap N s 0 k l) 0
-  unfolding fromGap
+  pub gap-cut-moved : Moved (gapNote s ++ cutShort) 0
   gap-cut-moved = shift-moved _ _ cut-moved
 
-  pub attributes-cut-moved : Moved (fromGap N s 1 k l) 0
-  unfolding fromGap fromSize
+  pub attributes-cut-moved : Moved (gapNote s ++ (sizeNote s ++ cutShort)) 0
   attributes-cut-moved = shift-moved _ _ (size-moved _ _ cut-moved)
 
-  pub trailing-cut-moved : Moved (fromGap N s 2 k l) 0
-  unfolding fromGap fromSize fromTrailing
+  pub trailing-cut-moved : Moved (gapNote s ++ (sizeNote s ++ (trailingNote s ++ cutShort))) 0
   trailing-cut-moved = shift-moved _ _ (size-moved _ _ (trailing-moved _ _ cut-moved))

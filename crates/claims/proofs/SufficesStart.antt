@@ -20,8 +20,8 @@ use Rattle.xml_elements.specs.declared.XmlAttributeElement.{XmlAttributeElement
 use Rattle.xml_elements.specs.Chunk.{trailingOf, strideOf, attributesAt, attributeAt}
 use Rattle.events.specs.declared.Event.{Event}
 use Rattle.events.specs.declared.Event.the-variants.{Nothing, Open, Attribute, LeftOut, Close, Note, Refuse, Finish}
-use Rattle.events.specs.Events.{Names, isValid, hasOne, when, leading, attributeBy, attributeEvent, attributesOf, fromLead, fromOpen, fromNamed, fromName, fromTrailing}
-use Rattle.events.specs.Events.{fromSize, fromGap}
+use Rattle.events.specs.Events.{Names, isValid, hasOne, when, leading, attributeBy, attributeEvent, attributesOf, startEvents, gapNote, sizeNote, trailingNote, cutShort}
+use Rattle.events.specs.Inner.Starts.{fromLead, fromOpen, fromNamed, fromName}
 use Rattle.errors.specs.Refusal.{numberOf}
 use Rattle.listing_back.specs.Back.{isListed}
 use Rattle.claims.specs.Room.{isFull}
@@ -135,19 +135,16 @@ module _ (N : Names) (s : XmlStartElement) (k : ℕ) (l : List ℕ) where
       → Few (when (not (eqb (trailingOf s) 0)) (Note (ElementTrailingBytes (trailingOf s))) ++ es) n m
   behind-trailing es n m h = few-noted (not (eqb (trailingOf s) 0)) (ElementTrailingBytes (trailingOf s)) es n m h
 
-  pub few-start : Few (fromGap N s 3 k l) 1 (1 + s .«attribute_count»)
-  unfolding fromGap fromSize fromTrailing
+  pub few-start : Few (startEvents N s k l) 1 (1 + s .«attribute_count»)
+  unfolding startEvents fromName fromNamed fromOpen fromLead
   few-start = behind-shift _ _ _ (behind-size _ _ _ (behind-trailing _ _ _ few-name))
 
   -- one that is cut makes notes alone
-  pub few-gap-cut : Few (fromGap N s 0 k l) 0 0
-  unfolding fromGap
+  pub few-gap-cut : Few (gapNote s ++ cutShort) 0 0
   few-gap-cut = behind-shift _ _ _ (few-note TruncatedXml)
 
-  pub few-attributes-cut : Few (fromGap N s 1 k l) 0 0
-  unfolding fromGap fromSize
+  pub few-attributes-cut : Few (gapNote s ++ (sizeNote s ++ cutShort)) 0 0
   few-attributes-cut = behind-shift _ _ _ (behind-size _ _ _ (few-note TruncatedXml))
 
-  pub few-trailing-cut : Few (fromGap N s 2 k l) 0 0
-  unfolding fromGap fromSize fromTrailing
+  pub few-trailing-cut : Few (gapNote s ++ (sizeNote s ++ (trailingNote s ++ cutShort))) 0 0
   few-trailing-cut = behind-shift _ _ _ (behind-size _ _ _ (behind-trailing _ _ _ (few-note TruncatedXml)))
