@@ -1,11 +1,15 @@
 -- Laws of specs/Walk.antt, for every walk. No contract cites this file.
 -- In order: the two equations of `walk`, its own induction (`walk-ind`), the two equations of `trace`.
-use Prim.Native.Nat.{ℕ, zero, suc, _≤_}
+use Prim.Native.Nat.{ℕ, zero, suc, _-_, _≤_}
 use native.Mathlib.Omega.{arith}
 use mathlib.Core.Path.{_≡_, refl, ap}
 use mathlib.Core.List.{List, [], _∷_, _++_}
+use borrow.Author.Tests.{ne-eqb}
 use lib.ListN.{length, drop}
 use Rattle.chunk.specs.Walk.{walkFrom, walk, traceFrom, trace}
+
+one-fewer : (m : ℕ) → suc m - 1 ≡ m
+one-fewer m = omega arith
 
 module _ {S : Type 0} (used : List ℕ → S → ℕ) (next : List ℕ → S → S) where
   -- first to pass n bytes is to walk down the rest
@@ -27,7 +31,7 @@ module _ {S : Type 0} (used : List ℕ → S → ℕ) (next : List ℕ → S →
       → walk used next l s ≡ walk used next (drop (suc m) l) (next l s)
   unfolding walkFrom walk
   walk-step [] s m e h = absurd (omega arith)
-  walk-step (x ∷ l) s m e h = rw e (walkFrom-drop l m (next (x ∷ l) s))
+  walk-step (x ∷ l) s m e h = rw (e, ne-eqb (suc m) 0 (λ z. omega arith), one-fewer m) (walkFrom-drop l m (next (x ∷ l) s))
 
   module _ (fits : (l : List ℕ) (s : S) → used l s ≤ length l) where
     -- what holds where it stops, and holds at a place if it does at the next, holds everywhere
@@ -65,4 +69,5 @@ module _ {S D : Type 0} (used : List ℕ → S → ℕ) (out : List ℕ → S �
       → trace used out next last l s ≡ out l s ++ trace used out next last (drop (suc m) l) (next l s)
   unfolding traceFrom trace
   trace-step [] s m e h = absurd (omega arith)
-  trace-step (x ∷ l) s m e h = rw e (ap (λ (r : List D). out (x ∷ l) s ++ r) (traceFrom-drop l m (next (x ∷ l) s)))
+  trace-step (x ∷ l) s m e h =
+      rw (e, ne-eqb (suc m) 0 (λ z. omega arith), one-fewer m) (ap (λ (r : List D). out (x ∷ l) s ++ r) (traceFrom-drop l m (next (x ∷ l) s)))

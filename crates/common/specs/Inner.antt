@@ -1,3 +1,2 @@
 -- How the code goes: no public promise and no claim reaches these definitions, so they need not be believed.
 pub mod HeaderType
-pub mod Value

@@ -13,11 +13,9 @@ use field::u32_at;
 
 pub mod value;
 
-pub use value::ResourceValue;
 pub use value::ResourceValueType;
 pub use value::complex_to_float;
 pub use value::is_reference;
-pub use value::value_at;
 pub use value::value_type_number;
 pub use value::value_type_of;
 
@@ -145,11 +143,4 @@ pub fn header_type_number(t: ResourceHeaderType) -> u32
         ResourceHeaderType::TableStagedAlias => 0x0206,
         ResourceHeaderType::Unknown(n) => n,
     }
-}
-
-// The type of a chunk with this header. Ruled out: the type of the number in `header_size`, and Unknown where the size is below 8.
-pub fn header_type(h: ResChunkHeader) -> ResourceHeaderType
-    ensures { λ r. ⌜ r ≡ headerTypeOf (h .kind) ⌝ }
-{
-    header_type_of(h.kind)
 }

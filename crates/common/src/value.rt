@@ -1,17 +1,11 @@
-// The value of an attribute: its type, its 8 bytes, and the number that a dimension or a fraction holds.
+// The value of an attribute: its type, and the number that a dimension or a fraction holds.
 //
-// Mirrors structs/common.rs (apk-info 13770539b8): `ResourceValueType`, `ResourceValue`, `complex_to_float`.
-// Definitions: specs/ValueType.antt, specs/Inner/Value.antt, specs/Complex.antt.
+// Mirrors structs/common.rs (apk-info 13770539b8): `ResourceValueType`, `complex_to_float`.
+// Definitions: specs/ValueType.antt, specs/Complex.antt.
 // Differs from the Rust: a type's number may be over 255, since a lent table holds it as a u32; the text of a value is not made.
 ghost use mathlib.Core.Path.{_≡_};
-ghost use Prim.Native.Nat.{_+_, _≤_};
-ghost use lib.ListN.{length, drop};
 ghost use Rattle.common.specs.ValueType.{valueTypeOf, valueTypeNumber, isReference};
-ghost use Rattle.common.specs.Inner.Value.{valueOf};
 ghost use Rattle.common.specs.Complex.{Complex};
-use field::u8_at;
-use field::u16_at;
-use field::u32_at;
 
 // What a value is, by its type. `Unknown` keeps a number that has no name, also one over 255.
 pub enum ResourceValueType {
@@ -94,28 +88,6 @@ pub fn is_reference(t: ResourceValueType) -> bool
         return true;
     }
     n == 7
-}
-
-// The value of an attribute: its own size and a zero, which nothing looks at, what it is, and 4 bytes that the type explains.
-pub struct ResourceValue {
-    pub size: u32,
-    pub res: u32,
-    pub data_type: ResourceValueType,
-    pub data: u32,
-}
-
-// The value in the 8 bytes from `at` on.
-// Ruled out: the type from the byte at 2, and data from the 4 bytes that begin at 3.
-pub fn value_at(s: &[u8], at: usize) -> ResourceValue
-    requires { ⌜ at + 8 ≤ length (now s) ⌝ }
-    ensures { λ r. ⌜ r ≡ valueOf (drop at (now (s .entry))) ⌝ }
-{
-    ResourceValue {
-        size: u16_at(s, at),
-        res: u8_at(s, at + 2),
-        data_type: value_type_of(u8_at(s, at + 3)),
-        data: u32_at(s, at + 4),
-    }
 }
 
 // What one unit of a complex value's whole number is worth, by the radix: near 2 ^ -8, 2 ^ -15, 2 ^ -23 and 2 ^ -31.

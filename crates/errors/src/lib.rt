@@ -6,7 +6,7 @@
 // of a question without an answer. Definitions: specs/Refusal.antt.
 ghost use mathlib.Core.Path.{_≡_};
 ghost use mathlib.Core.Bool.{cond};
-ghost use Rattle.errors.specs.Refusal.{numberOf, valueOf, numbersOf, stateOf, replacedOf, textNumbersOf, linesNumbersOf};
+ghost use Rattle.errors.specs.Refusal.{numberOf, valueOf, numbersOf, stateOf, replacedOf, textNumbersOf};
 ghost use Rattle.errors.specs.Refusal.{firstNumbersOf, valueNumbersOf, manyNumbersOf, pairNumbersOf};
 
 // One case for each number of a refusal.
@@ -296,24 +296,6 @@ pub fn text_numbers(a: TextAnswer) -> TextNumbers
             length: 0,
             state: 0,
             replaced: 0,
-        },
-    }
-}
-
-// The numbers of what was printed. Ruled out: the bytes needed as the length of a refused answer, and the length as the value.
-pub fn lines_numbers(a: LinesAnswer) -> LinesNumbers
-    ensures { λ r. ⌜ r ≡ linesNumbersOf a ⌝ }
-{
-    match a {
-        LinesAnswer::Text(n) => LinesNumbers {
-            refusal: 0,
-            value: 0,
-            length: n as u64,
-        },
-        LinesAnswer::Refused(e) => LinesNumbers {
-            refusal: refusal_number(e),
-            value: refusal_value(e),
-            length: 0,
         },
     }
 }

@@ -24,9 +24,10 @@ use Rattle.events.specs.declared.Phase.{Phase}
 use Rattle.events.specs.declared.Phase.the-variants.{AtChunk, AtGap, AtName, AtShort, AtLast}
 use Rattle.events.specs.declared.Cursor.{Cursor}
 use Rattle.events.specs.Events.{Names, foreignNote, chunkYield, cutYield, chunkNext, cutNext, lastOf, eventsOn}
+use Rattle.events.specs.Inner.Starts.{fromGap, fromSize, fromTrailing}
 use Rattle.events.specs.Inner.Steps.{begunBy, passedTo, closedTo, isPlain, chunkStep, cutStep, foreignStep, turnStep}
 use Rattle.events.specs.Inner.Pending.{Within, spotOf, behind, pending}
-use Rattle.events.proofs.Model.{eventsOn-stop, eventsOn-turn, eventsOn-end, fromGap-plain, the-unless, goes, goes-unless}
+use Rattle.events.proofs.Model.{eventsOn-stop, eventsOn-turn, eventsOn-end, startEvents-chain, fromGap-plain, the-unless, goes, goes-unless}
 use Rattle.events.proofs.Runs.{Passed, run-passed}
 use Rattle.events.proofs.Here.{Here, SteppedBy, made, stays}
 
@@ -87,9 +88,12 @@ module _ (N : Names) (o : Opened) (t b : List ℕ) (c : Cursor) where
 
       go : (x : Bool) → isPlain s ≡ x → SteppedBy N o t b c AtChunk (record { event = Nothing; cur = begunBy c s 3 (cond x AtName AtGap) })
       go true p =
-          made N o t b c AtChunk _ (goes refl) (met-on (Start s) e (w .inside) ∙ rw (fromGap-plain N s (c .starts) (drop (c .at) b) p)) (named s w f)
+          made N o t b c AtChunk _ (goes refl) (met-on (Start s) e (w .inside) ∙ rw (startEvents-chain N s (c .starts) (drop (c .at) b), fromGap-plain N s (c .starts) (drop (c .at) b) p))
+          (named s w f)
           (omega arith)
-      go false p = made N o t b c AtChunk _ (goes refl) (met-on (Start s) e (w .inside)) (begun s 3 w (omega (arith, f)) (λ _. f)) (omega arith)
+      go false p =
+          made N o t b c AtChunk _ (goes refl) (met-on (Start s) e (w .inside) ∙ rw (startEvents-chain N s (c .starts) (drop (c .at) b)))
+          (begun s 3 w (omega (arith, f)) (λ _. f)) (omega arith)
 
   met-step : (x : Chunk) → turnOf (drop (c .at) b) ≡ Met x → Here o b c AtChunk → SteppedBy N o t b c AtChunk (chunkStep c x)
   unfolding pending
@@ -105,7 +109,7 @@ module _ (N : Names) (o : Opened) (t b : List ℕ) (c : Cursor) where
       made N o t b c AtChunk _ (goes refl) (met-on Last e (w .inside)) (moved (c .at + 16) 2 w (omega arith) (f .1)) (omega (arith, f .1))
 
   cut-step : (x : CutChunk) → turnOf (drop (c .at) b) ≡ Cut x → Here o b c AtChunk → SteppedBy N o t b c AtChunk (cutStep (length b) c x)
-  unfolding pending
+  unfolding pending fromGap fromSize fromTrailing
   cut-step CutLine e w = made N o t b c AtChunk _ (goes refl) (cut-end CutLine e (w .inside)) (stays N o t b c AtChunk AtShort w tt) (omega arith)
   cut-step CutHead e w = made N o t b c AtChunk _ (goes refl) (cut-end CutHead e (w .inside)) (stays N o t b c AtChunk AtShort w tt) (omega arith)
   cut-step (CutGap s) e w =

@@ -11,8 +11,9 @@ use Rattle.xml_elements.specs.declared.Chunk.{Chunk}
 use Rattle.xml_elements.specs.declared.Chunk.the-variants.{Start, End, Other, Last}
 use Rattle.xml_elements.specs.Chunk.{strideOf, attributesAt, startLen, lenOf}
 use Rattle.xml_elements.proofs.Local.{attributeAt-append}
-use Rattle.events.specs.Events.{Names, attributeEvent, attributesOf, fromLead, fromOpen, fromNamed, fromName, fromTrailing, fromSize, fromGap}
-use Rattle.events.specs.Events.{Spot, chunkYield}
+use Rattle.events.specs.Events.{Names, attributeEvent, attributesOf}
+use Rattle.events.specs.Events.{Spot, startEvents, chunkYield}
+use Rattle.events.specs.Inner.Starts.{fromLead, fromOpen, fromNamed, fromName, fromTrailing, fromSize, fromGap}
 
 module _ (N : Names) where
   attributeEvent-append : (c m : List ℕ) → 20 ≤ length c → attributeEvent N (c ++ m) ≡ attributeEvent N c
@@ -42,6 +43,7 @@ module _ (N : Names) where
 
   -- THE LAW: a whole XML chunk within c makes the same whatever follows c
   pub chunkYield-append : (c m m′ : List ℕ) (p : Spot) (x : Chunk) → lenOf x ≤ length c → chunkYield N (c ++ m′) p x ≡ chunkYield N (c ++ m) p x
+  unfolding startEvents fromGap fromSize fromTrailing fromName fromNamed fromOpen fromLead
   chunkYield-append c m m′ p (Start s) h = fromGap-append s 3 (p .starts) c m′ h ∙ sym (fromGap-append s 3 (p .starts) c m h)
   chunkYield-append c m m′ p End h = refl
   chunkYield-append c m m′ p (Other n) h = refl

@@ -23,8 +23,9 @@ use Rattle.xml_elements.specs.Chunk.{trailingOf, attributeAt, turnOf, usedOf}
 use Rattle.xml_elements.proofs.Laws.{turnOf-stop, told, usedOf-le}
 use Rattle.events.specs.declared.Event.{Event}
 use Rattle.events.specs.declared.Event.the-variants.{Nothing, Open, Attribute, LeftOut, Close, Note, Refuse, Finish}
-use Rattle.events.specs.Events.{Names, when, attributeBy, attributeEvent, attributesOf, fromName, fromTrailing, fromSize, fromGap}
+use Rattle.events.specs.Events.{Names, when, attributeBy, attributeEvent, attributesOf, startEvents}
 use Rattle.events.specs.Events.{Spot, yieldOf, nextOf, lastOf, used, out, next, eventsOn}
+use Rattle.events.specs.Inner.Starts.{fromLead, fromOpen, fromNamed, fromName, fromTrailing, fromSize, fromGap}
 use Rattle.events.specs.Inner.Steps.{isPlain, noteIf}
 use Rattle.events.specs.Inner.Pending.{the}
 
@@ -62,7 +63,12 @@ module _ (N : Names) where
   attributesOf-step zero stride l h = absurd (omega arith)
   attributesOf-step (suc m) stride l h = let e : suc m - 1 ≡ m = omega arith in rw e
 
-  -- ---- a plain start
+  -- ---- a start
+
+  -- a whole start makes what the code makes step by step; of one that is cut this is so by `unfolding fromGap fromSize fromTrailing` alone
+  pub startEvents-chain : (s : XmlStartElement) (k : ℕ) (l : List ℕ) → startEvents N s k l ≡ fromGap N s 3 k l
+  unfolding startEvents fromGap fromSize fromTrailing fromName fromNamed fromOpen fromLead
+  startEvents-chain s k l = refl
 
   pub fromGap-plain : (s : XmlStartElement) (k : ℕ) (l : List ℕ) → isPlain s ≡ true → fromGap N s 3 k l ≡ fromName N s k l
   unfolding fromGap fromSize fromTrailing

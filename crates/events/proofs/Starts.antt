@@ -22,7 +22,7 @@ use Rattle.events.specs.declared.Phase.{Phase}
 use Rattle.events.specs.declared.Phase.the-variants.{AtGap, AtSize, AtTrailing, AtShort, AtName, AtNamed, AtOpen, AtLead, AtAttribute}
 use Rattle.events.specs.declared.Cursor.{Cursor}
 use Rattle.events.specs.Events.{Names, when, leading, attributeEvent, attributesOf, started, eventsOn}
-use Rattle.events.specs.Events.{fromGap, fromSize, fromTrailing, fromName, fromNamed, fromOpen, fromLead}
+use Rattle.events.specs.Inner.Starts.{fromGap, fromSize, fromTrailing, fromName, fromNamed, fromOpen, fromLead}
 use Rattle.events.specs.Inner.Steps.{toPhase, leftNext, behindOf, openedBy, movedBy, afterOpen}
 use Rattle.events.specs.Inner.Steps.{toStep, noteIf, gapStep, sizeStep, trailingStep, openStep, namedStep, nameStep}
 use Rattle.events.specs.Inner.Pending.{There, Held, Within, spotOf, behind, pendBy, pending, rank, steps, the}

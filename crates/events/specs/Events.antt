@@ -2,7 +2,8 @@
 --
 --   prefixIn        the prefix that the text of a namespace gives, by the mode of the reading
 --   attributeEvent  what an attribute makes: its record, note 10, or that it is left out for want of a text
---   startEvents     what a start makes, as far as it is there: notes 6, 7, 8, then notes 32 and 9, the element, the leading attribute, its attributes; or note 11
+--   startEvents     what a whole start makes: notes 6, 7, 8, 32 and 9 where they are due, the element, the leading attribute, its attributes
+--   cutYield        what a chunk makes that is cut: of a start the notes as far as it is there, and note 11
 --   yieldOf         what a turn makes; nextOf with what state the walk goes on: the sort of the chunk before, depth, starts
 --   bodyEvents      what the body makes, note 12 and the refusal of a body without a start at its end
 --   fileEvents      the head's notes and refusals, then the body's events
@@ -110,33 +111,31 @@ attributesOf N (suc n) stride l = attributeEvent N l ∷ attributesOf N n stride
 abbrev pub cutShort : List Event
 cutShort = Note TruncatedXml ∷ []
 
--- What a start makes behind k others: l from its first byte, of which `reach` parts are there (0 not even the gap, 1 the gap, 2 the
--- attributes too, 3 all). Each line goes on where the next begins.
-unfoldable pub fromLead : Names → XmlStartElement → ℕ → List ℕ → List Event
-fromLead N s k l = when (eqb k 0) leading ++ attributesOf N (s .«attribute_count») (strideOf s) (drop (attributesAt s) l)
+-- notes 6, 7 and 8: the attributes begin late, each is longer than 20 bytes, bytes are left behind them
+abbrev pub gapNote : XmlStartElement → List Event
+gapNote s = when (ltb 20 (s .«attribute_start»)) (Note (AttributeStartShifted (s .«attribute_start»)))
 
-unfoldable pub fromOpen : Names → XmlStartElement → ℕ → List ℕ → List Event
-fromOpen N s k l = Open (s .name) (fixedOf (N .state (s .name .0))) (s .line) ∷ fromLead N s k l
+abbrev pub sizeNote : XmlStartElement → List Event
+sizeNote s = when (not (eqb (s .«attribute_count») 0) && ltb 20 (s .«attribute_size»)) (Note (AttributeSizeMismatch (s .«attribute_size»)))
 
-unfoldable pub fromNamed : Names → XmlStartElement → ℕ → List ℕ → List Event
-fromNamed N s k l =
-    when (not (isValid (N .state (s .name .0)))) (Note (InvalidElementName (s .name) (hasOne (N .state (s .name .0))))) ++ fromOpen N s k l
+abbrev pub trailingNote : XmlStartElement → List Event
+trailingNote s = when (not (eqb (trailingOf s) 0)) (Note (ElementTrailingBytes (trailingOf s)))
 
-unfoldable pub fromName : Names → XmlStartElement → ℕ → List ℕ → List Event
-fromName N s k l =
-    when (not (eqb (N .damage (s .name .0)) 0)) (Note (DamagedElementName (s .name) (N .damage (s .name .0)))) ++ fromNamed N s k l
+-- notes 32 and 9: the text of the name is damaged, the name is no valid one
+abbrev pub damageNote : Names → XmlStartElement → List Event
+damageNote N s = when (not (eqb (N .damage (s .name .0)) 0)) (Note (DamagedElementName (s .name) (N .damage (s .name .0))))
 
-unfoldable pub fromTrailing : Names → XmlStartElement → ℕ → ℕ → List ℕ → List Event
-fromTrailing N s reach k l = when (not (eqb (trailingOf s) 0)) (Note (ElementTrailingBytes (trailingOf s))) ++ cond (eqb reach 3) (fromName N s k l) cutShort
+abbrev pub nameNote : Names → XmlStartElement → List Event
+nameNote N s = when (not (isValid (N .state (s .name .0)))) (Note (InvalidElementName (s .name) (hasOne (N .state (s .name .0)))))
 
-unfoldable pub fromSize : Names → XmlStartElement → ℕ → ℕ → List ℕ → List Event
-fromSize N s reach k l =
-    when (not (eqb (s .«attribute_count») 0) && ltb 20 (s .«attribute_size»)) (Note (AttributeSizeMismatch (s .«attribute_size»))) ++
-    cond (ltb reach 2) cutShort (fromTrailing N s reach k l)
+abbrev pub openEvent : Names → XmlStartElement → Event
+openEvent N s = Open (s .name) (fixedOf (N .state (s .name .0))) (s .line)
 
-unfoldable pub fromGap : Names → XmlStartElement → ℕ → ℕ → List ℕ → List Event
-fromGap N s reach k l =
-    when (ltb 20 (s .«attribute_start»)) (Note (AttributeStartShifted (s .«attribute_start»))) ++ cond (eqb reach 0) cutShort (fromSize N s reach k l)
+-- a whole start behind k others, l from its first byte: its notes, the element, the leading attribute of the first, its attributes
+unfoldable pub startEvents : Names → XmlStartElement → ℕ → List ℕ → List Event
+startEvents N s k l =
+    gapNote s ++ (sizeNote s ++ (trailingNote s ++ (damageNote N s ++ (nameNote N s ++ (openEvent N s ∷ (
+    when (eqb k 0) leading ++ attributesOf N (s .«attribute_count») (strideOf s) (drop (attributesAt s) l)))))))
 
 -- ---- a turn
 
@@ -151,17 +150,18 @@ abbrev pub foreignNote : ℕ → ℕ → ResAnomaly
 foreignNote k a = cond (eqb k 0) (NonXmlChunk a) (XmlNodeHeaderSize a)
 
 abbrev pub chunkYield : Names → List ℕ → Spot → Chunk → List Event
-chunkYield N l p (Start s) = fromGap N s 3 (p .starts) l
+chunkYield N l p (Start s) = startEvents N s (p .starts) l
 chunkYield N l p End = Close ∷ []
 chunkYield N l p (Other n) = []
 chunkYield N l p Last = Note (UnknownChunk 0x17f) ∷ []
 
+-- a start that is cut: its notes as far as it is there, and note 11
 abbrev pub cutYield : Names → List ℕ → Spot → CutChunk → List Event
 cutYield N l p CutLine = cutShort
 cutYield N l p CutHead = cutShort
-cutYield N l p (CutGap s) = fromGap N s 0 (p .starts) l
-cutYield N l p (CutAttributes s) = fromGap N s 1 (p .starts) l
-cutYield N l p (CutTrailing s) = fromGap N s 2 (p .starts) l
+cutYield N l p (CutGap s) = gapNote s ++ cutShort
+cutYield N l p (CutAttributes s) = gapNote s ++ (sizeNote s ++ cutShort)
+cutYield N l p (CutTrailing s) = gapNote s ++ (sizeNote s ++ (trailingNote s ++ cutShort))
 cutYield N l p CutEnd = Close ∷ []
 cutYield N l p CutOther = []
 

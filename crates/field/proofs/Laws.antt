@@ -12,9 +12,6 @@ use Rattle.field.specs.Le.{u8le, u16le, u32le}
 
 -- ---- the rest of a list
 
-pub u8le-drop : (s : List ℕ) (n k : ℕ) → u8le (drop n s) k ≡ u8le s (n + k)
-u8le-drop s n k = simp getD-drop
-
 pub u16le-drop : (s : List ℕ) (n k : ℕ) → u16le (drop n s) k ≡ u16le s (n + k)
 unfolding u16le
 u16le-drop s n k = simp (getD-drop, ← add-assoc)

@@ -108,7 +108,7 @@ module _ (g : Garbage) (at : ℕ) (h : ResChunkHeader) (m : List ℕ) where
   poolFrom-short p = rw (lt-ltb (length m) 28 p)
 
   pub poolFrom-whole : 28 ≤ length m → poolFrom g at h m ≡ record { garbage = g; pool = numbered at h m; end = endFrom h m }
-  unfolding poolFrom
+  unfolding poolFrom numbered
   poolFrom-whole p = rw (le-ltb (length m) 28 p)
 
   -- the numbers and the end, as they are read

@@ -70,8 +70,9 @@ endOf n count styles size =
 
 unfoldable pub poolFrom : Garbage → ℕ → ResChunkHeader → List ℕ → PoolRead
 poolFrom g at h m =
+    let pool = numbered at h m in
     cond (ltb (length m) 28) (unread g (HeaderShort (length m - 8)))
-    (record { garbage = g; pool = numbered at h m; end = endOf (length m - 28) (countOf (u32le m 20) (u32le m 12)) (u32le m 12) (h .size - u32le m 20) })
+    (record { garbage = g; pool = pool; end = endOf (length m - 28) (pool .count) (u32le m 12) (pool .size) })
 
 -- the second header, behind a chunk that was skipped: its type is not tested
 abbrev pub secondBy : Garbage → ℕ → List ℕ → HeaderRead → PoolRead

@@ -2,17 +2,13 @@
 //
 // Mirrors nothing of the Rust, which does not tell a damaged text from a whole one. Definitions: specs/Content.antt (`damageIn`).
 use super::Found;
-use super::Head;
-use super::find;
 ghost use mathlib.Core.Path.{_≡_};
 ghost use Prim.Native.Nat.{_≤_};
 ghost use lib.ListN.{length};
 ghost use Rattle.records.specs.Limits.{fileLimit};
 ghost use Rattle.utf.specs.Text.{damageOf, stateNumber, replacedCount};
-ghost use Rattle.system_types.specs.Names.{lends};
-ghost use Rattle.text.specs.Content.{contentOf, damageIn};
-ghost use Rattle.text.specs.Inner.Found.{partOf, Inside, Asks};
-use common::StringIndex;
+ghost use Rattle.text.specs.Content.{damageIn};
+ghost use Rattle.text.specs.Inner.Found.{partOf, Inside};
 use utf::replaced_of;
 use utf::state_of;
 
@@ -50,14 +46,4 @@ pub fn replaced_of_found(t: &[u8], area: &[u8], wide: bool, f: Found) -> u32
         Found::System(_, _) => 0,
         Found::Pool(at, n) => replaced_in_part(wide, &t[at..at + n]),
     }
-}
-
-// The state of the text of an index; 0 where there is none.
-// Ruled out: the state of the pool's string where the map's entry has a system name, and 3 for an index without text.
-pub fn state_of_name(t: &[u8], names: &[u32], area: &[u8], h: Head, index: StringIndex) -> u32
-    requires { ⌜ Asks (now t) (lends (now names) (now area)) h ⌝ }
-    ensures { λ r. ⌜ r ≡ stateNumber (damageIn (contentOf h (now (t .entry)) (lends (now (names .entry)) (now (area .entry))) (index .0))) ⌝ }
-{
-    let f = find(t, names, area, h, index);
-    state_of_found(t, area, h.wide, f)
 }

@@ -11,14 +11,12 @@ pub use apart::marks_of;
 use apart::told_apart;
 pub use damage::replaced_of_found;
 pub use damage::state_of_found;
-pub use damage::state_of_name;
 pub use equal::is_plain_found;
 pub use equal::same_found;
 pub use equal::same_found_known;
 use equal::same_part;
 pub use part::content_of;
 pub use part::found_into;
-use part::found_state;
 pub use part::found_whole;
 ghost use mathlib.Core.Path.{_≡_};
 ghost use mathlib.Core.List.{List};
@@ -28,7 +26,7 @@ ghost use lib.ListN.{length, take, drop};
 ghost use Rattle.utf.specs.Plain.{isAscii, Known};
 ghost use Rattle.system_types.specs.Names.{lends};
 ghost use Rattle.system_types.specs.declared.Lookup.the-variants.{Name};
-ghost use Rattle.text.specs.Content.{namedBy, systemOf, stringAt, stringOf, contentOf, hasText, stateIn, plainIn, sameText, isText, isAndroid};
+ghost use Rattle.text.specs.Content.{namedBy, systemOf, stringAt, stringOf, contentOf, hasText, plainIn, sameText, isText, isAndroid};
 ghost use Rattle.text.specs.Inner.Found.{Fits, Asks, Inside, Stands, Finds, partOf, isFound};
 ghost use Rattle.text.specs.Inner.Told.{Marked};
 use common::StringIndex;
@@ -194,16 +192,6 @@ pub fn has_text(t: &[u8], names: &[u32], area: &[u8], h: Head, index: StringInde
     }
     let named = find_system(t, names, area, h, index);
     is_found(named)
-}
-
-// Whether an index has a text, and whether it is a valid name.
-// Ruled out: a valid name for an empty text, and no text for one that is no valid name.
-pub fn name_state(t: &[u8], names: &[u32], area: &[u8], h: Head, index: StringIndex) -> NameState
-    requires { ⌜ Asks (now t) (lends (now names) (now area)) h ⌝ }
-    ensures { λ r. ⌜ r ≡ stateIn (contentOf h (now (t .entry)) (lends (now (names .entry)) (now (area .entry))) (index .0)) ⌝ }
-{
-    let f = find(t, names, area, h, index);
-    found_state(t, area, h.wide, f)
 }
 
 // ---- two texts

@@ -16,7 +16,7 @@ ghost use mathlib.Core.Path.{_≡_};
 ghost use mathlib.Core.Bool.{false, _&&_};
 ghost use Rattle.utf.specs.Utf8.{inside};
 ghost use Rattle.utf.specs.Text.{isSound};
-ghost use Rattle.xml.specs.NCName.{inRanges, isStart, isChar, sortOf, classOf, validName};
+ghost use Rattle.xml.specs.NCName.{inRanges, sortOf, validName};
 ghost use Rattle.xml.specs.Inner.Told.{IsTable};
 
 // The class of each byte: 0 in no name, 1 first or later, 2 later only, 3 beyond ASCII.
@@ -69,13 +69,6 @@ const START_BEYOND: [u32; 24] = [
 // What NameChar has besides beyond ASCII.
 const MORE_BEYOND: [u32; 6] = [0xb7, 0xb7, 0x300, 0x36f, 0x203f, 0x2040];
 
-// Ruled out: 1 for a colon, which XML's own Name has; 1 for a digit.
-pub fn class_of(b: u8) -> u8
-    ensures { λ r. ⌜ r ≡ classOf b ⌝ }
-{
-    CLASSES[b as usize]
-}
-
 fn within(first: u32, last: u32, v: u32) -> bool
     ensures { λ r. ⌜ r ≡ inside first last v ⌝ }
 {
@@ -111,20 +104,6 @@ fn sort_in(classes: &[u8], v: u32) -> u8
         return 2;
     }
     0
-}
-
-// Ruled out: true of U+00D7, which parts two ranges; true of U+0300, which may only follow.
-pub fn is_start(v: u32) -> bool
-    ensures { λ r. ⌜ r ≡ isStart v ⌝ }
-{
-    sort_in(&CLASSES, v) == 1
-}
-
-// Ruled out: true of U+003A, the colon; false of U+00B7, which may follow.
-pub fn is_char(v: u32) -> bool
-    ensures { λ r. ⌜ r ≡ isChar v ⌝ }
-{
-    sort_in(&CLASSES, v) != 0
 }
 
 // Whether the text, in UTF-16 where it is wide, is an NCName: blocks are passed whole, and what they leave is looked at char by char.

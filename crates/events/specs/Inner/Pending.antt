@@ -30,8 +30,9 @@ use Rattle.events.specs.declared.Phase.the-variants.{AtGarbage, AtCount,
 use Rattle.events.specs.declared.Phase.the-variants.{AtShort, AtName, AtNamed, AtOpen, AtLead, AtAttribute, AtLast, AtRoot, Over}
 use Rattle.events.specs.declared.Cursor.{Cursor}
 use Rattle.events.specs.declared.Step.{Step}
-use Rattle.events.specs.Events.{Names, attributesOf, cutShort, fromGap, fromSize, fromTrailing, fromName, fromNamed, fromLead}
+use Rattle.events.specs.Events.{Names, attributesOf, cutShort}
 use Rattle.events.specs.Events.{Spot, started, fromRoot, lastOf, eventsOn, bodyEvents, notesOf, afterPool, fileEvents}
+use Rattle.events.specs.Inner.Starts.{fromGap, fromSize, fromTrailing, fromName, fromNamed, fromLead}
 use Rattle.events.specs.Inner.Steps.{stepOf}
 
 -- ---- what holds of a cursor

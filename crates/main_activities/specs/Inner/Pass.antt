@@ -2,7 +2,7 @@
 --
 --   Ready      an open file beside tables that fit: what every function here is called with
 --   rest       the children of p from number k on
---   Within     behind a and before k stands only what is inside a: no child of a node before a, and none that ends its children
+--   Within     the nodes behind a and before k are inside a: whoever goes on at k has passed over no child of a node before a
 --   Filtering  a filter, looked at up to k; Seeking an activity
 --   Holds      the numbers found so far at the front of the lent list, where it has room, and those that are still to come
 --   Gives      what is answered and left behind, for the numbers z
@@ -37,6 +37,8 @@ pub record Ready (w : Tree) : Type 0 where
 abbrev pub rest : Tree → ℕ → ℕ → List ℕ
 rest w p k = childrenFrom (w .nodes) p k (w .count - k)
 
+-- A node before a finds the same children from a + 1 on and from k on. So a loop over its children that met a, and looked inside it up to k,
+-- goes on at k.
 pub record Within (w : Tree) (a k : ℕ) : Type 0 where
   pub later : a < k
   pub fits : k ≤ w .count

@@ -1,4 +1,5 @@
 -- `records::put_node` meets its contract: its stores one behind the other are a node's words put at a place (proofs/Stores.antt).
+-- The needs are answered one behind the other, in the order in which `rt dev` lists them.
 use borrow.Author.Needs.{needs}
 use native.Mathlib.Omega.{arith}
 use lib.ListN.{length-set}
@@ -7,89 +8,19 @@ use Rattle.records.proofs.Stores.{put-words}
 use Rattle.records.proofs.put_node.Statement.{statement}
 use Rattle.records.proofs.put_node.Tie as tie
 
-add-words : tie.Need-add-words
-add-words c = search needs
-
-mul-words : tie.Need-mul-words
-mul-words c = search needs
-
-slice-write-words : tie.Need-slice-write-words
-slice-write-words c = search needs
-
-add-words-2 : tie.Need-add-words-2
-add-words-2 c = search needs
-
-mul-words-2 : tie.Need-mul-words-2
-mul-words-2 c = search needs
-
-slice-write-words-2 : tie.Need-slice-write-words-2
-slice-write-words-2 c = simp length-set (omega arith)
-
-add-words-3 : tie.Need-add-words-3
-add-words-3 c = search needs
-
-mul-words-3 : tie.Need-mul-words-3
-mul-words-3 c = search needs
-
-slice-write-words-3 : tie.Need-slice-write-words-3
-slice-write-words-3 c = simp length-set (omega arith)
-
-add-words-4 : tie.Need-add-words-4
-add-words-4 c = search needs
-
-mul-words-4 : tie.Need-mul-words-4
-mul-words-4 c = search needs
-
-slice-write-words-4 : tie.Need-slice-write-words-4
-slice-write-words-4 c = simp length-set (omega arith)
-
-add-words-5 : tie.Need-add-words-5
-add-words-5 c = search needs
-
-mul-words-5 : tie.Need-mul-words-5
-mul-words-5 c = search needs
-
-slice-write-words-5 : tie.Need-slice-write-words-5
-slice-write-words-5 c = simp length-set (omega arith)
-
-add-words-6 : tie.Need-add-words-6
-add-words-6 c = search needs
-
-mul-words-6 : tie.Need-mul-words-6
-mul-words-6 c = search needs
-
-slice-write-words-6 : tie.Need-slice-write-words-6
-slice-write-words-6 c = simp length-set (omega arith)
-
-same-length : tie.Need-same-length
-same-length c = search needs
-
-returns : tie.Need-returns
-returns c =
-    let a = c .args in
-    put-words (nodeWords (a .name) (a .fixed) (a .parent) (a .first) (a .count) (a .line)) (a .words .now) (a .i) (c .pre)
-
 pub put-node-spec : {M : Type 1} → statement M
 put-node-spec =
     tie.close
     (tie.spec
-    add-words
-    mul-words
-    slice-write-words
-    add-words-2
-    mul-words-2
-    slice-write-words-2
-    add-words-3
-    mul-words-3
-    slice-write-words-3
-    add-words-4
-    mul-words-4
-    slice-write-words-4
-    add-words-5
-    mul-words-5
-    slice-write-words-5
-    add-words-6
-    mul-words-6
-    slice-write-words-6
-    same-length
-    returns)
+    (λ c. search needs) (λ c. search needs) (λ c. search needs) (λ c. search needs) (λ c. search needs)
+    (λ c. simp length-set (omega arith))
+    (λ c. search needs) (λ c. search needs)
+    (λ c. simp length-set (omega arith))
+    (λ c. search needs) (λ c. search needs)
+    (λ c. simp length-set (omega arith))
+    (λ c. search needs) (λ c. search needs)
+    (λ c. simp length-set (omega arith))
+    (λ c. search needs) (λ c. search needs)
+    (λ c. simp length-set (omega arith))
+    (λ c. search needs)
+    (λ c. let a = c .args in put-words (nodeWords (a .name) (a .fixed) (a .parent) (a .first) (a .count) (a .line)) (a .words .now) (a .i) (c .pre)))
