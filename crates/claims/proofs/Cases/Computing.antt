@@ -24,7 +24,7 @@ use Rattle.head.specs.Head.{tablesOf, openedOf, outsideIn}
 use Rattle.head.specs.Entry.{lengthCheck}
 use Rattle.head.specs.Ask.{openOf, textAnswer, textBuffer, contentAnswer}
 use Rattle.xml_elements.specs.Chunk.{startOf, attributeAt, startTurn, xmlTurn, numberOf, turnOf}
-use Rattle.events.specs.Events.{attributeEvent, attributesOf, fromLead, fromOpen, fromNamed, fromName, fromTrailing, fromSize, fromGap, eventsOn, bodyEvents, fileEvents}
+use Rattle.events.specs.Events.{attributeEvent, attributesOf, startEvents, eventsOn, bodyEvents, fileEvents}
 use Rattle.records.specs.Repeats.{repeatsOne}
 use Rattle.walk.specs.Settle.{settle}
 use Rattle.walk.specs.Reading.{reading}
@@ -49,7 +49,7 @@ unfolding noteOf kindIndex keptFrom refusalNumber refusalValue firstNumbersOf u1
     countOf numbered endOf poolFrom behindGarbage poolOf offsetOf outsideOf split8 split16 idsIn idsBy mapOf idOf isGood namesFrom nameOf
     systemOf stringAt stringOf contentOf tablesOf openedOf outsideIn lengthCheck openOf textAnswer textBuffer contentAnswer
     startOf attributeAt startTurn xmlTurn numberOf turnOf
-    attributeEvent attributesOf fromLead fromOpen fromNamed fromName fromTrailing fromSize fromGap eventsOn bodyEvents fileEvents repeatsOne settle reading
+    attributeEvent attributesOf startEvents eventsOn bodyEvents fileEvents repeatsOne settle reading
     runsFrom fitOf findNode findValue sharedOf firstAnswer pairsFrom pairsOf answersFrom manyAnswer answersAfter
     itemAt itemsFrom isName isNew isGoodItem ruleFrom tableOf namedIn attrText uncoveredOf plainBy namedValue valueOf valueOpen attributeWords
     childrenFrom anyOf attributeFrom says isMain isLauncher isFilter isEnabled starts given inApplication mainActivities mainOpen mainAnswer listAfter flatMap

@@ -36,8 +36,9 @@ use Rattle.xml_elements.specs.Chunk.{strideOf, attributesAt, attributeAt, turnO
 use Rattle.events.specs.declared.Event.{Event}
 use Rattle.events.specs.declared.Event.the-variants.{Nothing, Open, Attribute, LeftOut, Close, Note, Refuse, Finish}
 use Rattle.events.specs.Events.{Names, when, isValid, hasOne, fixedOf, leading, attributeBy, attributeEvent, attributesOf, cutShort}
-use Rattle.events.specs.Events.{fromLead, fromOpen, fromNamed, fromName, Spot, chunkYield, cutYield, yieldOf, foreignNote}
+use Rattle.events.specs.Events.{Spot, chunkYield, cutYield, yieldOf, foreignNote}
 use Rattle.events.specs.Events.{lastOf, fromRoot, out, bodyEvents, fileEvents}
+use Rattle.events.specs.Inner.Starts.{fromLead, fromOpen, fromNamed, fromName}
 use Rattle.claims.specs.Counts.{noted, notesIn}
 use Rattle.claims.specs.Damaged.{damagePlace, besides}
 use Rattle.claims.proofs.Events.NotesAndOthers.{othersIn, othersIn-append, notesIn-append}

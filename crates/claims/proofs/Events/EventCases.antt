@@ -29,8 +29,9 @@ use Rattle.xml_elements.specs.Chunk.{trailingOf, turnOf, usedOf}
 use Rattle.xml_elements.proofs.Laws.{Told, turnOf-told, usedOf-le}
 use Rattle.events.specs.declared.Event.{Event}
 use Rattle.events.specs.declared.Event.the-variants.{Note, Refuse}
-use Rattle.events.specs.Events.{Names, Spot, when, cutShort, fromName, fromTrailing, fromSize, fromGap, yieldOf, lastOf, used, out, next}
-use Rattle.events.specs.Events.{eventsOn, bodyEvents, notesOf, afterPool, fileEvents}
+use Rattle.events.specs.Events.{Names, Spot, when, cutShort, yieldOf, lastOf, used, out, next}
+use Rattle.events.specs.Events.{eventsOn, bodyEvents, notesOf, afterPool, fileEvents, startEvents, gapNote, sizeNote, trailingNote}
+use Rattle.events.specs.Inner.Starts.{fromLead, fromOpen, fromNamed, fromName}
 
 -- ---- a start
 
@@ -49,10 +50,10 @@ module _ (N N′ : Names) (s : XmlStartElement) (k : ℕ) (l : List ℕ) (R : Bo
     (behind : (whole b : Bool) (n : StartNote) (ds es : List Event) → R whole ds es
     → R whole (when b (Note (startNote s n)) ++ ds) (when b (Note (startNote s n)) ++ es)) where
   abbrev afterTrailing : List Event → List Event
-  afterTrailing es = when (not (eqb (trailingOf s) 0)) (Note (ElementTrailingBytes (trailingOf s))) ++ es
+  afterTrailing es = trailingNote s ++ es
 
   abbrev afterSize : List Event → List Event
-  afterSize es = when (not (eqb (s .«attribute_count») 0) && ltb 20 (s .«attribute_size»)) (Note (AttributeSizeMismatch (s .«attribute_size»))) ++ es
+  afterSize es = sizeNote s ++ es
 
   trails : (whole : Bool) (ds es : List Event) → R whole ds es → R whole (afterTrailing ds) (afterTrailing es)
   trails whole ds es h = behind whole (not (eqb (trailingOf s) 0)) trailing ds es h
@@ -60,23 +61,20 @@ module _ (N N′ : Names) (s : XmlStartElement) (k : ℕ) (l : List ℕ) (R : Bo
   sizes : (whole : Bool) (ds es : List Event) → R whole ds es → R whole (afterSize ds) (afterSize es)
   sizes whole ds es h = behind whole (not (eqb (s .«attribute_count») 0) && ltb 20 (s .«attribute_size»)) sized ds es h
 
-  pub start-whole : R true (fromName N s k l) (fromName N′ s k l) → R true (fromGap N s 3 k l) (fromGap N′ s 3 k l)
-  unfolding fromGap fromSize fromTrailing
+  pub start-whole : R true (fromName N s k l) (fromName N′ s k l) → R true (startEvents N s k l) (startEvents N′ s k l)
+  unfolding startEvents fromName fromNamed fromOpen fromLead
   start-whole h =
       behind true (ltb 20 (s .«attribute_start»)) shifted (afterSize (afterTrailing (fromName N s k l))) (afterSize (afterTrailing (fromName N′ s k l)))
       (sizes true (afterTrailing (fromName N s k l)) (afterTrailing (fromName N′ s k l)) (trails true (fromName N s k l) (fromName N′ s k l) h))
 
-  pub cut-gap : R false cutShort cutShort → R false (fromGap N s 0 k l) (fromGap N′ s 0 k l)
-  unfolding fromGap
+  pub cut-gap : R false cutShort cutShort → R false (gapNote s ++ cutShort) (gapNote s ++ cutShort)
   cut-gap h = behind false (ltb 20 (s .«attribute_start»)) shifted cutShort cutShort h
 
-  pub cut-attributes : R false cutShort cutShort → R false (fromGap N s 1 k l) (fromGap N′ s 1 k l)
-  unfolding fromGap fromSize
+  pub cut-attributes : R false cutShort cutShort → R false (gapNote s ++ (sizeNote s ++ cutShort)) (gapNote s ++ (sizeNote s ++ cutShort))
   cut-attributes h =
       behind false (ltb 20 (s .«attribute_start»)) shifted (afterSize cutShort) (afterSize cutShort) (sizes false cutShort cutShort h)
 
-  pub cut-trailing : R false cutShort cutShort → R false (fromGap N s 2 k l) (fromGap N′ s 2 k l)
-  unfolding fromGap fromSize fromTrailing
+  pub cut-trailing : R false cutShort cutShort → R false (gapNote s ++ (sizeNote s ++ (trailingNote s ++ cutShort))) (gapNote s ++ (sizeNote s ++ (trailingNote s ++ cutShort)))
   cut-trailing h =
       behind false (ltb 20 (s .«attribute_start»)) shifted (afterSize (afterTrailing cutShort)) (afterSize (afterTrailing cutShort))
       (sizes false (afterTrailing cutShort) (afterTrailing cutShort) (trails false cutShort cutShort h))

@@ -29,8 +29,9 @@ use Rattle.xml_elements.specs.declared.Turn.the-variants.{Stop, Foreign, Met, C
 use Rattle.xml_elements.specs.Chunk.{turnOf, strideOf, attributesAt, attributeAt}
 use Rattle.events.specs.declared.Event.{Event}
 use Rattle.events.specs.declared.Event.the-variants.{Nothing, Open, Attribute, LeftOut, Close, Note, Refuse, Finish}
-use Rattle.events.specs.Events.{Names, Spot, isValid, hasOne, when, leading, attributeBy, attributeEvent, attributesOf, fromLead, fromOpen, fromNamed, fromName}
+use Rattle.events.specs.Events.{Names, Spot, isValid, hasOne, when, leading, attributeBy, attributeEvent, attributesOf}
 use Rattle.events.specs.Events.{foreignNote, chunkYield, cutYield, yieldOf, fromRoot, lastOf, out, bodyEvents, fileEvents}
+use Rattle.events.specs.Inner.Starts.{fromLead, fromOpen, fromNamed, fromName}
 use Rattle.claims.proofs.Events.NotesAndOthers.{othersIn}
 use Rattle.claims.proofs.Events.EventCases.{startNote, start-whole, cut-gap, cut-attributes, cut-trailing, body-by, headNote, file-by}
 

@@ -31,8 +31,9 @@ use Rattle.xml_elements.specs.Chunk.{strideOf, attributesAt, attributeAt, turnO
 use Rattle.xml_elements.proofs.Laws.{turnOf-told, usedOf-le}
 use Rattle.events.specs.declared.Event.{Event}
 use Rattle.events.specs.declared.Event.the-variants.{Nothing, Open, Attribute, LeftOut, Close, Note, Refuse, Finish}
-use Rattle.events.specs.Events.{Names, Spot, when, isValid, hasOne, leading, foreignNote, attributeBy, attributesOf, attributeEvent, fromLead, fromOpen, fromNamed, fromName}
-use Rattle.events.specs.Events.{fromGap, chunkYield, cutYield, yieldOf, used, out, next, lastOf, eventsOn, bodyEvents, fileEvents}
+use Rattle.events.specs.Events.{Names, Spot, when, isValid, hasOne, leading, foreignNote, attributeBy, attributesOf, attributeEvent}
+use Rattle.events.specs.Events.{chunkYield, cutYield, yieldOf, used, out, next, lastOf, eventsOn, bodyEvents, fileEvents, startEvents, gapNote, sizeNote, trailingNote, cutShort}
+use Rattle.events.specs.Inner.Starts.{fromLead, fromOpen, fromNamed, fromName}
 use Rattle.claims.specs.Counts.{opensIn, openNames, openLines, depthFrom}
 use Rattle.claims.specs.Lost.{Mark, start, end, chunkMarks, cutMarks, turnMarks, marksOf, startNames, startLines}
 use Rattle.claims.proofs.Settle.StoreCases.{AllStay}
@@ -108,16 +109,16 @@ module _ (N : Names) (s : XmlStartElement) (k : ℕ) (l : List ℕ) where
       → StartMarks whole (when b (Note (startNote s n)) ++ ds) (when b (Note (startNote s n)) ++ es)
   behind whole b n ds es h = record { told = noted-marks b (startNote s n) ds ∙ h .told }
 
-  start-told : HaveMarks (fromGap N s 3 k l) (start (s .name .0) (s .line) ∷ [])
+  start-told : HaveMarks (startEvents N s k l) (start (s .name .0) (s .line) ∷ [])
   start-told = start-whole N N s k l StartMarks behind name-marks
 
-  gap-cut-told : HaveMarks (fromGap N s 0 k l) []
+  gap-cut-told : HaveMarks (gapNote s ++ cutShort) []
   gap-cut-told = cut-gap N N s k l StartMarks behind (record { told = refl })
 
-  attributes-cut-told : HaveMarks (fromGap N s 1 k l) []
+  attributes-cut-told : HaveMarks (gapNote s ++ (sizeNote s ++ cutShort)) []
   attributes-cut-told = cut-attributes N N s k l StartMarks behind (record { told = refl })
 
-  trailing-cut-told : HaveMarks (fromGap N s 2 k l) []
+  trailing-cut-told : HaveMarks (gapNote s ++ (sizeNote s ++ (trailingNote s ++ cutShort))) []
   trailing-cut-told = cut-trailing N N s k l StartMarks behind (record { told = refl })
 
 -- ---- a turn

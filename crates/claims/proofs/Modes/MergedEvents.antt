@@ -29,8 +29,9 @@ use Rattle.xml_elements.specs.Chunk.{strideOf, attributesAt, attributeAt, turnO
 use Rattle.events.specs.declared.Event.{Event}
 use Rattle.events.specs.declared.Event.the-variants.{Nothing, Open, Attribute, LeftOut, Close, Note, Refuse, Finish}
 use Rattle.events.specs.Events.{Names, prefixIn, namesIn, when, isValid, hasOne, fixedOf, leading, attributeBy, attributeEvent, attributesOf}
-use Rattle.events.specs.Events.{fromLead, fromOpen, fromNamed, fromName, Spot, chunkYield, cutYield, yieldOf, foreignNote}
+use Rattle.events.specs.Events.{Spot, chunkYield, cutYield, yieldOf, foreignNote}
 use Rattle.events.specs.Events.{lastOf, fromRoot, out, bodyEvents, fileEvents}
+use Rattle.events.specs.Inner.Starts.{fromLead, fromOpen, fromNamed, fromName}
 use Rattle.claims.specs.Modes.{mergedPrefix}
 use Rattle.claims.proofs.Events.EventCases.{StartNote, startNote, start-whole, cut-gap, cut-attributes, cut-trailing, body-by, headNote}
 use Rattle.claims.proofs.Events.EventCases.{file-by}

@@ -19,8 +19,8 @@ use Rattle.xml_elements.specs.declared.XmlAttributeElement.{XmlAttributeElement
 use Rattle.xml_elements.specs.Chunk.{strideOf, attributesAt, attributeAt}
 use Rattle.events.specs.declared.Event.{Event}
 use Rattle.events.specs.declared.Event.the-variants.{Note}
-use Rattle.events.specs.Events.{Names, isValid, hasOne, when, leading, attributeBy, attributeEvent, attributesOf, fromLead, fromOpen, fromNamed, fromName}
-use Rattle.events.specs.Events.{fromGap}
+use Rattle.events.specs.Events.{Names, isValid, hasOne, when, leading, attributeBy, attributeEvent, attributesOf, startEvents, gapNote, sizeNote, trailingNote, cutShort}
+use Rattle.events.specs.Inner.Starts.{fromLead, fromOpen, fromNamed, fromName}
 use Rattle.claims.specs.Counts.{sumOf, isOpen, isAttribute, opensIn, attributesIn}
 use Rattle.claims.proofs.Events.EventCases.{StartNote, startNote, start-whole, cut-gap, cut-attributes, cut-trailing}
 
@@ -105,15 +105,15 @@ module _ (N : Names) (s : XmlStartElement) (k : ℕ) (l : List ℕ) where
       → FewStart whole (when b (Note (startNote s n)) ++ ds) (when b (Note (startNote s n)) ++ es)
   behind whole b n ds es h = few-noted b (startNote s n) ds (cond whole 1 0) (cond whole (1 + s .«attribute_count») 0) h
 
-  pub few-start : Few (fromGap N s 3 k l) 1 (1 + s .«attribute_count»)
+  pub few-start : Few (startEvents N s k l) 1 (1 + s .«attribute_count»)
   few-start = start-whole N N s k l FewStart behind few-name
 
   -- one that is cut makes notes alone
-  pub few-gap-cut : Few (fromGap N s 0 k l) 0 0
+  pub few-gap-cut : Few (gapNote s ++ cutShort) 0 0
   few-gap-cut = cut-gap N N s k l FewStart behind (few-note TruncatedXml)
 
-  pub few-attributes-cut : Few (fromGap N s 1 k l) 0 0
+  pub few-attributes-cut : Few (gapNote s ++ (sizeNote s ++ cutShort)) 0 0
   few-attributes-cut = cut-attributes N N s k l FewStart behind (few-note TruncatedXml)
 
-  pub few-trailing-cut : Few (fromGap N s 2 k l) 0 0
+  pub few-trailing-cut : Few (gapNote s ++ (sizeNote s ++ (trailingNote s ++ cutShort))) 0 0
   few-trailing-cut = cut-trailing N N s k l FewStart behind (few-note TruncatedXml)

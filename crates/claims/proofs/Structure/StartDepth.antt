@@ -19,8 +19,9 @@ use Rattle.xml_elements.specs.declared.XmlAttributeElement.{XmlAttributeElement
 use Rattle.xml_elements.specs.Chunk.{strideOf, attributesAt, attributeAt}
 use Rattle.events.specs.declared.Event.{Event}
 use Rattle.events.specs.declared.Event.the-variants.{Note}
-use Rattle.events.specs.Events.{Names, when, isValid, hasOne, leading, attributeBy, attributesOf, attributeEvent, fromLead, fromOpen, fromNamed, fromName}
-use Rattle.events.specs.Events.{fromGap, cutShort}
+use Rattle.events.specs.Events.{Names, when, isValid, hasOne, leading, attributeBy, attributesOf, attributeEvent}
+use Rattle.events.specs.Events.{cutShort, startEvents, gapNote, sizeNote, trailingNote}
+use Rattle.events.specs.Inner.Starts.{fromLead, fromOpen, fromNamed, fromName}
 use Rattle.claims.specs.Counts.{opensIn, stepped, depthFrom, notesIn}
 use Rattle.claims.proofs.Events.NotesAndOthers.{notesIn-append}
 use Rattle.claims.proofs.Events.KeptNotes.{All, all-append}
@@ -130,14 +131,14 @@ module _ (N : Names) (s : XmlStartElement) (k : ℕ) (l : List ℕ) where
   unfolding noteOf
   cut-opening = opening-note TruncatedXml (λ e. omega arith)
 
-  pub start-opening : Opening (fromGap N s 3 k l) 1
+  pub start-opening : Opening (startEvents N s k l) 1
   start-opening = start-whole N N s k l OpeningStart behind name-opening
 
-  pub gap-cut-opening : Opening (fromGap N s 0 k l) 0
+  pub gap-cut-opening : Opening (gapNote s ++ cutShort) 0
   gap-cut-opening = cut-gap N N s k l OpeningStart behind cut-opening
 
-  pub attributes-cut-opening : Opening (fromGap N s 1 k l) 0
+  pub attributes-cut-opening : Opening (gapNote s ++ (sizeNote s ++ cutShort)) 0
   attributes-cut-opening = cut-attributes N N s k l OpeningStart behind cut-opening
 
-  pub trailing-cut-opening : Opening (fromGap N s 2 k l) 0
+  pub trailing-cut-opening : Opening (gapNote s ++ (sizeNote s ++ (trailingNote s ++ cutShort))) 0
   trailing-cut-opening = cut-trailing N N s k l OpeningStart behind cut-opening
