@@ -179,7 +179,7 @@ def long_texts(count, units, letter):
 def in_turns(size, count, utf8=False, letter="a", tags=False, each=1, bad=False, step=1):
     """So many long names, half the file, used in turns by the rest: as attributes, so many to an element, or as elements' own names.
     bad: no name is valid, for its last unit. step: the indices that are used are so far apart, and between them stand names of one letter."""
-    units = min(size // 2 // count // (1 if utf8 else 2), 32_760 if utf8 else LIMIT)
+    units = min(size // 2 // count // (1 if utf8 else 2), 32_760 // len(letter.encode()) if utf8 else LIMIT)
     texts = [t + "!" if bad else t for t in long_texts(count, units, letter)]
     spread = [texts[i // step] if i % step == 0 else "a" for i in range((count - 1) * step + 1)]
     spread.append("a")
@@ -274,8 +274,10 @@ LONG_16 = (("one long name in elements of 65,535", lambda: in_turns(LIMIT, 1, ea
            ("two long names 1,024 indices apart", lambda: in_turns(LIMIT, 2, step=1024)),
            ("three long names 1,024 indices apart", lambda: in_turns(LIMIT, 3, step=1024)))
 
-# Left slow, and so in no bar: strings that lie in each other (docs/DECISIONS.md, 33).
-SLOW = (("strings that lie in each other", lambda: overlapping(1_000_000)),)
+# Left slow, and so in no bar: names shorter than 32,768 bytes whose indices are 1,024 apart, and strings that lie in each other (docs/DECISIONS.md, 33).
+SLOW = (("two names of 32,760 bytes 1,024 indices apart, UTF-8", lambda: in_turns(1_000_000, 2, True, step=1024)),
+        ("the same, Cyrillic", lambda: in_turns(1_000_000, 2, True, letter="\u0436", step=1024)),
+        ("strings that lie in each other", lambda: overlapping(1_000_000)))
 
 # Texts of oracle/real.py whose manifests have from 2 to 400 KB.
 MANIFESTS = (46, 1, 5, 19, 2, 25)
