@@ -39,6 +39,7 @@ use Rattle.events.specs.Events.{Names, when, isValid, hasOne, fixedOf, leading,
 use Rattle.events.specs.Events.{Spot, chunkYield, cutYield, yieldOf, foreignNote}
 use Rattle.events.specs.Events.{lastOf, fromRoot, out, bodyEvents, fileEvents}
 use Rattle.events.specs.Inner.Starts.{fromLead, fromOpen, fromNamed, fromName}
+use Rattle.events.specs.Inner.Starts.{fromLead, fromOpen, fromNamed, fromName}
 use Rattle.claims.specs.Counts.{noted, notesIn}
 use Rattle.claims.specs.Damaged.{damagePlace, besides}
 use Rattle.claims.proofs.Events.NotesAndOthers.{othersIn, othersIn-append, notesIn-append}

@@ -2,6 +2,7 @@
 --
 --   startNote    the notes that a start makes before its name: 6, 7 and 8
 --   cut-gap, cut-attributes, cut-trailing, start-whole   a start: what goes on behind such a note holds of a start that is cut, and of one read whole
+--   nameNote     the notes that its name makes: 32 and 9; name-by: what goes on behind such a note
 --   body-by      a body: what holds of its end, and goes on before each turn, holds of all its events
 --   headNote     the notes that a head makes
 --   file-by      a file: what goes on behind such a note, and holds of a refusal and of the body, holds of all its events
@@ -15,8 +16,8 @@ use mathlib.Core.Bool.{Bool, true, false, not, _&&_}
 use lib.ListN.{length, drop}
 use lib.Dec.{ltb, eqb}
 use Rattle.anomaly.specs.declared.ResAnomaly.{ResAnomaly}
-use Rattle.anomaly.specs.declared.ResAnomaly.the-variants.{AttributeStartShifted, AttributeSizeMismatch, ElementTrailingBytes}
-use Rattle.anomaly.specs.declared.ResAnomaly.the-variants.{StringPoolGarbageChunk, StringCountMismatch, StringOffsetsOutOfBounds}
+use Rattle.anomaly.specs.declared.ResAnomaly.the-variants.{AttributeStartShifted, AttributeSizeMismatch, ElementTrailingBytes, InvalidElementName}
+use Rattle.anomaly.specs.declared.ResAnomaly.the-variants.{StringPoolGarbageChunk, StringCountMismatch, StringOffsetsOutOfBounds, DamagedElementName}
 use Rattle.chunk.proofs.Walk.{walk-ind, trace-stop, trace-step}
 use Rattle.head.specs.declared.HeadEnd.{HeadEnd}
 use Rattle.head.specs.declared.HeadEnd.the-variants.{Whole, TooSmall, HeaderSize, PoolShort, MapShort}
@@ -29,8 +30,8 @@ use Rattle.xml_elements.specs.Chunk.{trailingOf, turnOf, usedOf}
 use Rattle.xml_elements.proofs.Laws.{Told, turnOf-told, usedOf-le}
 use Rattle.events.specs.declared.Event.{Event}
 use Rattle.events.specs.declared.Event.the-variants.{Note, Refuse}
-use Rattle.events.specs.Events.{Names, Spot, when, cutShort, yieldOf, lastOf, used, out, next}
-use Rattle.events.specs.Events.{eventsOn, bodyEvents, notesOf, afterPool, fileEvents, startEvents, gapNote, sizeNote, trailingNote}
+use Rattle.events.specs.Events.{Names, Spot, when, cutShort, yieldOf, lastOf, used, out, next, isValid}
+use Rattle.events.specs.Events.{eventsOn, bodyEvents, notesOf, afterPool, fileEvents, hasOne, startEvents, gapNote, sizeNote, trailingNote}
 use Rattle.events.specs.Inner.Starts.{fromLead, fromOpen, fromNamed, fromName}
 
 -- ---- a start
@@ -78,6 +79,30 @@ module _ (N N′ : Names) (s : XmlStartElement) (k : ℕ) (l : List ℕ) (R : Bo
   cut-trailing h =
       behind false (ltb 20 (s .«attribute_start»)) shifted (afterSize (afterTrailing cutShort)) (afterSize (afterTrailing cutShort))
       (sizes false (afterTrailing cutShort) (afterTrailing cutShort) (trails false cutShort cutShort h))
+
+-- ---- its name
+
+pub data NameNote : Type 0 where
+  damaged : NameNote
+  invalid : NameNote
+
+abbrev pub nameNote : Names → XmlStartElement → NameNote → ResAnomaly
+nameNote N s damaged = DamagedElementName (s .name) (N .damage (s .name .0))
+nameNote N s invalid = InvalidElementName (s .name) (hasOne (N .state (s .name .0)))
+
+-- where both take its name alike
+module _ (N N′ : Names) (s : XmlStartElement) (k : ℕ) (l : List ℕ) (R : List Event → List Event → Type 0)
+    (behind : (b : Bool) (n : NameNote) (ds es : List Event) → R ds es → R (when b (Note (nameNote N s n)) ++ ds) (when b (Note (nameNote N s n)) ++ es))
+    (states : N′ .state (s .name .0) ≡ N .state (s .name .0)) (damages : N′ .damage (s .name .0) ≡ N .damage (s .name .0)) where
+  abbrev afterInvalid : List Event → List Event
+  afterInvalid es = when (not (isValid (N .state (s .name .0)))) (Note (InvalidElementName (s .name) (hasOne (N .state (s .name .0))))) ++ es
+
+  pub name-by : R (fromOpen N s k l) (fromOpen N′ s k l) → R (fromName N s k l) (fromName N′ s k l)
+  unfolding fromName fromNamed
+  name-by h =
+      rw (states, damages)
+      (behind (not (eqb (N .damage (s .name .0)) 0)) damaged (afterInvalid (fromOpen N s k l)) (afterInvalid (fromOpen N′ s k l))
+      (behind (not (isValid (N .state (s .name .0)))) invalid (fromOpen N s k l) (fromOpen N′ s k l) h))
 
 -- ---- a body
 

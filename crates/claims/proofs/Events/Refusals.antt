@@ -4,13 +4,13 @@
 --   refuse-others, others-refuse   notes play no part
 --   body-refuses   the body's only refusal is that there is no start; file-refuses with the head's own
 use Prim.Native.Nat.{ℕ, zero, suc}
-use mathlib.Core.Path.{_≡_}
+use mathlib.Core.Path.{_≡_, refl}
 use mathlib.Core.List.{List, [], _∷_, _++_}
 use mathlib.Core.Bool.{Bool, true, false, not}
 use lib.ListN.{drop}
 use lib.Dec.{eqb}
 use Rattle.anomaly.specs.declared.ResAnomaly.{ResAnomaly}
-use Rattle.anomaly.specs.declared.ResAnomaly.the-variants.{InvalidElementName, DamagedElementName, UnclosedElements}
+use Rattle.anomaly.specs.declared.ResAnomaly.the-variants.{UnclosedElements}
 use Rattle.errors.specs.declared.Refusal.{Refusal}
 use Rattle.errors.specs.declared.Refusal.the-variants.{MissingRoot}
 use Rattle.text.specs.declared.NameState.{NameState}
@@ -29,11 +29,12 @@ use Rattle.xml_elements.specs.declared.Turn.the-variants.{Stop, Foreign, Met, C
 use Rattle.xml_elements.specs.Chunk.{turnOf, strideOf, attributesAt, attributeAt}
 use Rattle.events.specs.declared.Event.{Event}
 use Rattle.events.specs.declared.Event.the-variants.{Nothing, Open, Attribute, LeftOut, Close, Note, Refuse, Finish}
-use Rattle.events.specs.Events.{Names, Spot, isValid, hasOne, when, leading, attributeBy, attributeEvent, attributesOf}
+use Rattle.events.specs.Events.{Names, Spot, when, leading, attributeBy, attributeEvent, attributesOf}
 use Rattle.events.specs.Events.{foreignNote, chunkYield, cutYield, yieldOf, fromRoot, lastOf, out, bodyEvents, fileEvents}
-use Rattle.events.specs.Inner.Starts.{fromLead, fromOpen, fromNamed, fromName}
+use Rattle.events.specs.Inner.Starts.{fromLead, fromOpen, fromName}
 use Rattle.claims.proofs.Events.NotesAndOthers.{othersIn}
 use Rattle.claims.proofs.Events.EventCases.{startNote, start-whole, cut-gap, cut-attributes, cut-trailing, body-by, headNote, file-by}
+use Rattle.claims.proofs.Events.EventCases.{nameNote, name-by}
 
 module _ (Q : Refusal → Type 0) where
   abbrev pub RefuseOf : Event → Type 0
@@ -112,12 +113,7 @@ module _ (Q : Refusal → Type 0) where
       open-refuse = (tt, behind-lead (eqb k 0) _ (attributes-refuse (s .«attribute_count») (strideOf s) (drop (attributesAt s) l)))
 
       name-refuse : AllRefuse (fromName N s k l)
-      unfolding fromName fromNamed
-      name-refuse =
-          let state = N .state (s .name .0) in
-          let damage = N .damage (s .name .0) in
-          behind-note (not (eqb damage 0)) (DamagedElementName (s .name) damage) (fromNamed N s k l)
-          (behind-note (not (isValid state)) (InvalidElementName (s .name) (hasOne state)) (fromOpen N s k l) open-refuse)
+      name-refuse = name-by N N s k l (λ ds es. AllRefuse ds) (λ b n ds es h. behind-note b (nameNote N s n) ds h) refl refl open-refuse
 
     -- ---- a turn
 

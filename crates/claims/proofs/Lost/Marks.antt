@@ -11,7 +11,6 @@ use mathlib.Core.Bool.{Bool, true, false, not, cond}
 use lib.ListN.{length, drop}
 use lib.Dec.{eqb}
 use Rattle.anomaly.specs.declared.ResAnomaly.{ResAnomaly}
-use Rattle.anomaly.specs.declared.ResAnomaly.the-variants.{InvalidElementName, DamagedElementName}
 use Rattle.anomaly.specs.declared.ResAnomaly.the-variants.{UnclosedElements}
 use Rattle.chunk.proofs.Walk.{walk-ind, trace-stop, trace-step}
 use Rattle.errors.specs.declared.Refusal.{Refusal}
@@ -31,15 +30,16 @@ use Rattle.xml_elements.specs.Chunk.{strideOf, attributesAt, attributeAt, turnO
 use Rattle.xml_elements.proofs.Laws.{turnOf-told, usedOf-le}
 use Rattle.events.specs.declared.Event.{Event}
 use Rattle.events.specs.declared.Event.the-variants.{Nothing, Open, Attribute, LeftOut, Close, Note, Refuse, Finish}
-use Rattle.events.specs.Events.{Names, Spot, when, isValid, hasOne, leading, foreignNote, attributeBy, attributesOf, attributeEvent}
+use Rattle.events.specs.Events.{Names, Spot, when, leading, foreignNote, attributeBy, attributesOf, attributeEvent}
 use Rattle.events.specs.Events.{chunkYield, cutYield, yieldOf, used, out, next, lastOf, eventsOn, bodyEvents, fileEvents, startEvents, gapNote, sizeNote, trailingNote, cutShort}
-use Rattle.events.specs.Inner.Starts.{fromLead, fromOpen, fromNamed, fromName}
+use Rattle.events.specs.Inner.Starts.{fromLead, fromOpen, fromName}
 use Rattle.claims.specs.Counts.{opensIn, openNames, openLines, depthFrom}
 use Rattle.claims.specs.Lost.{Mark, start, end, chunkMarks, cutMarks, turnMarks, marksOf, startNames, startLines}
 use Rattle.claims.proofs.Settle.StoreCases.{AllStay}
 use Rattle.claims.proofs.Lost.Matching.{depthBehind}
 use Rattle.claims.proofs.Events.Refusals.{refuse-right}
 use Rattle.claims.proofs.Events.EventCases.{StartNote, startNote, start-whole, cut-gap, cut-attributes, cut-trailing, headNote, file-by}
+use Rattle.claims.proofs.Events.EventCases.{nameNote, name-by}
 
 abbrev pub eventMark : Event → List Mark
 eventMark (Open name fixed line) = start (name .0) line ∷ []
@@ -87,19 +87,19 @@ module _ (N : Names) (s : XmlStartElement) (k : ℕ) (l : List ℕ) where
   lead-marks true es = refl
   lead-marks false es = refl
 
-  named-marks : HaveMarks (fromNamed N s k l) (start (s .name .0) (s .line) ∷ [])
-  unfolding fromNamed fromOpen fromLead
-  named-marks = record {
+  open-marks : HaveMarks (fromOpen N s k l) (start (s .name .0) (s .line) ∷ [])
+  unfolding fromOpen fromLead
+  open-marks = record {
     told =
-        noted-marks (not (isValid (N .state (s .name .0)))) (InvalidElementName (s .name) (hasOne (N .state (s .name .0)))) (fromOpen N s k l)
-        ∙ ap (λ (ms : List Mark). start (s .name .0) (s .line) ∷ ms)
+        ap (λ (ms : List Mark). start (s .name .0) (s .line) ∷ ms)
         (lead-marks (eqb k 0) (attributesOf N (s .«attribute_count») (strideOf s) (drop (attributesAt s) l))
         ∙ attributes-marks N (s .«attribute_count») (strideOf s) (drop (attributesAt s) l));
   }
 
   name-marks : HaveMarks (fromName N s k l) (start (s .name .0) (s .line) ∷ [])
-  unfolding fromName
-  name-marks = record { told = noted-marks (not (eqb (N .damage (s .name .0)) 0)) (DamagedElementName (s .name) (N .damage (s .name .0))) (fromNamed N s k l) ∙ named-marks .told }
+  name-marks =
+      name-by N N s k l (λ ds es. HaveMarks ds (start (s .name .0) (s .line) ∷ []))
+      (λ b n ds es h. record { told = noted-marks b (nameNote N s n) ds ∙ h .told }) refl refl open-marks
 
   -- read whole it is one, cut it is none
   abbrev StartMarks : Bool → List Event → List Event → Type 0

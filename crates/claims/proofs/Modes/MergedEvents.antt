@@ -8,7 +8,7 @@ use mathlib.Core.List.{List, [], _∷_, _++_}
 use mathlib.Core.Bool.{Bool, true, false, cond, not}
 use lib.ListN.{drop}
 use lib.Dec.{eqb}
-use Rattle.anomaly.specs.declared.ResAnomaly.the-variants.{InvalidElementName, DamagedElementName, UnclosedElements}
+use Rattle.anomaly.specs.declared.ResAnomaly.the-variants.{UnclosedElements}
 use Rattle.records.specs.Words.{merged, apart}
 use Rattle.system_types.specs.Names.{Lent}
 use Rattle.text.specs.Content.{Content, contentOf, hasText, isAndroid, stateIn}
@@ -28,13 +28,13 @@ use Rattle.xml_elements.specs.declared.Turn.the-variants.{Stop, Foreign, Met, C
 use Rattle.xml_elements.specs.Chunk.{strideOf, attributesAt, attributeAt, turnOf}
 use Rattle.events.specs.declared.Event.{Event}
 use Rattle.events.specs.declared.Event.the-variants.{Nothing, Open, Attribute, LeftOut, Close, Note, Refuse, Finish}
-use Rattle.events.specs.Events.{Names, prefixIn, namesIn, when, isValid, hasOne, fixedOf, leading, attributeBy, attributeEvent, attributesOf}
+use Rattle.events.specs.Events.{Names, prefixIn, namesIn, when, fixedOf, leading, attributeBy, attributeEvent, attributesOf}
 use Rattle.events.specs.Events.{Spot, chunkYield, cutYield, yieldOf, foreignNote}
 use Rattle.events.specs.Events.{lastOf, fromRoot, out, bodyEvents, fileEvents}
-use Rattle.events.specs.Inner.Starts.{fromLead, fromOpen, fromNamed, fromName}
+use Rattle.events.specs.Inner.Starts.{fromLead, fromOpen, fromName}
 use Rattle.claims.specs.Modes.{mergedPrefix}
 use Rattle.claims.proofs.Events.EventCases.{StartNote, startNote, start-whole, cut-gap, cut-attributes, cut-trailing, body-by, headNote}
-use Rattle.claims.proofs.Events.EventCases.{file-by}
+use Rattle.claims.proofs.Events.EventCases.{file-by, nameNote, name-by}
 
 -- ---- one event
 
@@ -109,12 +109,7 @@ module _ (h : Head) (t : List ℕ) (lent : Lent) where
         (behind-when (eqb k 0) leading _ _ refl (attributes-map (s .«attribute_count») (strideOf s) (drop (attributesAt s) l)))
 
     name-map : mergeAll (fromName N₂ s k l) ≡ fromName N₁ s k l
-    unfolding fromName fromNamed
-    name-map =
-        let state = N₂ .state (s .name .0) in
-        let damage = N₂ .damage (s .name .0) in
-        behind-when (not (eqb damage 0)) (Note (DamagedElementName (s .name) damage)) (fromNamed N₂ s k l) (fromNamed N₁ s k l) refl
-        (behind-when (not (isValid state)) (Note (InvalidElementName (s .name) (hasOne state))) (fromOpen N₂ s k l) (fromOpen N₁ s k l) refl open-map)
+    name-map = name-by N₂ N₁ s k l (λ ds es. mergeAll ds ≡ es) (λ b n ds es h. behind-when b (Note (nameNote N₂ s n)) ds es refl h) refl refl open-map
 
   abbrev Merges : List Event → List Event → Type 0
   Merges ds es = mergeAll ds ≡ es

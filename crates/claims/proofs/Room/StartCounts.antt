@@ -5,13 +5,13 @@
 --   few-gap-cut, few-attributes-cut, few-trailing-cut   a start that is cut makes notes alone
 use Prim.Native.Nat.{ℕ, zero, suc, _+_, _≤_}
 use native.Mathlib.Omega.{arith}
-use mathlib.Core.Path.{_≡_}
+use mathlib.Core.Path.{_≡_, refl}
 use mathlib.Core.List.{List, [], _∷_, _++_}
-use mathlib.Core.Bool.{Bool, true, false, not, cond}
+use mathlib.Core.Bool.{Bool, true, false, cond}
 use lib.ListN.{drop}
 use lib.Dec.{eqb}
 use Rattle.anomaly.specs.declared.ResAnomaly.{ResAnomaly}
-use Rattle.anomaly.specs.declared.ResAnomaly.the-variants.{InvalidElementName, DamagedElementName, TruncatedXml}
+use Rattle.anomaly.specs.declared.ResAnomaly.the-variants.{TruncatedXml}
 use Rattle.text.specs.declared.NameState.{NameState}
 use Rattle.text.specs.declared.NameState.the-variants.{NoText, Invalid, Valid}
 use Rattle.xml_elements.specs.declared.XmlStartElement.{XmlStartElement}
@@ -19,10 +19,10 @@ use Rattle.xml_elements.specs.declared.XmlAttributeElement.{XmlAttributeElement
 use Rattle.xml_elements.specs.Chunk.{strideOf, attributesAt, attributeAt}
 use Rattle.events.specs.declared.Event.{Event}
 use Rattle.events.specs.declared.Event.the-variants.{Note}
-use Rattle.events.specs.Events.{Names, isValid, hasOne, when, leading, attributeBy, attributeEvent, attributesOf, startEvents, gapNote, sizeNote, trailingNote, cutShort}
-use Rattle.events.specs.Inner.Starts.{fromLead, fromOpen, fromNamed, fromName}
+use Rattle.events.specs.Events.{Names, when, leading, attributeBy, attributeEvent, attributesOf, startEvents, gapNote, sizeNote, trailingNote, cutShort}
+use Rattle.events.specs.Inner.Starts.{fromLead, fromOpen, fromName}
 use Rattle.claims.specs.Counts.{sumOf, isOpen, isAttribute, opensIn, attributesIn}
-use Rattle.claims.proofs.Events.EventCases.{StartNote, startNote, start-whole, cut-gap, cut-attributes, cut-trailing}
+use Rattle.claims.proofs.Events.EventCases.{StartNote, startNote, start-whole, cut-gap, cut-attributes, cut-trailing, nameNote, name-by}
 
 -- ---- how many
 
@@ -87,15 +87,10 @@ module _ (N : Names) (s : XmlStartElement) (k : ℕ) (l : List ℕ) where
   unfolding fromOpen
   few-open = record { opens = omega (arith, few-lead .opens); attributes = omega (arith, few-lead .attributes) }
 
-  few-named : Few (fromNamed N s k l) 1 (1 + s .«attribute_count»)
-  unfolding fromNamed
-  few-named =
-      few-noted (not (isValid (N .state (s .name .0)))) (InvalidElementName (s .name) (hasOne (N .state (s .name .0)))) (fromOpen N s k l) 1
-      (1 + s .«attribute_count») few-open
-
   few-name : Few (fromName N s k l) 1 (1 + s .«attribute_count»)
-  unfolding fromName
-  few-name = few-noted (not (eqb (N .damage (s .name .0)) 0)) (DamagedElementName (s .name) (N .damage (s .name .0))) (fromNamed N s k l) 1 (1 + s .«attribute_count») few-named
+  few-name =
+      name-by N N s k l (λ ds es. Few ds 1 (1 + s .«attribute_count»)) (λ b n ds es h. few-noted b (nameNote N s n) ds 1 (1 + s .«attribute_count») h) refl refl
+      few-open
 
   -- behind the notes 6, 7 and 8
   abbrev FewStart : Bool → List Event → List Event → Type 0

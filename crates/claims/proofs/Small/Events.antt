@@ -14,7 +14,7 @@ use Rattle.anomaly.specs.declared.Note.{Note as NoteOf}
 use Rattle.anomaly.specs.declared.ResAnomaly.{ResAnomaly}
 use Rattle.anomaly.specs.declared.ResAnomaly.the-variants.{NonXmlChunk}
 use Rattle.anomaly.specs.declared.ResAnomaly.the-variants.{XmlNodeHeaderSize, UnknownChunk}
-use Rattle.anomaly.specs.declared.ResAnomaly.the-variants.{InvalidElementName, TruncatedXml, UnclosedElements, DamagedElementName}
+use Rattle.anomaly.specs.declared.ResAnomaly.the-variants.{TruncatedXml, UnclosedElements}
 use Rattle.errors.specs.Refusal.{valueOf}
 use Rattle.errors.specs.declared.Refusal.the-variants.{MissingRoot}
 use Rattle.res_string_pool.specs.Pool.{offsetOf, outsideOf}
@@ -34,15 +34,17 @@ use Rattle.xml_elements.specs.Chunk.{strideOf, attributesAt, attributeAt, turnO
 use Rattle.xml_elements.proofs.Laws.{cond-by}
 use Rattle.events.specs.declared.Event.{Event}
 use Rattle.events.specs.declared.Event.the-variants.{Nothing, Open, Attribute, LeftOut, Close, Note, Refuse, Finish}
-use Rattle.events.specs.Events.{Names, isValid, hasOne, fixedOf, when, leading, attributeBy, attributeEvent, attributesOf, cutShort}
+use Rattle.events.specs.Events.{Names, hasOne, fixedOf, when, leading, attributeBy, attributeEvent, attributesOf, cutShort}
 use Rattle.events.specs.Events.{Spot, foreignNote, chunkYield, cutYield, yieldOf, nextOf, chunkNext, cutNext, fromRoot, lastOf, out}
 use Rattle.events.specs.Events.{eventsOn, bodyEvents, fileEvents}
-use Rattle.events.specs.Inner.Starts.{fromLead, fromOpen, fromNamed, fromName}
+use Rattle.events.specs.Inner.Starts.{fromLead, fromOpen, fromName}
+use mathlib.Core.Path.{refl}
 use Rattle.claims.proofs.Events.EventCases.{StartNote, shifted, sized, trailing, startNote, start-whole, cut-gap, cut-attributes, cut-trailing}
-use Rattle.claims.proofs.Events.EventCases.{body-by, HeadNote, garbage, count, offsets, headNote, file-by}
+use Rattle.claims.proofs.Events.EventCases.{body-by, HeadNote, garbage, count, offsets, headNote, file-by, NameNote, damaged, invalid}
 use Rattle.claims.proofs.Small.Bytes.{Fits, InBytes, drop-bytes, SmallAttribute, SmallStart, attribute-small, SmallChunk, SmallCut, SmallTurn}
 use Rattle.claims.proofs.Small.Bytes.{turn-small}
 use Rattle.claims.proofs.Small.Head.{SmallOpened}
+use Rattle.claims.proofs.Events.EventCases.{nameNote, name-by}
 
 -- ---- events
 
@@ -116,13 +118,10 @@ module _ (N : Names) (prefixes : (i : ℕ) → Fits (N .prefixOf i)) (states : (
   )
 
   module _ (s : XmlStartElement) (w : SmallStart s) (k : ℕ) (l : List ℕ) (h : InBytes l) where
-    name-note : (x : NameState) → SmallNote (noteOf (InvalidElementName (s .name) (hasOne x)))
+    name-note : (n : NameNote) → SmallNote (noteOf (nameNote N s n))
     unfolding noteOf
-    name-note x = record { kind = omega arith; first = w .name; second = has-small x }
-
-    damage-note : SmallNote (noteOf (DamagedElementName (s .name) (N .damage (s .name .0))))
-    unfolding noteOf
-    damage-note = record { kind = omega arith; first = w .name; second = states (s .name .0) }
+    name-note damaged = record { kind = omega arith; first = w .name; second = states (s .name .0) }
+    name-note invalid = record { kind = omega arith; first = w .name; second = has-small (N .state (s .name .0)) }
 
     start-note : (n : StartNote) → SmallNote (noteOf (startNote s n))
     unfolding noteOf
@@ -141,12 +140,7 @@ module _ (N : Names) (prefixes : (i : ℕ) → Fits (N .prefixOf i)) (states : (
     open-small = ((w .name, fixed-small (N .state (s .name .0)), w .line), lead-small)
 
     name-small : Small (fromName N s k l)
-    unfolding fromName fromNamed
-    name-small =
-        let state = N .state (s .name .0) in
-        let damage = N .damage (s .name .0) in
-        behind-note (not (eqb damage 0)) (DamagedElementName (s .name) damage) (fromNamed N s k l) damage-note
-        (behind-note (not (isValid state)) (InvalidElementName (s .name) (hasOne state)) (fromOpen N s k l) (name-note state) open-small)
+    name-small = name-by N N s k l (λ ds es. Small ds) (λ b n ds es r. behind-note b (nameNote N s n) ds (name-note n) r) refl refl open-small
 
     behind : (whole b : Bool) (n : StartNote) (ds es : List Event) → Small ds → Small (when b (Note (startNote s n)) ++ ds)
     behind whole b n ds es h = behind-note b (startNote s n) ds (start-note n) h

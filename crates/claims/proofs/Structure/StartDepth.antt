@@ -6,12 +6,12 @@ use Prim.Native.Nat.{ℕ, zero, suc, _+_}
 use native.Mathlib.Omega.{arith}
 use mathlib.Core.Path.{_≡_, refl, _∙_}
 use mathlib.Core.List.{List, [], _∷_, _++_}
-use mathlib.Core.Bool.{Bool, true, false, not, cond}
+use mathlib.Core.Bool.{Bool, true, false, cond}
 use lib.ListN.{drop}
 use lib.Dec.{eqb}
 use Rattle.anomaly.specs.Note.{noteOf}
 use Rattle.anomaly.specs.declared.ResAnomaly.{ResAnomaly}
-use Rattle.anomaly.specs.declared.ResAnomaly.the-variants.{InvalidElementName, DamagedElementName, InvalidAttributeName, TruncatedXml}
+use Rattle.anomaly.specs.declared.ResAnomaly.the-variants.{InvalidAttributeName, TruncatedXml}
 use Rattle.text.specs.declared.NameState.{NameState}
 use Rattle.text.specs.declared.NameState.the-variants.{NoText, Invalid, Valid}
 use Rattle.xml_elements.specs.declared.XmlStartElement.{XmlStartElement}
@@ -19,13 +19,14 @@ use Rattle.xml_elements.specs.declared.XmlAttributeElement.{XmlAttributeElement
 use Rattle.xml_elements.specs.Chunk.{strideOf, attributesAt, attributeAt}
 use Rattle.events.specs.declared.Event.{Event}
 use Rattle.events.specs.declared.Event.the-variants.{Note}
-use Rattle.events.specs.Events.{Names, when, isValid, hasOne, leading, attributeBy, attributesOf, attributeEvent}
+use Rattle.events.specs.Events.{Names, when, leading, attributeBy, attributesOf, attributeEvent}
 use Rattle.events.specs.Events.{cutShort, startEvents, gapNote, sizeNote, trailingNote}
-use Rattle.events.specs.Inner.Starts.{fromLead, fromOpen, fromNamed, fromName}
+use Rattle.events.specs.Inner.Starts.{fromLead, fromOpen, fromName}
 use Rattle.claims.specs.Counts.{opensIn, stepped, depthFrom, notesIn}
 use Rattle.claims.proofs.Events.NotesAndOthers.{notesIn-append}
 use Rattle.claims.proofs.Events.KeptNotes.{All, all-append}
 use Rattle.claims.proofs.Events.EventCases.{StartNote, shifted, sized, trailing, startNote, start-whole, cut-gap, cut-attributes, cut-trailing}
+use Rattle.claims.proofs.Events.EventCases.{NameNote, damaged, invalid, nameNote, name-by}
 
 -- ---- lists of events
 
@@ -102,16 +103,14 @@ module _ (N : Names) (s : XmlStartElement) (k : ℕ) (l : List ℕ) where
   unfolding fromOpen
   open-opening = record { opens = omega (arith, lead-opening .opens); depth = λ d. omega (arith, lead-opening .depth (d + 1)); plain = lead-opening .plain }
 
-  named-opening : Opening (fromNamed N s k l) 1
-  unfolding fromNamed noteOf
-  named-opening =
-      noted-opening (not (isValid (N .state (s .name .0)))) (InvalidElementName (s .name) (hasOne (N .state (s .name .0)))) (fromOpen N s k l) 1
-      (λ e. omega arith) open-opening
+  name-plain : (n : NameNote) → NotTwelve (nameNote N s n)
+  unfolding noteOf
+  name-plain damaged = λ e. omega arith
+  name-plain invalid = λ e. omega arith
 
   name-opening : Opening (fromName N s k l) 1
-  unfolding fromName noteOf
   name-opening =
-      noted-opening (not (eqb (N .damage (s .name .0)) 0)) (DamagedElementName (s .name) (N .damage (s .name .0))) (fromNamed N s k l) 1 (λ e. omega arith) named-opening
+      name-by N N s k l (λ ds es. Opening ds 1) (λ b n ds es h. noted-opening b (nameNote N s n) ds 1 (name-plain n) h) refl refl open-opening
 
   -- behind the notes 6, 7 and 8
   abbrev OpeningStart : Bool → List Event → List Event → Type 0
