@@ -17,6 +17,8 @@ pub use equal::same_found;
 pub use equal::same_found_known;
 use equal::same_part;
 pub use part::content_of;
+pub use part::found_ascii;
+pub use part::found_ascii_into;
 pub use part::found_into;
 use part::found_state;
 pub use part::found_whole;
