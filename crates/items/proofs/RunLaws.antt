@@ -16,9 +16,10 @@ use Rattle.records.specs.Words.{itemWidth}
 use Rattle.utf.specs.Text.{eqBytes}
 use Rattle.utf.specs.Plain.{isAscii}
 use Rattle.utf.proofs.Equal.{eqBytes-refl, eqBytes-true, eqBytes-false, eqBytes-not}
+use Rattle.utf.proofs.Tables.{both-true}
 use Rattle.items.specs.declared.Item.{Item}
 use Rattle.items.specs.declared.ItemsRead.the-variants.{Good}
-use Rattle.items.specs.Items.{itemAt, itemsFrom, itemsOf, attributeOf, sameAttribute, namedIn, isNew, tableOf}
+use Rattle.items.specs.Items.{itemAt, itemsFrom, itemsOf, partIn, attributeOf, sameAttribute, namedIn, isNew, tableOf}
 use Rattle.items.specs.Inner.Back.{backTo}
 use Rattle.items.specs.Inner.Firsts.{placeCount, placeOf, Firsts}
 use Rattle.items.specs.Inner.Turns.{restFrom, FirstNamed, EndOf, RunOf}
@@ -335,3 +336,15 @@ module _ (area name w : List ℕ) where
           let o = e .behind in
           let t = together area w good j first m (omega arith) (f .here p ∙ sym z) in
           e .other (omega arith) (t .all (r .end) (omega arith) l ∙ z ∙ sym (f .here p))
+
+-- ---- names at one place
+
+pub same-parts : (area : List ℕ) (i j : Item) → (eqb (i .attribute) (j .attribute) && eqb (i .«attribute_len») (j .«attribute_len»)) ≡ true
+    → true ≡ sameAttribute area i j
+same-parts area i j e =
+    let p = both-true (eqb (i .attribute) (j .attribute)) (eqb (i .«attribute_len») (j .«attribute_len»)) e in
+    let start = eqb-true (i .attribute) (j .attribute) (p .0) in
+    let len = eqb-true (i .«attribute_len») (j .«attribute_len») (p .1) in
+    sym (ap (λ (k : ℕ). eqBytes (partIn area k (i .«attribute_len»)) (attributeOf area j)) start
+    ∙ ap (λ (k : ℕ). eqBytes (partIn area (j .attribute) k) (attributeOf area j)) len
+    ∙ eqBytes-refl (attributeOf area j))

@@ -111,11 +111,14 @@ pub fn item_at(items: &[u32], k: usize) -> Item
     }
 }
 
-// Whether two items are of one attribute, by the bytes of its name.
+// Whether two items are of one attribute, by the bytes of its name; items whose names lie at one place need no look at them.
 // Ruled out: no for the same name at two places, and yes for a name and one that begins with it.
 pub fn same_attribute(area: &[u8], i: Item, j: Item) -> bool
     ensures { λ r. ⌜ r ≡ sameAttribute (now (area .entry)) i j ⌝ }
 {
+    if (i.attribute == j.attribute) & (i.attribute_len == j.attribute_len) {
+        return true;
+    }
     same_bytes(
         part_of(area, i.attribute, i.attribute_len),
         part_of(area, j.attribute, j.attribute_len),
@@ -223,18 +226,27 @@ fn check_each(items: &[u32], area: &[u8], plain: bool, firsts: &[usize]) -> Item
     ItemsRead::Good
 }
 
-// Whether the lent items keep their rule. All of them are looked at, each time; the first item of an attribute is compared with those before
-// it only from the first on that stands at the same place by its name (looking.rt).
+// Whether the lent items keep their rule, where the first item at each place of a name is known. All of them are looked at, each time; the first
+// item of an attribute is compared with those before it only from the first on that stands at the same place by its name (looking.rt).
 // Ruled out: Good for items of one attribute apart, and the earlier of two items whose kinds differ.
+pub fn check_known(items: &[u32], area: &[u8], firsts: &[usize]) -> ItemsRead
+    requires { ⌜ Firsts (now area) (now items) (now firsts) ⌝ }
+    ensures { λ r. ⌜ r ≡ tableOf (now (area .entry)) (now (items .entry)) ⌝ }
+{
+    check_each(
+        items,
+        area,
+        is_plain(area, items.len() / ITEM_WORDS),
+        firsts,
+    )
+}
+
+// The same for items of which nothing is known.
+// Ruled out: as above.
 pub fn check_items(items: &[u32], area: &[u8]) -> ItemsRead
     ensures { λ r. ⌜ r ≡ tableOf (now (area .entry)) (now (items .entry)) ⌝ }
 {
     let mut firsts = [NO_ITEM; PLACES];
     put_firsts(items, area, &mut firsts);
-    check_each(
-        items,
-        area,
-        is_plain(area, items.len() / ITEM_WORDS),
-        &firsts,
-    )
+    check_known(items, area, &firsts)
 }

@@ -25,7 +25,8 @@ use Rattle.text.specs.declared.Head.{Head}
 use Rattle.text.specs.declared.Found.{Found}
 use Rattle.text.specs.declared.Found.the-variants.{Nothing, Cut, System, Pool}
 use Rattle.text.specs.Content.{Content, textIn, damageIn}
-use Rattle.text.specs.Inner.Found.{Wrote as Put, partOf, isFound}
+use Rattle.text.specs.Inner.Found.{Wrote as Put, partOf, isFound, asciiIn}
+use Rattle.text.proofs.Read.{ascii-whole}
 use Rattle.head.specs.Head.{tablesIn}
 use Rattle.head.specs.Ask.{openOf, stateTold, askedBy as contentBy}
 use Rattle.head.specs.declared.OpenRead.{OpenRead}
@@ -34,6 +35,7 @@ use Rattle.value_text.specs.declared.Attribute.{Attribute}
 use Rattle.value_text.specs.declared.Told.{Told}
 use Rattle.errors.specs.Refusal.{stateOf, replacedOf}
 use Rattle.errors.specs.declared.TextState.{TextState}
+use Rattle.errors.specs.declared.TextState.the-variants.{Whole}
 use Rattle.value_text.specs.declared.Told.the-variants.{Shown, NoName, NoText}
 use Rattle.value_text.specs.Value.{Value, noName, noText, shows, shown, valueOf, valueOpen}
 use Rattle.value_text.specs.Inner.Leads.{Tells, toldOf}
@@ -93,6 +95,17 @@ module _ {c : Content} {out : List ℕ} (w : Bool) (t area : List ℕ) where
   index-some Cut e p s q = rw (← e, q) (tells-text (leads-put s))
   index-some (System at n) e p s q = rw (← e, q) (tells-text (leads-put s))
   index-some (Pool at n) e p s q = rw (← e, q) (tells-text (leads-put s))
+
+  pub index-ascii :
+      {k : ℕ} {after : List ℕ} (g : Found) →
+      partOf w t area g ≡ c →
+      asciiIn (partOf w t area g) ≡ true →
+      Put (textIn (partOf w t area g)) out after k →
+      Tells (valueIn c) out (Shown k 0 Whole) after
+  index-ascii Nothing e p s = let z : _≡_ {A = ℕ} 0 1 = cc in absurd (let y : ⊥ = omega arith in y)
+  index-ascii Cut e p s = let z : _≡_ {A = ℕ} 0 1 = cc in absurd (let y : ⊥ = omega arith in y)
+  index-ascii (System at n) e p s = index-some (System at n) e refl s (ap stateTold (sym (ascii-whole (partOf w t area (System at n)) p)))
+  index-ascii (Pool at n) e p s = index-some (Pool at n) e refl s (ap stateTold (sym (ascii-whole (partOf w t area (Pool at n)) p)))
 
 -- the value of an attribute that is a record's
 pub value-turn :

@@ -54,12 +54,14 @@ use records::attribute_place;
 use tables::zero_from;
 use text::Head;
 use text::find;
+use text::found_ascii;
+use text::found_ascii_into;
 use text::found_into;
 use text::is_found;
 use value_text::Attribute;
 use value_text::Told;
 use value_text::named_into;
-use value_text::open_value;
+use value_text::open_known;
 use value_text::uri_into;
 
 pub const ANSWER_WORDS: usize = 6;
@@ -300,6 +302,10 @@ fn index_into(
     ensures { λ r. ⌜ Tells (valueIn (contentOf h (now (t .entry)) (lends (now (names .entry)) (now (area .entry))) (index .0))) (now (out .entry)) r (now (out .exit)) ⌝ }
 {
     let f = find(t, names, area, h, index);
+    if found_ascii(t, area, h.wide, f) {
+        let n = found_ascii_into(t, area, h.wide, f, out);
+        return Told::Shown(n, 0, TextState::Whole);
+    }
     if !is_found(f) {
         return Told::NoName;
     }
@@ -432,12 +438,14 @@ fn values_in(
     h: Head,
     items: &[u32],
     item_area: &[u8],
+    firsts: &[usize],
     attributes: &[u32],
     out: &mut [u8],
     answers: &mut [u32],
     attribute_count: u32,
 ) -> ManyTexts
-    requires { ⌜ Asks (now t) (lends (now names) (now area)) h × (tableOf (now «item_area») (now items) ≡ Good) ⌝ }
+    requires { ⌜ Asks (now t) (lends (now names) (now area)) h × (tableOf (now «item_area») (now items) ≡ Good)
+        × Firsts (now «item_area») (now items) (now firsts) ⌝ }
     ensures { λ r. ⌜ Gives (length (now (out .entry))) (length (now (answers .entry))) «attribute_count»
         (recordValue h (now (t .entry)) (lends (now (names .entry)) (now (area .entry))) (now (items .entry)) (now («item_area» .entry)) (now (attributes .entry)))
         (cond (ltb (length (now (attributes .entry))) (attributeWidth * «attribute_count»)) (Refused (TablesError «attribute_count»))
@@ -452,8 +460,6 @@ fn values_in(
     if places < count {
         return refuse(out, answers, Refusal::AnswersFull(places));
     }
-    let mut firsts = [NO_ITEM; PLACES];
-    put_firsts(items, item_area, &mut firsts);
     let at = put_values(
         t,
         names,
@@ -461,7 +467,7 @@ fn values_in(
         h,
         items,
         item_area,
-        &firsts,
+        firsts,
         attributes,
         out,
         answers,
@@ -513,7 +519,9 @@ pub fn value_texts(
     ensures { λ r. ⌜ ReadsValues (now (file .entry)) (lends (now (names .entry)) (now (area .entry))) (now (items .entry)) (now («item_area» .entry))
         (now (attributes .entry)) (now (out .entry)) (now (answers .entry)) «attribute_count» r (now (out .exit)) (now (answers .exit)) ⌝ }
 {
-    let opened = open_value(file, names, area, items, item_area);
+    let mut firsts = [NO_ITEM; PLACES];
+    put_firsts(items, item_area, &mut firsts);
+    let opened = open_known(file, names, area, items, item_area, &firsts);
     match opened {
         OpenRead::Open(h) => values_in(
             tables_of(file, h),
@@ -522,6 +530,7 @@ pub fn value_texts(
             h,
             items,
             item_area,
+            &firsts,
             attributes,
             out,
             answers,

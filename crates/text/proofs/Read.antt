@@ -11,12 +11,13 @@ use lib.ListN.{length, take, drop, getD, length-take, length-drop, List·getD-eq
 use lib.Seq.{getD-take, getD-drop, length-take-le}
 use lib.Dec.{ltb}
 use Rattle.records.specs.Limits.{fileLimit}
-use Rattle.utf.specs.Text.{textOf, putText, eqBytes, isSound, allSound, stepsAfter}
+use Rattle.utf.specs.Text.{textOf, putText, eqBytes, isSound, allSound, stepsAfter, whole}
 use Rattle.utf.specs.Plain.{isAscii}
 use Rattle.utf.proofs.Filled.{putText-nil}
-use Rattle.utf.proofs.Laws.{textOf-nil, textOf-whole, textOf-sound, textOf-ascii, textOf-length-le}
+use Rattle.utf.proofs.Laws.{textOf-nil, textOf-whole, textOf-sound, textOf-ascii, textOf-length-le, damageOf-whole}
 use Rattle.utf.proofs.Equal.{eqBytes-refl, eqBytes-true}
 use Rattle.utf.proofs.Ascii.{isAscii-at}
+use Rattle.utf.proofs.AsciiText.{asciiText-sound}
 use Rattle.res_string_pool.specs.Pool.{offsetOf}
 use Rattle.res_string_pool.specs.Content.{splitOf}
 use Rattle.res_string_pool.specs.declared.Split.{Split}
@@ -26,8 +27,8 @@ use Rattle.text.specs.declared.Head.{Head}
 use Rattle.text.specs.declared.Found.{Found}
 use Rattle.text.specs.declared.Found.the-variants.{Nothing, Cut, System, Pool}
 use Rattle.text.specs.Content.{Content, none, cut, some, systemOf, splitBy, stringAt, dataOf, stringOf, orElse, contentOf, textIn, hasText}
-use Rattle.text.specs.Content.{sameText, isText}
-use Rattle.text.specs.Inner.Found.{partOf, Inside, isFound, Wrote}
+use Rattle.text.specs.Content.{sameText, isText, damageIn}
+use Rattle.text.specs.Inner.Found.{partOf, Inside, isFound, asciiIn, Wrote}
 use Rattle.text.proofs.Index.{stringOf-in, stringOf-past}
 use Rattle.text.proofs.Parts.{slice-of}
 
@@ -200,3 +201,17 @@ wrote-none before e = rw (← e) (record { count = refl; bytes = sym (putText-ni
 -- the text of a part of no more bytes than a file has
 pub textOf-held : (w : Bool) (s : List ℕ) {y : List ℕ} → textOf w s ≡ y → length s ≤ fileLimit → length y ≤ 0xffffffffffffffff
 textOf-held w s e l = omega (arith, textOf-length-le w s, ap length e)
+
+-- ---- a text of ASCII
+
+-- a system name is one
+pub ascii-system : (w : Bool) (t area : List ℕ) {f : Found} {at n : ℕ} → Inside t area f → f ≡ System at n → true ≡ asciiIn (partOf w t area f)
+ascii-system w t area {f} {at} {n} i e =
+    let q : (at + n ≤ length area) × (isAscii (take n (drop at area)) ≡ true) = rw e at i in
+    sym (ap (λ (g : Found). asciiIn (partOf w t area g)) e ∙ q .1)
+
+-- and it is whole
+pub ascii-whole : (c : Content) → asciiIn c ≡ true → damageIn c ≡ whole
+ascii-whole none e = refl
+ascii-whole cut e = let z : _≡_ {A = ℕ} 0 1 = cc in absurd (let y : ⊥ = omega arith in y)
+ascii-whole (some w s) e = damageOf-whole w s (asciiText-sound w s e)

@@ -16,6 +16,8 @@ pub use equal::same_found;
 pub use equal::same_found_known;
 use equal::same_part;
 pub use part::content_of;
+pub use part::found_ascii;
+pub use part::found_ascii_into;
 pub use part::found_into;
 pub use part::found_whole;
 ghost use mathlib.Core.Path.{_≡_};

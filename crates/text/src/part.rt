@@ -5,12 +5,14 @@
 use super::Found;
 use super::NameState;
 ghost use mathlib.Core.Path.{_≡_};
-ghost use mathlib.Core.Bool.{Bool};
+ghost use mathlib.Core.Bool.{Bool, true};
 ghost use Prim.Native.Nat.{_≤_};
 ghost use lib.ListN.{length};
 ghost use Rattle.records.specs.Limits.{fileLimit};
 ghost use Rattle.text.specs.Content.{rawOf, textIn, validBy, stateIn};
-ghost use Rattle.text.specs.Inner.Found.{partOf, wholeName, Inside, Wrote};
+ghost use Rattle.text.specs.Inner.Found.{partOf, wholeName, asciiIn, Inside, Wrote};
+use utf::ascii_into;
+use utf::is_ascii_text;
 use utf::text_into;
 use xml::valid_name;
 use xml::whole_name;
@@ -78,5 +80,33 @@ pub fn found_whole(t: &[u8], area: &[u8], wide: bool, f: Found) -> bool
         Found::Cut => false,
         Found::System(at, n) => whole_name(false, &area[at..at + n]),
         Found::Pool(at, n) => whole_name(wide, &t[at..at + n]),
+    }
+}
+
+// Whether there is a text that is seen at once to be ASCII, and so to be whole: a system name, or a string of the pool with no other character.
+// Ruled out: true of a string that is cut, whose text is empty; true of 41 01 in a UTF-16 pool, which is U+0141.
+pub fn found_ascii(t: &[u8], area: &[u8], wide: bool, f: Found) -> bool
+    requires { ⌜ Inside (now t) (now area) f ⌝ }
+    ensures { λ r. ⌜ r ≡ asciiIn (partOf wide (now (t .entry)) (now (area .entry)) f) ⌝ }
+{
+    match f {
+        Found::Nothing => false,
+        Found::Cut => false,
+        Found::System(_, _) => true,
+        Found::Pool(at, n) => is_ascii_text(wide, &t[at..at + n]),
+    }
+}
+
+// What `found_into` does, for a text that `found_ascii` has told to be ASCII: it is copied, and not looked at again.
+// Ruled out: both bytes of a unit of UTF-16; a byte changed where the text does not fit.
+pub fn found_ascii_into(t: &[u8], area: &[u8], wide: bool, f: Found, out: &mut [u8]) -> usize
+    requires { ⌜ Inside (now t) (now area) f × (length (now t) ≤ fileLimit) × (asciiIn (partOf wide (now t) (now area) f) ≡ true) ⌝ }
+    ensures { λ r. ⌜ Wrote (textIn (partOf wide (now (t .entry)) (now (area .entry)) f)) (now (out .entry)) (now (out .exit)) r ⌝ }
+{
+    match f {
+        Found::Nothing => 0,
+        Found::Cut => 0,
+        Found::System(at, n) => ascii_into(false, &area[at..at + n], out),
+        Found::Pool(at, n) => ascii_into(wide, &t[at..at + n], out),
     }
 }

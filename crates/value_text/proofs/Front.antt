@@ -4,7 +4,7 @@
 use Prim.Native.Nat.{ℕ, _+_, _-_, _/_, _≤_, _<_}
 use mathlib.Core.Path.{_≡_, refl, sym, ap, _∙_}
 use mathlib.Core.List.{List, [], _∷_, _++_, append-nil}
-use mathlib.Core.Bool.{Bool, true, false, not, cond}
+use mathlib.Core.Bool.{Bool, true, false, not, cond, true≢false}
 use native.Mathlib.Omega.{arith}
 use native.Mathlib.Nat.{zero-add}
 use borrow.Author.Tests.{le-leb, lt-leb}
@@ -30,6 +30,7 @@ use Rattle.common.specs.declared.value.ResourceValueType.the-variants.{ColorArg
 use Rattle.system_types.specs.Names.{Lent}
 use Rattle.system_types.specs.declared.Lookup.{Lookup}
 use Rattle.text.specs.declared.Head.{Head}
+use Rattle.text.specs.Content.{stringOf, textIn}
 use Rattle.text.specs.Inner.Found.{Wrote as Put}
 use Rattle.items.specs.Items.{partIn, itemsOf, namedIn}
 use Rattle.items.specs.Values.{Text, nothing, says, isSaid, said, attrText, uncoveredOf}
@@ -37,11 +38,13 @@ use Rattle.items.specs.Inner.Turns.{runItems, RunOf, Spoken}
 use Rattle.items.proofs.TurnLaws.{partIn-le}
 use Rattle.items.specs.declared.Run.{Run}
 use Rattle.items.specs.declared.Said.{Said}
-use Rattle.value_text.specs.Value.{Value, noName, noText, shows, shown, orPlain, referenceBy, attributeBy, plainBy, plainState, namedValue, answerBy, bufferBy}
+use Rattle.value_text.specs.Value.{Value, noName, noText, shows, shown, stringState, orPlain, referenceBy, attributeBy, plainBy, plainState, namedValue, answerBy, bufferBy}
 use Rattle.value_text.specs.declared.Told.{Told}
 use Rattle.value_text.specs.declared.Told.the-variants.{Shown, NoName, NoText}
 use Rattle.value_text.specs.Inner.Leads.{Leads, Tells, Gives, toldOf}
-use Rattle.value_text.specs.Inner.Forms.{formOf, formText, formState, isOther}
+use Rattle.value_text.specs.Inner.Forms.{formOf, formText, formState, isOther, isPool}
+use Rattle.value_text.specs.declared.plain.Form.{Form}
+use Rattle.value_text.specs.declared.plain.Form.the-variants as forms
 
 -- ---- what wrote it
 
@@ -202,6 +205,42 @@ module _ (h : Head) (t : List ℕ) (lent : Lent) (u v : ℕ) (y : ResourceValueT
   tells-plain e a b =
       let q : isSaid (plainBy h t lent v y) ≡ true = form-other h t lent v y ∙ ap not e in
       rw (plain-text u (plainState h t v y) (plainBy h t lent v y) q, b, form-state h t v y) (tells-text (leads-same (sym (form-said h t lent v y)) a))
+
+-- a string of the pool, told
+pub tells-string :
+    (h : Head) (t : List ℕ) (lent : Lent) (u v : ℕ) (y : ResourceValueType) {l k : List ℕ} {r : Told} →
+    isPool (formOf y) ≡ true →
+    Tells (shows (textIn (stringOf h t v)) u (stringState (stringOf h t v))) l r k →
+    Tells (orPlain u (plainState h t v y) nothing (plainBy h t lent v y)) l r k
+unfolding plainBy plainState formOf
+tells-string h t lent u v Null e a = absurd (true≢false (sym e))
+tells-string h t lent u v Reference e a = absurd (true≢false (sym e))
+tells-string h t lent u v Attribute e a = absurd (true≢false (sym e))
+tells-string h t lent u v String e a = a
+tells-string h t lent u v Float e a = absurd (true≢false (sym e))
+tells-string h t lent u v Dimension e a = absurd (true≢false (sym e))
+tells-string h t lent u v Fraction e a = absurd (true≢false (sym e))
+tells-string h t lent u v DynamicReference e a = absurd (true≢false (sym e))
+tells-string h t lent u v DynamicAttribute e a = absurd (true≢false (sym e))
+tells-string h t lent u v Dec e a = absurd (true≢false (sym e))
+tells-string h t lent u v Hex e a = absurd (true≢false (sym e))
+tells-string h t lent u v Boolean e a = absurd (true≢false (sym e))
+tells-string h t lent u v ColorArgb8 e a = absurd (true≢false (sym e))
+tells-string h t lent u v ColorRgb8 e a = absurd (true≢false (sym e))
+tells-string h t lent u v ColorArgb4 e a = absurd (true≢false (sym e))
+tells-string h t lent u v ColorRgb4 e a = absurd (true≢false (sym e))
+tells-string h t lent u v (Unknown n) e a = absurd (true≢false (sym e))
+
+-- and what is not one is whole
+pub form-whole : (h : Head) (t : List ℕ) (v : ℕ) (f : Form) → isPool f ≡ false → Whole ≡ formState h t v f
+form-whole h t v forms.Reference e = refl
+form-whole h t v forms.Attribute e = refl
+form-whole h t v forms.Pool e = absurd (true≢false e)
+form-whole h t v forms.Number e = refl
+form-whole h t v forms.Word e = refl
+form-whole h t v forms.Truth e = refl
+form-whole h t v forms.Color e = refl
+form-whole h t v forms.Other e = refl
 
 -- the same of a buffer that held something else before
 pub tells-behind : {v : Value} {l m k : List ℕ} {r : Told} → length m ≡ length l → Tells v m r k → Tells v l r k

@@ -7,8 +7,9 @@ pub mod plain;
 
 use plain::form_of;
 use plain::is_other;
-use plain::plain_state;
+use plain::is_pool;
 use plain::put_plain;
+use plain::string_state;
 ghost use mathlib.Core.Path.{_≡_};
 ghost use mathlib.Core.Bool.{true};
 ghost use mathlib.Core.List.{List};
@@ -16,7 +17,7 @@ ghost use Prim.Native.Nat.{_/_, _≤_, _<_};
 ghost use lib.ListN.{length, replicate};
 ghost use Rattle.records.specs.Limits.{fileLimit};
 ghost use Rattle.system_types.specs.Names.{lends};
-ghost use Rattle.text.specs.Content.{isText, textIn, androidUri};
+ghost use Rattle.text.specs.Content.{isText, stringOf, textIn, androidUri};
 ghost use Rattle.text.specs.Inner.Found.{Asks, Inside, partOf, isFound};
 ghost use Rattle.items.specs.Items.{itemAt, attributeOf, tableOf};
 ghost use Rattle.items.specs.declared.ItemsRead.the-variants.{Good};
@@ -29,7 +30,7 @@ ghost use Rattle.errors.specs.declared.TextState.the-variants.{Whole};
 ghost use Rattle.errors.specs.declared.ValueAnswer.the-variants.{Refused};
 ghost use Rattle.head.specs.Ask.{headRead};
 ghost use Rattle.items.specs.Values.{nothing};
-ghost use Rattle.value_text.specs.Value.{shows, orPlain, plainBy, plainState, namedValue, valueOf, valueOpen, ValueReads};
+ghost use Rattle.value_text.specs.Value.{shows, stringState, orPlain, plainBy, plainState, namedValue, valueOf, valueOpen, ValueReads};
 ghost use Rattle.value_text.specs.Inner.Leads.{Leads, Tells, Gives, behindItems};
 use common::StringIndex;
 use digits::put_bytes;
@@ -49,6 +50,7 @@ use items::ItemsRead;
 use items::Run;
 use items::attr_value;
 use items::check_items;
+use items::check_known;
 use items::find_first;
 use items::item_at;
 use items::part_of;
@@ -59,6 +61,8 @@ use text::Found;
 use text::Head;
 use text::equal::same_part;
 use text::find;
+use text::found_ascii;
+use text::found_ascii_into;
 use text::found_into;
 use text::is_found;
 
@@ -174,7 +178,32 @@ pub fn known_run(
 
 // ---- the text of a value
 
-// By the type alone, with the bits that no name covers told.
+// The string of the pool and what became of it, found once: no names are asked, so none is found among them. One of ASCII, as most are, is whole,
+// and is not looked at again.
+fn string_told(
+    t: &[u8],
+    names: &[u32],
+    area: &[u8],
+    h: Head,
+    out: &mut [u8],
+    v: u32,
+    uncovered: u32,
+) -> Told
+    requires { ⌜ Asks (now t) (lends (now names) (now area)) h ⌝ }
+    ensures { λ r. ⌜ Tells (shows (textIn (stringOf h (now (t .entry)) v)) uncovered (stringState (stringOf h (now (t .entry)) v)))
+        (now (out .entry)) r (now (out .exit)) ⌝ }
+{
+    let f = find(t, &names[0..0], area, h, StringIndex(v));
+    if found_ascii(t, area, h.wide, f) {
+        let n = found_ascii_into(t, area, h.wide, f, out);
+        return Told::Shown(n, uncovered, TextState::Whole);
+    }
+    let n = found_into(t, area, h.wide, f, out);
+    let state = string_state(t, area, h.wide, f);
+    Told::Shown(n, uncovered, state)
+}
+
+// By the type alone, with the bits that no name covers told: only a string can be damaged.
 fn plain_into(
     t: &[u8],
     names: &[u32],
@@ -194,9 +223,11 @@ fn plain_into(
     if is_other(form) {
         return Told::NoText;
     }
-    let n = put_plain(t, names, area, h, out, form, v);
-    let state = plain_state(t, names, area, h, form, v);
-    Told::Shown(n, uncovered, state)
+    if is_pool(form) {
+        return string_told(t, names, area, h, out, v, uncovered);
+    }
+    let length = put_plain(t, names, area, h, out, form, v);
+    Told::Shown(length, uncovered, TextState::Whole)
 }
 
 // What the items of the attribute's name say first.
@@ -310,6 +341,26 @@ pub fn open_value(
     let entered = enter(file, names, area, Asker::Question);
     match entered {
         Entered::In(opened) => open_behind(opened, check_items(items, item_area)),
+        Entered::Out(why) => OpenRead::Closed(why),
+    }
+}
+
+// The same, where the first item at each place of a name is known.
+// Ruled out: as above.
+pub fn open_known(
+    file: &[u8],
+    names: &[u32],
+    area: &[u8],
+    items: &[u32],
+    item_area: &[u8],
+    firsts: &[usize],
+) -> OpenRead
+    requires { ⌜ Firsts (now «item_area») (now items) (now firsts) ⌝ }
+    ensures { λ r. ⌜ r ≡ valueOpen (now (file .entry)) (lends (now (names .entry)) (now (area .entry))) (now (items .entry)) (now («item_area» .entry)) ⌝ }
+{
+    let entered = enter(file, names, area, Asker::Question);
+    match entered {
+        Entered::In(opened) => open_behind(opened, check_known(items, item_area, firsts)),
         Entered::Out(why) => OpenRead::Closed(why),
     }
 }

@@ -7,17 +7,18 @@ ghost use mathlib.Core.List.{_∷_, List};
 ghost use Prim.Native.Nat.{_≤_};
 ghost use lib.Dec.{eqb};
 ghost use lib.ListN.{length};
+ghost use Rattle.records.specs.Limits.{fileLimit};
 ghost use Rattle.digits.specs.Digits.{signedText, hexText};
 ghost use Rattle.digits.specs.Written.{Wrote};
 ghost use Rattle.system_types.specs.Names.{Rising, lends, topByte, systemName};
 ghost use Rattle.text.specs.Content.{stringOf, textIn};
-ghost use Rattle.text.specs.Inner.Found.{Asks};
+ghost use Rattle.text.specs.Inner.Found.{Asks, Inside, partOf};
 ghost use Rattle.common.specs.ValueType.{valueTypeOf};
 ghost use Rattle.items.specs.Items.{partIn};
 ghost use Rattle.items.specs.Values.{said, isSaid};
 ghost use Rattle.value_text.specs.Value.{boolText, referenceBy, attributeBy, plainBy, stringState};
 ghost use Rattle.value_text.specs.Inner.Leads.{Leads};
-ghost use Rattle.value_text.specs.Inner.Forms.{formOf, formText, formState, isOther};
+ghost use Rattle.value_text.specs.Inner.Forms.{formOf, formText, isOther, isPool};
 use common::ResourceId;
 use common::ResourceValueType;
 use common::StringIndex;
@@ -31,6 +32,7 @@ use head::found_told;
 use items::part_of;
 use system_types::Lookup;
 use system_types::get_type_name;
+use text::Found;
 use text::Head;
 use text::find;
 use text::found_into;
@@ -122,34 +124,16 @@ fn put_string(t: &[u8], names: &[u32], area: &[u8], h: Head, out: &mut [u8], v: 
     found_into(t, area, h.wide, f, out)
 }
 
-// What became of the string of the pool; past the pool no text stood.
-fn string_state(t: &[u8], names: &[u32], area: &[u8], h: Head, v: u32) -> TextState
-    requires { ⌜ Asks (now t) (lends (now names) (now area)) h ⌝ }
-    ensures { λ r. ⌜ r ≡ stringState (stringOf h (now (t .entry)) v) ⌝ }
+// What became of the string that was found; past the pool no text stood.
+// Ruled out: `Whole` for a string past the pool.
+pub fn string_state(t: &[u8], area: &[u8], wide: bool, f: Found) -> TextState
+    requires { ⌜ Inside (now t) (now area) f × (length (now t) ≤ fileLimit) ⌝ }
+    ensures { λ r. ⌜ r ≡ stringState (partOf wide (now (t .entry)) (now (area .entry)) f) ⌝ }
 {
-    let f = find(t, &names[0..0], area, h, StringIndex(v));
     if !is_found(f) {
         return TextState::Cut;
     }
-    found_told(t, area, h.wide, f)
-}
-
-// What became of the text of a value: only a string can be damaged.
-// Ruled out: the damage of a string that is only the number of a reference, and `Whole` for a string past the pool.
-pub fn plain_state(t: &[u8], names: &[u32], area: &[u8], h: Head, form: Form, v: u32) -> TextState
-    requires { ⌜ Asks (now t) (lends (now names) (now area)) h ⌝ }
-    ensures { λ r. ⌜ r ≡ formState h (now (t .entry)) v form ⌝ }
-{
-    match form {
-        Form::Reference => TextState::Whole,
-        Form::Attribute => TextState::Whole,
-        Form::Pool => string_state(t, names, area, h, v),
-        Form::Number => TextState::Whole,
-        Form::Word => TextState::Whole,
-        Form::Truth => TextState::Whole,
-        Form::Color => TextState::Whole,
-        Form::Other => TextState::Whole,
-    }
+    found_told(t, area, wide, f)
 }
 
 // How a value of a type is written.
@@ -191,6 +175,22 @@ pub fn is_other(form: Form) -> bool
         Form::Truth => false,
         Form::Color => false,
         Form::Other => true,
+    }
+}
+
+// Whether a value of the form is a string of the pool.
+pub fn is_pool(form: Form) -> bool
+    ensures { λ r. ⌜ r ≡ isPool form ⌝ }
+{
+    match form {
+        Form::Reference => false,
+        Form::Attribute => false,
+        Form::Pool => true,
+        Form::Number => false,
+        Form::Word => false,
+        Form::Truth => false,
+        Form::Color => false,
+        Form::Other => false,
     }
 }
 

@@ -1,10 +1,5 @@
--- `items::check_items` meets its contract: the first item at each place, and then all of them (`check_each`).
-use Prim.Native.Nat.{_/_}
+-- `items::check_items` meets its contract: the first item at each place, and then all of them (`check_known`).
 use mathlib.Core.Path.{refl}
-use denote.Ref.{now}
-use lib.ListN.{length}
-use Rattle.records.specs.Words.{itemWidth}
-use Rattle.items.proofs.RunLaws.{plain-known}
 use borrow.Author.Needs.{needs}
 use Rattle.items.proofs.check_items.Statement.{statement}
 use Rattle.items.proofs.check_items.Tie as tie
@@ -15,27 +10,14 @@ slice-aggregate-put-firsts c = search needs
 put-firsts-requires : tie.Need-put-firsts-requires
 put-firsts-requires c κs = refl
 
-is-plain-requires : tie.Need-is-plain-requires
-is-plain-requires c κs = search needs
+slice-aggregate-check-known : tie.Need-slice-aggregate-check-known
+slice-aggregate-check-known c = search needs
 
-slice-aggregate-check-each : tie.Need-slice-aggregate-check-each
-slice-aggregate-check-each c = search needs
-
-check-each-requires : tie.Need-check-each-requires
-check-each-requires c κs =
-    let a = c .before .before .before .before .before .before .before .args in
-    (plain-known (length (now (a .items)) / itemWidth) (now (a .area)) (c .before .is-plain .ensures), c .before .before .before .put-firsts .ensures)
+check-known-requires : tie.Need-check-known-requires
+check-known-requires c κs = c .before .before .put-firsts .ensures
 
 returns : tie.Need-returns
-returns c = c .check-each .ensures
+returns c = c .check-known .ensures
 
 pub check-items-spec : {M : Type 1} → statement M
-check-items-spec =
-    tie.close
-    (tie.spec
-    slice-aggregate-put-firsts
-    put-firsts-requires
-    is-plain-requires
-    slice-aggregate-check-each
-    check-each-requires
-    returns)
+check-items-spec = tie.close (tie.spec slice-aggregate-put-firsts put-firsts-requires slice-aggregate-check-known check-known-requires returns)

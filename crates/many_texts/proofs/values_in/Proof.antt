@@ -1,5 +1,5 @@
 -- `many_texts::values_in` meets its contract: too few records, too few places, or all of them.
-use mathlib.Core.Path.{refl, _∙_}
+use mathlib.Core.Path.{_∙_}
 use native.Mathlib.Omega.{arith}
 use denote.Ref.{now}
 use Rattle.many_texts.proofs.Going.{gives-refused, gives-same, gives-full, values-unfit, values-fit, settled}
@@ -21,8 +21,10 @@ same-length-2 c = search needs
 
 returns : tie.Need-returns
 returns c =
-    let a = (c .before .before .before .before .before .before .before .before .before .before .before .before .before .before .before .before .before) .args in
-    gives-refused (values-unfit (now (a .attributes)) (a .attribute-count) _ (omega (arith, c .before .before .before .before .before .before .before .before .attribute-place .ensures, c .before .before .before .before .before .before .before .if1 .taken))) (c .before .before .before .before .refuse .ensures)
+    let a = c .before .before .before .before .before .before .before .before .before .before .before .before .before .before .before .before .before .before .args in
+    gives-refused (values-unfit (now (a .attributes)) (a .attribute-count) _
+    (omega (arith, c .before .before .before .before .before .before .before .before .attribute-place .ensures, c .before .before .before .before .before .before .before .if1 .taken)))
+    (c .before .before .before .before .refuse .ensures)
 
 refuse-requires-2 : tie.Need-refuse-requires-2
 refuse-requires-2 c κs = search needs
@@ -35,30 +37,26 @@ same-length-4 c = search needs
 
 returns-2 : tie.Need-returns-2
 returns-2 c =
-    let a = (c .before .before .before .before .before .before .before .before .before .before .before .before .before .before .before .before .before .before) .args in
+    let a = c .before .before .before .before .before .before .before .before .before .before .before .before .before .before .before .before .before .before .before .args in
     gives-refused
-    (values-fit (now (a .attributes)) (a .attribute-count) _ (omega (arith, c .before .before .before .before .before .before .before .before .before .attribute-place .ensures, c .before .before .before .before .before .before .before .before .if1 .left)) ∙ gives-full _ _ _ _ (c .before .before .before .before .before .before .before .if2 .taken)) (c .before .before .before .before .refuse2 .ensures)
-
-slice-aggregate-put-firsts : tie.Need-slice-aggregate-put-firsts
-slice-aggregate-put-firsts c = search needs
-
-put-firsts-requires : tie.Need-put-firsts-requires
-put-firsts-requires c κs = refl
-
-slice-aggregate-put-values : tie.Need-slice-aggregate-put-values
-slice-aggregate-put-values c = search needs
+    (values-fit (now (a .attributes)) (a .attribute-count) _
+    (omega (arith, c .before .before .before .before .before .before .before .before .before .attribute-place .ensures, c .before .before .before .before .before .before .before .before .if1 .left))
+    ∙ gives-full _ _ _ _ (c .before .before .before .before .before .before .before .if2 .taken))
+    (c .before .before .before .before .refuse2 .ensures)
 
 put-values-requires : tie.Need-put-values-requires
-put-values-requires c κs = (
-  (c .before .before .before .before .before .before .before .before .before .before .before .before .before .before .before .before .before) .pre .0,
-  (c .before .before .before .before .before .before .before .before .before .before .before .before .before .before .before .before .before) .pre .1,
-  c .before .before .before .before .put-firsts .ensures,
-  omega (arith, c .before .before .before .before .before .before .before .before .attribute-place .ensures, c .before .before .before .before .before .before .before .if1 .left),
-  omega (arith, c .before .before .before .before .before .before .if2 .left),
-)
+put-values-requires c κs =
+    let s = c .before .before .before .before .before .before .before .before .before .before .before .before .before .before in (
+      s .pre .0,
+      s .pre .1,
+      s .pre .2,
+      omega (arith, c .before .before .before .before .attribute-place .ensures, c .before .before .before .if1 .left),
+      omega (arith, c .before .before .if2 .left),
+    )
 
 settle-requires : tie.Need-settle-requires
-settle-requires c κs = omega (arith, c .before .before .before .before .before .before .put-values .ensures .wide, c .before .before .before .before .before .before .before .before .before .before .before .before .before .if2 .left)
+settle-requires c κs =
+    omega (arith, c .before .before .before .before .before .before .put-values .ensures .wide, c .before .before .before .before .before .before .before .before .before .if2 .left)
 
 same-length-5 : tie.Need-same-length-5
 same-length-5 c = search needs
@@ -68,8 +66,10 @@ same-length-6 c = search needs
 
 returns-3 : tie.Need-returns-3
 returns-3 c =
-    let a = (c .before .before .before .before .before .before .before .before .before .before .before .before .before .before .before .before .before .before .before .before .before .before .before .before .before .before .before .before .before) .args in
-    gives-same (values-fit (now (a .attributes)) (a .attribute-count) _ (omega (arith, c .before .before .before .before .before .before .before .before .before .before .before .before .before .before .before .before .before .before .before .before .attribute-place .ensures, c .before .before .before .before .before .before .before .before .before .before .before .before .before .before .before .before .before .before .before .if1 .left)))
+    let a = c .before .before .before .before .before .before .before .before .before .before .before .before .before .before .before .before .before .before .before .before .before .before .before .before .before .before .args in
+    gives-same
+    (values-fit (now (a .attributes)) (a .attribute-count) _
+    (omega (arith, c .before .before .before .before .before .before .before .before .before .before .before .before .before .before .before .before .attribute-place .ensures, c .before .before .before .before .before .before .before .before .before .before .before .before .before .before .before .if1 .left)))
     (settled (c .before .before .before .before .before .before .before .before .before .before .before .put-values .ensures) (c .before .before .before .before .settle .ensures))
 
 pub values-in-spec : {M : Type 1} → statement M
@@ -85,9 +85,6 @@ values-in-spec =
     same-length-3
     same-length-4
     returns-2
-    slice-aggregate-put-firsts
-    put-firsts-requires
-    slice-aggregate-put-values
     put-values-requires
     settle-requires
     same-length-5

@@ -4,6 +4,7 @@
 --   Asks     what every question of an index asks: a head that fits, and names that keep their rule
 --   partOf   what a place stands for; Inside that its part lies in what was lent
 --   wholeName  a text that is a valid name and whole: what most names of a file are
+--   asciiIn  a text of which each byte, or each unit of UTF-16, is ASCII
 --   Finds    what the answer of `find` tells: it stands for the content of the index
 --   Wrote    a text at the front of a lent buffer that holds it, its length, and behind it what stood there
 --
@@ -17,6 +18,7 @@ use lib.Dec.{eqb}
 use Rattle.records.specs.Limits.{fileLimit}
 use Rattle.utf.specs.Text.{stateNumber, putText}
 use Rattle.utf.specs.Plain.{isAscii}
+use Rattle.utf.specs.Inner.Told.{isAsciiText}
 use Rattle.system_types.specs.Names.{Lent, namesOf}
 use Rattle.system_types.specs.declared.NamesRead.the-variants.{Good}
 use Rattle.text.specs.declared.Head.{Head}
@@ -43,6 +45,11 @@ partOf w t area (Pool at n) = some w (take n (drop at t))
 
 abbrev pub wholeName : Content → Bool
 wholeName c = isName c && eqb (stateNumber (damageIn c)) 0
+
+abbrev pub asciiIn : Content → Bool
+asciiIn none = false
+asciiIn cut = false
+asciiIn (some w s) = isAsciiText w s
 
 -- a part lies in what was lent, and a system name is ASCII
 abbrev pub Inside : List ℕ → List ℕ → Found → Type 0

@@ -65,3 +65,13 @@ isOther Word = false
 isOther Truth = false
 isOther Color = false
 isOther Other = true
+
+abbrev pub isPool : Form → Bool
+isPool Reference = false
+isPool Attribute = false
+isPool Pool = true
+isPool Number = false
+isPool Word = false
+isPool Truth = false
+isPool Color = false
+isPool Other = false
