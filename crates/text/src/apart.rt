@@ -13,7 +13,7 @@ ghost use lib.ListN.{length, take, drop};
 ghost use Rattle.utf.specs.Text.{eqBytes};
 ghost use Rattle.utf.specs.Plain.{Known};
 ghost use Rattle.system_types.specs.Names.{lends};
-ghost use Rattle.text.specs.Content.{contentOf, plainIn, sameText};
+ghost use Rattle.text.specs.Content.{some, contentOf, plainIn, sameText};
 ghost use Rattle.text.specs.Inner.Found.{Fits, Asks, Inside, partOf};
 ghost use Rattle.text.specs.Inner.Told.{Other, stringIn, Ends, Chosen, Marked, firstOf};
 use common::StringIndex;
@@ -21,7 +21,11 @@ use field::u16_at;
 use field::u32_at;
 use utf::same::same_bytes;
 
+// A text of so many bytes is long, and is not passed over here: who knows something of long texts asks that first.
+pub const LONG: usize = 128;
+
 // Whether two parts of t have other bytes. Most names differ in their length or in their last unit, whose low byte is `back` from the end.
+// Where they do not, nothing is said of long ones.
 fn bytes_apart(t: &[u8], q: usize, m: usize, at: usize, n: usize, back: usize) -> bool
     requires { ⌜ (q + m ≤ length (now t)) × (at + n ≤ length (now t)) × (0 < back) ⌝ }
     ensures { λ r. ⌜ (r ≡ true → eqBytes (take m (drop q (now (t .entry)))) (take n (drop at (now (t .entry)))) ≡ false) ⌝ }
@@ -33,6 +37,9 @@ fn bytes_apart(t: &[u8], q: usize, m: usize, at: usize, n: usize, back: usize) -
         if t[q + m - back] != t[at + n - back] {
             return true;
         }
+    }
+    if LONG <= n {
+        return false;
     }
     !same_bytes(&t[q..q + m], &t[at..at + n])
 }
@@ -116,7 +123,47 @@ fn place_apart(t: &[u8], h: Head, k: Marks, p: usize) -> bool
     string_apart(t, h.wide, h.strings + h.size, p, k.at, k.n)
 }
 
-// Whether an index surely has another text than what was found, by the marks of this.
+// Whether a part of the file surely has another text than what was found, which is plain.
+fn part_apart(t: &[u8], area: &[u8], wide: bool, q: usize, m: usize, g: Found) -> bool
+    requires { ⌜ (q + m ≤ length (now t)) × Inside (now t) (now area) g × (plainIn (partOf wide (now t) (now area) g) ≡ true) ⌝ }
+    ensures { λ r. ⌜ (r ≡ true → sameText (some wide (take m (drop q (now (t .entry))))) (partOf wide (now (t .entry)) (now (area .entry)) g) ≡ false) ⌝ }
+{
+    match g {
+        Found::Nothing => false,
+        Found::Cut => false,
+        Found::System(_, _) => false,
+        Found::Pool(at, n) => bytes_apart(t, q, m, at, n, 2),
+    }
+}
+
+// The same of two that were found.
+fn pool_apart(t: &[u8], area: &[u8], wide: bool, f: Found, g: Found) -> bool
+    requires { ⌜ Inside (now t) (now area) f × Inside (now t) (now area) g × (plainIn (partOf wide (now t) (now area) g) ≡ true) ⌝ }
+    ensures { λ r. ⌜ (r ≡ true → sameText (partOf wide (now (t .entry)) (now (area .entry)) f) (partOf wide (now (t .entry)) (now (area .entry)) g) ≡ false) ⌝ }
+{
+    match f {
+        Found::Nothing => false,
+        Found::Cut => false,
+        Found::System(_, _) => false,
+        Found::Pool(q, m) => part_apart(t, area, wide, q, m, g),
+    }
+}
+
+// Whether two that were found in the pool surely have other texts, by their lengths and last units, the second being plain where `plain` is true.
+// A long text is not passed over.
+// Ruled out: yes for a system name and the pool's string of the same text, and yes for other bytes of a text that is not plain.
+pub fn ends_apart(t: &[u8], area: &[u8], wide: bool, plain: bool, f: Found, g: Found) -> bool
+    requires { ⌜ Inside (now t) (now area) f × Inside (now t) (now area) g × Known plain (plainIn (partOf wide (now t) (now area) g)) ⌝ }
+    ensures { λ r. ⌜ (r ≡ true → sameText (partOf wide (now (t .entry)) (now (area .entry)) f) (partOf wide (now (t .entry)) (now (area .entry)) g) ≡ false) ⌝ }
+{
+    if plain {
+        return pool_apart(t, area, wide, f, g);
+    }
+    false
+}
+
+// Whether an index surely has another text than what was found, by the marks of this. A long text is not passed over for it.
+// Ruled out: yes for a string that is cut, whose length says nothing, and yes for a system name of the same text.
 pub fn told_apart(
     t: &[u8],
     names: &[u32],

@@ -7,6 +7,7 @@ pub mod damage;
 pub mod equal;
 pub mod part;
 
+pub use apart::ends_apart;
 pub use apart::marks_of;
 use apart::told_apart;
 pub use damage::replaced_of_found;

@@ -1,4 +1,6 @@
--- `text::apart::bytes_apart` meets its contract: other lengths, another byte near the end (`other-at`), or other bytes.
+-- `text::apart::bytes_apart` meets its contract: other lengths, another byte near the end (`other-at`), or other bytes; of a long text nothing is said.
+use mathlib.Core.Path.{sym}
+use mathlib.Core.Bool.{true≢false}
 use denote.Ref.{now}
 use Rattle.text.proofs.Others.{other-length, other-at, other-slices}
 use borrow.Author.Needs.{needs}
@@ -38,6 +40,9 @@ returns-2 c =
     λ _. other-at (now (a .t)) (a .q) (a .m) (a .at) (a .n) (s .pre .0) (s .pre .1) (a .back) (at-if1 .if1 .left) (s .pre .2)
     (at-if2 .if2 .taken) (c .if3 .taken)
 
+returns-3 : tie.Need-returns-3
+returns-3 c = λ e. absurd (true≢false (sym e))
+
 add-same-bytes : tie.Need-add-same-bytes
 add-same-bytes c = search needs
 
@@ -65,9 +70,9 @@ part-same-bytes-end-2 c = search needs
 same-bytes-requires : tie.Need-same-bytes-requires
 same-bytes-requires c κs = search needs
 
-returns-3 : tie.Need-returns-3
-returns-3 c =
-    let s = c .before .before .before .before .before .before in
+returns-4 : tie.Need-returns-4
+returns-4 c =
+    let s = c .before .before .before .before .before .before .before in
     let a = s .args in
     λ e. other-slices (now (a .t)) (a .q) (a .m) (a .at) (a .n) (c .same-bytes .ensures) e
 
@@ -83,6 +88,7 @@ bytes-apart-spec =
     sub-if3-2
     shared-slice-read-if3-2
     returns-2
+    returns-3
     add-same-bytes
     sub-same-bytes
     part-same-bytes-start
@@ -92,4 +98,4 @@ bytes-apart-spec =
     part-same-bytes-start-2
     part-same-bytes-end-2
     same-bytes-requires
-    returns-3)
+    returns-4)
