@@ -1,7 +1,6 @@
 -- The notes that a cap keeps, of each kind the first as many as it says: docs/FORMAT.md, B12 to B14. No contract cites this file.
 --
 --   All, all-append, all-of   what holds of all anomalies of a list; kept-all: it holds of those that a cap keeps
---   kept-le                   a cap keeps no more than there are
 --   number-of                 as many notes have the number of a kind as anomalies have its place
 --   kept-number               so of each number at most `cap` are kept
 use Prim.Native.Nat.{ℕ, _+_, _≤_}
@@ -46,20 +45,6 @@ keptFrom-all E cap counts (x ∷ l) h =
 
 pub kept-all : (E : ResAnomaly → Type 0) (cap : ℕ) (l : List ResAnomaly) → All E l → All E (keptNotes cap l)
 kept-all E cap l h = keptFrom-all E cap _ l h
-
-keptFrom-le : (cap : ℕ) (counts : List ℕ) (l : List ResAnomaly) → length (keptFrom cap counts l) ≤ length l
-unfolding keptFrom
-keptFrom-le cap counts [] = omega arith
-keptFrom-le cap counts (x ∷ l) =
-    go (isDue cap counts (kindIndex x)) refl (keptFrom-le cap counts l) (keptFrom-le cap (counted counts (kindIndex x)) l)
-  where
-    go : (b : Bool) → isDue cap counts (kindIndex x) ≡ b → length (keptFrom cap counts l) ≤ length l
-        → length (keptFrom cap (counted counts (kindIndex x)) l) ≤ length l → length (keptFrom cap counts (x ∷ l)) ≤ length (x ∷ l)
-    go true d p q = rw (keptFrom-due cap counts x l d) (omega arith)
-    go false d p q = rw (keptFrom-past cap counts x l d) (omega arith)
-
-pub kept-le : (cap : ℕ) (l : List ResAnomaly) → length (keptNotes cap l) ≤ length l
-kept-le cap l = keptFrom-le cap _ l
 
 -- ---- numbers and places of kinds
 

@@ -160,10 +160,6 @@ last-marks p =
     noted-marks (not (eqb (p .depth) 0)) (UnclosedElements (p .depth)) (when (eqb (p .starts) 0) (Refuse MissingRoot))
     ∙ refuse-marks (eqb (p .starts) 0) MissingRoot
 
-nil-append : (ms : List Mark) → ms ++ [] ≡ ms
-nil-append [] = refl
-nil-append (m ∷ ms) = ap (λ (x : List Mark). m ∷ x) (nil-append ms)
-
 module _ (N : Names) where
   on-marks : (l : List ℕ) (p : Spot) → eventMarks (eventsOn N l p) ≡ marksOf l
   unfolding eventsOn

@@ -6,7 +6,7 @@
 use Prim.Native.Nat.{ℕ, _+_, _<_}
 use native.Mathlib.Omega.{arith}
 use mathlib.Core.Path.{_≡_, refl, sym, _∙_, ap}
-use mathlib.Core.List.{List, [], _∷_, _++_, append-assoc}
+use mathlib.Core.List.{List, [], _∷_, _++_, append-assoc, append-nil}
 use mathlib.Core.Bool.{Bool, true, false, not}
 use borrow.Author.Tests.{eqb-false}
 use lib.Dec.{eqb}
@@ -139,10 +139,6 @@ pub walked-some : (es : List Event) (w : WalkedFile es) → 0 < opensIn es
 walked-some es w =
     rw (w .split) (omega (arith, opens-append (w .body) (when (not (eqb (w .depth) 0)) (Note (UnclosedElements (w .depth)))), w .some))
 
-nil-append : (a : List Event) → a ++ [] ≡ a
-nil-append [] = refl
-nil-append (e ∷ a) = ap (λ (x : List Event). e ∷ x) (nil-append a)
-
 body-ends : (N : Names) (b : List ℕ) → Ending (bodyEvents N b)
 unfolding bodyEvents
 body-ends N b = go (eqb (w .last .starts) 0) refl
@@ -159,7 +155,7 @@ body-ends N b = go (eqb (w .last .starts) 0) refl
     go false e = walkedTo (record {
       body = w .body;
       depth = w .last .depth;
-      split = w .split ∙ ap (λ (z : Bool). w .body ++ (noted ++ when z (Refuse MissingRoot))) e ∙ ap (λ (x : List Event). w .body ++ x) (nil-append noted);
+      split = w .split ∙ ap (λ (z : Bool). w .body ++ (noted ++ when z (Refuse MissingRoot))) e ∙ ap (λ (x : List Event). w .body ++ x) (append-nil noted);
       told = w .depth;
       some = pos (opensIn (w .body)) (λ z. eqb-false (w .last .starts) 0 e (omega (arith, w .starts)));
       plain = w .plain;
