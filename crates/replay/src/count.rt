@@ -1,5 +1,8 @@
 // What was asked for and what was right, in one table of numbers: two for each group, and the sets of names.
-use libc::STDOUT_FILENO;
+use stored::print_group;
+use stored::print_one;
+use stored::say;
+use stored::tally;
 
 // Groups 0 to 63 are the readings with that refusal, 64 to 127 the first values; 0 and 64 are those that are not refused.
 pub const FIRST: usize = 64;
@@ -17,35 +20,6 @@ pub const COMPLEX: usize = 132;
 // The place of a number that stands alone.
 pub const SETS: usize = 266;
 
-fn wide(n: u32) -> u64 {
-    n as u64
-}
-
-// The number at a place; 0 outside the table.
-fn count_at(counts: &[u32], place: usize) -> u64 {
-    if place < counts.len() {
-        return wide(counts[place]);
-    }
-    0
-}
-
-// One more at a place. A place outside the table is nowhere, and 4294967295 goes to 0.
-pub(crate) fn bump(counts: &mut [u32], place: usize) {
-    if place < counts.len() {
-        counts[place] = std::num::wrapping_add_u32(counts[place], 1);
-    }
-}
-
-// One more answer of a group, and one more right one where it is.
-pub(crate) fn tally(counts: &mut [u32], group: usize, right: bool) {
-    if group < 133 {
-        bump(counts, 2 * group + 1);
-        if right {
-            bump(counts, 2 * group);
-        }
-    }
-}
-
 // The same of the group of a refusal, among those from `groups` on. A number that no refusal has belongs to none.
 pub(crate) fn tally_refusal(counts: &mut [u32], groups: usize, refusal: u32, right: bool) {
     if groups <= FIRST {
@@ -56,23 +30,6 @@ pub(crate) fn tally_refusal(counts: &mut [u32], groups: usize, refusal: u32, rig
 }
 
 // ---- the report
-
-fn say(s: &[u8]) {
-    io::write_all(STDOUT_FILENO, s);
-}
-
-fn print_one(label: &[u8], counts: &[u32], place: usize) {
-    say(label);
-    io::print_decimal(STDOUT_FILENO, count_at(counts, place));
-}
-
-fn print_group(label: &[u8], counts: &[u32], group: usize) {
-    if group < 133 {
-        print_one(label, counts, 2 * group);
-        print_one(b" of ", counts, 2 * group + 1);
-        say(b"\n");
-    }
-}
 
 fn print_readings(counts: &[u32]) {
     print_group(b"readings ", counts, READINGS);

@@ -13,9 +13,10 @@ use question::judge_complex;
 use question::judge_first;
 use question::judge_name;
 use reading::judge_reading;
-use table::load;
-use table::part;
-use table::word;
+use stored::bump;
+use stored::load;
+use stored::part;
+use stored::word;
 ghost use mathlib.Core.Path.{_≡_};
 ghost use lib.ListN.{length};
 
@@ -124,7 +125,7 @@ fn replay_sets(
             notes,
             counts,
         );
-        count::bump(counts, count::SETS);
+        bump(counts, count::SETS);
         at += 24;
     }
 }

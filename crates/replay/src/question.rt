@@ -1,17 +1,15 @@
 // A stored first value, name or complex value: the question is asked again, and the answer held to what is stored.
 use crate::count;
-use crate::table::load;
-use crate::table::part;
-use crate::table::word;
 use axml::FirstNumbers;
 use axml::complex_to_float;
 use axml::first_numbers;
 use axml::first_value;
 use axml::is_valid_name;
-
-fn wide(n: u32) -> u64 {
-    n as u64
-}
+use stored::load;
+use stored::part;
+use stored::tally;
+use stored::wide;
+use stored::word;
 
 // ---- first values
 
@@ -68,7 +66,7 @@ pub(crate) fn judge_first(
     let n = load(part(data, row, 10), nodes);
     let m = load(part(data, row, 12), attributes);
     let right = answers(data, row, names, area, &nodes[0..n], &attributes[0..m]);
-    count::tally(counts, count::FIRSTS, right);
+    tally(counts, count::FIRSTS, right);
     count::tally_refusal(counts, count::FIRST, word(row, 3), right);
 }
 
@@ -80,7 +78,7 @@ pub(crate) fn judge_name(data: &[u8], row: &[u8], counts: &mut [u32]) {
     if is_valid_name(part(data, row, 2)) {
         answer = 1;
     }
-    count::tally(counts, count::NAMES, answer == word(row, 1));
+    tally(counts, count::NAMES, answer == word(row, 1));
 }
 
 // ---- complex values
@@ -102,5 +100,5 @@ fn is_made(n: u64, low: u32, high: u32) -> bool {
 pub(crate) fn judge_complex(row: &[u8], counts: &mut [u32]) {
     let bits = complex_bits(word(row, 1));
     let right = is_made(bits, word(row, 2), word(row, 3));
-    count::tally(counts, count::COMPLEX, right);
+    tally(counts, count::COMPLEX, right);
 }

@@ -2,9 +2,7 @@
 use crate::count;
 use crate::table::holds;
 use crate::table::notes_hold;
-use crate::table::part;
 use crate::table::soil;
-use crate::table::word;
 use axml::Note;
 use axml::Numbers;
 use axml::read_listed;
@@ -13,10 +11,10 @@ use c_api::AxmlAnswer;
 use c_api::axml_read;
 use records::LISTED_NOTES;
 use records::NOTE_WORDS;
-
-fn wide(n: u32) -> u64 {
-    n as u64
-}
+use stored::part;
+use stored::tally;
+use stored::wide;
+use stored::word;
 
 // ---- an answer
 
@@ -210,10 +208,10 @@ pub(crate) fn judge_reading(
     counts: &mut [u32],
 ) {
     let right = is_read_in(data, row, names, area, nodes, attributes, notes);
-    count::tally(counts, count::READINGS, right);
+    tally(counts, count::READINGS, right);
     count::tally_refusal(counts, 0, word(row, 6), right);
     if word(row, 5) != 0 {
         let listed = is_listed_in(data, row, nodes, attributes);
-        count::tally(counts, count::LISTED, listed);
+        tally(counts, count::LISTED, listed);
     }
 }

@@ -1,5 +1,10 @@
 // What was asked for and what was right, in one table of numbers: two for each group, then the files and the sets of names.
-use libc::STDOUT_FILENO;
+use stored::bump;
+use stored::count_at;
+use stored::print_group;
+use stored::print_one;
+use stored::say;
+use stored::wide;
 
 // Groups 1 to 63 are the refusals with that number.
 pub const TEXTS: usize = 0;
@@ -13,35 +18,6 @@ pub const FILES: usize = 132;
 
 pub const SETS: usize = 133;
 
-fn wide(n: u32) -> u64 {
-    n as u64
-}
-
-// The number at a place; 0 outside the table.
-fn count_at(counts: &[u32], place: usize) -> u64 {
-    if place < counts.len() {
-        return wide(counts[place]);
-    }
-    0
-}
-
-// One more at a place. A place outside the table is nowhere, and 4294967295 goes to 0.
-pub(crate) fn bump(counts: &mut [u32], place: usize) {
-    if place < counts.len() {
-        counts[place] = std::num::wrapping_add_u32(counts[place], 1);
-    }
-}
-
-// One more answer of a group, and one more right one where it is.
-pub(crate) fn tally(counts: &mut [u32], group: usize, right: bool) {
-    if group < 66 {
-        bump(counts, 2 * group + 1);
-        if right {
-            bump(counts, 2 * group);
-        }
-    }
-}
-
 // A file is new where its number is how many there were: they are numbered in the order in which they are asked about.
 pub(crate) fn new_file(counts: &mut [u32], number: u32) {
     if count_at(counts, FILES) == wide(number) {
@@ -50,23 +26,6 @@ pub(crate) fn new_file(counts: &mut [u32], number: u32) {
 }
 
 // ---- the report
-
-fn say(s: &[u8]) {
-    io::write_all(STDOUT_FILENO, s);
-}
-
-fn print_one(label: &[u8], counts: &[u32], place: usize) {
-    say(label);
-    io::print_decimal(STDOUT_FILENO, count_at(counts, place));
-}
-
-fn print_group(label: &[u8], counts: &[u32], group: usize) {
-    if group < 66 {
-        print_one(label, counts, 2 * group);
-        print_one(b" of ", counts, 2 * group + 1);
-        say(b"\n");
-    }
-}
 
 pub(crate) fn print_counts(counts: &[u32]) {
     print_one(b"files ", counts, FILES);

@@ -4,34 +4,15 @@ use check::same;
 use common::StringIndex;
 use errors::TextNumbers;
 use errors::text_numbers;
-use field::u32_at;
 use head::content;
 use head::text;
-ghost use mathlib.Core.Path.{_≡_};
-ghost use lib.ListN.{length};
-
-// A part of the data, by its place and its length; nothing where it does not lie inside.
-pub(crate) fn part<'a>(data: &'a [u8], place: &[u8]) -> &'a [u8]
-    requires { ⌜ length (now place) ≡ 8 ⌝ }
-{
-    let from = u32_at(place, 0) as usize;
-    let n = u32_at(place, 4) as usize;
-    if data.len() < from {
-        return &data[0..0];
-    }
-    if data.len() - from < n {
-        return &data[0..0];
-    }
-    &data[from..from + n]
-}
+use stored::part;
+use stored::tally;
+use stored::word;
 
 // A file by its number in the list of files, 8 bytes each.
 fn file_of<'a>(data: &'a [u8], files: &[u8], number: u32) -> &'a [u8] {
-    let at = 8 * (number as usize);
-    if files.len() < at + 8 {
-        return &data[0..0];
-    }
-    part(data, &files[at..at + 8])
+    part(data, files, 2 * (number as usize))
 }
 
 // ---- the buffer
@@ -151,12 +132,12 @@ fn judge_buffers(
     }
     let n = want.len();
     let right = answers_in(file, names, area, out, n, index, w, want);
-    count::tally(counts, count::BUFFERS, right);
+    tally(counts, count::BUFFERS, right);
     if n == 0 {
         return;
     }
     let refused = answers_in(file, names, area, out, n - 1, index, short(n), &want[0..0]);
-    count::tally(counts, count::BUFFERS, refused);
+    tally(counts, count::BUFFERS, refused);
 }
 
 // Whether the content of an index is `want`.
@@ -179,25 +160,23 @@ pub(crate) fn judge<'a>(
     area: &'a [u8],
     out: &mut [u8],
     counts: &mut [u32],
-)
-    requires { ⌜ length (now row) ≡ 44 ⌝ }
-{
-    let number = u32_at(row, 0);
-    let index = StringIndex(u32_at(row, 4));
-    let room = u32_at(row, 8) as usize;
+) {
+    let number = word(row, 0);
+    let index = StringIndex(word(row, 1));
+    let room = word(row, 2) as usize;
     let w = Wanted {
-        refusal: u32_at(row, 12),
-        value: u32_at(row, 16) as usize,
-        state: u32_at(row, 20),
-        replaced: u32_at(row, 24),
+        refusal: word(row, 3),
+        value: word(row, 4) as usize,
+        state: word(row, 5),
+        replaced: word(row, 6),
     };
-    let want = part(data, &row[28..36]);
-    let held = part(data, &row[36..44]);
+    let want = part(data, row, 7);
+    let held = part(data, row, 9);
     let file = file_of(data, files, number);
     count::new_file(counts, number);
     let right = answers_in(file, names, area, out, room, index, w, want);
-    count::tally(counts, w.refusal as usize, right);
+    tally(counts, w.refusal as usize, right);
     judge_buffers(file, names, area, out, index, w, want, counts);
     let same_content = holds(file, names, area, index, held);
-    count::tally(counts, count::CONTENTS, same_content);
+    tally(counts, count::CONTENTS, same_content);
 }

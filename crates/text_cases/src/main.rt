@@ -6,31 +6,14 @@
 mod count;
 mod judge;
 
-use field::u32_at;
 use judge::judge;
-use judge::part;
+use stored::bump;
+use stored::load;
+use stored::part;
 ghost use mathlib.Core.Path.{_≡_};
-ghost use Prim.Native.Nat.{_≤_};
 ghost use lib.ListN.{length};
 
 // ---- the walk through the data
-
-// The words of a set of names, at the front of `names`; how many there are, or as many as have room.
-fn load(words: &[u8], names: &mut [u32]) -> usize
-    ensures { λ r. ⌜ r ≤ length (now (names .exit)) ⌝ }
-{
-    let mut n = 0;
-    let mut at = 0;
-    while n < names.len() {
-        if words.len() - at < 4 {
-            return n;
-        }
-        names[n] = u32_at(words, at);
-        n += 1;
-        at += 4;
-    }
-    n
-}
 
 // The questions of one set of names, 44 bytes each.
 fn replay_rows<'a>(
@@ -57,12 +40,10 @@ fn replay_set(
     names: &mut [u32],
     out: &mut [u8],
     counts: &mut [u32],
-)
-    requires { ⌜ length (now set) ≡ 24 ⌝ }
-{
-    let words = part(data, &set[0..8]);
-    let area = part(data, &set[8..16]);
-    let rows = part(data, &set[16..24]);
+) {
+    let words = part(data, set, 0);
+    let area = part(data, set, 2);
+    let rows = part(data, set, 4);
     let n = load(words, names);
     replay_rows(data, files, rows, &names[0..n], area, out, counts);
 }
@@ -79,7 +60,7 @@ fn replay_sets(
     let mut at = 0;
     while sets.len() - at >= 24 {
         replay_set(data, files, &sets[at..at + 24], names, out, counts);
-        count::bump(counts, count::SETS);
+        bump(counts, count::SETS);
         at += 24;
     }
 }
@@ -89,8 +70,8 @@ fn replay(data: &[u8], counts: &mut [u32]) {
     if data.len() < 16 {
         return;
     }
-    let sets = part(data, &data[0..8]);
-    let files = part(data, &data[8..16]);
+    let sets = part(data, data, 0);
+    let files = part(data, data, 2);
     let mut names = [0u32; 8400];
     let mut out = io::buffer();
     replay_sets(data, files, sets, &mut names, &mut out, counts);

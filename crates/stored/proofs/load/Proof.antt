@@ -1,10 +1,10 @@
--- `replay::table::load` is safe and ends: it keeps the length of the table, and stays within the words.
+-- `stored::load` is safe and ends: it keeps the length of the table, and stays within the words.
 use Prim.Native.Nat.{_≤_, _-_}
 use mathlib.Core.Path.{_≡_}
 use borrow.Author.Needs.{needs}
 use lib.ListN.{length}
-use Rattle.replay.proofs.table.load.Statement.{statement}
-use Rattle.replay.proofs.table.load.Tie as tie
+use Rattle.stored.proofs.load.Statement.{statement}
+use Rattle.stored.proofs.load.Tie as tie
 
 abbrev Inv-loop : tie.InvT-loop
 Inv-loop words table₀ n₀ at₀ table n at = (n ≤ length table₀) × (at ≤ length words) × (length table ≡ length table₀)
