@@ -21,7 +21,7 @@ mantissa d = d / 256 * 256
 abbrev pub radix : ℕ → ℕ
 radix d = d / 16 % 4
 
--- 0.00390625, 3.051758e-005, 1.192093e-007, 4.656613e-010
+-- 0.00390625, 3.051758e-005, 1.192093e-007, 4.656613e-010: `fin false m (negsuc n)` is m * 2 ^ -(n + 1)
 abbrev pub mult : ℕ → Float
 mult zero = fin false 1 (negsuc 7)
 mult (suc zero) = fin false 4503599904071657 (negsuc 66)

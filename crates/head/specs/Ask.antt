@@ -1,6 +1,6 @@
 -- The text question and the content question: docs/FORMAT.md, B2, B7, B8, Q1 to Q3.
 --
---   openOf        the head, or the first refusal: what every entry point checks (specs/Entry.antt), then the head's 1, 3, 4, 5
+--   openOf        the head, or the first refusal: what every entry point checks (specs/Entry.antt), then the head's 1, 3, 41 to 45, 51, 52
 --   stateTold     what became of a text, as the answer tells it
 --   textAnswer    the answer of the text question; textBuffer what then stands in the lent buffer, whole
 --   TextReads     the promise of the text question: the numbers of its answer and every byte of the buffer

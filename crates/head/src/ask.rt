@@ -140,7 +140,7 @@ fn text_in(
 }
 
 // The text of a string index, in `out`: its UTF-8 and zeros behind it; on a refusal zeros alone. Head and names are checked again at
-// each call, and the answer tells the first that is amiss: 2, 7, 1, 3, 4, 5, then 12 (no text) and 11 (with the bytes needed).
+// each call, and the answer tells the first that is amiss: 2, 7, 1, 3, 41 to 45, 51, 52, then 12 (no text) and 11 (with the bytes needed).
 // Ruled out: the front of a text that does not fit, 12 for an empty text, and a damaged text answered as a whole one.
 pub fn text(
     file: &[u8],

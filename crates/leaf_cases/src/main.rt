@@ -64,7 +64,7 @@ fn complex_bits(data: u32) -> u64 {
     f64::to_bits(complex_to_float(data))
 }
 
-// 1 where the line at `at` holds the bits that we compute for its number, else 0.
+// 1 where the line at `at` holds the bits that are computed from its number, else 0.
 fn agrees(s: &[u8], at: usize) -> u32
     requires { ⌜ at + 26 ≤ length (now s) ⌝ }
     ensures { λ r. ⌜ r ≤ 1 ⌝ }

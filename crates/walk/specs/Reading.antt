@@ -3,8 +3,8 @@
 --   reading     THE PROMISE of `read`: what a file, with these names, leaves in tables of this room
 --   refuses     a refusal: zeros all over
 --   succeeds    the kept records and the notes, and zeros behind them
---   secondOf    the element that is open above the first; it and all starts after it are dropped
---   Reads       the same as what a call promises, by the paper's numbers
+--   secondOf    the outermost element inside the first that is never closed: it and all starts after it are dropped
+--   Reads       the same as what a call promises: the numbers of its answer (B7), and its three tables
 use Prim.Native.Nat.{ℕ, _+_, _-_, _*_, _/_}
 use mathlib.Core.Path.{_≡_}
 use mathlib.Core.List.{List, [], _∷_, _++_}
@@ -40,7 +40,8 @@ refuses r x = record { answer = Refused x; nodes = replicate (r .nodes) 0; attri
 
 -- ---- a success
 
--- of the open elements, the innermost first, the one above the first; 0 where there is none, which is the first's own number
+-- Of the elements that are open at the end, the innermost first: the one that was opened next after the first of all. Its number is never 0,
+-- since 0 is the first element's own, so that 0 says that no other element than the first is open.
 abbrev pub secondOf : List ℕ → ℕ
 secondOf [] = 0
 secondOf (k ∷ []) = 0
@@ -50,7 +51,7 @@ secondOf (k ∷ j ∷ i ∷ r) = secondOf (j ∷ i ∷ r)
 abbrev pub nodesKept : Tables → ℕ
 nodesKept t = cond (eqb (secondOf (t .stack)) 0) (length (t .nodes) / nodeWidth) (secondOf (t .stack))
 
--- those that stood there before the second element's
+-- Where an element is dropped, the attributes that were stored before it was: its record has the number of its first attribute.
 abbrev pub attributesKept : Tables → ℕ
 attributesKept t = cond (eqb (secondOf (t .stack)) 0) (length (t .attributes) / attributeWidth) (getD (t .nodes) (nodeWidth * secondOf (t .stack) + nodeFirst) 0)
 
@@ -87,7 +88,7 @@ reading r f lent = readingBy r (settledIn r f lent (openedOf f)) (firstOf (entry
 abbrev pub roomIn : List ℕ → List ℕ → List NoteOf → ℕ → ℕ → Room
 roomIn nodes attributes notes cap mode = record { nodes = length nodes; attributes = length attributes; notes = length notes; cap = cap; mode = mode }
 
--- what a call of `read` leaves: the paper's numbers, and each lent table whole
+-- what a call of `read` leaves: the numbers of the answer (B7), and each lent table whole
 pub record Reads (f : List ℕ) (lent : Lent) (ns ats : List ℕ) (os : List NoteOf) (cap mode : ℕ) (r : ReadAnswer) (ns′ ats′ : List ℕ) (os′ : List NoteOf) : Type 0 where
   pub answer : numbersOf r ≡ numbersOf (reading (roomIn ns ats os cap mode) f lent .answer)
   pub nodes : ns′ ≡ reading (roomIn ns ats os cap mode) f lent .nodes
