@@ -22,10 +22,8 @@ use Rattle.records.specs.Words.{attributeWidth, attributePrefix, attributeName,
 use Rattle.records.specs.Repeats.{sameSpace}
 use Rattle.system_types.specs.Names.{Lent}
 use Rattle.text.specs.declared.Head.{Head}
-use Rattle.text.specs.declared.Found.{Found}
 use Rattle.text.specs.Content.{Content, none, cut, some, contentOf, sameText, sameName}
-use Rattle.text.specs.Inner.Found.{partOf, Finds}
-use Rattle.tables.specs.Inner.Keys.{upper, lower, mixed, foldOf, hashOf, hashIn, keyBy, keysOf}
+use Rattle.tables.specs.Inner.Keys.{upper, lower, mixed, foldOf, hashOf, hashIn, joined, keyBy, keysOf}
 use Rattle.tables.specs.Inner.Ways.{sameAt}
 
 -- ---- a text
@@ -103,19 +101,22 @@ hashIn-same s (some wa a) (some wb b) e = hash-same s wa a wb b e
 -- ---- an attribute
 
 module _ (h : Head) (t : List ℕ) (lent : Lent) where
+  abbrev numberOf : ℕ → ℕ
+  numberOf i = hashIn 0 (contentOf h t lent i)
+
   space-same : (s p a b : ℕ) → sameSpace (sameName h t lent) p a b ≡ true
-      → cond (eqb p ownPrefix) (hashIn s (contentOf h t lent a)) s ≡ cond (eqb p ownPrefix) (hashIn s (contentOf h t lent b)) s
+      → cond (eqb p ownPrefix) (joined s (numberOf a)) s ≡ cond (eqb p ownPrefix) (joined s (numberOf b)) s
   space-same s p a b e = go (eqb p ownPrefix) e
     where
-      go : (c : Bool) → cond c (sameName h t lent a b) true ≡ true → cond c (hashIn s (contentOf h t lent a)) s ≡ cond c (hashIn s (contentOf h t lent b)) s
-      go true f = hashIn-same s (contentOf h t lent a) (contentOf h t lent b) f
+      go : (c : Bool) → cond c (sameName h t lent a b) true ≡ true → cond c (joined s (numberOf a)) s ≡ cond c (joined s (numberOf b)) s
+      go true f = ap (joined s) (hashIn-same 0 (contentOf h t lent a) (contentOf h t lent b) f)
       go false f = refl
 
   key-by : (p q n m a b : ℕ) → p ≡ q → sameName h t lent n m ≡ true → sameSpace (sameName h t lent) q a b ≡ true → keyBy h t lent p n a ≡ keyBy h t lent q m b
   unfolding keyBy
   key-by p q n m a b e f g =
-      let c : hashIn q (contentOf h t lent n) ≡ hashIn q (contentOf h t lent m) = hashIn-same q (contentOf h t lent n) (contentOf h t lent m) f in
-      rw (e, c) (ap (λ (x : ℕ). x / 4294967296) (space-same (hashIn q (contentOf h t lent m)) q a b g))
+      let c : numberOf n ≡ numberOf m = hashIn-same 0 (contentOf h t lent n) (contentOf h t lent m) f in
+      rw (e, c) (ap (λ (x : ℕ). x / 4294967296) (space-same (mixed (numberOf m) q) q a b g))
 
   pub key-same : (w : List ℕ) (p n ns j : ℕ) → sameAt (sameName h t lent) p n ns w (attributeWidth * j) ≡ true → keysOf (keyBy h t lent) w j ≡ keyBy h t lent p n ns
   key-same w p n ns j e =
@@ -127,17 +128,17 @@ module _ (h : Head) (t : List ℕ) (lent : Lent) where
       key-by x p y n z ns (eqb-true x p (a .0)) (b .0) (b .1)
 
   -- as `key_of` finds it, without and with a namespace
-  pub key-plain : (p n ns s : ℕ) (g : Found) → Finds t lent h n g → (p ≡ ownPrefix → ⊥) → s ≡ hashIn p (partOf (h .wide) t (lent .area) g) → s / 4294967296 ≡ keyBy h t lent p n ns
+  pub key-plain : (p n ns x s : ℕ) → (p ≡ ownPrefix → ⊥) → x ≡ numberOf n → s ≡ mixed x p → s / 4294967296 ≡ keyBy h t lent p n ns
   unfolding keyBy
-  key-plain p n ns s g e d q = rw (ne-eqb p ownPrefix d) (ap (λ (x : ℕ). x / 4294967296) (q ∙ ap (hashIn p) (e .same)))
+  key-plain p n ns x s d e q = rw (ne-eqb p ownPrefix d) (ap (λ (y : ℕ). y / 4294967296) (q ∙ ap (λ (y : ℕ). mixed y p) e))
 
-  pub key-own : (p n ns s r : ℕ) (g f : Found) → Finds t lent h n g → Finds t lent h ns f → p ≡ ownPrefix → s ≡ hashIn p (partOf (h .wide) t (lent .area) g)
-      → r ≡ hashIn s (partOf (h .wide) t (lent .area) f) → r / 4294967296 ≡ keyBy h t lent p n ns
+  pub key-own : (p n ns x y s u r : ℕ) → p ≡ ownPrefix → x ≡ numberOf n → y ≡ numberOf ns → s ≡ mixed x p → u ≡ mixed s (y / 4294967296)
+      → r ≡ mixed u (y % 4294967296) → r / 4294967296 ≡ keyBy h t lent p n ns
   unfolding keyBy
-  key-own p n ns s r g f e d o q u =
+  key-own p n ns x y s u r o e f q v w =
       rw (eq-eqb p ownPrefix o)
-      (ap (λ (x : ℕ). x / 4294967296)
-      (u ∙ ap (hashIn s) (d .same) ∙ ap (λ (x : ℕ). hashIn x (contentOf h t lent ns)) (q ∙ ap (hashIn p) (e .same))))
+      (ap (λ (z : ℕ). z / 4294967296)
+      (w ∙ ap (λ (z : ℕ). mixed z (y % 4294967296)) v ∙ ap (joined s) f ∙ ap (λ (z : ℕ). joined z (numberOf ns)) (q ∙ ap (λ (z : ℕ). mixed z p) e)))
 
 -- ---- a value
 

@@ -3,11 +3,12 @@
 // Stands for the hash in the Rust's `HashSet` of attribute names. Definitions: specs/Inner/Keys.antt. Differs from the Rust: it has no
 // secret, so that who knows it can make texts of one number; docs/DECISIONS.md says what that costs.
 ghost use mathlib.Core.Path.{_≡_};
-ghost use Prim.Native.Nat.{ℕ};
 ghost use lib.Bits.{bitXor};
 ghost use Rattle.system_types.specs.Names.{lends};
 ghost use Rattle.text.specs.Inner.Found.{Asks, Inside, Finds, partOf};
 ghost use Rattle.tables.specs.Inner.Keys.{mixed, hashOf, hashIn, keyBy};
+ghost use Rattle.tables.specs.Inner.Numbered.{Numbered};
+use crate::numbers::number_of;
 use common::StringIndex;
 use records::OWN_PREFIX;
 use text::Found;
@@ -52,7 +53,9 @@ pub fn hash_of(wide: bool, b: &[u8], seed: u64) -> u64
     s
 }
 
-fn hash_found(t: &[u8], area: &[u8], wide: bool, f: Found, seed: u64) -> u64
+// The same of what was found.
+// Ruled out: another number for a system name than for the pool's string of the same text.
+pub fn hash_found(t: &[u8], area: &[u8], wide: bool, f: Found, seed: u64) -> u64
     requires { ⌜ Inside (now t) (now area) f ⌝ }
     ensures { λ r. ⌜ r ≡ hashIn seed (partOf wide (now (t .entry)) (now (area .entry)) f) ⌝ }
 {
@@ -64,7 +67,7 @@ fn hash_found(t: &[u8], area: &[u8], wide: bool, f: Found, seed: u64) -> u64
     }
 }
 
-// The key of an attribute of this prefix and namespace whose name was found as g.
+// The key of an attribute of this prefix, name and namespace; the name was found as g. A long name or namespace is not passed over again.
 // Ruled out: one key for all namespaces under the prefix 3, and two for one name at two indices.
 pub fn key_of(
     t: &[u8],
@@ -72,17 +75,22 @@ pub fn key_of(
     area: &[u8],
     h: Head,
     prefix: u32,
+    name: StringIndex,
     g: Found,
     ns: StringIndex,
+    numbers: &mut [u64],
 ) -> u32
-    requires { ⌜ Asks (now t) (lends (now names) (now area)) h × Inside (now t) (now area) g ⌝ }
-    ensures { λ r. ⌜ ((n : ℕ) → Finds (now (t .entry)) (lends (now (names .entry)) (now (area .entry))) h n g
-        → r ≡ keyBy h (now (t .entry)) (lends (now (names .entry)) (now (area .entry))) prefix n (ns .0)) ⌝ }
+    requires { ⌜ Asks (now t) (lends (now names) (now area)) h × Finds (now t) (lends (now names) (now area)) h (name .0) g
+        × Numbered h (now t) (lends (now names) (now area)) (now numbers) ⌝ }
+    ensures { λ r. ⌜ (r ≡ keyBy h (now (t .entry)) (lends (now (names .entry)) (now (area .entry))) prefix (name .0) (ns .0))
+        × Numbered h (now (t .entry)) (lends (now (names .entry)) (now (area .entry))) (now (numbers .exit)) ⌝ }
 {
-    let s = hash_found(t, area, h.wide, g, prefix as u64);
+    let s = mix(number_of(t, names, area, h, name, g, numbers), prefix);
     if prefix != OWN_PREFIX {
         return (s / 4294967296) as u32;
     }
     let f = find(t, names, area, h, ns);
-    (hash_found(t, area, h.wide, f, s) / 4294967296) as u32
+    let n = number_of(t, names, area, h, ns, f, numbers);
+    let u = mix(s, (n / 4294967296) as u32);
+    (mix(u, (n % 4294967296) as u32) / 4294967296) as u32
 }

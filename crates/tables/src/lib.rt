@@ -3,8 +3,10 @@
 // Stands for the vectors of axml.rs (apk-info 13770539b8), and `has` for its `HashSet` of attribute names: it compares with each record, and links.rt
 // finds its way among many.
 // Definitions: records/specs/Repeats.antt. Differs from the Rust: names are compared where they lie, by text, and nothing is copied.
+pub mod by_number;
 pub mod hash;
 pub mod links;
+pub mod numbers;
 
 ghost use mathlib.Core.Path.{_≡_};
 ghost use mathlib.Core.List.{_++_};
@@ -16,6 +18,10 @@ ghost use Rattle.records.specs.Repeats.{byPrefix, sameSpace, isRepeat};
 ghost use Rattle.system_types.specs.Names.{lends};
 ghost use Rattle.text.specs.Content.{contentOf, isName, plainIn, sameName};
 ghost use Rattle.text.specs.Inner.Found.{Asks, Inside, partOf};
+ghost use Rattle.tables.specs.Inner.Numbered.{Numbered};
+use by_number::has_numbered;
+use by_number::is_numbered;
+use by_number::same_numbered;
 use common::StringIndex;
 use records::ATTRIBUTE_NAME;
 use records::ATTRIBUTE_NAMESPACE;
@@ -28,7 +34,6 @@ use text::find;
 use text::is_plain_found;
 use text::marks_of;
 use text::same_as_known;
-use text::same_index;
 
 // One word. Ruled out: another word changed, and the word left as it was.
 pub fn put_one(words: &mut [u32], i: usize, a: u32)
@@ -67,14 +72,16 @@ fn same_space(
     prefix: u32,
     old: StringIndex,
     new: StringIndex,
+    numbers: &mut [u64],
 ) -> bool
-    requires { ⌜ Asks (now t) (lends (now names) (now area)) h ⌝ }
-    ensures { λ r. ⌜ r ≡ sameSpace (sameName h (now (t .entry)) (lends (now (names .entry)) (now (area .entry)))) prefix (old .0) (new .0) ⌝ }
+    requires { ⌜ Asks (now t) (lends (now names) (now area)) h × Numbered h (now t) (lends (now names) (now area)) (now numbers) ⌝ }
+    ensures { λ r. ⌜ (r ≡ sameSpace (sameName h (now (t .entry)) (lends (now (names .entry)) (now (area .entry)))) prefix (old .0) (new .0))
+        × Numbered h (now (t .entry)) (lends (now (names .entry)) (now (area .entry))) (now (numbers .exit)) ⌝ }
 {
     if prefix != OWN_PREFIX {
         return true;
     }
-    same_index(t, names, area, h, old, new)
+    same_numbered(t, names, area, h, old, new, numbers)
 }
 
 // The prefix of the leading attribute, the one whose name nothing is known of.
@@ -105,16 +112,22 @@ pub fn has(
     prefix: u32,
     name: StringIndex,
     ns: StringIndex,
+    numbers: &mut [u64],
 ) -> bool
     requires { ⌜ Asks (now t) (lends (now names) (now area)) h
-        × ((prefix ≡ 2 → ⊥) → isName (contentOf h (now t) (lends (now names) (now area)) (name .0)) ≡ true) ⌝ }
+        × ((prefix ≡ 2 → ⊥) → isName (contentOf h (now t) (lends (now names) (now area)) (name .0)) ≡ true)
+        × Numbered h (now t) (lends (now names) (now area)) (now numbers) ⌝ }
     ensures { λ r. ⌜ ((owner kind «data» : ℕ) → r ≡ isRepeat (byPrefix (sameName h (now (t .entry)) (lends (now (names .entry)) (now (area .entry)))))
-        (attributeWords owner prefix (name .0) kind «data» (ns .0)) (now (words .entry))) ⌝ }
+        (attributeWords owner prefix (name .0) kind «data» (ns .0)) (now (words .entry)))
+        × Numbered h (now (t .entry)) (lends (now (names .entry)) (now (area .entry))) (now (numbers .exit)) ⌝ }
 {
     if words.len() < ATTRIBUTE_WORDS {
         return false;
     }
     let wanted = find(t, names, area, h, name);
+    if is_numbered(prefix, wanted) {
+        return has_numbered(t, names, area, h, words, prefix, name, ns, wanted, numbers);
+    }
     let plain = is_plain_name(t, area, h.wide, prefix, wanted);
     let marks = marks_of(t, names, area, h, plain, wanted);
     let mut i = 0;
@@ -122,10 +135,7 @@ pub fn has(
         if words[i + ATTRIBUTE_PREFIX] == prefix {
             let other = StringIndex(words[i + ATTRIBUTE_NAME]);
             if same_as_known(t, names, area, h, plain, marks, other, name, wanted) {
-                let old = StringIndex(words[i + ATTRIBUTE_NAMESPACE]);
-                if same_space(t, names, area, h, prefix, old, ns) {
-                    return true;
-                }
+                return true;
             }
         }
         i += ATTRIBUTE_WORDS;

@@ -12,21 +12,16 @@ ghost use Rattle.records.specs.Words.{attributeWidth};
 ghost use Rattle.system_types.specs.Names.{lends};
 ghost use Rattle.text.specs.Content.{plainIn, sameName};
 ghost use Rattle.text.specs.Inner.Found.{Asks, Finds, partOf};
-ghost use Rattle.text.specs.Inner.Told.{Marked};
 ghost use Rattle.tables.specs.Inner.Keys.{keyBy};
+ghost use Rattle.tables.specs.Inner.Numbered.{Numbered};
 ghost use Rattle.tables.specs.Inner.Ways.{linkWidth, linkKey, childOf, Hung, Ends, sameAt, Sought, frontWords, isFar};
-use crate::same_space;
+use crate::by_number::is_same;
+use crate::by_number::plain_unless;
+use crate::numbers::is_long;
 use common::StringIndex;
-use records::ATTRIBUTE_NAME;
-use records::ATTRIBUTE_NAMESPACE;
-use records::ATTRIBUTE_PREFIX;
 use records::ATTRIBUTE_WORDS;
 use text::Found;
 use text::Head;
-use text::Marks;
-use text::is_plain_found;
-use text::marks_of;
-use text::same_as_known;
 
 // The words of the first 32 records of an element, which are compared one by one.
 pub const FRONT_WORDS: usize = 192;
@@ -70,38 +65,6 @@ fn child(links: &[u32], i: usize, g: u32) -> usize
     links[LINK_WORDS * i + (g % 2) as usize] as usize
 }
 
-// Whether the record whose words begin at the place i is repeated by the attribute of this prefix, name and namespace, whose name was found as g.
-fn is_same(
-    t: &[u8],
-    names: &[u32],
-    area: &[u8],
-    h: Head,
-    words: &[u32],
-    i: usize,
-    prefix: u32,
-    name: StringIndex,
-    ns: StringIndex,
-    g: Found,
-    plain: bool,
-    marks: Marks,
-) -> bool
-    requires { ⌜ Asks (now t) (lends (now names) (now area)) h × Finds (now t) (lends (now names) (now area)) h (name .0) g
-        × Known plain (plainIn (partOf (h .wide) (now t) (now area) g)) × Marked (now t) (lends (now names) (now area)) h g marks
-        × (i + attributeWidth ≤ length (now words)) ⌝ }
-    ensures { λ r. ⌜ r ≡ sameAt (sameName h (now (t .entry)) (lends (now (names .entry)) (now (area .entry)))) prefix (name .0) (ns .0)
-        (now (words .entry)) i ⌝ }
-{
-    if words[i + ATTRIBUTE_PREFIX] != prefix {
-        return false;
-    }
-    let other = StringIndex(words[i + ATTRIBUTE_NAME]);
-    if same_as_known(t, names, area, h, plain, marks, other, name, g) {
-        let old = StringIndex(words[i + ATTRIBUTE_NAMESPACE]);
-        return same_space(t, names, area, h, prefix, old, ns);
-    }
-    false
-}
-
 // The same of record i among those that are linked: another key is told at once.
 fn is_hit(
     t: &[u8],
@@ -117,14 +80,17 @@ fn is_hit(
     ns: StringIndex,
     g: Found,
     plain: bool,
-    marks: Marks,
+    long: bool,
+    numbers: &mut [u64],
 ) -> bool
     requires { ⌜ Asks (now t) (lends (now names) (now area)) h × Finds (now t) (lends (now names) (now area)) h (name .0) g
-        × Known plain (plainIn (partOf (h .wide) (now t) (now area) g)) × Marked (now t) (lends (now names) (now area)) h g marks
+        × Known plain (plainIn (partOf (h .wide) (now t) (now area) g))
+        × Numbered h (now t) (lends (now names) (now area)) (now numbers)
         × (attributeWidth * i + attributeWidth ≤ length (now words)) × (linkWidth * i + linkWidth ≤ length (now links)) ⌝ }
-    ensures { λ r. ⌜ r ≡ (eqb (getD (now (links .entry)) (linkWidth * i + linkKey) 0) key
+    ensures { λ r. ⌜ (r ≡ (eqb (getD (now (links .entry)) (linkWidth * i + linkKey) 0) key
         && sameAt (sameName h (now (t .entry)) (lends (now (names .entry)) (now (area .entry)))) prefix (name .0) (ns .0)
-        (now (words .entry)) (attributeWidth * i)) ⌝ }
+        (now (words .entry)) (attributeWidth * i)))
+        × Numbered h (now (t .entry)) (lends (now (names .entry)) (now (area .entry))) (now (numbers .exit)) ⌝ }
 {
     if links[LINK_WORDS * i + LINK_KEY] != key {
         return false;
@@ -141,7 +107,8 @@ fn is_hit(
         ns,
         g,
         plain,
-        marks,
+        long,
+        numbers,
     )
 }
 
@@ -160,11 +127,14 @@ pub fn seek(
     name: StringIndex,
     ns: StringIndex,
     g: Found,
+    numbers: &mut [u64],
 ) -> WayEnd
     requires { ⌜ Asks (now t) (lends (now names) (now area)) h × Finds (now t) (lends (now names) (now area)) h (name .0) g
+        × Numbered h (now t) (lends (now names) (now area)) (now numbers)
         × (linkWidth * (length (now words) / attributeWidth) ≤ length (now links)) ⌝ }
     ensures { λ r. ⌜ Sought (keyBy h (now (t .entry)) (lends (now (names .entry)) (now (area .entry))))
-        (sameName h (now (t .entry)) (lends (now (names .entry)) (now (area .entry)))) (now (words .entry)) (now (links .entry)) key prefix (name .0) (ns .0) r ⌝ }
+        (sameName h (now (t .entry)) (lends (now (names .entry)) (now (area .entry)))) (now (words .entry)) (now (links .entry)) key prefix (name .0) (ns .0) r
+        × Numbered h (now (t .entry)) (lends (now (names .entry)) (now (area .entry))) (now (numbers .exit)) ⌝ }
 {
     let n = words.len() / ATTRIBUTE_WORDS;
     if n == 0 {
@@ -174,8 +144,8 @@ pub fn seek(
             left: key,
         };
     }
-    let plain = is_plain_found(t, area, h.wide, g);
-    let marks = marks_of(t, names, area, h, plain, g);
+    let long = is_long(g);
+    let plain = plain_unless(t, area, h.wide, g, long);
     let mut i: usize = 0;
     let mut left = key;
     loop {
@@ -193,7 +163,8 @@ pub fn seek(
             ns,
             g,
             plain,
-            marks,
+            long,
+            numbers,
         ) {
             return WayEnd {
                 found: true,

@@ -34,6 +34,7 @@ use passing::pass_in;
 use placing::Stop;
 use placing::run_in;
 use res_string_pool::Garbage;
+use tables::numbers::NUMBERS;
 use text::Head;
 use tree::Tree;
 
@@ -147,8 +148,8 @@ fn started(st: State, opened: Opened) -> State
     }
 }
 
-// Reads on behind the head, to the next note that is kept or to the answer. What is known of names begins anew at each call, so that it is of
-// this file alone.
+// Reads on behind the head, to the next note that is kept or to the answer. What is known of names and of long texts begins anew at each call, so
+// that it is of this file alone.
 fn read_on(
     file: &[u8],
     names: &[u32],
@@ -164,6 +165,7 @@ fn read_on(
     let opened = st.opened;
     let notes = st.notes;
     let mut memory = [0u32; MEMORY];
+    let mut numbers = [0u64; NUMBERS];
     let mut cur = st.cur;
     let mut tree = st.tree;
     loop {
@@ -178,6 +180,7 @@ fn read_on(
             &mut memory,
             cur,
             tree,
+            &mut numbers,
         );
         cur = h.cur;
         tree = h.tree;

@@ -6,6 +6,7 @@ ghost use Rattle.records.specs.Repeats.{Rule, byPrefix};
 ghost use Rattle.system_types.specs.Names.{lends};
 ghost use Rattle.text.specs.Content.{sameName};
 ghost use Rattle.tables.specs.Inner.Keys.{Key, keyBy};
+ghost use Rattle.tables.specs.Inner.Numbered.{Numbered};
 ghost use Rattle.events.specs.declared.Event.the-variants.{Open, Attribute, Close};
 ghost use Rattle.head.specs.Head.{tablesIn};
 ghost use Rattle.events.specs.Inner.Remembered.{Remembers};
@@ -91,13 +92,27 @@ fn keep_place(
     tree: Tree,
     prefix: u32,
     a: XmlAttributeElement,
+    numbers: &mut [u64],
 ) -> Placed
-    requires { ⌜ AsksFor (Attribute prefix a) (now t) (lends (now names) (now area)) h × Fit (now nodes) (now attributes) tree ⌝ }
+    requires { ⌜ AsksFor (Attribute prefix a) (now t) (lends (now names) (now area)) h × Fit (now nodes) (now attributes) tree
+        × Numbered h (now t) (lends (now names) (now area)) (now numbers) ⌝ }
     ensures { λ r. ⌜ Places (byPrefix (sameName h (now (t .entry)) (lends (now (names .entry)) (now (area .entry)))))
         (keyBy h (now (t .entry)) (lends (now (names .entry)) (now (area .entry)))) r
-        (now (nodes .entry)) (now (attributes .entry)) tree (Attribute prefix a) (now (nodes .exit)) (now (attributes .exit)) ⌝ }
+        (now (nodes .entry)) (now (attributes .entry)) tree (Attribute prefix a) (now (nodes .exit)) (now (attributes .exit))
+        × Numbered h (now (t .entry)) (lends (now (names .entry)) (now (area .entry))) (now (numbers .exit)) ⌝ }
 {
-    let p = keep(t, names, area, h, nodes, attributes, tree, prefix, a);
+    let p = keep(
+        t,
+        names,
+        area,
+        h,
+        nodes,
+        attributes,
+        tree,
+        prefix,
+        a,
+        numbers,
+    );
     match p {
         Put::Same => Placed::Done(tree),
         Put::Full => Placed::Full(Refusal::AttributesFull(attributes.len() / ATTRIBUTE_WORDS)),
@@ -115,11 +130,14 @@ pub fn place(
     attributes: &mut [u32],
     tree: Tree,
     e: Event,
+    numbers: &mut [u64],
 ) -> Placed
-    requires { ⌜ AsksFor e (now t) (lends (now names) (now area)) h × Fit (now nodes) (now attributes) tree ⌝ }
+    requires { ⌜ AsksFor e (now t) (lends (now names) (now area)) h × Fit (now nodes) (now attributes) tree
+        × Numbered h (now t) (lends (now names) (now area)) (now numbers) ⌝ }
     ensures { λ r. ⌜ Places (byPrefix (sameName h (now (t .entry)) (lends (now (names .entry)) (now (area .entry)))))
         (keyBy h (now (t .entry)) (lends (now (names .entry)) (now (area .entry)))) r
-        (now (nodes .entry)) (now (attributes .entry)) tree e (now (nodes .exit)) (now (attributes .exit)) × NotEnd r e ⌝ }
+        (now (nodes .entry)) (now (attributes .entry)) tree e (now (nodes .exit)) (now (attributes .exit)) × NotEnd r e
+        × Numbered h (now (t .entry)) (lends (now (names .entry)) (now (area .entry))) (now (numbers .exit)) ⌝ }
 {
     match e {
         Event::Nothing => Placed::Done(tree),
@@ -134,6 +152,7 @@ pub fn place(
             tree,
             prefix,
             a,
+            numbers,
         ),
         Event::LeftOut(name) => Placed::Done(tree),
         Event::Close => close_place(nodes, attributes, tree),
@@ -144,7 +163,8 @@ pub fn place(
 }
 
 // Puts events away until a note falls due, something is refused, or nothing is left. t is the bytes that texts are read from, b the
-// body, `mode` that of the reading, `memory` what is known of its names.
+// body, `mode` that of the reading, `memory` what is known of its names,
+// `numbers` of its long texts.
 // Ruled out: a note passed over, and a stop before the end with none due.
 pub fn run(
     t: &[u8],
@@ -158,12 +178,15 @@ pub fn run(
     memory: &mut [u32],
     c: Cursor,
     tree: Tree,
+    numbers: &mut [u64],
 ) -> Halt
     requires { ⌜ Running (now t) (lends (now names) (now area)) (now b) o (now nodes) (now attributes) c tree
-        × Remembers (o .head) (now t) (lends (now names) (now area)) (now memory) ⌝ }
+        × Remembers (o .head) (now t) (lends (now names) (now area)) (now memory)
+        × Numbered (o .head) (now t) (lends (now names) (now area)) (now numbers) ⌝ }
     ensures { λ r. ⌜ RanOn mode (now (t .entry)) (lends (now (names .entry)) (now (area .entry))) (now (b .entry)) o (now (nodes .entry)) (now (attributes .entry)) c tree r
         (now (nodes .exit)) (now (attributes .exit))
-        × Remembers (o .head) (now (t .entry)) (lends (now (names .entry)) (now (area .entry))) (now (memory .exit)) ⌝ }
+        × Remembers (o .head) (now (t .entry)) (lends (now (names .entry)) (now (area .entry))) (now (memory .exit))
+        × Numbered (o .head) (now (t .entry)) (lends (now (names .entry)) (now (area .entry))) (now (numbers .exit)) ⌝ }
 {
     let mut cur = c;
     let mut grown = tree;
@@ -171,7 +194,7 @@ pub fn run(
         let s = step_at(t, names, area, mode, o, b, cur, memory);
         let e = s.event;
         let next = s.cur;
-        let p = place(t, names, area, o.head, nodes, attributes, grown, e);
+        let p = place(t, names, area, o.head, nodes, attributes, grown, e, numbers);
         match p {
             Placed::Done(u) => {
                 cur = next;
@@ -215,12 +238,15 @@ pub fn run_in(
     memory: &mut [u32],
     c: Cursor,
     tree: Tree,
+    numbers: &mut [u64],
 ) -> Halt
     requires { ⌜ RunningIn (now file) (lends (now names) (now area)) o (now nodes) (now attributes) c tree
-        × Remembers (o .head) (tablesIn (now file) (o .head)) (lends (now names) (now area)) (now memory) ⌝ }
+        × Remembers (o .head) (tablesIn (now file) (o .head)) (lends (now names) (now area)) (now memory)
+        × Numbered (o .head) (tablesIn (now file) (o .head)) (lends (now names) (now area)) (now numbers) ⌝ }
     ensures { λ r. ⌜ RanIn mode (now (file .entry)) (lends (now (names .entry)) (now (area .entry))) o (now (nodes .entry)) (now (attributes .entry)) c tree r
         (now (nodes .exit)) (now (attributes .exit))
-        × Remembers (o .head) (tablesIn (now (file .entry)) (o .head)) (lends (now (names .entry)) (now (area .entry))) (now (memory .exit)) ⌝ }
+        × Remembers (o .head) (tablesIn (now (file .entry)) (o .head)) (lends (now (names .entry)) (now (area .entry))) (now (memory .exit))
+        × Numbered (o .head) (tablesIn (now (file .entry)) (o .head)) (lends (now (names .entry)) (now (area .entry))) (now (numbers .exit)) ⌝ }
 {
     let t = tables_of(file, o.head);
     let b = body_of(file, o.head);
@@ -236,5 +262,6 @@ pub fn run_in(
         memory,
         c,
         tree,
+        numbers,
     )
 }

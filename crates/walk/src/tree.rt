@@ -15,6 +15,7 @@ ghost use Rattle.system_types.specs.Names.{lends};
 ghost use Rattle.text.specs.Content.{sameName};
 ghost use Rattle.text.specs.Inner.Found.{Asks};
 ghost use Rattle.tables.specs.Inner.Keys.{keyBy};
+ghost use Rattle.tables.specs.Inner.Numbered.{Numbered};
 ghost use Rattle.events.specs.declared.Event.the-variants.{Attribute};
 ghost use Rattle.walk.specs.Inner.Tree.{parentOf, openedTree, closedTree, keptTree, openedWords, keptNodes, keptAttributes, newWords, frontOf, Fit, Far, Puts, KeepsIn, AsksFor};
 use common::StringIndex;
@@ -220,12 +221,15 @@ fn keep_far(
     tree: Tree,
     prefix: u32,
     a: XmlAttributeElement,
+    numbers: &mut [u64],
 ) -> Put
-    requires { ⌜ Asks (now t) (lends (now names) (now area)) h × Fit (now nodes) (now attributes) tree × Far (now nodes) tree ⌝ }
-    ensures { λ r. ⌜ (isRepeat (byPrefix (sameName h (now (t .entry)) (lends (now (names .entry)) (now (area .entry))))) (newWords tree prefix a) (frontOf tree (now (attributes .entry))) ≡ false
+    requires { ⌜ Asks (now t) (lends (now names) (now area)) h × Fit (now nodes) (now attributes) tree × Far (now nodes) tree
+        × Numbered h (now t) (lends (now names) (now area)) (now numbers) ⌝ }
+    ensures { λ r. ⌜ ((isRepeat (byPrefix (sameName h (now (t .entry)) (lends (now (names .entry)) (now (area .entry))))) (newWords tree prefix a) (frontOf tree (now (attributes .entry))) ≡ false
         → KeepsIn (byPrefix (sameName h (now (t .entry)) (lends (now (names .entry)) (now (area .entry)))))
         (keyBy h (now (t .entry)) (lends (now (names .entry)) (now (area .entry)))) r tree prefix a
-        (now (nodes .entry)) (now (attributes .entry)) (now (nodes .exit)) (now (attributes .exit))) ⌝ }
+        (now (nodes .entry)) (now (attributes .entry)) (now (nodes .exit)) (now (attributes .exit))))
+        × Numbered h (now (t .entry)) (lends (now (names .entry)) (now (area .entry))) (now (numbers .exit)) ⌝ }
 {
     let from = attribute_place(tree.first) + FRONT_WORDS;
     let used = attribute_place(tree.attributes);
@@ -233,7 +237,7 @@ fn keep_far(
     let name = a.name;
     let ns = a.namespace_uri;
     let g = find(t, names, area, h, name);
-    let key = key_of(t, names, area, h, prefix, g, ns);
+    let key = key_of(t, names, area, h, prefix, name, g, ns, numbers);
     let e = seek(
         t,
         names,
@@ -246,6 +250,7 @@ fn keep_far(
         name,
         ns,
         g,
+        numbers,
     );
     if e.found {
         return Put::Same;
@@ -264,7 +269,7 @@ fn keep_far(
     Put::Stored(u)
 }
 
-// An attribute of the last node, unless it repeats one of that node's.
+// An attribute of the last node, unless it repeats one of that node's; `numbers` is what is known of long texts.
 // Ruled out: a place asked for a repeat, and the node's count of attributes left as it was.
 pub fn keep(
     t: &[u8],
@@ -276,11 +281,14 @@ pub fn keep(
     tree: Tree,
     prefix: u32,
     a: XmlAttributeElement,
+    numbers: &mut [u64],
 ) -> Put
-    requires { ⌜ AsksFor (Attribute prefix a) (now t) (lends (now names) (now area)) h × Fit (now nodes) (now attributes) tree ⌝ }
+    requires { ⌜ AsksFor (Attribute prefix a) (now t) (lends (now names) (now area)) h × Fit (now nodes) (now attributes) tree
+        × Numbered h (now t) (lends (now names) (now area)) (now numbers) ⌝ }
     ensures { λ r. ⌜ KeepsIn (byPrefix (sameName h (now (t .entry)) (lends (now (names .entry)) (now (area .entry)))))
         (keyBy h (now (t .entry)) (lends (now (names .entry)) (now (area .entry)))) r tree prefix a
-        (now (nodes .entry)) (now (attributes .entry)) (now (nodes .exit)) (now (attributes .exit)) ⌝ }
+        (now (nodes .entry)) (now (attributes .entry)) (now (nodes .exit)) (now (attributes .exit))
+        × Numbered h (now (t .entry)) (lends (now (names .entry)) (now (area .entry))) (now (numbers .exit)) ⌝ }
 {
     let n = tree.nodes;
     if n == 0 {
@@ -301,11 +309,23 @@ pub fn keep(
         prefix,
         name,
         ns,
+        numbers,
     ) {
         return Put::Same;
     }
     if far {
-        return keep_far(t, names, area, h, nodes, attributes, tree, prefix, a);
+        return keep_far(
+            t,
+            names,
+            area,
+            h,
+            nodes,
+            attributes,
+            tree,
+            prefix,
+            a,
+            numbers,
+        );
     }
     if attributes.len() - used < ATTRIBUTE_WORDS {
         return Put::Full;

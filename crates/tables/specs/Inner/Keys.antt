@@ -3,7 +3,7 @@
 --   mixed     a state of 64 bits and a value, mixed: its halves are multiplied, and the halves of the products crossed
 --   foldOf    the values of steps, mixed one by one; hashOf those of a text, in whatever encoding: none where it is refused
 --   hashIn    the same of what an index stands for
---   keyBy     the key for a prefix, a name and a namespace; the namespace counts where the prefix asks for it (W23)
+--   keyBy     the key for a prefix, a name and a namespace, from the numbers of the texts; the namespace counts where the prefix asks for it (W23)
 --   keysOf    the keys of the records in a list of words
 --
 -- Laws: proofs/Hashes.antt. They use nothing of `mixed`, so that another formula changes nothing there.
@@ -53,10 +53,14 @@ hashIn s (some wide b) = hashOf s wide b
 abbrev pub Key : Type 0
 Key = ℕ → ℕ → ℕ → ℕ
 
+-- a state with the number of another text mixed into it
+abbrev pub joined : ℕ → ℕ → ℕ
+joined s n = mixed (mixed s (n / 4294967296)) (n % 4294967296)
+
 unfoldable pub keyBy : Head → List ℕ → Lent → Key
 keyBy h t lent p n ns =
-    let s = hashIn p (contentOf h t lent n) in
-    cond (eqb p ownPrefix) (hashIn s (contentOf h t lent ns)) s / 4294967296
+    let s = mixed (hashIn 0 (contentOf h t lent n)) p in
+    cond (eqb p ownPrefix) (joined s (hashIn 0 (contentOf h t lent ns))) s / 4294967296
 
 abbrev pub keysOf : Key → List ℕ → ℕ → ℕ
 keysOf key w i =

@@ -1,5 +1,5 @@
 -- `walk::read_on` meets its contract: each way out of its loop keeps the outcome of the whole reading.
--- Invariant: the outcome is that of the reading from here, and what is known of names holds: at first nothing is. Measure: the cursor's steps.
+-- Invariant: the outcome is that of the reading from here, and what is known of names and of long texts holds: at first nothing is. Measure: the cursor's steps.
 -- The mathematics of a turn: proofs/Advancing.antt, Quiet.antt, Finishing.antt.
 use native.Mathlib.Omega.{arith}
 use mathlib.Core.Path.{_≡_, refl, sym, _∙_}
@@ -9,6 +9,8 @@ use lib.ListN.{length}
 use Rattle.anomaly.proofs.Laws.{kindIndex-lt}
 use Rattle.system_types.specs.Names.{lends}
 use Rattle.head.specs.Head.{tablesIn, bodyIn}
+use Rattle.tables.specs.Inner.Numbered.{Numbered}
+use Rattle.tables.proofs.Numbering.{numbered-none}
 use Rattle.events.specs.Inner.Pending.{steps}
 use Rattle.events.specs.Inner.Remembered.{Remembers}
 use Rattle.events.proofs.Remembering.{remembers-none}
@@ -20,29 +22,39 @@ use Rattle.walk.proofs.read_on.Statement.{statement}
 use Rattle.walk.proofs.read_on.Tie as tie
 
 abbrev Inv-loop : tie.InvT-loop
-Inv-loop file names area nodes₀ attributes₀ st opened notes memory₀ cur₀ tree₀ nodes attributes memory cur tree =
+Inv-loop file names area nodes₀ attributes₀ st opened notes memory₀ numbers₀ cur₀ tree₀ nodes attributes memory numbers cur tree =
     (length nodes ≡ length nodes₀) × (length attributes ≡ length attributes₀) ×
     ((g : Good file (lends names area) nodes₀ attributes₀ st) → ReadHead file (lends names area) nodes₀ attributes₀ st g nodes attributes cur tree) ×
-    Remembers (st .opened .head) (tablesIn file (st .opened .head)) (lends names area) memory
+    Remembers (st .opened .head) (tablesIn file (st .opened .head)) (lends names area) memory ×
+    Numbered (st .opened .head) (tablesIn file (st .opened .head)) (lends names area) numbers
 
 abbrev μ-loop : tie.MeasureT-loop
-μ-loop file names area nodes₀ attributes₀ st opened notes memory₀ cur₀ tree₀ nodes attributes memory cur tree = steps (bodyIn file (st .opened .head)) cur
+μ-loop file names area nodes₀ attributes₀ st opened notes memory₀ numbers₀ cur₀ tree₀ nodes attributes memory numbers cur tree = steps (bodyIn file (st .opened .head)) cur
 
 loop-holds : tie.Need-loop-holds Inv-loop μ-loop
 loop-holds c =
     let at-start = c .before .before .before .before .before .before .before .before .before in
     let a = at-start .args in
-    let head = a .st .opened .head in
-    (refl, refl, (λ g. read-first _ _ _ _ _ g (at-start .pre .1)), remembers-none head (tablesIn (a .file .now) head) (lends (a .names .now) (a .area .now)) 2048 refl refl)
+    let head = a .st .opened .head in (
+      refl,
+      refl,
+      (λ g. read-first _ _ _ _ _ g (at-start .pre .1)),
+      remembers-none head (tablesIn (a .file .now) head) (lends (a .names .now) (a .area .now)) 2048 refl refl,
+      numbered-none head (tablesIn (a .file .now) head) (lends (a .names .now) (a .area .now)) 512 refl refl,
+    )
 
 slice-aggregate-run-in : tie.Need-slice-aggregate-run-in Inv-loop μ-loop
 slice-aggregate-run-in c = search needs
 
+slice-aggregate-run-in-2 : tie.Need-slice-aggregate-run-in-2 Inv-loop μ-loop
+slice-aggregate-run-in-2 c = search needs
+
 run-in-requires : tie.Need-run-in-requires Inv-loop μ-loop
 run-in-requires c κs =
-    let at-start = c .before .before .before .before .before .before .before .before .before .before .before .before .before in
-    let l = c .before .before .before .loop in
-    (l .inv .2 (at-start .pre .0) .now, l .inv .3)
+    let at-loop = c .before .before .before .before in
+    let at-start = c .before .before .before .before .before .before .before .before .before .before .before .before .before .before in
+    let l = at-loop .loop in
+    (l .inv .2 (at-start .pre .0) .now, l .inv .3, l .inv .4)
 
 enum-known-stop : tie.Need-enum-known-stop Inv-loop μ-loop
 enum-known-stop c = search needs
@@ -53,22 +65,24 @@ refuse-requires c κs = search needs
 same-length : tie.Need-same-length Inv-loop μ-loop
 same-length c =
     let at-refuse = c .before .before .before .before in
-    let at-run-in = at-refuse .before .before .before .before .before .before .before .before .before .before .before .before .before in
-    at-refuse .refuse .kept .0 ∙ at-run-in .run-in .kept .1 .1 .1 .1 .1 .0 ∙ at-run-in .before .before .before .before .loop .inv .0
+    let at-run-in = c .before .before .before .before .before .before .before .before .before .before .before .before .before .before .before .before .before .before in
+    let at-loop = c .before .before .before .before .before .before .before .before .before .before .before .before .before .before .before .before .before .before .before .before .before .before .before in
+    at-refuse .refuse .kept .0 ∙ at-run-in .run-in .kept .1 .1 .1 .1 .1 .0 ∙ at-loop .loop .inv .0
 
 same-length-2 : tie.Need-same-length-2 Inv-loop μ-loop
 same-length-2 c =
     let at-refuse = c .before .before .before .before in
-    let at-run-in = at-refuse .before .before .before .before .before .before .before .before .before .before .before .before .before in
-    at-refuse .refuse .kept .1 .0 ∙ at-run-in .run-in .kept .1 .1 .1 .1 .1 .1 .0 ∙ at-run-in .before .before .before .before .loop .inv .1
+    let at-run-in = c .before .before .before .before .before .before .before .before .before .before .before .before .before .before .before .before .before .before in
+    let at-loop = c .before .before .before .before .before .before .before .before .before .before .before .before .before .before .before .before .before .before .before .before .before .before .before in
+    at-refuse .refuse .kept .1 .0 ∙ at-run-in .run-in .kept .1 .1 .1 .1 .1 .1 .0 ∙ at-loop .loop .inv .1
 
 returns : tie.Need-returns Inv-loop μ-loop
 returns c =
     let at-refuse = c .before .before .before .before in
-    let at-stop = at-refuse .before .before .before .before in
-    let at-run-in = at-stop .before .before .before .before .before .before .before .before .before in
-    let at-loop = at-run-in .before .before .before .before in
-    let at-start = at-loop .before .before .before .before .before .before .before .before .before .before in
+    let at-stop = c .before .before .before .before .before .before .before .before in
+    let at-run-in = c .before .before .before .before .before .before .before .before .before .before .before .before .before .before .before .before .before .before in
+    let at-loop = c .before .before .before .before .before .before .before .before .before .before .before .before .before .before .before .before .before .before .before .before .before .before .before in
+    let at-start = c .before .before .before .before .before .before .before .before .before .before .before .before .before .before .before .before .before .before .before .before .before .before .before .before .before .before .before .before .before .before .before .before .before in
     let a = at-start .args in
     let l = at-loop .loop in
     let q = at-run-in .run-in in
@@ -85,9 +99,10 @@ enum-told c = search needs
 
 finish-requires : tie.Need-finish-requires Inv-loop μ-loop
 finish-requires c κs =
-    let at-run-in = c .before .before .before .before .before .before .before .before .before .before .before in
-    let at-loop = at-run-in .before .before .before .before in
-    let at-start = at-loop .before .before .before .before .before .before .before .before .before .before in
+    let at-enum-told = c .before .before in
+    let at-run-in = c .before .before .before .before .before .before .before .before .before .before .before .before in
+    let at-loop = c .before .before .before .before .before .before .before .before .before .before .before .before .before .before .before .before .before in
+    let at-start = c .before .before .before .before .before .before .before .before .before .before .before .before .before .before .before .before .before .before .before .before .before .before .before .before .before .before .before in
     let a = at-start .args in
     let l = at-loop .loop in
     let q = at-run-in .run-in in
@@ -95,27 +110,29 @@ finish-requires c κs =
     read-keepable (a .file .now) (lends (a .names .now) (a .area .now)) (a .nodes .now) (a .attributes .now) (a .st) g (l .nodes) (l .attributes) (l .cur)
     (l .tree) (l .inv .2 g)
     (q .result) (q .last .1 .1 .1 .1 .1 .0) (q .last .1 .1 .1 .1 .1 .1 .0) (q .kept .1 .1 .1 .1 .1 .0) (q .kept .1 .1 .1 .1 .1 .1 .0) (q .ensures .0)
-    (c .before .before .enum-told .given .1)
+    (at-enum-told .enum-told .given .1)
 
 same-length-3 : tie.Need-same-length-3 Inv-loop μ-loop
 same-length-3 c =
     let at-finish = c .before .before .before .before in
-    let at-run-in = at-finish .before .before .before .before .before .before .before .before .before .before .before .before in
-    at-finish .finish .kept .0 ∙ at-run-in .run-in .kept .1 .1 .1 .1 .1 .0 ∙ at-run-in .before .before .before .before .loop .inv .0
+    let at-run-in = c .before .before .before .before .before .before .before .before .before .before .before .before .before .before .before .before .before in
+    let at-loop = c .before .before .before .before .before .before .before .before .before .before .before .before .before .before .before .before .before .before .before .before .before .before in
+    at-finish .finish .kept .0 ∙ at-run-in .run-in .kept .1 .1 .1 .1 .1 .0 ∙ at-loop .loop .inv .0
 
 same-length-4 : tie.Need-same-length-4 Inv-loop μ-loop
 same-length-4 c =
     let at-finish = c .before .before .before .before in
-    let at-run-in = at-finish .before .before .before .before .before .before .before .before .before .before .before .before in
-    at-finish .finish .kept .1 .0 ∙ at-run-in .run-in .kept .1 .1 .1 .1 .1 .1 .0 ∙ at-run-in .before .before .before .before .loop .inv .1
+    let at-run-in = c .before .before .before .before .before .before .before .before .before .before .before .before .before .before .before .before .before in
+    let at-loop = c .before .before .before .before .before .before .before .before .before .before .before .before .before .before .before .before .before .before .before .before .before .before in
+    at-finish .finish .kept .1 .0 ∙ at-run-in .run-in .kept .1 .1 .1 .1 .1 .1 .0 ∙ at-loop .loop .inv .1
 
 returns-2 : tie.Need-returns-2 Inv-loop μ-loop
 returns-2 c =
     let at-finish = c .before .before .before .before in
-    let at-enum-told = at-finish .before .before .before in
-    let at-run-in = at-enum-told .before .before .before .before .before .before .before .before .before in
-    let at-loop = at-run-in .before .before .before .before in
-    let at-start = at-loop .before .before .before .before .before .before .before .before .before .before in
+    let at-enum-told = c .before .before .before .before .before .before .before in
+    let at-run-in = c .before .before .before .before .before .before .before .before .before .before .before .before .before .before .before .before .before in
+    let at-loop = c .before .before .before .before .before .before .before .before .before .before .before .before .before .before .before .before .before .before .before .before .before .before in
+    let at-start = c .before .before .before .before .before .before .before .before .before .before .before .before .before .before .before .before .before .before .before .before .before .before .before .before .before .before .before .before .before .before .before .before in
     let a = at-start .args in
     let l = at-loop .loop in
     let q = at-run-in .run-in in
@@ -137,32 +154,36 @@ is-due-requires c κs = omega (arith, c .kind-index .ensures, kindIndex-lt (c .b
 
 note-due-requires : tie.Need-note-due-requires Inv-loop μ-loop
 note-due-requires c κs =
+    let then1 = c .before .before in
     let at-is-due = c .before .before .before in
-    let at-kind-index = at-is-due .before in
-    ltb-true _ _ (sym (rw (at-kind-index .kind-index .ensures) at (at-is-due .is-due .ensures)) ∙ c .before .before .if1 .taken)
+    let at-kind-index = c .before .before .before .before in
+    ltb-true _ _ (sym (rw (at-kind-index .kind-index .ensures) at (at-is-due .is-due .ensures)) ∙ then1 .if1 .taken)
 
 same-length-5 : tie.Need-same-length-5 Inv-loop μ-loop
 same-length-5 c =
     let at-note-due = c .before .before .before .before in
-    let at-run-in = at-note-due .before .before .before .before .before .before .before .before .before .before .before .before .before .before .before .before in
-    at-note-due .note-due .kept .0 ∙ at-run-in .run-in .kept .1 .1 .1 .1 .1 .0 ∙ at-run-in .before .before .before .before .loop .inv .0
+    let at-run-in = c .before .before .before .before .before .before .before .before .before .before .before .before .before .before .before .before .before .before .before .before .before in
+    let at-loop = c .before .before .before .before .before .before .before .before .before .before .before .before .before .before .before .before .before .before .before .before .before .before .before .before .before .before in
+    at-note-due .note-due .kept .0 ∙ at-run-in .run-in .kept .1 .1 .1 .1 .1 .0 ∙ at-loop .loop .inv .0
 
 same-length-6 : tie.Need-same-length-6 Inv-loop μ-loop
 same-length-6 c =
     let at-note-due = c .before .before .before .before in
-    let at-run-in = at-note-due .before .before .before .before .before .before .before .before .before .before .before .before .before .before .before .before in
-    at-note-due .note-due .kept .1 .0 ∙ at-run-in .run-in .kept .1 .1 .1 .1 .1 .1 .0 ∙ at-run-in .before .before .before .before .loop .inv .1
+    let at-run-in = c .before .before .before .before .before .before .before .before .before .before .before .before .before .before .before .before .before .before .before .before .before in
+    let at-loop = c .before .before .before .before .before .before .before .before .before .before .before .before .before .before .before .before .before .before .before .before .before .before .before .before .before .before in
+    at-note-due .note-due .kept .1 .0 ∙ at-run-in .run-in .kept .1 .1 .1 .1 .1 .1 .0 ∙ at-loop .loop .inv .1
 
 returns-3 : tie.Need-returns-3 Inv-loop μ-loop
 returns-3 c =
     let at-note-due = c .before .before .before .before in
-    let at-if1 = at-note-due .before .before .before in
-    let at-is-due = at-if1 .before in
-    let at-kind-index = at-is-due .before in
-    let at-stop2 = at-kind-index .before .before in
-    let at-run-in = at-stop2 .before .before .before .before .before .before .before .before .before in
-    let at-loop = at-run-in .before .before .before .before in
-    let at-start = at-loop .before .before .before .before .before .before .before .before .before .before in
+    let then1 = c .before .before .before .before .before .before .before in
+    let at-is-due = c .before .before .before .before .before .before .before .before in
+    let at-kind-index = c .before .before .before .before .before .before .before .before .before in
+    let at-stop2 = c .before .before .before .before .before .before .before .before .before .before .before in
+    let at-run-in = c .before .before .before .before .before .before .before .before .before .before .before .before .before .before .before .before .before .before .before .before .before in
+    let at-loop = c .before .before .before .before .before .before .before .before .before .before .before .before .before .before .before .before .before .before .before .before .before .before .before .before .before .before in
+    let at-start = c .before .before .before .before .before .before .before .before .before .before .before .before .before .before .before .before .before .before .before .before .before .before .before .before .before .before .before .before .before .before .before .before .before .before .before .before in
+    let at-if1 = then1 in
     let a = at-start .args in
     let l = at-loop .loop in
     let q = at-run-in .run-in in
@@ -178,9 +199,9 @@ returns-3 c =
 pass-in-requires : tie.Need-pass-in-requires Inv-loop μ-loop
 pass-in-requires c κs =
     let at-stop2 = c .before .before .before .before in
-    let at-run-in = at-stop2 .before .before .before .before .before .before .before .before .before in
-    let at-loop = at-run-in .before .before .before .before in
-    let at-start = at-loop .before .before .before .before .before .before .before .before .before .before in
+    let at-run-in = c .before .before .before .before .before .before .before .before .before .before .before .before .before .before in
+    let at-loop = c .before .before .before .before .before .before .before .before .before .before .before .before .before .before .before .before .before .before .before in
+    let at-start = c .before .before .before .before .before .before .before .before .before .before .before .before .before .before .before .before .before .before .before .before .before .before .before .before .before .before .before .before .before in
     let a = at-start .args in
     let l = at-loop .loop in
     let q = at-run-in .run-in in
@@ -193,9 +214,9 @@ pass-in-requires c κs =
 loop-less : tie.Need-loop-less Inv-loop μ-loop
 loop-less c =
     let at-stop2 = c .before .before .before .before .before in
-    let at-run-in = at-stop2 .before .before .before .before .before .before .before .before .before in
-    let at-loop = at-run-in .before .before .before .before in
-    let at-start = at-loop .before .before .before .before .before .before .before .before .before .before in
+    let at-run-in = c .before .before .before .before .before .before .before .before .before .before .before .before .before .before .before in
+    let at-loop = c .before .before .before .before .before .before .before .before .before .before .before .before .before .before .before .before .before .before .before .before in
+    let at-start = c .before .before .before .before .before .before .before .before .before .before .before .before .before .before .before .before .before .before .before .before .before .before .before .before .before .before .before .before .before .before in
     let a = at-start .args in
     let l = at-loop .loop in
     let q = at-run-in .run-in in
@@ -208,16 +229,18 @@ loop-less c =
 
 loop-again : tie.Need-loop-again Inv-loop μ-loop
 loop-again c =
+    let at-is-due = c .before .before in
+    let at-kind-index = c .before .before .before in
     let at-stop2 = c .before .before .before .before .before in
-    let at-run-in = at-stop2 .before .before .before .before .before .before .before .before .before in
-    let at-loop = at-run-in .before .before .before .before in
-    let at-start = at-loop .before .before .before .before .before .before .before .before .before .before in
+    let at-run-in = c .before .before .before .before .before .before .before .before .before .before .before .before .before .before .before in
+    let at-loop = c .before .before .before .before .before .before .before .before .before .before .before .before .before .before .before .before .before .before .before .before in
+    let at-start = c .before .before .before .before .before .before .before .before .before .before .before .before .before .before .before .before .before .before .before .before .before .before .before .before .before .before .before .before .before .before in
     let a = at-start .args in
     let l = at-loop .loop in
     let q = at-run-in .run-in in
     let s = at-stop2 .stop2 .given in
     let p = c .pass-in in
-    let past = ltb-false _ _ (sym (rw (c .before .before .before .kind-index .ensures) at (c .before .before .is-due .ensures)) ∙ c .before .if1 .left) in (
+    let past = ltb-false _ _ (sym (rw (at-kind-index .kind-index .ensures) at (at-is-due .is-due .ensures)) ∙ c .before .if1 .left) in (
       q .kept .1 .1 .1 .1 .1 .0 ∙ l .inv .0,
       q .kept .1 .1 .1 .1 .1 .1 .0 ∙ l .inv .1,
       λ g.
@@ -228,6 +251,7 @@ loop-again c =
           (q .result) (q .last .1 .1 .1 .1 .1 .0) (q .last .1 .1 .1 .1 .1 .1 .0) (q .kept .1 .1 .1 .1 .1 .0) (q .kept .1 .1 .1 .1 .1 .1 .0) (q .ensures .0)
           (s .0 .0) (s .1) past) (p .result) (p .ensures),
       q .ensures .1,
+      q .ensures .2,
     )
 
 pub read-on-spec : {M : Type 1} → statement M
@@ -238,6 +262,7 @@ read-on-spec =
     μ-loop
     loop-holds
     slice-aggregate-run-in
+    slice-aggregate-run-in-2
     run-in-requires
     enum-known-stop
     refuse-requires
