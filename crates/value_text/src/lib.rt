@@ -411,8 +411,8 @@ fn value_in(
 }
 
 // The text of an attribute's value, in `out`: its UTF-8 and zeros behind it; on a refusal zeros alone. Names, items and head are checked
-// again at each call, and the answer tells the first that is amiss: 2, 7, 14, 1, 3, 4, 5, then 12 (its name has no text), 15 (no plain
-// text) and 11 (with the bytes needed).
+// again at each call, and the answer tells the first that is amiss: 2, 7, 14, 1, 3, 41 to 45, 51, 52, then 12 (its name has no text), 15 (no
+// plain text) and 11 (with the bytes needed).
 // Ruled out: the number of a value that an item names, the names of bits that are not set, and a damaged string answered as whole.
 pub fn value_text(
     file: &[u8],
