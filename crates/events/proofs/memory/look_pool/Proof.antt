@@ -1,4 +1,5 @@
 -- `events::memory::look_pool` meets its contract: by what is remembered of the string, else by a look, which is kept (`remembers-long`).
+use Prim.Native.Nat.{_≤_}
 use native.Mathlib.Omega.{arith}
 use denote.Ref.{now}
 use lib.ListN.{take, drop}
@@ -49,7 +50,7 @@ returns-2 : tie.Need-returns-2
 returns-2 c =
     let s = c .before .before .before .before .before .before .before .before .before .before .before in
     let part = c .before .before .before .before .part-of in
-    let least = omega (arith, c .before .before .before .before .before .if1 .left, c .before .before .before .before .before .before .long-from .ensures) in
+    let least : 1 ≤ s .args .n = omega (arith, c .before .before .before .before .before .if1 .left, c .before .before .before .before .before .before .long-from .ensures) in
     (s .pre .2 .longs (part .result) (s .args .at) (s .args .n) (part .ensures) least (c .before .before .if2 .taken) (c .if3 .taken), s .pre .2)
 
 look-found-requires-2 : tie.Need-look-found-requires-2
