@@ -9,7 +9,6 @@ use borrow.Author.Tests.{eqb-true, eqb-false, eq-eqb, ne-eqb, lt-ltb, le-ltb}
 use lib.ListN.{length, getD, set, replicate, take, drop, length-set}
 use lib.Seq.{getD-set-same, getD-set-other}
 use lib.Dec.{eqb, ltb}
-use Rattle.records.specs.Limits.{fileLimit}
 use Rattle.utf.specs.Text.{Damage, whole, replaced, unpaired, cut as cutText, stateNumber}
 use Rattle.system_types.specs.Names.{Lent}
 use Rattle.text.specs.Content.{Content, none, cut, some, contentOf, damageIn, hasText, isName, validBy, stateIn}
@@ -23,7 +22,7 @@ use Rattle.events.specs.declared.Phase.the-variants.{AtNamed, AtOpen}
 use Rattle.events.specs.declared.Cursor.{Cursor}
 use Rattle.events.specs.declared.Step.{Step}
 use Rattle.events.specs.Inner.Steps.{toStep, openStep, namedStep, nameStep}
-use Rattle.events.specs.Inner.Remembered.{lookBy, lookOf, stateBy, lookStep, markOf, placeOf, long, longOf, words, Remembers}
+use Rattle.events.specs.Inner.Remembered.{lookBy, lookOf, stateBy, lookStep, markOf, placeOf, lookPlace, lengthPlace, parts, words, Remembers}
 
 -- ---- a look
 
@@ -115,40 +114,36 @@ look-whole (some w s) e = go (stateNumber (damageIn (some w s))) (isName (some w
 
 -- ---- what is remembered
 
--- the words of a long string are there
-pub long-place : (at n l : ℕ) → at + n ≤ l → l ≤ fileLimit → long ≤ n → longOf at + 1 < words
-long-place at n l i m b = omega (arith, i, m, b)
-
-pub long-second-place : (m : List ℕ) (at x : ℕ) → longOf at + 1 < words → length m ≡ words → longOf at + 1 < length (set m (longOf at) x)
-long-second-place m at x l r = rw (length-set m (longOf at) x) (omega (arith, l, r))
-
 getD-zeros : (n j : ℕ) → _≡_ {A = ℕ} (getD (replicate n 0) j 0) 0
 getD-zeros zero j = refl
 getD-zeros (suc n) zero = refl
 getD-zeros (suc n) (suc j) = getD-zeros n j
 
 -- the memory with a long string more: what stands in its two words, and elsewhere
-abbrev withLong : List ℕ → ℕ → ℕ → ℕ → List ℕ
-withLong m at n look = set (set m (longOf at) (16 * at + look)) (longOf at + 1) n
+abbrev withLong : List ℕ → ℕ → ℕ → ℕ → ℕ → List ℕ
+withLong m p at n look = set (set m (lookPlace p) (16 * at + look)) (lengthPlace p) n
 
-module _ (m : List ℕ) (at n look : ℕ) where
-  long-other : (j : ℕ) → (j ≡ longOf at → ⊥) → (j ≡ longOf at + 1 → ⊥) → getD (withLong m at n look) j 0 ≡ getD m j 0
-  long-other j a b = getD-set-other (set m (longOf at) (16 * at + look)) (longOf at + 1) j n 0 b ∙ getD-set-other m (longOf at) j (16 * at + look) 0 a
+module _ (m : List ℕ) (p at n look : ℕ) where
+  long-other : (j : ℕ) → (j ≡ lookPlace p → ⊥) → (j ≡ lengthPlace p → ⊥) → getD (withLong m p at n look) j 0 ≡ getD m j 0
+  long-other j a b = getD-set-other (set m (lookPlace p) (16 * at + look)) (lengthPlace p) j n 0 b ∙ getD-set-other m (lookPlace p) j (16 * at + look) 0 a
 
-  long-first : longOf at < length m → getD (withLong m at n look) (longOf at) 0 ≡ 16 * at + look
-  long-first l =
-      getD-set-other (set m (longOf at) (16 * at + look)) (longOf at + 1) (longOf at) n 0 (λ z. let w : ⊥ = omega (arith, z) in w)
-      ∙ getD-set-same m (longOf at) (16 * at + look) 0 l
+  long-first : p < parts → length m ≡ words → getD (withLong m p at n look) (lookPlace p) 0 ≡ 16 * at + look
+  long-first l r =
+      getD-set-other (set m (lookPlace p) (16 * at + look)) (lengthPlace p) (lookPlace p) n 0 (λ z. let w : ⊥ = omega (arith, z) in w)
+      ∙ getD-set-same m (lookPlace p) (16 * at + look) 0 (omega (arith, l, r))
 
-  long-second : longOf at + 1 < length m → getD (withLong m at n look) (longOf at + 1) 0 ≡ n
-  long-second l = getD-set-same (set m (longOf at) (16 * at + look)) (longOf at + 1) n 0 (rw (length-set m (longOf at) (16 * at + look)) l)
+  pub long-there : p < parts → length m ≡ words → lengthPlace p < length (set m (lookPlace p) (16 * at + look))
+  long-there l r = rw (length-set m (lookPlace p) (16 * at + look)) (omega (arith, l, r))
+
+  long-second : p < parts → length m ≡ words → getD (withLong m p at n look) (lengthPlace p) 0 ≡ n
+  long-second l r = getD-set-same (set m (lookPlace p) (16 * at + look)) (lengthPlace p) n 0 (long-there l r)
 
 module _ (h : Head) (t : List ℕ) (lent : Lent) where
   pub remembers-none : (n : ℕ) → n ≡ words → length (replicate {A = ℕ} n 0) ≡ n → Remembers h t lent (replicate n 0)
   remembers-none n e l = record {
     room = l ∙ e;
     tells = λ i q. absurd (let z : ⊥ = omega (arith, getD-zeros n (placeOf i), q) in z);
-    longs = λ at k m a q. absurd (let z : ⊥ = omega (arith, getD-zeros n (longOf at + 1), m, q) in z);
+    longs = λ p at k b m a q. absurd (let z : ⊥ = omega (arith, getD-zeros n (lengthPlace p), m, q) in z);
   }
 
   -- an index more
@@ -157,10 +152,10 @@ module _ (h : Head) (t : List ℕ) (lent : Lent) where
   remembers-more m i look e r = record {
     room = length-set m (placeOf i) (markOf i look) ∙ r .room;
     tells = λ k q. go k (eqb (placeOf k) (placeOf i)) refl q;
-    longs = λ at n l a b.
-        let first = other (longOf at) (omega arith) in
-        let second = other (longOf at + 1) (omega arith) in
-        ap (λ (x : ℕ). x % 16) first ∙ r .longs at n l (ap (λ (x : ℕ). x / 16) (sym first) ∙ a) (sym second ∙ b);
+    longs = λ p at n b l a q.
+        let first = other (lookPlace p) (omega arith) in
+        let second = other (lengthPlace p) (omega arith) in
+        ap (λ (x : ℕ). x % 16) first ∙ r .longs p at n b l (ap (λ (x : ℕ). x / 16) (sym first) ∙ a) (sym second ∙ q);
   }
     where
       bound : look ≤ 8
@@ -185,34 +180,32 @@ module _ (h : Head) (t : List ℕ) (lent : Lent) where
           ap (λ (x : ℕ). x % 16) kept ∙ r .tells k (ap (λ (x : ℕ). x / 16) (sym kept) ∙ q)
 
   -- a long string more
-  pub remembers-long : (m : List ℕ) (at n look : ℕ) → longOf at + 1 < words → look ≡ lookOf (some (h .wide) (take n (drop at t))) → Remembers h t lent m
-      → Remembers h t lent (withLong m at n look)
-  remembers-long m at n look p e r = record {
-    room = length-set (set m (longOf at) (16 * at + look)) (longOf at + 1) n ∙ length-set m (longOf at) (16 * at + look) ∙ r .room;
+  pub remembers-long : (m : List ℕ) (p at n look : ℕ) → p < parts → look ≡ lookOf (some (h .wide) (take n (drop at t))) → Remembers h t lent m
+      → Remembers h t lent (withLong m p at n look)
+  remembers-long m p at n look l e r = record {
+    room = length-set (set m (lookPlace p) (16 * at + look)) (lengthPlace p) n ∙ length-set m (lookPlace p) (16 * at + look) ∙ r .room;
     tells = λ i q.
-        let kept = long-other m at n look (placeOf i) (λ z. let w : ⊥ = omega (arith, z) in w) (λ z. let w : ⊥ = omega (arith, z) in w) in
+        let kept = long-other m p at n look (placeOf i) (λ z. let w : ⊥ = omega (arith, z) in w) (λ z. let w : ⊥ = omega (arith, z) in w) in
         ap (λ (x : ℕ). x % 16) kept ∙ r .tells i (ap (λ (x : ℕ). x / 16) (sym kept) ∙ q);
-    longs = λ a k l b d. go a k l (eqb (a / long) (at / long)) refl b d;
+    longs = λ q a k b i x y. go q a k b i (eqb q p) refl x y;
   }
     where
       bound : look ≤ 8
       bound = rw e (lookOf-most (some (h .wide) (take n (drop at t))))
 
-      go : (a k : ℕ) → long ≤ k → (b : Bool) → eqb (a / long) (at / long) ≡ b → getD (withLong m at n look) (longOf a) 0 / 16 ≡ a
-          → getD (withLong m at n look) (longOf a + 1) 0 ≡ k
-          → getD (withLong m at n look) (longOf a) 0 % 16 ≡ lookOf (some (h .wide) (take k (drop a t)))
-      go a k l true b x y =
-          let part : a / long ≡ at / long = eqb-true (a / long) (at / long) b in
-          let first : longOf a ≡ longOf at = omega (arith, part) in
-          let second : longOf a + 1 ≡ longOf at + 1 = omega (arith, part) in
-          let mine = ap (λ (j : ℕ). getD (withLong m at n look) j 0) first ∙ long-first m at n look (omega (arith, p, r .room)) in
-          let count = ap (λ (j : ℕ). getD (withLong m at n look) j 0) second ∙ long-second m at n look (omega (arith, p, r .room)) in
+      go : (q a k : ℕ) → q < parts → 1 ≤ k → (b : Bool) → eqb q p ≡ b → getD (withLong m p at n look) (lookPlace q) 0 / 16 ≡ a
+          → getD (withLong m p at n look) (lengthPlace q) 0 ≡ k
+          → getD (withLong m p at n look) (lookPlace q) 0 % 16 ≡ lookOf (some (h .wide) (take k (drop a t)))
+      go q a k f i true b x y =
+          let part : q ≡ p = eqb-true q p b in
+          let mine = ap (λ (j : ℕ). getD (withLong m p at n look) (lookPlace j) 0) part ∙ long-first m p at n look l (r .room) in
+          let count = ap (λ (j : ℕ). getD (withLong m p at n look) (lengthPlace j) 0) part ∙ long-second m p at n look l (r .room) in
           let here : at ≡ a = omega (arith, mine, x, bound) in
           let much : n ≡ k = omega (arith, count, y) in
-          let low : getD (withLong m at n look) (longOf a) 0 % 16 ≡ look = omega (arith, mine, bound) in
+          let low : getD (withLong m p at n look) (lookPlace q) 0 % 16 ≡ look = omega (arith, mine, bound) in
           low ∙ e ∙ ap (λ (z : ℕ). lookOf (some (h .wide) (take z (drop at t)))) much ∙ ap (λ (z : ℕ). lookOf (some (h .wide) (take k (drop z t)))) here
-      go a k l false b x y =
-          let apart : a / long ≡ at / long → ⊥ = eqb-false (a / long) (at / long) b in
-          let first = long-other m at n look (longOf a) (λ z. apart (omega (arith, z))) (λ z. let w : ⊥ = omega (arith, z) in w) in
-          let second = long-other m at n look (longOf a + 1) (λ z. let w : ⊥ = omega (arith, z) in w) (λ z. apart (omega (arith, z))) in
-          ap (λ (z : ℕ). z % 16) first ∙ r .longs a k l (ap (λ (z : ℕ). z / 16) (sym first) ∙ x) (sym second ∙ y)
+      go q a k f i false b x y =
+          let apart : q ≡ p → ⊥ = eqb-false q p b in
+          let first = long-other m p at n look (lookPlace q) (λ z. apart (omega (arith, z))) (λ z. let w : ⊥ = omega (arith, z, f) in w) in
+          let second = long-other m p at n look (lengthPlace q) (λ z. let w : ⊥ = omega (arith, z, l) in w) (λ z. apart (omega (arith, z))) in
+          ap (λ (z : ℕ). z % 16) first ∙ r .longs q a k f i (ap (λ (z : ℕ). z / 16) (sym first) ∙ x) (sym second ∙ y)

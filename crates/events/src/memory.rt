@@ -4,7 +4,7 @@
 // Mirrors axml.rs (apk-info 13770539b8): the names that `get_xml_tree` keeps as valid. Definitions: specs/Inner/Remembered.antt.
 // Differs from the Rust: indices are kept and not names, in fixed memory that the caller lends for a reading, and names that are not valid too.
 ghost use mathlib.Core.Path.{_≡_};
-ghost use Prim.Native.Nat.{_+_, _≤_};
+ghost use Prim.Native.Nat.{_+_, _≤_, _<_};
 ghost use lib.ListN.{length};
 ghost use Rattle.records.specs.Limits.{fileLimit};
 ghost use Rattle.system_types.specs.Names.{lends};
@@ -24,13 +24,48 @@ use text::state_of_found;
 // How many indices are kept, each at the place that the remainder of its number gives; a later one takes the place over.
 const INDICES: usize = 1024;
 
-// From how many bytes on a string of the pool is kept by its place in the file too: two such strings that do not overlap begin in different
-// parts of so many bytes.
-const LONG: usize = 32768;
+// Behind the words of the indices stand those of 512 parts of the file: one for each, of a long string that begins there, and behind them
+// one for each with its length. A later string takes both over.
+const LENGTHS: usize = 1536;
 
-// The words of a memory: one for each index that is kept, and behind them two for each part of the file, where a long string may begin. A later one
-// takes them over.
+// All words of a memory.
 pub const MEMORY: usize = 2048;
+
+// How many bytes a long string has at least, whatever the file.
+const LEAST: usize = 1024;
+
+// How many bytes a long string has at least in a file of so many: two that do not overlap begin in different ones of its 512 parts.
+fn long_from(length: usize) -> usize
+    ensures { λ r. ⌜ 1024 ≤ r ⌝ }
+{
+    if length <= 524288 {
+        return LEAST;
+    }
+    if length <= 2097152 {
+        return 4096;
+    }
+    if length <= 8388608 {
+        return 16384;
+    }
+    32768
+}
+
+// The part of a file of so many bytes in which a byte lies.
+fn part_of(length: usize, at: usize) -> usize
+    requires { ⌜ (at < length) × (length ≤ fileLimit) ⌝ }
+    ensures { λ r. ⌜ r < 512 ⌝ }
+{
+    if length <= 524288 {
+        return at / 1024;
+    }
+    if length <= 2097152 {
+        return at / 4096;
+    }
+    if length <= 8388608 {
+        return at / 16384;
+    }
+    at / 32768
+}
 
 // A look as one number. Ruled out: one number for a whole text and a damaged one, and for a valid name and another.
 fn look_by(state: u32, name: NameState) -> u32
@@ -81,19 +116,19 @@ fn look_pool(
     ensures { λ r. ⌜ (r ≡ lookOf (partOf (h .wide) (now (t .entry)) (now (area .entry)) (Pool at n)))
         × Remembers h (now (t .entry)) (lends (now (names .entry)) (now (area .entry))) (now (memory .exit)) ⌝ }
 {
-    if n < LONG {
+    if n < long_from(t.len()) {
         return look_found(t, area, h.wide, Found::Pool(at, n));
     }
-    let place = INDICES + 2 * (at / LONG);
-    let seen = memory[place];
+    let part = part_of(t.len(), at);
+    let seen = memory[INDICES + part];
     if seen / 16 == at as u32 {
-        if memory[place + 1] == n as u32 {
+        if memory[LENGTHS + part] == n as u32 {
             return seen % 16;
         }
     }
     let look = look_found(t, area, h.wide, Found::Pool(at, n));
-    memory[place] = 16 * (at as u32) + look;
-    memory[place + 1] = n as u32;
+    memory[INDICES + part] = 16 * (at as u32) + look;
+    memory[LENGTHS + part] = n as u32;
     look
 }
 
@@ -112,14 +147,14 @@ fn look_long(t: &[u8], names: &[u32], area: &[u8], h: Head, f: Found, memory: &m
     }
 }
 
-// Whether what was found is a long string of the pool. It decides where a look is sought and not what it tells, so that nothing is promised of it:
+// Whether what was found may be a long string of the pool. It decides where a look is sought and not what it tells, so that nothing is promised of it:
 // most strings are short, and for these no more is done than a look.
 fn is_long(f: Found) -> bool {
     match f {
         Found::Nothing => false,
         Found::Cut => false,
         Found::System(_, _) => false,
-        Found::Pool(_, n) => LONG <= n,
+        Found::Pool(_, n) => LEAST <= n,
     }
 }
 

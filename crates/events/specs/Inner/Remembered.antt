@@ -8,11 +8,10 @@
 --   lookStep    the step at an element's name, by a look at it
 --   markOf      what is kept of an index and a look, at the place of the index: its quotient by 1,024 and one more, 16 times, and the look; 0 says nothing
 --   placeOf     the place of an index, its remainder by 1,024
---   longOf      the place of a long string that begins at `at` in t: two words, the second of which is the one behind it. Behind 1,024 places of
---               indices there are 512, one for each 32,768 bytes of a file
---   Remembers   2,048 words: an index whose mark stands at its place has the look that it says; and where the second word of a part of the file is n,
---               32,768 or more, and the first is 16 times `at` and a look, the n bytes from `at` on have that look
-use Prim.Native.Nat.{ℕ, _+_, _*_, _/_, _%_, _≤_}
+--   lookPlace   the place of a part of the file, of which there are 512, behind those of the indices; lengthPlace that of the length of the string there
+--   Remembers   2,048 words: an index whose mark stands at its place has the look that it says; and where the length of a part is n, not 0, and its
+--               word is 16 times `at` and a look, the n bytes from `at` on have that look, whichever part it is
+use Prim.Native.Nat.{ℕ, _+_, _*_, _/_, _%_, _≤_, _<_}
 use mathlib.Core.Path.{_≡_}
 use mathlib.Core.List.{List}
 use mathlib.Core.Bool.{cond}
@@ -55,12 +54,15 @@ markOf i look = 16 * (i / 1024 + 1) + look
 abbrev pub placeOf : ℕ → ℕ
 placeOf i = i % 1024
 
--- how many bytes a long string has at least
-abbrev pub long : ℕ
-long = 32768
+abbrev pub lookPlace : ℕ → ℕ
+lookPlace p = 1024 + p
 
-abbrev pub longOf : ℕ → ℕ
-longOf at = 1024 + 2 * (at / long)
+abbrev pub lengthPlace : ℕ → ℕ
+lengthPlace p = 1536 + p
+
+-- how many parts a file has
+abbrev pub parts : ℕ
+parts = 512
 
 -- how many words are kept
 abbrev pub words : ℕ
@@ -69,5 +71,5 @@ words = 2048
 pub record Remembers (h : Head) (t : List ℕ) (lent : Lent) (memory : List ℕ) : Type 0 where
   pub room : length memory ≡ words
   pub tells : (i : ℕ) → getD memory (placeOf i) 0 / 16 ≡ i / 1024 + 1 → getD memory (placeOf i) 0 % 16 ≡ lookOf (contentOf h t lent i)
-  pub longs : (at n : ℕ) → long ≤ n → getD memory (longOf at) 0 / 16 ≡ at → getD memory (longOf at + 1) 0 ≡ n
-      → getD memory (longOf at) 0 % 16 ≡ lookOf (some (h .wide) (take n (drop at t)))
+  pub longs : (p at n : ℕ) → p < parts → 1 ≤ n → getD memory (lookPlace p) 0 / 16 ≡ at → getD memory (lengthPlace p) 0 ≡ n
+      → getD memory (lookPlace p) 0 % 16 ≡ lookOf (some (h .wide) (take n (drop at t)))
