@@ -138,7 +138,7 @@ def colliding(count, bits):
         first, state = f"n{i:x}-", 0
         for c in first:
             state = mixed(state, ord(c))
-        made += [first + c for c in letters if not mixed(state, ord(c)) >> 32 & (1 << bits) - 1]
+        made += [first + c for c in letters if not mixed(mixed(state, ord(c)), 0) >> 32 & (1 << bits) - 1]
         i += 1
     return made[:count]
 
@@ -208,6 +208,39 @@ def overlapping(size):
     return whole((head, start(0), b"".join(start(i % count) + end(0) for i in range(room // 60)), end(0)))
 
 
+def on_each(size, texts, utf8, order=None):
+    """Elements that each have an attribute of every one of the texts, or of the indices of `order`, up to so many bytes."""
+    last = len(texts)
+    head = pool_of([*texts, "a"], utf8)
+    one = start(last, [(NONE, i, 16, i) for i in order or range(last)]) + end(last)
+    room = size - len(whole((head, start(last), end(last))))
+    return whole((head, start(last), one * (room // len(one)), end(last)))
+
+
+def shares(size, count, utf8):
+    """Units of each of so many texts that take half the file."""
+    return min(size // 2 // count // (1 if utf8 else 2), 32_760 if utf8 else LIMIT)
+
+
+def differing(size, count, place, utf8=False, step=1):
+    """So many long names that differ in one unit alone, the first or the middle one, all on each element; their indices are `step` apart."""
+    units = shares(size, count, utf8)
+    at = units // 2 if place == "middle" else 0
+    texts = ["a" * at + chr(98 + i) + "a" * (units - at - 1) for i in range(count)]
+    spread = [texts[i // step] if i % step == 0 else "a" for i in range((count - 1) * step + 1)]
+    return on_each(size, spread, utf8, [i * step for i in range(count)])
+
+
+def copied(size, count, utf8=False):
+    """One long name at so many indices, all on each element."""
+    return on_each(size, ["a" * shares(size, count, utf8)] * count, utf8)
+
+
+def far_name(size, utf8=False):
+    """A long name as the 33rd attribute of each element."""
+    return on_each(size, [*(f"n{i:02}" for i in range(32)), "a" * shares(size, 1, utf8)], utf8)
+
+
 def offsets():
     data = b"\1\1a\0"
     return whole((pool(data, [0] * 4_000_000, True), start(3_999_999), end(0)))
@@ -254,6 +287,8 @@ MANY = (("65,535 attributes of different names", lambda: elements(HEXED), 0),
         ("8,192 names whose keys agree in 8 bits", lambda: elements(colliding(8_192, 8)), 5),
         ("500 names of 1,000 units that differ in the last, in 10 elements", lambda: elements(last_units(500, 1_000), True, 10), 5))
 
+BOTH = (("", False), (", UTF-8", True))
+
 LONG = (("one long name in one element", lambda: in_turns(1_500_000, 1, each=30_000)),
         ("one long name, once in each element", lambda: in_turns(1_000_000, 1)),
         *((f"{n:,} long names in turns", lambda n=n: in_turns(1_000_000, n)) for n in (2, 17, 257, 1025, 4097)),
@@ -265,7 +300,11 @@ LONG = (("one long name in one element", lambda: in_turns(1_500_000, 1, each=30_
         ("two long names 1,024 indices apart", lambda: in_turns(1_000_000, 2, step=1024)),
         ("three long names 1,024 indices apart", lambda: in_turns(1_000_000, 3, step=1024)),
         ("two long names 1,024 indices apart, UTF-8", lambda: in_turns(1_000_000, 2, True, step=1024)),
-        ("two long Cyrillic names 1,024 indices apart, UTF-8", lambda: in_turns(1_000_000, 2, True, letter="\u0436", step=1024)))
+        ("two long Cyrillic names 1,024 indices apart, UTF-8", lambda: in_turns(1_000_000, 2, True, letter="\u0436", step=1024)),
+        *((f"16 long names that differ in the {place} unit{encoding}", lambda place=place, u=u: differing(1_000_000, 16, place, u))
+          for place in ("first", "middle") for encoding, u in BOTH),
+        *((f"a long name at {n} indices{encoding}", lambda n=n, u=u: copied(1_000_000, n, u)) for n in (2, 16) for encoding, u in BOTH),
+        *((f"a long name as the 33rd attribute{encoding}", lambda u=u: far_name(1_000_000, u)) for encoding, u in BOTH))
 
 LONG_16 = (("one long name in elements of 65,535", lambda: in_turns(LIMIT, 1, each=65_535)),
            ("one long name, once in each element", lambda: in_turns(LIMIT, 1)),
@@ -274,7 +313,12 @@ LONG_16 = (("one long name in elements of 65,535", lambda: in_turns(LIMIT, 1, ea
            ("17 long element names in turns", lambda: in_turns(LIMIT, 17, tags=True)),
            ("17 long names that are not valid", lambda: in_turns(LIMIT, 17, bad=True)),
            ("two long names 1,024 indices apart", lambda: in_turns(LIMIT, 2, step=1024)),
-           ("three long names 1,024 indices apart", lambda: in_turns(LIMIT, 3, step=1024)))
+           ("three long names 1,024 indices apart", lambda: in_turns(LIMIT, 3, step=1024)),
+           ("16 long names that differ in the first unit", lambda: differing(LIMIT, 16, "first")),
+           ("16 long names that differ in the middle unit, UTF-8", lambda: differing(LIMIT, 16, "middle", True)),
+           ("a long name at 2 indices", lambda: copied(LIMIT, 2)),
+           ("a long name at 16 indices, UTF-8", lambda: copied(LIMIT, 16, True)),
+           ("a long name as the 33rd attribute", lambda: far_name(LIMIT)))
 
 # Left slow, and so in no bar: strings that lie in each other (docs/DECISIONS.md, 33).
 SLOW = (("strings that lie in each other", lambda: overlapping(1_000_000)),)
