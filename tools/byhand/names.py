@@ -67,7 +67,7 @@ Rattle.{CRATE}.specs.declared.{LISTED}: {LISTED}=Listed
 Rattle.{CRATE}.proofs.Fields: gets
 Rattle.{CRATE}.proofs.Lending: slice Opened opens shuts passes-on takes-back holds fails
 Rattle.{CRATE}.proofs.Locals: lends-none lends-array array-back repeat-is each-field
-Rattle.{CRATE}.proofs.read.Proof.Points: Point start onward fewer in-table leaves Less less-wf
+Rattle.{CRATE}.proofs.read.Proof.LoopInvariant: Point start onward fewer in-table leaves Less less-wf
 """
 
 # modules by a short name: the laws of structs and of enums; the note, the answer, the state and the listing, each with its laws

@@ -20,7 +20,7 @@ NUMBERS = [("cap", "u32"), ("mode", "u32")]                  # by value, the las
 LENT = ("Rattle.system_types.specs.Names", "lends", ["names", "area"])  # shared slices that the definitions take as one record, by this function
 
 # the definitions that the proofs name, and their modules; x=y is x under the name y, which the generators use
-OUTCOME = ("Rattle.walk.specs.Inner.Outcome", "Adv Good first")    # what `advance` leaves and asks, and what `begin` makes
+OUTCOME = ("Rattle.walk.specs.Inner.Outcome", "AdvanceKeeps StateOk first")    # what `advance` leaves and asks, and what `begin` makes
 READING = ("Rattle.walk.specs.Reading", "Reads")             # what `read` leaves
 ZERO = ("Rattle.walk.specs.Reading", "zeroNote")             # what the array of notes is made of
 

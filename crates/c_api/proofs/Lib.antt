@@ -1,6 +1,6 @@
 -- The root of the crate's laws.
 pub mod Noting
-pub mod Points
+pub mod LoopInvariant
 pub mod Same
 pub mod Placing
 pub mod Month

@@ -6,7 +6,7 @@ use mathlib.Core.List.{List}
 use borrow.Author.Tests.{eq-eqb, ne-eqb, lt-ltb, le-ltb}
 use lib.ListN.{length}
 use lib.Dec.{ltb, eqb}
-use Rattle.errors.specs.Refusal.{numberOf, valueOf}
+use Rattle.errors.specs.Refusal.{refusalNumber, refusalValue}
 use Rattle.round_up.specs.declared.Added.{Added}
 use Rattle.round_up.specs.Kinds.{kindsIn}
 use Rattle.round_up.specs.RoundUp.{places, numbers, shareBy, sums, hasRoom, AddsShare, addedOf, fullOf, addedTo, addNumbers}
@@ -26,12 +26,12 @@ module _ (words notes : List ℕ) (refusal count bytes : ℕ) where
   }
 
   pub adds-other-length : (length words ≡ places → ⊥) → AddsWords words notes refusal count bytes (told 13 (length words)) words
-  unfolding addingTo addNumbers numberOf valueOf
+  unfolding addingTo addNumbers refusalNumber refusalValue
   adds-other-length h = adds-by (misfit words (length words)) (rw (ne-eqb (length words) places h)) (told 13 (length words)) refl words refl
 
   module _ (whole : length words ≡ places) where
     pub adds-other-number : numbers ≤ refusal → AddsWords words notes refusal count bytes (told 13 refusal) words
-    unfolding addingTo addNumbers numberOf valueOf
+    unfolding addingTo addNumbers refusalNumber refusalValue
     adds-other-number h =
         adds-by (misfit words refusal) (rw (eq-eqb (length words) places whole, le-ltb refusal numbers h)) (told 13 refusal) refl words refl
 
@@ -50,7 +50,7 @@ module _ (words notes : List ℕ) (refusal count bytes : ℕ) where
           adds-by (addedOf (sums words share)) (adding-share ∙ rw q) (told 0 0) refl after (adds .counts ∙ rw q)
 
       pub adds-full : room ≡ false → AddsWords words notes refusal count bytes (told 29 0) after
-      unfolding addedTo addNumbers numberOf valueOf
+      unfolding addedTo addNumbers refusalNumber refusalValue
       adds-full h =
           let q : hasRoom words share ≡ false = sym (adds .room) ∙ h in
           adds-by (fullOf (record { counts = words })) (adding-share ∙ rw q) (told 29 0) refl after (adds .counts ∙ rw q)

@@ -1,5 +1,5 @@
 -- Laws of specs/Words.antt: a list of words as notes. No contract cites this file.
--- In order: length (`length-of`), words taken for notes (`notesIn`, `words-back`, `notesIn-places`), a store (`words-put`), and zeros from a
+-- In order: length (`length-of`), words taken for notes (`notesOfWords`, `words-back`, `notesOfWords-places`), a store (`words-put`), and zeros from a
 -- place on (`words-cleared`).
 use Prim.Native.Nat.{ℕ, zero, suc, _+_, _-_, _*_, _/_, _≤_, _<_}
 use native.Mathlib.Omega.{arith}
@@ -25,11 +25,11 @@ length-of os t ws e = ap length e ∙ length-append (wordsOf os) t ∙ ap (λ (n
 
 -- ---- words taken for notes
 
-unfoldable pub notesIn : List ℕ → List Note
-notesIn [] = []
-notesIn (a ∷ []) = []
-notesIn (a ∷ b ∷ []) = []
-notesIn (a ∷ b ∷ c ∷ ws) = record { kind = a; a = b; b = c } ∷ notesIn ws
+unfoldable pub notesOfWords : List ℕ → List Note
+notesOfWords [] = []
+notesOfWords (a ∷ []) = []
+notesOfWords (a ∷ b ∷ []) = []
+notesOfWords (a ∷ b ∷ c ∷ ws) = record { kind = a; a = b; b = c } ∷ notesOfWords ws
 
 unfoldable pub restIn : List ℕ → List ℕ
 restIn [] = []
@@ -37,8 +37,8 @@ restIn (a ∷ []) = a ∷ []
 restIn (a ∷ b ∷ []) = a ∷ b ∷ []
 restIn (a ∷ b ∷ c ∷ ws) = restIn ws
 
-pub words-back : (ws : List ℕ) → ws ≡ wordsOf (notesIn ws) ++ restIn ws
-unfolding wordsOf notesIn restIn
+pub words-back : (ws : List ℕ) → ws ≡ wordsOf (notesOfWords ws) ++ restIn ws
+unfolding wordsOf notesOfWords restIn
 words-back [] = refl
 words-back (a ∷ []) = refl
 words-back (a ∷ b ∷ []) = refl
@@ -51,9 +51,9 @@ restIn-lt (a ∷ []) = omega arith
 restIn-lt (a ∷ b ∷ []) = omega arith
 restIn-lt (a ∷ b ∷ c ∷ ws) = restIn-lt ws
 
-pub notesIn-places : (ws : List ℕ) → length (notesIn ws) ≡ length ws / noteWidth
-notesIn-places ws =
-    let e : length ws ≡ noteWidth * length (notesIn ws) + length (restIn ws) = length-of (notesIn ws) (restIn ws) ws (words-back ws) in
+pub notesOfWords-places : (ws : List ℕ) → length (notesOfWords ws) ≡ length ws / noteWidth
+notesOfWords-places ws =
+    let e : length ws ≡ noteWidth * length (notesOfWords ws) + length (restIn ws) = length-of (notesOfWords ws) (restIn ws) ws (words-back ws) in
     sym (div-eq-of-lt-le noteWidth (omega (arith, e)) (omega (arith, e, restIn-lt ws)))
 
 -- ---- a note put into the words of a list is that note set in the list

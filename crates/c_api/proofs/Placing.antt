@@ -81,7 +81,7 @@ module _ (f : List ℕ) (lent : Lent) (i : ℕ) where
       : {h : Head} {t : List ℕ} {g : Found} {r : AxmlContentAnswer}
       → openOf f lent ≡ Open h
       → t ≡ tablesIn f h
-      → Stands (h .wide) t (lent .area) (contentOf h t lent i) g
+      → Stands (h .utf16) t (lent .area) (contentOf h t lent i) g
       → r ≡ placeOf g
       → AsksContent f lent i r
   place-open {h} {t} {g} {r} e q s p =
@@ -89,7 +89,7 @@ module _ (f : List ℕ) (lent : Lent) (i : ℕ) where
       let asked : contentAsked f lent i ≡ contentOf h (tablesIn f h) lent i = rw e in
       rw p
       (asks-of asked (content-open f lent i e refl)
-      (rw (← s′ .same) (tells (h .wide) f (lent .area) (headLen h) (open-long e) g (s′ .inside))))
+      (rw (← s′ .same) (tells (h .utf16) f (lent .area) (headLen h) (open-long e) g (s′ .inside))))
 
   pub place-closed
       : {why : Refusal} {r : AxmlContentAnswer}

@@ -1,5 +1,5 @@
 -- Laws of specs/Sort.antt and specs/Inner/Run.antt. No contract cites this file.
--- In order: bounds (`contentOf-le`, `foreignLen-le`), what a chunk of a sort takes (`runUsed-..`), the two equations of a run
+-- In order: bounds (`contentSize-le`, `foreignLen-le`), what a chunk of a sort takes (`runUsed-..`), the two equations of a run
 -- (`skipRun-stop`, `skipRun-step`), what the code computes at a place (`-here`). Not here: laws of headers (common).
 use Prim.Native.Nat.{ℕ, zero, suc, _+_, _-_, _≤_, _<_, zero-le}
 use native.Mathlib.Omega.{arith}
@@ -14,7 +14,7 @@ use Rattle.common.specs.Header.{headerOf}
 use Rattle.common.specs.declared.ResChunkHeader.{ResChunkHeader}
 use Rattle.common.specs.declared.HeaderRead.the-variants.{Whole, Short}
 use Rattle.common.proofs.Laws.{headerHere, headerOf-short, headerOf-whole, headerOf-long-at}
-use Rattle.chunk.specs.Sort.{sortOf, contentOf, foreignLen}
+use Rattle.chunk.specs.Sort.{chunkSort, contentSize, foreignLen}
 use Rattle.chunk.specs.Inner.Run.{runUsed, skipRun}
 use Rattle.chunk.proofs.Walk.{walk-stop, walk-step}
 
@@ -25,23 +25,23 @@ pub cond-le : (b : Bool) (x y m : ℕ) → (b ≡ true → x ≤ m) → (b ≡ f
 cond-le true x y m p q = p refl
 cond-le false x y m p q = q refl
 
-pub contentOf-le : (left size : ℕ) → contentOf left size ≤ left
-unfolding contentOf
-contentOf-le left size = cond-le (leb (size - 8) left) _ _ left (λ e. leb-true _ _ e) (λ e. omega arith)
+pub contentSize-le : (left size : ℕ) → contentSize left size ≤ left
+unfolding contentSize
+contentSize-le left size = cond-le (leb (size - 8) left) _ _ left (λ e. leb-true _ _ e) (λ e. omega arith)
 
 -- content that is all there goes, also where it ends at the very end
-pub contentOf-whole : (left size : ℕ) → size - 8 ≤ left → contentOf left size ≡ size - 8
-unfolding contentOf
-contentOf-whole left size h = rw (le-leb (size - 8) left h)
+pub contentSize-whole : (left size : ℕ) → size - 8 ≤ left → contentSize left size ≡ size - 8
+unfolding contentSize
+contentSize-whole left size h = rw (le-leb (size - 8) left h)
 
 -- content that passes the end stays
-pub contentOf-cut : (left size : ℕ) → left < size - 8 → contentOf left size ≡ 0
-unfolding contentOf
-contentOf-cut left size h = rw (lt-leb (size - 8) left h)
+pub contentSize-cut : (left size : ℕ) → left < size - 8 → contentSize left size ≡ 0
+unfolding contentSize
+contentSize-cut left size h = rw (lt-leb (size - 8) left h)
 
 pub foreignLen-le : (n : ℕ) (h : ResChunkHeader) → 8 ≤ n → foreignLen n h ≤ n
 unfolding foreignLen
-foreignLen-le n h p = omega (arith, contentOf-le (n - 8) (h .size))
+foreignLen-le n h p = omega (arith, contentSize-le (n - 8) (h .size))
 
 -- it takes its 8 bytes in any case
 pub foreignLen-lt : (n : ℕ) (h : ResChunkHeader) → 7 < foreignLen n h
@@ -54,18 +54,18 @@ pub runUsed-short : (k : ℕ) (l : List ℕ) → headerOf l ≡ Short → runUse
 unfolding runUsed
 runUsed-short k l w = rw w
 
-pub runUsed-same : (k : ℕ) (l : List ℕ) {h : ResChunkHeader} → headerOf l ≡ Whole h → sortOf h ≡ k → runUsed k l ≡ foreignLen (length l) h
+pub runUsed-same : (k : ℕ) (l : List ℕ) {h : ResChunkHeader} → headerOf l ≡ Whole h → chunkSort h ≡ k → runUsed k l ≡ foreignLen (length l) h
 unfolding runUsed
 runUsed-same k l w e = rw (w, eq-eqb _ _ e)
 
-pub runUsed-other : (k : ℕ) (l : List ℕ) {h : ResChunkHeader} → headerOf l ≡ Whole h → (sortOf h ≡ k → ⊥) → runUsed k l ≡ 0
+pub runUsed-other : (k : ℕ) (l : List ℕ) {h : ResChunkHeader} → headerOf l ≡ Whole h → (chunkSort h ≡ k → ⊥) → runUsed k l ≡ 0
 unfolding runUsed
 runUsed-other k l w e = rw (w, ne-eqb _ _ e)
 
 pub runUsed-fits : (k : ℕ) (l : List ℕ) → runUsed k l ≤ length l
 runUsed-fits k l = go (ltb (length l) 8) refl
   where
-    whole : (h : ResChunkHeader) → headerOf l ≡ Whole h → 8 ≤ length l → (b : Bool) → eqb (sortOf h) k ≡ b → runUsed k l ≤ length l
+    whole : (h : ResChunkHeader) → headerOf l ≡ Whole h → 8 ≤ length l → (b : Bool) → eqb (chunkSort h) k ≡ b → runUsed k l ≤ length l
     whole h w p true e = rw (runUsed-same k l w (eqb-true _ _ e)) (foreignLen-le (length l) h p)
     whole h w p false e = rw (runUsed-other k l w (eqb-false _ _ e)) zero-le
 
@@ -73,7 +73,7 @@ runUsed-fits k l = go (ltb (length l) 8) refl
     go true e = rw (runUsed-short k l (headerOf-short l (ltb-true _ _ e))) zero-le
     go false e =
         let p = ltb-false _ _ e in
-        whole (headerHere l) (headerOf-whole l p) p (eqb (sortOf (headerHere l)) k) refl
+        whole (headerHere l) (headerOf-whole l p) p (eqb (chunkSort (headerHere l)) k) refl
 
 -- ---- a run
 
@@ -91,17 +91,17 @@ skipRun-step s p k (suc m) e h =
 
 -- the end of the content, as `skip_content` gives it, less the place of the header
 pub foreignLen-here : (s : List ℕ) (at r : ℕ) (h : ResChunkHeader) → at + 8 ≤ length s
-    → r ≡ at + 8 + contentOf (length s - (at + 8)) (h .size) → r - at ≡ foreignLen (length (drop at s)) h
+    → r ≡ at + 8 + contentSize (length s - (at + 8)) (h .size) → r - at ≡ foreignLen (length (drop at s)) h
 unfolding foreignLen
 foreignLen-here s at r h long q =
     let same : length s - at - 8 ≡ length s - (at + 8) = omega arith in
     rw (length-drop, same) (omega arith)
 
 -- what `run_used` computes where a chunk of the sort stands
-pub runUsed-here : (s : List ℕ) (at k r : ℕ) {h : ResChunkHeader} → headerOf (drop at s) ≡ Whole h → sortOf h ≡ k → at ≤ length s
-    → r ≡ at + 8 + contentOf (length s - (at + 8)) (h .size) → (r - at ≡ runUsed k (drop at s)) × (at + (r - at) ≤ length s)
+pub runUsed-here : (s : List ℕ) (at k r : ℕ) {h : ResChunkHeader} → headerOf (drop at s) ≡ Whole h → chunkSort h ≡ k → at ≤ length s
+    → r ≡ at + 8 + contentSize (length s - (at + 8)) (h .size) → (r - at ≡ runUsed k (drop at s)) × (at + (r - at) ≤ length s)
 runUsed-here s at k r {h} w e p q =
     let long : at + 8 ≤ length s = headerOf-long-at s at w p in (
       foreignLen-here s at r h long q ∙ sym (runUsed-same k (drop at s) w e),
-      omega (arith, contentOf-le (length s - (at + 8)) (h .size)),
+      omega (arith, contentSize-le (length s - (at + 8)) (h .size)),
     )

@@ -1,4 +1,4 @@
 -- The node file of the crate's proofs.
 pub mod Walk
 pub mod Laws
-pub mod Bare
+pub mod HeaderOnly

@@ -2,15 +2,15 @@
 //
 // Mirrors axml.rs (apk-info 13770539b8): `is_xml_node`, `skip_run`. A sort number stands for the closure that `skip_run` takes there.
 // Definitions: specs/Sort.antt, specs/Inner/Run.antt; the walk down a list of bytes that a run is, and every walk above: specs/Walk.antt;
-// bare headers, which a run passes eight at once: specs/Inner/Bare.antt.
+// bare headers, which a run passes eight at once: specs/Inner/HeaderOnly.antt.
 // Differs from the Rust: `skip_run` starts at the first chunk's header and not behind it, and gives a position, not how many were passed.
 ghost use mathlib.Core.Path.{_≡_};
 ghost use mathlib.Core.Bool.{cond};
 ghost use Prim.Native.Nat.{_+_, _-_, _≤_};
 ghost use lib.ListN.{length, drop};
-ghost use Rattle.chunk.specs.Sort.{isXml, sortOf, contentOf};
+ghost use Rattle.chunk.specs.Sort.{isXml, chunkSort, contentSize};
 ghost use Rattle.chunk.specs.Inner.Run.{runUsed, skipRun};
-ghost use Rattle.chunk.specs.Inner.Bare.{isBare, allBare};
+ghost use Rattle.chunk.specs.Inner.HeaderOnly.{isBare, allBare};
 use common::HeaderRead;
 use common::ResChunkHeader;
 use common::header_at;
@@ -33,7 +33,7 @@ pub fn is_xml_node(h: ResChunkHeader) -> bool
 // 0: not XML. 1: XML whose header size is not 16. 2: ordinary, the only sort that is looked into.
 // Ruled out: 1 for a chunk that is not XML and whose header size is not 16, and 2 for XML whose header size is 8.
 pub fn sort_of(h: ResChunkHeader) -> u32
-    ensures { λ r. ⌜ r ≡ sortOf h ⌝ }
+    ensures { λ r. ⌜ r ≡ chunkSort h ⌝ }
 {
     if is_xml_node(h) {
         if h.header_size == 16 { 2 } else { 1 }
@@ -46,7 +46,7 @@ pub fn sort_of(h: ResChunkHeader) -> u32
 // Ruled out: the end of the file where the content passes it, and `at` where the content ends at the very end.
 pub fn skip_content(s: &[u8], at: usize, size: u32) -> usize
     requires { ⌜ at ≤ length (now s) ⌝ }
-    ensures { λ r. ⌜ r ≡ at + contentOf (length (now (s .entry)) - at) size ⌝ }
+    ensures { λ r. ⌜ r ≡ at + contentSize (length (now (s .entry)) - at) size ⌝ }
 {
     if size <= 8 {
         return at;

@@ -44,8 +44,8 @@ use Rattle.common.specs.Header.{headerOf}
 use Rattle.common.specs.declared.ResChunkHeader.{ResChunkHeader}
 use Rattle.common.specs.declared.HeaderRead.the-variants.{Whole}
 use Rattle.common.proofs.Product.{Complex-unique}
-use Rattle.chunk.specs.Sort.{sortOf}
-use Rattle.errors.specs.Refusal.{numberOf, valueOf, numbersOf, textNumbersOf, linesNumbersOf, firstNumbersOf}
+use Rattle.chunk.specs.Sort.{chunkSort}
+use Rattle.errors.specs.Refusal.{refusalNumber, refusalValue, numbersOf, textNumbersOf, linesNumbersOf, firstNumbersOf}
 use Rattle.errors.specs.declared.ReadAnswer.{ReadAnswer}
 use Rattle.errors.specs.declared.ReadAnswer.the-variants.{Done, Refused}
 use Rattle.errors.specs.declared.Refusal.{Refusal}
@@ -77,8 +77,8 @@ use Rattle.records.specs.Words.{nodeWidth, attributeWidth, noteWidth, merged, a
 use Rattle.system_types.specs.Names.{Lent, lends}
 use Rattle.walk.specs.Settle.{Room}
 use Rattle.walk.specs.Reading.{reading, roomIn, zeroNote, Reads}
-use Rattle.claims.specs.Insertion.{ForeignChunk, noteFor, stretchNotes, placesIn, insertedFile, placeNotes, AllOf, BeginsOther, withNotes, left}
-use Rattle.claims.specs.Counts.{opensIn, notesIn}
+use Rattle.claims.specs.Insertion.{ForeignChunk, noteFor, stretchNotes, placesIn, insertedFile, placeNotes, AllOf, BeginsOther, withNotes, readingLeft}
+use Rattle.claims.specs.Counts.{opensIn, eventNotes}
 use Rattle.c_api.specs.Words.{wordsOf, ReadsWords}
 use Rattle.c_api.specs.Answers.{firstAnswerOf, AsksText}
 use Rattle.c_api.specs.declared.AxmlAnswer.{AxmlAnswer}
@@ -89,7 +89,7 @@ use Rattle.claims.specs.Relisted.{listedWords, saidBy}
 use Rattle.claims.specs.Room.{isFullNumber, HasRoom, nodesFor, attributesFor, placesFor, listingRoom}
 use Rattle.claims.specs.Parts.{isPart}
 use Rattle.claims.specs.Cleared.{ZeroBehind, RefusedZero, DoneZero, TextRefusedZero, TextDoneZero}
-use Rattle.claims.specs.Shape.{Structured, ofKind as ofNumber}
+use Rattle.claims.specs.Shape.{Structured, countOfKind as ofNumber}
 use Rattle.claims.specs.Lost.{marksIn, startNames, NothingLost}
 use Rattle.claims.specs.Modes.{Merges}
 use Rattle.claims.specs.Readers.{allBelow, Call, Reader, Meets, eventsOf, kindsOf, RefusesAll, Constant, ConstantOnRead, StopsAtStart}
@@ -125,7 +125,7 @@ use Rattle.round_up.specs.Kinds.{kindsIn, tally}
 use Rattle.round_up.specs.History as history
 use Rattle.round_up.proofs.Sums.{grid-sum}
 use Rattle.round_up.proofs.Order.{order-same}
-use Rattle.round_up.proofs.Told as told
+use Rattle.round_up.proofs.AnswerLaws as told
 use Rattle.c_api.specs.declared.adding.AxmlAddAnswer.{AxmlAddAnswer}
 use Rattle.c_api.specs.Adding.{AddsWords}
 use Rattle.many_texts.specs.Words.{answerWidth}
@@ -167,7 +167,7 @@ use Rattle.errors.specs.declared.FirstAnswer.the-variants as firstIs
 use Rattle.errors.specs.declared.Refusal.the-variants.{NothingFound}
 use Rattle.errors.proofs.Laws.{pairNumbersOf-unique}
 use Rattle.records.specs.Words as layout
-use Rattle.first_values.specs.Pairs.{tagOf, nameOf, answerTo, manyAnswer, answersAfter, ManyReads}
+use Rattle.first_values.specs.Pairs.{tagAt, nameAt, answerTo, manyAnswer, answersAfter, ManyReads}
 use Rattle.first_values.proofs.Unique as asked
 use Rattle.c_api.specs.declared.asking.AxmlPairsAnswer.{AxmlPairsAnswer}
 use Rattle.c_api.specs.Asking.{AsksMany}
@@ -265,14 +265,14 @@ module _ (r : Room) (f : List ℕ) (lent : Lent) (c : ReadCounts) (done : readin
   pub insertion-kept : c .nodes ≡ c .starts
   insertion-kept = proved.nothing-dropped r f lent c done none
 
--- The same of two calls, whatever results the promise allows: `left` is an answer and what stands in the three tables.
+-- The same of two calls, whatever results the promise allows: `readingLeft` is an answer and what stands in the three tables.
 module _ (f : List ℕ) (lent : Lent) (ns ats : List ℕ) (os : List Note) (cap mode : ℕ) (c : ReadCounts) (ns₁ ats₁ : List ℕ) (os₁ : List Note)
     (first : Reads f lent ns ats os cap mode (Done c) ns₁ ats₁ os₁) (none : c .notes ≡ 0) (places : List (List ForeignChunk))
     (few : length places ≤ placesIn f) (limit : length (insertedFile places f) ≤ fileLimit) (ns′ ats′ : List ℕ) (os′ : List Note) (cap′ : ℕ)
     (one : 1 ≤ cap′) (a : ReadAnswer) (ns₂ ats₂ : List ℕ) (os₂ : List Note)
     (second : Reads (insertedFile places f) lent ns′ ats′ os′ cap′ mode a ns₂ ats₂ os₂) where
   pub insertion-read : HasRoom a
-      → left a ns₂ ats₂ os₂ ≡ withNotes (roomIn ns′ ats′ os′ cap′ mode) (left (Done c) ns₁ ats₁ os₁) c (keptNotes cap′ (placeNotes places))
+      → readingLeft a ns₂ ats₂ os₂ ≡ withNotes (roomIn ns′ ats′ os′ cap′ mode) (readingLeft (Done c) ns₁ ats₁ os₁) c (keptNotes cap′ (placeNotes places))
   insertion-read room =
       calls.insertion-read f lent ns ats os cap mode c ns₁ ats₁ os₁ first none places few limit ns′ ats′ os′ cap′ one a ns₂ ats₂ os₂ second room
 
@@ -309,12 +309,12 @@ pub insertion-none : (f : List ℕ) → insertedFile [] f ≡ f
 insertion-none f = insertedFile-none f
 
 -- every complete foreign chunk (W5) can be put in: a foreign header, a size of at least 8, and all its bytes
-pub insertion-chunk : (l : List ℕ) {h : ResChunkHeader} → headerOf l ≡ Whole h → (sortOf h ≡ 2 → ⊥) → 8 ≤ h .size → h .size ≤ length l
+pub insertion-chunk : (l : List ℕ) {h : ResChunkHeader} → headerOf l ≡ Whole h → (chunkSort h ≡ 2 → ⊥) → 8 ≤ h .size → h .size ≤ length l
     → (x : ForeignChunk) × (x .bytes ≡ take (h .size) l)
 insertion-chunk l w n least there = (foreign-of l w n least there, foreign-bytes l w n least there)
 
 -- a stretch makes one note, that of its first chunk (W4), and then come those of what follows it
-pub insertion-stretch : (x : ForeignChunk) (xs ys : List ForeignChunk) → AllOf (sortOf (x .header)) xs → BeginsOther (sortOf (x .header)) ys
+pub insertion-stretch : (x : ForeignChunk) (xs ys : List ForeignChunk) → AllOf (chunkSort (x .header)) xs → BeginsOther (chunkSort (x .header)) ys
     → stretchNotes ((x ∷ xs) ++ ys) ≡ noteFor x ∷ stretchNotes ys
 insertion-stretch x xs ys h o = stretch-one x xs ys h o
 
@@ -340,22 +340,22 @@ module _ (r : Room) (f : List ℕ) (lent : Lent) (c : ReadCounts) (done : readin
     -- the tree stays, word for word; the notes are those that the longer file makes, up to the cap of each kind
     pub insertion-damaged : HasRoom (reading r′ (insertedFile places f) lent .answer)
         → reading r′ (insertedFile places f) lent
-        ≡ withNotes r′ (reading r f lent) c (keptNotes (r′ .cap) (notesIn (eventsOf (r .mode) (insertedFile places f) lent)))
+        ≡ withNotes r′ (reading r f lent) c (keptNotes (r′ .cap) (eventNotes (eventsOf (r .mode) (insertedFile places f) lent)))
     insertion-damaged room = damaged.insertion-damaged r f lent c done only places few limit r′ one alike room
 
     -- of these all that are not of kind 32 are exactly what `insertion` says
-    pub insertion-damaged-others : besides damagePlace (keptNotes (r′ .cap) (notesIn (eventsOf (r .mode) (insertedFile places f) lent)))
+    pub insertion-damaged-others : besides damagePlace (keptNotes (r′ .cap) (eventNotes (eventsOf (r .mode) (insertedFile places f) lent)))
         ≡ keptNotes (r′ .cap) (placeNotes places)
     insertion-damaged-others = damaged.insertion-damaged-others r f lent c done only places few limit r′ one alike
 
     -- and those of kind 32 are the file's own notes, the first as many as the cap says
-    pub insertion-damaged-kept : ofKind damagePlace (keptNotes (r′ .cap) (notesIn (eventsOf (r .mode) (insertedFile places f) lent)))
-        ≡ take (r′ .cap) (notesIn (eventsOf (r .mode) f lent))
+    pub insertion-damaged-kept : ofKind damagePlace (keptNotes (r′ .cap) (eventNotes (eventsOf (r .mode) (insertedFile places f) lent)))
+        ≡ take (r′ .cap) (eventNotes (eventsOf (r .mode) f lent))
     insertion-damaged-kept = damaged.insertion-damaged-kept r f lent c done only places few limit r′ one alike
 
     -- at the same cap these are the notes that stood in the first reading, word for word
     pub insertion-damaged-same : r′ .cap ≡ r .cap
-        → map noteOf (ofKind damagePlace (keptNotes (r′ .cap) (notesIn (eventsOf (r .mode) (insertedFile places f) lent))))
+        → map noteOf (ofKind damagePlace (keptNotes (r′ .cap) (eventNotes (eventsOf (r .mode) (insertedFile places f) lent))))
         ≡ take (c .notes) (reading r f lent .notes)
     insertion-damaged-same = damaged.insertion-damaged-same r f lent c done only places few limit r′ one alike
 
@@ -386,16 +386,16 @@ read-listed-suffices = room.read-listed-suffices
 
 module _ (r : Room) (f : List ℕ) (lent : Lent) (x : Refusal) (part : isPart x ≡ true) (refused : reading r f lent .answer ≡ Refused x) where
   -- a place in the file, behind its header
-  pub part-offset : (8 ≤ valueOf x) × (valueOf x ≤ length f)
+  pub part-offset : (8 ≤ refusalValue x) × (refusalValue x ≤ length f)
   part-offset = parts.part-offset f lent _ x (parts.reading-part f lent x part r refused)
 
   -- the file cut there leaves the same, every word
-  pub part-cut : reading r (take (valueOf x) f) lent ≡ reading r f lent
+  pub part-cut : reading r (take (refusalValue x) f) lent ≡ reading r f lent
   part-cut = parts.part-cut f lent x r (parts.reading-part f lent x part r refused)
 
 -- and so does the text question of any index, whatever the buffer
 module _ (f : List ℕ) (lent : Lent) (n i : ℕ) (x : Refusal) (part : isPart x ≡ true) (refused : textAnswer f lent n i ≡ textIs.Refused x) where
-  pub text-part-cut : (8 ≤ valueOf x) × (valueOf x ≤ length f) × (textAnswer (take (valueOf x) f) lent n i ≡ textIs.Refused x)
+  pub text-part-cut : (8 ≤ refusalValue x) × (refusalValue x ≤ length f) × (textAnswer (take (refusalValue x) f) lent n i ≡ textIs.Refused x)
   text-part-cut =
       let e = parts.text-part f lent x part n i refused in
       let p = parts.open-part f lent x part e in
@@ -415,7 +415,7 @@ module _ (f : List ℕ) (lent : Lent) (ns ats : List ℕ) (os : List Note) (cap 
 
   -- its notes are exactly the file's, of each kind the first `cap` (B13, B14)
   pub notes-kept : (c : ReadCounts) → Reads f lent ns ats os cap mode (Done c) ns′ ats′ os′
-      → take (c .notes) os′ ≡ map noteOf (keptNotes cap (notesIn (eventsOf mode f lent)))
+      → take (c .notes) os′ ≡ map noteOf (keptNotes cap (eventNotes (eventsOf mode f lent)))
   notes-kept c h = tree.notes-kept f lent ns ats os cap mode c ns′ ats′ os′ h
 
   -- Nothing is lost without a note (P7). The kept nodes are exactly the starts before the first, other than the very first, that never gets its end; and
@@ -442,11 +442,11 @@ module _ (f : List ℕ) (lent : Lent) (before : List ℕ) (i : ℕ) (after : Lis
 module _ (s : List ℕ) (bytes : (i : ℕ) → getD s i 0 < 256) where
   -- state 0 is that of a text whose bytes are the content's own
   pub damage-utf8 : (stateNumber (damageOf false s) ≡ 0 → textOf false s ≡ s) × (textOf false s ≡ s → stateNumber (damageOf false s) ≡ 0)
-  damage-utf8 = (states.whole-narrow s, states.narrow-whole s bytes)
+  damage-utf8 = (states.whole-utf8 s, states.utf8-whole s bytes)
 
   -- in UTF-16 that of a text of which the content is the encoding
   pub damage-utf16 : (stateNumber (damageOf true s) ≡ 0 → utf16Of (textOf true s) ≡ s) × (utf16Of (textOf true s) ≡ s → stateNumber (damageOf true s) ≡ 0)
-  damage-utf16 = (states.whole-wide s bytes, states.wide-whole s bytes)
+  damage-utf16 = (states.whole-utf16 s bytes, states.utf16-whole s bytes)
 
 -- nothing is replaced where a row of Table 3-7 is whole at the front, and one character where none is; then it goes on behind the maximal subpart
 pub damage-table : (b : ℕ) (s : List ℕ) → replacedCount (damageOf false (b ∷ s))
@@ -458,8 +458,8 @@ pub damage-own : (v : ℕ) (s : List ℕ) → isScalar v ≡ true → replacedCo
 damage-own v s k = states.replaced-own v s k
 
 -- state 1 has a count, and no other state has one
-pub damage-some : (wide : Bool) (s : List ℕ) → stateNumber (damageOf wide s) ≡ 1 → 0 < replacedCount (damageOf wide s)
-damage-some wide s e = states.replaced-some wide s e
+pub damage-some : (utf16 : Bool) (s : List ℕ) → stateNumber (damageOf utf16 s) ≡ 1 → 0 < replacedCount (damageOf utf16 s)
+damage-some utf16 s e = states.replaced-some utf16 s e
 
 pub damage-none : (d : Damage) → (stateNumber d ≡ 1 → ⊥) → replacedCount d ≡ 0
 damage-none d e = states.replaced-none d e
@@ -641,11 +641,11 @@ module _ (R : Reader) (meets : Meets R) where
     pub invents-starts-broken : opensIn (eventsOf mode f lent) < numbersOf (R f lent ns ats os cap mode .answer) .starts → ⊥
     invents-starts-broken = broken.invents-starts-broken R meets f lent ns ats os cap mode call
 
-    pub invents-notes-broken : length (keptNotes cap (notesIn (eventsOf mode f lent))) < numbersOf (R f lent ns ats os cap mode .answer) .notes → ⊥
+    pub invents-notes-broken : length (keptNotes cap (eventNotes (eventsOf mode f lent))) < numbersOf (R f lent ns ats os cap mode .answer) .notes → ⊥
     invents-notes-broken = broken.invents-notes-broken R meets f lent ns ats os cap mode call
 
     pub wrong-kinds-broken : (c : ReadCounts) → R f lent ns ats os cap mode .answer ≡ Done c
-        → (kindsOf (take (c .notes) (R f lent ns ats os cap mode .notes)) ≡ kindsOf (map noteOf (keptNotes cap (notesIn (eventsOf mode f lent)))) → ⊥) → ⊥
+        → (kindsOf (take (c .notes) (R f lent ns ats os cap mode .notes)) ≡ kindsOf (map noteOf (keptNotes cap (eventNotes (eventsOf mode f lent)))) → ⊥) → ⊥
     wrong-kinds-broken = broken.wrong-kinds-broken R meets f lent ns ats os cap mode call
 
 -- and the promise can be met: by the definition itself
@@ -673,7 +673,7 @@ month-order = order-same
 pub month-refused : (r : RoundUp) (counts : List ℕ) (x : Refusal) (bytes : ℕ) → length (r .counts) ≡ sums.places
     → sums.addedTo r (sums.shareOf counts (Refused x) bytes) .answer ≡ add.Added
     → sums.addedTo r (sums.shareOf counts (Refused x) bytes) .«round_up» .counts
-    ≡ set (r .counts) (sums.refusedFrom + numberOf x) (getD (r .counts) (sums.refusedFrom + numberOf x) 0 + 1)
+    ≡ set (r .counts) (sums.refusedFrom + refusalNumber x) (getD (r .counts) (sums.refusedFrom + refusalNumber x) 0 + 1)
 month-refused = told.refused-one
 
 -- 29 is the only refusal, leaves the round-up as it was, and is given where a count would pass
@@ -690,7 +690,7 @@ month-added r share even fits = let a = told.added-fits r share even fits in (a,
 -- for every reading that succeeds, the kinds that are counted in its note table are those of the kept notes
 pub month-kinds : (f : List ℕ) (lent : Lent) (ns ats ws : List ℕ) (cap mode : ℕ) (a : AxmlAnswer) (ns′ ats′ ws′ : List ℕ)
     → ReadsWords f lent ns ats ws cap mode a ns′ ats′ ws′ → a .refusal ≡ 0
-    → kindsIn ws′ (a .notes) ≡ tally sums.kinds 0 (map kindNumber (keptNotes cap (notesIn (eventsOf mode f lent))))
+    → kindsIn ws′ (a .notes) ≡ tally sums.kinds 0 (map kindNumber (keptNotes cap (eventNotes (eventsOf mode f lent))))
 month-kinds = months.month-kinds
 
 -- so that over any month of readings the grid's sum is the kept notes of kinds 0 to 12
@@ -825,7 +825,7 @@ module _ (f : List ℕ) (lent : Lent) (ns ats pairs area before : List ℕ) (nod
         (d .0, record { long = d .2; there = d .1; zeros = d .3 })
 
     -- answer i is what any call of the single question answers to pair i
-    pub many-asks : (i : ℕ) → i < n → (a : FirstAnswer) → FirstReads f lent ns ats (tagOf pairs area i) (nameOf pairs area i) nodes attributes a
+    pub many-asks : (i : ℕ) → i < n → (a : FirstAnswer) → FirstReads f lent ns ats (tagAt pairs area i) (nameAt pairs area i) nodes attributes a
         → take layout.answerWidth (drop (layout.answerWidth * i) after) ≡ answerTo a
     many-asks = asked.many-asks f lent ns ats pairs area before nodes attributes n after answered
 

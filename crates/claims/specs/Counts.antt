@@ -3,7 +3,7 @@
 --   sumOf         the sum of a number over all events
 --   opensIn       how many elements open: the starts that were read whole
 --   attributesIn  how many attributes are due, the leading one included
---   notesIn       the anomalies among them, in order: the notes that are due, before any cap
+--   eventNotes    the anomalies among them, in order: the notes that are due, before any cap
 --   openNames     the name indices of the elements that open, in order; openFixed their fixed words; openLines their lines
 --   depthFrom     the depth behind these events: an element adds one, an end takes one away, not below 0
 use Prim.Native.Nat.{ℕ, _+_, _-_}
@@ -42,19 +42,19 @@ opensIn es = sumOf isOpen es
 abbrev pub attributesIn : List Event → ℕ
 attributesIn es = sumOf isAttribute es
 
-abbrev pub noted : Event → List ResAnomaly
-noted (Note x) = x ∷ []
-noted Nothing = []
-noted (Open name fixed line) = []
-noted (Attribute p a) = []
-noted (LeftOut n) = []
-noted Close = []
-noted (Refuse x) = []
-noted Finish = []
+abbrev pub eventNote : Event → List ResAnomaly
+eventNote (Note x) = x ∷ []
+eventNote Nothing = []
+eventNote (Open name fixed line) = []
+eventNote (Attribute p a) = []
+eventNote (LeftOut n) = []
+eventNote Close = []
+eventNote (Refuse x) = []
+eventNote Finish = []
 
-abbrev pub notesIn : List Event → List ResAnomaly
-notesIn [] = []
-notesIn (e ∷ es) = noted e ++ notesIn es
+abbrev pub eventNotes : List Event → List ResAnomaly
+eventNotes [] = []
+eventNotes (e ∷ es) = eventNote e ++ eventNotes es
 
 -- what an element that opens is put down with, of all of them in order
 abbrev pub opensAs : (ℕ → ℕ → ℕ → ℕ) → List Event → List ℕ

@@ -6,7 +6,7 @@
 --   inserted       a body with a list of foreign chunks at each place; insertedFile the same of a file, behind its head
 --   stretchNotes   of chunks in a row, one anomaly for each stretch of one sort, with its first chunk's number; placeNotes of all places
 --   AllOf          chunks of one sort; BeginsOther of chunks with which no stretch of that sort goes on
---   left           an answer and what stands in the three tables, as a reading
+--   readingLeft    an answer and what stands in the three tables, as a reading
 --   withNotes      the reading s with the counts c, in tables of other room, with these notes and no other: all that it kept, word for word
 --
 -- A place is said by the walk itself: `usedOf` of `turnOf`, the bytes that it takes. The theorem: `insertion` of proofs/Claims.antt.
@@ -19,7 +19,7 @@ use lib.Dec.{eqb}
 use Rattle.common.specs.Header.{headerOf}
 use Rattle.common.specs.declared.ResChunkHeader.{ResChunkHeader}
 use Rattle.common.specs.declared.HeaderRead.the-variants.{Whole}
-use Rattle.chunk.specs.Sort.{sortOf}
+use Rattle.chunk.specs.Sort.{chunkSort}
 use Rattle.chunk.specs.Walk.{walk}
 use Rattle.errors.specs.declared.ReadAnswer.{ReadAnswer}
 use Rattle.errors.specs.declared.ReadAnswer.the-variants.{Done}
@@ -30,7 +30,7 @@ use Rattle.anomaly.specs.declared.ResAnomaly.{ResAnomaly}
 use Rattle.head.specs.Head.{headLen, bodyIn, openedOf}
 use Rattle.xml_elements.specs.declared.Turn.{Turn}
 use Rattle.xml_elements.specs.declared.Turn.the-variants.{Stop, Foreign, Met, Cut}
-use Rattle.xml_elements.specs.Chunk.{turnOf, usedOf, numberOf}
+use Rattle.xml_elements.specs.Chunk.{turnOf, usedOf, foreignNumber}
 use Rattle.events.specs.Events.{foreignNote}
 use Rattle.records.specs.Words.{nodeWidth, attributeWidth}
 use Rattle.walk.specs.Settle.{Room}
@@ -42,35 +42,35 @@ pub record ForeignChunk : Type 0 where
   pub bytes : List ℕ
   pub header : ResChunkHeader
   pub reads : headerOf bytes ≡ Whole header
-  pub foreign : sortOf header ≡ 2 → ⊥
+  pub foreign : chunkSort header ≡ 2 → ⊥
   pub complete : header .size ≡ length bytes
 
-abbrev pub bytesOf : List ForeignChunk → List ℕ
-bytesOf [] = []
-bytesOf (f ∷ fs) = f .bytes ++ bytesOf fs
+abbrev pub chunkBytes : List ForeignChunk → List ℕ
+chunkBytes [] = []
+chunkBytes (f ∷ fs) = f .bytes ++ chunkBytes fs
 
 -- note 3 with the type of a chunk that is not XML, note 4 with the header size of one that is
 abbrev pub noteFor : ForeignChunk → ResAnomaly
-noteFor f = foreignNote (sortOf (f .header)) (numberOf (f .header))
+noteFor f = foreignNote (chunkSort (f .header)) (foreignNumber (f .header))
 
 -- the notes of the chunks behind one of the sort k: one for each that is of another sort than the chunk before it
 abbrev pub notesBehind : ℕ → List ForeignChunk → List ResAnomaly
 notesBehind k [] = []
-notesBehind k (f ∷ fs) = cond (eqb (sortOf (f .header)) k) [] (noteFor f ∷ []) ++ notesBehind (sortOf (f .header)) fs
+notesBehind k (f ∷ fs) = cond (eqb (chunkSort (f .header)) k) [] (noteFor f ∷ []) ++ notesBehind (chunkSort (f .header)) fs
 
 abbrev pub stretchNotes : List ForeignChunk → List ResAnomaly
 stretchNotes [] = []
-stretchNotes (f ∷ fs) = noteFor f ∷ notesBehind (sortOf (f .header)) fs
+stretchNotes (f ∷ fs) = noteFor f ∷ notesBehind (chunkSort (f .header)) fs
 
 -- chunks of the sort k
 abbrev pub AllOf : ℕ → List ForeignChunk → Type 0
 AllOf k [] = Unit {0}
-AllOf k (f ∷ fs) = (sortOf (f .header) ≡ k) × AllOf k fs
+AllOf k (f ∷ fs) = (chunkSort (f .header) ≡ k) × AllOf k fs
 
 -- none, or the first is of another sort than k
 abbrev pub BeginsOther : ℕ → List ForeignChunk → Type 0
 BeginsOther k [] = Unit {0}
-BeginsOther k (f ∷ fs) = sortOf (f .header) ≡ k → ⊥
+BeginsOther k (f ∷ fs) = chunkSort (f .header) ≡ k → ⊥
 
 -- ---- places
 
@@ -84,15 +84,15 @@ unfoldable pub restOf : List ℕ → List ℕ
 restOf body = walk taken (λ l r. drop (usedOf (length l) (turnOf l)) l) body body
 
 -- a chunk is whole if all the bytes that the walk takes for it are there
-abbrev pub isWhole : Turn → Bool
-isWhole Stop = false
-isWhole (Foreign k a u) = true
-isWhole (Met c) = true
-isWhole (Cut c) = false
+abbrev pub turnIsWhole : Turn → Bool
+turnIsWhole Stop = false
+turnIsWhole (Foreign k a u) = true
+turnIsWhole (Met c) = true
+turnIsWhole (Cut c) = false
 
 abbrev pub allWhole : List (List ℕ) → Bool
 allWhole [] = true
-allWhole (c ∷ cs) = isWhole (turnOf c) && allWhole cs
+allWhole (c ∷ cs) = turnIsWhole (turnOf c) && allWhole cs
 
 abbrev pub isNil : List ℕ → Bool
 isNil [] = true
@@ -105,8 +105,8 @@ placesOf body = length (chunksOf body) + cond (allWhole (chunksOf body) && isNil
 abbrev pub woven : List (List ForeignChunk) → List (List ℕ) → List ℕ → List ℕ
 woven [] [] rest = rest
 woven [] (c ∷ cs) rest = c ++ woven [] cs rest
-woven (fs ∷ places) [] rest = bytesOf fs ++ rest
-woven (fs ∷ places) (c ∷ cs) rest = bytesOf fs ++ (c ++ woven places cs rest)
+woven (fs ∷ places) [] rest = chunkBytes fs ++ rest
+woven (fs ∷ places) (c ∷ cs) rest = chunkBytes fs ++ (c ++ woven places cs rest)
 
 unfoldable pub inserted : List (List ForeignChunk) → List ℕ → List ℕ
 inserted places body = woven places (chunksOf body) (restOf body)
@@ -134,5 +134,5 @@ withNotes r s c ns = record {
   notes = map noteOf ns ++ replicate (r .notes - length ns) zeroNote;
 }
 
-abbrev pub left : ReadAnswer → List ℕ → List ℕ → List Note → Reading
-left a nodes attributes notes = record { answer = a; nodes = nodes; attributes = attributes; notes = notes }
+abbrev pub readingLeft : ReadAnswer → List ℕ → List ℕ → List Note → Reading
+readingLeft a nodes attributes notes = record { answer = a; nodes = nodes; attributes = attributes; notes = notes }

@@ -18,7 +18,7 @@ use Rattle.round_up.specs.Kinds.{kindsIn, inGrid}
 use Rattle.round_up.specs.History.{File}
 use Rattle.system_types.specs.Names.{Lent}
 use Rattle.c_api.specs.Words.{answerOf, ReadsWords}
-use Rattle.claims.specs.Counts.{notesIn}
+use Rattle.claims.specs.Counts.{eventNotes}
 use Rattle.claims.specs.Readers.{eventsOf}
 
 pub record Called : Type 0 where
@@ -51,7 +51,7 @@ keptBy (Done c) xs = inGrid (map kindNumber xs)
 keptBy (Refused e) xs = 0
 
 abbrev pub keptOf : Called → ℕ
-keptOf x = keptBy (x .answer) (keptNotes (x .cap) (notesIn (eventsOf (x .mode) (x .file) (x .lent))))
+keptOf x = keptBy (x .answer) (keptNotes (x .cap) (eventNotes (eventsOf (x .mode) (x .file) (x .lent))))
 
 abbrev pub keptIn : List Called → ℕ
 keptIn [] = 0

@@ -6,11 +6,11 @@
 use Prim.Native.Nat.{ℕ}
 use mathlib.Core.Bool.{Bool, _&&_, _||_}
 use lib.Dec.{leb}
-use Rattle.errors.specs.Refusal.{numberOf}
+use Rattle.errors.specs.Refusal.{refusalNumber}
 use Rattle.errors.specs.declared.Refusal.{Refusal}
 
 abbrev pub isPartNumber : ℕ → Bool
 isPartNumber n = (leb 41 n && leb n 45) || (leb 51 n && leb n 52)
 
 abbrev pub isPart : Refusal → Bool
-isPart x = isPartNumber (numberOf x)
+isPart x = isPartNumber (refusalNumber x)

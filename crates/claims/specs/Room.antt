@@ -11,7 +11,7 @@ use mathlib.Core.Path.{_≡_}
 use mathlib.Core.Bool.{Bool, false, _&&_}
 use lib.Dec.{leb}
 use Rattle.anomaly.specs.Note.{kinds}
-use Rattle.errors.specs.Refusal.{numberOf}
+use Rattle.errors.specs.Refusal.{refusalNumber}
 use Rattle.errors.specs.declared.Refusal.{Refusal}
 use Rattle.errors.specs.declared.ReadAnswer.{ReadAnswer}
 use Rattle.errors.specs.declared.ReadAnswer.the-variants.{Done, Refused}
@@ -24,7 +24,7 @@ abbrev pub isFullNumber : ℕ → Bool
 isFullNumber n = leb 8 n && leb n 10
 
 abbrev pub isFull : Refusal → Bool
-isFull x = isFullNumber (numberOf x)
+isFull x = isFullNumber (refusalNumber x)
 
 abbrev pub HasRoom : ReadAnswer → Type 0
 HasRoom (Done c) = Unit {0}

@@ -5,7 +5,7 @@
 --   begin, end   a node's run: its first attribute, and where the next run begins
 --   Runs         the runs of n nodes cover m attributes in turn: the first begins at 0, each next where the one before ends, and the last ends at m
 --   Owns         an attribute within a node's run has that node for its owner
---   ofKind       how many notes of a list are of the kind k
+--   countOfKind  how many notes of a list are of the kind k
 --   DepthSaid    a note 12 of a list says the depth
 --   Structured   what holds of every successful reading: its nodes are the first of the elements, in order; parents, runs and owners; its notes are
 --                exactly the anomalies that the cap keeps, so no kind has more than the cap; note 12 says the depth, and is there exactly where that is not 0; with depth 0 no element is dropped, from
@@ -22,7 +22,7 @@ use Rattle.anomaly.specs.declared.Note.{Note}
 use Rattle.errors.specs.declared.ReadCounts.{ReadCounts}
 use Rattle.records.specs.Words.{nodeWidth, nodeName, nodeFixed, nodeParent, nodeFirst, nodeCount, nodeLine, noParent, attributeWidth, attributeOwner}
 use Rattle.events.specs.declared.Event.{Event}
-use Rattle.claims.specs.Counts.{opensIn, notesIn, openNames, openFixed, openLines, depthFrom}
+use Rattle.claims.specs.Counts.{opensIn, eventNotes, openNames, openFixed, openLines, depthFrom}
 
 abbrev pub word : ℕ → List ℕ → ℕ → ℕ → ℕ
 word width w i k = getD w (width * i + k) 0
@@ -55,9 +55,9 @@ pub record Runs (w : List ℕ) (n m : ℕ) : Type 0 where
 abbrev pub Owns : List ℕ → List ℕ → ℕ → Type 0
 Owns w v n = (i j : ℕ) → i < n → begin w i ≤ j → j < end w i → attributeWord v j attributeOwner ≡ i
 
-abbrev pub ofKind : ℕ → List Note → ℕ
-ofKind k [] = 0
-ofKind k (x ∷ xs) = cond (eqb (x .kind) k) 1 0 + ofKind k xs
+abbrev pub countOfKind : ℕ → List Note → ℕ
+countOfKind k [] = 0
+countOfKind k (x ∷ xs) = cond (eqb (x .kind) k) 1 0 + countOfKind k xs
 
 -- a note 12 says the depth d
 abbrev pub DepthSaid : ℕ → List Note → Type 0
@@ -76,11 +76,11 @@ pub record Structured (es : List Event) (cap : ℕ) (c : ReadCounts) (ns ats : L
   pub runs : Runs ns (c .nodes) (c .attributes)
   pub owns : Owns ns ats (c .nodes)
   pub owners : (j : ℕ) → j < c .attributes → attributeWord ats j attributeOwner < c .nodes
-  pub many : c .notes ≡ length (keptNotes cap (notesIn es))
-  pub notes : take (c .notes) os ≡ map noteOf (keptNotes cap (notesIn es))
-  pub kinds : (k : ℕ) → ofKind k (take (c .notes) os) ≤ cap
+  pub many : c .notes ≡ length (keptNotes cap (eventNotes es))
+  pub notes : take (c .notes) os ≡ map noteOf (keptNotes cap (eventNotes es))
+  pub kinds : (k : ℕ) → countOfKind k (take (c .notes) os) ≤ cap
   pub depth : DepthSaid (depthFrom 0 es) (take (c .notes) os)
-  pub twelve : 0 < cap → (depthFrom 0 es ≡ 0 → ⊥) → ofKind 12 (take (c .notes) os) ≡ 1
-  pub untold : depthFrom 0 es ≡ 0 → _≡_ {A = ℕ} (ofKind 12 (take (c .notes) os)) 0
+  pub twelve : 0 < cap → (depthFrom 0 es ≡ 0 → ⊥) → countOfKind 12 (take (c .notes) os) ≡ 1
+  pub untold : depthFrom 0 es ≡ 0 → _≡_ {A = ℕ} (countOfKind 12 (take (c .notes) os)) 0
   pub closed : depthFrom 0 es ≡ 0 → c .nodes ≡ c .starts
   pub dropped : 2 ≤ depthFrom 0 es → c .nodes < c .starts

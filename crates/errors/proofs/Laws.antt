@@ -5,7 +5,7 @@ use native.Mathlib.Omega.{arith}
 use mathlib.Core.Path.{_≡_, refl, sym, _∙_, ap}
 use mathlib.Core.Bool.{Bool, true, false, cond}
 use lib.Dec.{eqb}
-use Rattle.errors.specs.Refusal.{numberOf, valueOf, numbersOf, stateOf, replacedOf, textNumbersOf, linesNumbersOf}
+use Rattle.errors.specs.Refusal.{refusalNumber, refusalValue, numbersOf, stateOf, replacedOf, textNumbersOf, linesNumbersOf}
 use Rattle.errors.specs.Refusal.{firstNumbersOf, valueNumbersOf, manyNumbersOf, pairNumbersOf}
 use Rattle.errors.specs.declared.Refusal.{Refusal}
 use Rattle.errors.specs.declared.Refusal.the-variants.{TooSmallError, TooLargeError, HeaderSizeError}
@@ -78,8 +78,8 @@ refusalOf n v =
     cond (eqb n 45) (StringPoolData v) (
     cond (eqb n 51) (ResourceMapHeader v) (ResourceMapIds v))))))))))))))))))))))))))))
 
-refusalOf-back : (r : Refusal) → refusalOf (numberOf r) (valueOf r) ≡ r
-unfolding numberOf valueOf refusalOf
+refusalOf-back : (r : Refusal) → refusalOf (refusalNumber r) (refusalValue r) ≡ r
+unfolding refusalNumber refusalValue refusalOf
 refusalOf-back (TooSmallError v) = refl
 refusalOf-back TooLargeError = refl
 refusalOf-back (HeaderSizeError v) = refl
@@ -111,74 +111,74 @@ refusalOf-back (ResourceMapHeader v) = refl
 refusalOf-back (ResourceMapIds v) = refl
 
 -- number and value tell refusals apart
-pub numberOf-unique : (a b : Refusal) → numberOf a ≡ numberOf b → valueOf a ≡ valueOf b → a ≡ b
-numberOf-unique a b n v = sym (refusalOf-back a) ∙ rw (n, v) (refusalOf-back b)
+pub refusalNumber-unique : (a b : Refusal) → refusalNumber a ≡ refusalNumber b → refusalValue a ≡ refusalValue b → a ≡ b
+refusalNumber-unique a b n v = sym (refusalOf-back a) ∙ rw (n, v) (refusalOf-back b)
 
 -- no refusal has the number of a success
-pub numberOf-some : (r : Refusal) → eqb (numberOf r) 0 ≡ false
-unfolding numberOf
-numberOf-some (TooSmallError v) = refl
-numberOf-some TooLargeError = refl
-numberOf-some (HeaderSizeError v) = refl
-numberOf-some MissingRoot = refl
-numberOf-some (SystemNamesError v) = refl
-numberOf-some (NodesFull v) = refl
-numberOf-some (AttributesFull v) = refl
-numberOf-some (NotesFull v) = refl
-numberOf-some (TextShort v) = refl
-numberOf-some NothingFound = refl
-numberOf-some (TablesError v) = refl
-numberOf-some (ItemsError v) = refl
-numberOf-some (NoPlainText v) = refl
-numberOf-some (ModeError v) = refl
-numberOf-some (PairsError v) = refl
-numberOf-some (AnswersFull v) = refl
-numberOf-some (ListingMalformed v) = refl
-numberOf-some (ListingNumber v) = refl
-numberOf-some (ListingOrder v) = refl
-numberOf-some NotesOff = refl
-numberOf-some (ListFull v) = refl
-numberOf-some RoundUpFull = refl
-numberOf-some (StringPoolGarbage v) = refl
-numberOf-some (StringPoolHeader v) = refl
-numberOf-some (StringPoolOffsets v) = refl
-numberOf-some (StringPoolStyles v) = refl
-numberOf-some (StringPoolData v) = refl
-numberOf-some (ResourceMapHeader v) = refl
-numberOf-some (ResourceMapIds v) = refl
+pub refusalNumber-some : (r : Refusal) → eqb (refusalNumber r) 0 ≡ false
+unfolding refusalNumber
+refusalNumber-some (TooSmallError v) = refl
+refusalNumber-some TooLargeError = refl
+refusalNumber-some (HeaderSizeError v) = refl
+refusalNumber-some MissingRoot = refl
+refusalNumber-some (SystemNamesError v) = refl
+refusalNumber-some (NodesFull v) = refl
+refusalNumber-some (AttributesFull v) = refl
+refusalNumber-some (NotesFull v) = refl
+refusalNumber-some (TextShort v) = refl
+refusalNumber-some NothingFound = refl
+refusalNumber-some (TablesError v) = refl
+refusalNumber-some (ItemsError v) = refl
+refusalNumber-some (NoPlainText v) = refl
+refusalNumber-some (ModeError v) = refl
+refusalNumber-some (PairsError v) = refl
+refusalNumber-some (AnswersFull v) = refl
+refusalNumber-some (ListingMalformed v) = refl
+refusalNumber-some (ListingNumber v) = refl
+refusalNumber-some (ListingOrder v) = refl
+refusalNumber-some NotesOff = refl
+refusalNumber-some (ListFull v) = refl
+refusalNumber-some RoundUpFull = refl
+refusalNumber-some (StringPoolGarbage v) = refl
+refusalNumber-some (StringPoolHeader v) = refl
+refusalNumber-some (StringPoolOffsets v) = refl
+refusalNumber-some (StringPoolStyles v) = refl
+refusalNumber-some (StringPoolData v) = refl
+refusalNumber-some (ResourceMapHeader v) = refl
+refusalNumber-some (ResourceMapIds v) = refl
 
 -- no number is above 52
-pub numberOf-le : (r : Refusal) → numberOf r ≤ 52
-unfolding numberOf
-numberOf-le (TooSmallError v) = omega arith
-numberOf-le TooLargeError = omega arith
-numberOf-le (HeaderSizeError v) = omega arith
-numberOf-le MissingRoot = omega arith
-numberOf-le (SystemNamesError v) = omega arith
-numberOf-le (NodesFull v) = omega arith
-numberOf-le (AttributesFull v) = omega arith
-numberOf-le (NotesFull v) = omega arith
-numberOf-le (TextShort v) = omega arith
-numberOf-le NothingFound = omega arith
-numberOf-le (TablesError v) = omega arith
-numberOf-le (ItemsError v) = omega arith
-numberOf-le (NoPlainText v) = omega arith
-numberOf-le (ModeError v) = omega arith
-numberOf-le (PairsError v) = omega arith
-numberOf-le (AnswersFull v) = omega arith
-numberOf-le (ListingMalformed v) = omega arith
-numberOf-le (ListingNumber v) = omega arith
-numberOf-le (ListingOrder v) = omega arith
-numberOf-le NotesOff = omega arith
-numberOf-le (ListFull v) = omega arith
-numberOf-le RoundUpFull = omega arith
-numberOf-le (StringPoolGarbage v) = omega arith
-numberOf-le (StringPoolHeader v) = omega arith
-numberOf-le (StringPoolOffsets v) = omega arith
-numberOf-le (StringPoolStyles v) = omega arith
-numberOf-le (StringPoolData v) = omega arith
-numberOf-le (ResourceMapHeader v) = omega arith
-numberOf-le (ResourceMapIds v) = omega arith
+pub refusalNumber-le : (r : Refusal) → refusalNumber r ≤ 52
+unfolding refusalNumber
+refusalNumber-le (TooSmallError v) = omega arith
+refusalNumber-le TooLargeError = omega arith
+refusalNumber-le (HeaderSizeError v) = omega arith
+refusalNumber-le MissingRoot = omega arith
+refusalNumber-le (SystemNamesError v) = omega arith
+refusalNumber-le (NodesFull v) = omega arith
+refusalNumber-le (AttributesFull v) = omega arith
+refusalNumber-le (NotesFull v) = omega arith
+refusalNumber-le (TextShort v) = omega arith
+refusalNumber-le NothingFound = omega arith
+refusalNumber-le (TablesError v) = omega arith
+refusalNumber-le (ItemsError v) = omega arith
+refusalNumber-le (NoPlainText v) = omega arith
+refusalNumber-le (ModeError v) = omega arith
+refusalNumber-le (PairsError v) = omega arith
+refusalNumber-le (AnswersFull v) = omega arith
+refusalNumber-le (ListingMalformed v) = omega arith
+refusalNumber-le (ListingNumber v) = omega arith
+refusalNumber-le (ListingOrder v) = omega arith
+refusalNumber-le NotesOff = omega arith
+refusalNumber-le (ListFull v) = omega arith
+refusalNumber-le RoundUpFull = omega arith
+refusalNumber-le (StringPoolGarbage v) = omega arith
+refusalNumber-le (StringPoolHeader v) = omega arith
+refusalNumber-le (StringPoolOffsets v) = omega arith
+refusalNumber-le (StringPoolStyles v) = omega arith
+refusalNumber-le (StringPoolData v) = omega arith
+refusalNumber-le (ResourceMapHeader v) = omega arith
+refusalNumber-le (ResourceMapIds v) = omega arith
 
 -- ---- a reading
 
@@ -190,7 +190,7 @@ answerOf n =
 answerOf-back : (a : read.ReadAnswer) → answerOf (numbersOf a) ≡ a
 unfolding answerOf numbersOf
 answerOf-back (readIs.Done c) = refl
-answerOf-back (readIs.Refused r) = rw (numberOf-some r) (ap readIs.Refused (refusalOf-back r))
+answerOf-back (readIs.Refused r) = rw (refusalNumber-some r) (ap readIs.Refused (refusalOf-back r))
 
 pub numbersOf-unique : (a b : read.ReadAnswer) → numbersOf a ≡ numbersOf b → a ≡ b
 numbersOf-unique = unique numbersOf answerOf answerOf-back
@@ -214,7 +214,7 @@ textOf n = cond (eqb (n .refusal) 0) (textIs.Text (n .length) (stateBy (n .state
 textOf-back : (a : text.TextAnswer) → textOf (textNumbersOf a) ≡ a
 unfolding textOf textNumbersOf
 textOf-back (textIs.Text n s) = ap (textIs.Text n) (stateBy-back s)
-textOf-back (textIs.Refused r) = rw (numberOf-some r) (ap textIs.Refused (refusalOf-back r))
+textOf-back (textIs.Refused r) = rw (refusalNumber-some r) (ap textIs.Refused (refusalOf-back r))
 
 pub textNumbersOf-unique : (a b : text.TextAnswer) → textNumbersOf a ≡ textNumbersOf b → a ≡ b
 textNumbersOf-unique = unique textNumbersOf textOf textOf-back
@@ -227,7 +227,7 @@ linesOf n = cond (eqb (n .refusal) 0) (linesIs.Text (n .length)) (linesIs.Refuse
 linesOf-back : (a : lines.LinesAnswer) → linesOf (linesNumbersOf a) ≡ a
 unfolding linesOf linesNumbersOf
 linesOf-back (linesIs.Text n) = refl
-linesOf-back (linesIs.Refused r) = rw (numberOf-some r) (ap linesIs.Refused (refusalOf-back r))
+linesOf-back (linesIs.Refused r) = rw (refusalNumber-some r) (ap linesIs.Refused (refusalOf-back r))
 
 pub linesNumbersOf-unique : (a b : lines.LinesAnswer) → linesNumbersOf a ≡ linesNumbersOf b → a ≡ b
 linesNumbersOf-unique = unique linesNumbersOf linesOf linesOf-back
@@ -242,7 +242,7 @@ firstOf-back : (a : first.FirstAnswer) → firstOf (firstNumbersOf a) ≡ a
 unfolding firstOf firstNumbersOf
 firstOf-back (firstIs.Found kind «data» true) = refl
 firstOf-back (firstIs.Found kind «data» false) = refl
-firstOf-back (firstIs.Refused r) = rw (numberOf-some r) (ap firstIs.Refused (refusalOf-back r))
+firstOf-back (firstIs.Refused r) = rw (refusalNumber-some r) (ap firstIs.Refused (refusalOf-back r))
 
 pub firstNumbersOf-unique : (a b : first.FirstAnswer) → firstNumbersOf a ≡ firstNumbersOf b → a ≡ b
 firstNumbersOf-unique = unique firstNumbersOf firstOf firstOf-back
@@ -257,7 +257,7 @@ valueTextOf n =
 valueTextOf-back : (a : value′.ValueAnswer) → valueTextOf (valueNumbersOf a) ≡ a
 unfolding valueTextOf valueNumbersOf
 valueTextOf-back (valueIs.Value n u s) = ap (valueIs.Value n u) (stateBy-back s)
-valueTextOf-back (valueIs.Refused r) = rw (numberOf-some r) (ap valueIs.Refused (refusalOf-back r))
+valueTextOf-back (valueIs.Refused r) = rw (refusalNumber-some r) (ap valueIs.Refused (refusalOf-back r))
 
 pub valueNumbersOf-unique : (a b : value′.ValueAnswer) → valueNumbersOf a ≡ valueNumbersOf b → a ≡ b
 valueNumbersOf-unique = unique valueNumbersOf valueTextOf valueTextOf-back
@@ -270,7 +270,7 @@ manyOf n = cond (eqb (n .refusal) 0) (manyIs.Answered (n .count) (n .length)) (m
 manyOf-back : (a : many.ManyTexts) → manyOf (manyNumbersOf a) ≡ a
 unfolding manyOf manyNumbersOf
 manyOf-back (manyIs.Answered n s) = refl
-manyOf-back (manyIs.Refused r) = rw (numberOf-some r) (ap manyIs.Refused (refusalOf-back r))
+manyOf-back (manyIs.Refused r) = rw (refusalNumber-some r) (ap manyIs.Refused (refusalOf-back r))
 
 pub manyNumbersOf-unique : (a b : many.ManyTexts) → manyNumbersOf a ≡ manyNumbersOf b → a ≡ b
 manyNumbersOf-unique = unique manyNumbersOf manyOf manyOf-back
@@ -283,7 +283,7 @@ pairsOf n = cond (eqb (n .refusal) 0) (pairsIs.Answered (n .count)) (pairsIs.Ref
 pairsOf-back : (a : pairs.ManyAnswer) → pairsOf (pairNumbersOf a) ≡ a
 unfolding pairsOf pairNumbersOf
 pairsOf-back (pairsIs.Answered n) = refl
-pairsOf-back (pairsIs.Refused r) = rw (numberOf-some r) (ap pairsIs.Refused (refusalOf-back r))
+pairsOf-back (pairsIs.Refused r) = rw (refusalNumber-some r) (ap pairsIs.Refused (refusalOf-back r))
 
 pub pairNumbersOf-unique : (a b : pairs.ManyAnswer) → pairNumbersOf a ≡ pairNumbersOf b → a ≡ b
 pairNumbersOf-unique = unique pairNumbersOf pairsOf pairsOf-back

@@ -1,7 +1,7 @@
 -- The numbers of an answer: docs/FORMAT.md, B1, B7.
 --
---   numberOf         the number of a refusal: 1 to 3, 6 to 16, 20, 21, 24 to 29; of a part of pool or map that is short, 41 to 45, 51, 52 (4 and 5 are none)
---   valueOf          the value of a refusal; 0 where it has none; of a part that is short, the file offset at which it should begin
+--   refusalNumber    the number of a refusal: 1 to 3, 6 to 16, 20, 21, 24 to 29; of a part of pool or map that is short, 41 to 45, 51, 52 (4 and 5 are none)
+--   refusalValue     the value of a refusal; 0 where it has none; of a part that is short, the file offset at which it should begin
 --   numbersOf        the numbers of a reading's answer: refusal 0 and value 0 with the counts, or a refusal and its value with every count 0
 --   stateOf          the number of a text's state: 0 whole, 1 replaced characters, 2 bad UTF-16, 3 cut or outside; replacedOf how many were replaced
 --   textNumbersOf    the same of a text question: the length of the text, its state, and how many characters were replaced
@@ -47,73 +47,73 @@ use Rattle.errors.specs.declared.ValueAnswer.the-variants as valueIs
 use Rattle.errors.specs.declared.ManyTexts.the-variants as manyIs
 use Rattle.errors.specs.declared.ManyAnswer.the-variants as pairsIs
 
-unfoldable pub numberOf : Refusal → ℕ
-numberOf (TooSmallError length) = 1
-numberOf TooLargeError = 2
-numberOf (HeaderSizeError size) = 3
-numberOf MissingRoot = 6
-numberOf (SystemNamesError entry) = 7
-numberOf (NodesFull places) = 8
-numberOf (AttributesFull places) = 9
-numberOf (NotesFull places) = 10
-numberOf (TextShort needed) = 11
-numberOf NothingFound = 12
-numberOf (TablesError node) = 13
-numberOf (ItemsError item) = 14
-numberOf (NoPlainText kind) = 15
-numberOf (ModeError mode) = 16
-numberOf (PairsError pair) = 20
-numberOf (AnswersFull places) = 21
-numberOf (ListingMalformed line) = 24
-numberOf (ListingNumber line) = 25
-numberOf (ListingOrder line) = 26
-numberOf NotesOff = 27
-numberOf (ListFull places) = 28
-numberOf RoundUpFull = 29
-numberOf (StringPoolGarbage at) = 41
-numberOf (StringPoolHeader at) = 42
-numberOf (StringPoolOffsets at) = 43
-numberOf (StringPoolStyles at) = 44
-numberOf (StringPoolData at) = 45
-numberOf (ResourceMapHeader at) = 51
-numberOf (ResourceMapIds at) = 52
+unfoldable pub refusalNumber : Refusal → ℕ
+refusalNumber (TooSmallError length) = 1
+refusalNumber TooLargeError = 2
+refusalNumber (HeaderSizeError size) = 3
+refusalNumber MissingRoot = 6
+refusalNumber (SystemNamesError entry) = 7
+refusalNumber (NodesFull places) = 8
+refusalNumber (AttributesFull places) = 9
+refusalNumber (NotesFull places) = 10
+refusalNumber (TextShort needed) = 11
+refusalNumber NothingFound = 12
+refusalNumber (TablesError node) = 13
+refusalNumber (ItemsError item) = 14
+refusalNumber (NoPlainText kind) = 15
+refusalNumber (ModeError mode) = 16
+refusalNumber (PairsError pair) = 20
+refusalNumber (AnswersFull places) = 21
+refusalNumber (ListingMalformed line) = 24
+refusalNumber (ListingNumber line) = 25
+refusalNumber (ListingOrder line) = 26
+refusalNumber NotesOff = 27
+refusalNumber (ListFull places) = 28
+refusalNumber RoundUpFull = 29
+refusalNumber (StringPoolGarbage at) = 41
+refusalNumber (StringPoolHeader at) = 42
+refusalNumber (StringPoolOffsets at) = 43
+refusalNumber (StringPoolStyles at) = 44
+refusalNumber (StringPoolData at) = 45
+refusalNumber (ResourceMapHeader at) = 51
+refusalNumber (ResourceMapIds at) = 52
 
-unfoldable pub valueOf : Refusal → ℕ
-valueOf (TooSmallError length) = length
-valueOf TooLargeError = 0
-valueOf (HeaderSizeError size) = size
-valueOf MissingRoot = 0
-valueOf (SystemNamesError entry) = entry
-valueOf (NodesFull places) = places
-valueOf (AttributesFull places) = places
-valueOf (NotesFull places) = places
-valueOf (TextShort needed) = needed
-valueOf NothingFound = 0
-valueOf (TablesError node) = node
-valueOf (ItemsError item) = item
-valueOf (NoPlainText kind) = kind
-valueOf (ModeError mode) = mode
-valueOf (PairsError pair) = pair
-valueOf (AnswersFull places) = places
-valueOf (ListingMalformed line) = line
-valueOf (ListingNumber line) = line
-valueOf (ListingOrder line) = line
-valueOf NotesOff = 0
-valueOf (ListFull places) = places
-valueOf RoundUpFull = 0
-valueOf (StringPoolGarbage at) = at
-valueOf (StringPoolHeader at) = at
-valueOf (StringPoolOffsets at) = at
-valueOf (StringPoolStyles at) = at
-valueOf (StringPoolData at) = at
-valueOf (ResourceMapHeader at) = at
-valueOf (ResourceMapIds at) = at
+unfoldable pub refusalValue : Refusal → ℕ
+refusalValue (TooSmallError length) = length
+refusalValue TooLargeError = 0
+refusalValue (HeaderSizeError size) = size
+refusalValue MissingRoot = 0
+refusalValue (SystemNamesError entry) = entry
+refusalValue (NodesFull places) = places
+refusalValue (AttributesFull places) = places
+refusalValue (NotesFull places) = places
+refusalValue (TextShort needed) = needed
+refusalValue NothingFound = 0
+refusalValue (TablesError node) = node
+refusalValue (ItemsError item) = item
+refusalValue (NoPlainText kind) = kind
+refusalValue (ModeError mode) = mode
+refusalValue (PairsError pair) = pair
+refusalValue (AnswersFull places) = places
+refusalValue (ListingMalformed line) = line
+refusalValue (ListingNumber line) = line
+refusalValue (ListingOrder line) = line
+refusalValue NotesOff = 0
+refusalValue (ListFull places) = places
+refusalValue RoundUpFull = 0
+refusalValue (StringPoolGarbage at) = at
+refusalValue (StringPoolHeader at) = at
+refusalValue (StringPoolOffsets at) = at
+refusalValue (StringPoolStyles at) = at
+refusalValue (StringPoolData at) = at
+refusalValue (ResourceMapHeader at) = at
+refusalValue (ResourceMapIds at) = at
 
 unfoldable pub numbersOf : read.ReadAnswer → Numbers
 numbersOf (readIs.Done c) =
     record { refusal = 0; value = 0; starts = c .starts; nodes = c .nodes; attributes = c .attributes; notes = c .notes }
 numbersOf (readIs.Refused r) =
-    record { refusal = numberOf r; value = valueOf r; starts = 0; nodes = 0; attributes = 0; notes = 0 }
+    record { refusal = refusalNumber r; value = refusalValue r; starts = 0; nodes = 0; attributes = 0; notes = 0 }
 
 abbrev pub stateOf : TextState → ℕ
 stateOf Whole = 0
@@ -129,26 +129,26 @@ replacedOf Cut = 0
 
 unfoldable pub textNumbersOf : text.TextAnswer → TextNumbers
 textNumbersOf (textIs.Text n s) = record { refusal = 0; value = 0; length = n; state = stateOf s; replaced = replacedOf s }
-textNumbersOf (textIs.Refused r) = record { refusal = numberOf r; value = valueOf r; length = 0; state = 0; replaced = 0 }
+textNumbersOf (textIs.Refused r) = record { refusal = refusalNumber r; value = refusalValue r; length = 0; state = 0; replaced = 0 }
 
 unfoldable pub linesNumbersOf : lines.LinesAnswer → LinesNumbers
 linesNumbersOf (linesIs.Text n) = record { refusal = 0; value = 0; length = n }
-linesNumbersOf (linesIs.Refused r) = record { refusal = numberOf r; value = valueOf r; length = 0 }
+linesNumbersOf (linesIs.Refused r) = record { refusal = refusalNumber r; value = refusalValue r; length = 0 }
 
 unfoldable pub firstNumbersOf : first.FirstAnswer → FirstNumbers
 firstNumbersOf (firstIs.Found kind «data» reference) =
     record { refusal = 0; value = 0; kind = kind; «data» = «data»; reference = cond reference 1 0 }
-firstNumbersOf (firstIs.Refused r) = record { refusal = numberOf r; value = valueOf r; kind = 0; «data» = 0; reference = 0 }
+firstNumbersOf (firstIs.Refused r) = record { refusal = refusalNumber r; value = refusalValue r; kind = 0; «data» = 0; reference = 0 }
 
 unfoldable pub valueNumbersOf : value′.ValueAnswer → ValueNumbers
 valueNumbersOf (valueIs.Value n u s) =
     record { refusal = 0; value = 0; length = n; uncovered = u; state = stateOf s; replaced = replacedOf s }
-valueNumbersOf (valueIs.Refused r) = record { refusal = numberOf r; value = valueOf r; length = 0; uncovered = 0; state = 0; replaced = 0 }
+valueNumbersOf (valueIs.Refused r) = record { refusal = refusalNumber r; value = refusalValue r; length = 0; uncovered = 0; state = 0; replaced = 0 }
 
 unfoldable pub manyNumbersOf : many.ManyTexts → ManyNumbers
 manyNumbersOf (manyIs.Answered n s) = record { refusal = 0; value = 0; count = n; length = s }
-manyNumbersOf (manyIs.Refused r) = record { refusal = numberOf r; value = valueOf r; count = 0; length = 0 }
+manyNumbersOf (manyIs.Refused r) = record { refusal = refusalNumber r; value = refusalValue r; count = 0; length = 0 }
 
 unfoldable pub pairNumbersOf : pairs.ManyAnswer → PairNumbers
 pairNumbersOf (pairsIs.Answered n) = record { refusal = 0; value = 0; count = n }
-pairNumbersOf (pairsIs.Refused r) = record { refusal = numberOf r; value = valueOf r; count = 0 }
+pairNumbersOf (pairsIs.Refused r) = record { refusal = refusalNumber r; value = refusalValue r; count = 0 }

@@ -6,7 +6,7 @@
 // of a question without an answer. Definitions: specs/Refusal.antt.
 ghost use mathlib.Core.Path.{_≡_};
 ghost use mathlib.Core.Bool.{cond};
-ghost use Rattle.errors.specs.Refusal.{numberOf, valueOf, numbersOf, stateOf, replacedOf, textNumbersOf};
+ghost use Rattle.errors.specs.Refusal.{refusalNumber, refusalValue, numbersOf, stateOf, replacedOf, textNumbersOf};
 ghost use Rattle.errors.specs.Refusal.{firstNumbersOf, valueNumbersOf, manyNumbersOf, pairNumbersOf};
 
 // One case for each number of a refusal.
@@ -158,7 +158,7 @@ pub struct ManyNumbers {
 
 // The number of a refusal. Ruled out: 0 for any refusal, and one number for two of them.
 pub fn refusal_number(r: Refusal) -> u32
-    ensures { λ n. ⌜ n ≡ numberOf r ⌝ }
+    ensures { λ n. ⌜ n ≡ refusalNumber r ⌝ }
 {
     match r {
         Refusal::TooSmallError(_) => 1,
@@ -195,7 +195,7 @@ pub fn refusal_number(r: Refusal) -> u32
 
 // The value of a refusal. Ruled out: 0 for a refusal that has a value, and the low half of a value alone.
 pub fn refusal_value(r: Refusal) -> u64
-    ensures { λ n. ⌜ n ≡ valueOf r ⌝ }
+    ensures { λ n. ⌜ n ≡ refusalValue r ⌝ }
 {
     match r {
         Refusal::TooSmallError(length) => length as u64,

@@ -27,7 +27,7 @@ use Rattle.events.specs.Events.{Names, foreignNote, chunkYield, cutYield
 use Rattle.events.specs.Inner.Starts.{fromGap, fromSize, fromTrailing}
 use Rattle.events.specs.Inner.Steps.{begunBy, passedTo, closedTo, isPlain, chunkStep, cutStep, foreignStep, turnStep}
 use Rattle.events.specs.Inner.Pending.{Within, spotOf, behind, pending}
-use Rattle.events.proofs.Model.{eventsOn-stop, eventsOn-turn, eventsOn-end, startEvents-chain, fromGap-plain, the-unless, goes, goes-unless}
+use Rattle.events.proofs.Model.{eventsOn-stop, eventsOn-turn, eventsOn-end, startEvents-chain, fromGap-plain, eventList-unless, goes, goes-unless}
 use Rattle.events.proofs.Runs.{Passed, run-passed}
 use Rattle.events.proofs.Here.{Here, SteppedBy, made, stays}
 
@@ -76,7 +76,7 @@ module _ (N : Names) (o : Opened) (t b : List ℕ) (c : Cursor) where
       let q : skipRun b (c .at + n) k ≤ length b = r .fits (f .2) in
       let m : c .at + n ≤ skipRun b (c .at + n) k = r .more in
       made N o t b c AtChunk _ (goes-unless (eqb k (c .run)) (foreignNote k a))
-      (eventsOn-turn N b (c .at) (spotOf c) n e refl (omega (arith, f .1)) ∙ rw (the-unless (eqb k (c .run)) (foreignNote k a), r .same))
+      (eventsOn-turn N b (c .at) (spotOf c) n e refl (omega (arith, f .1)) ∙ rw (eventList-unless (eqb k (c .run)) (foreignNote k a), r .same))
       (moved (skipRun b (c .at + n) k) k w (omega arith) q) (omega (arith, f .1))
 
   start-step : (s : XmlStartElement) → turnOf (drop (c .at) b) ≡ Met (Start s) → Here o b c AtChunk → SteppedBy N o t b c AtChunk (chunkStep c (Start s))

@@ -21,14 +21,14 @@ use Rattle.events.specs.declared.Phase.the-variants.{AtGarbage, AtCount,
 use Rattle.events.specs.declared.Cursor.{Cursor}
 use Rattle.events.specs.Events.{Names, fromRoot, eventsOn, bodyEvents, notesOf, afterPool, fileEvents}
 use Rattle.events.specs.Inner.Steps.{toPhase, toStep, noteIf, garbageStep, poolNext, countStep, mapNext, offsetsStep, lastStep, rootStep}
-use Rattle.events.specs.Inner.Pending.{Unmoved, spotOf, afterMap, pending, the}
-use Rattle.events.proofs.Model.{the-if, Goes, goes, goes-if}
+use Rattle.events.specs.Inner.Pending.{Unmoved, spotOf, afterMap, pending, eventList}
+use Rattle.events.proofs.Model.{eventList-if, Goes, goes, goes-if}
 use Rattle.events.proofs.Here.{Here, SteppedBy, made, stays, unmoved}
 
 -- a note of the head, as an event and as a list
-pub the-note : (b : Bool) (a : ResAnomaly) → the (noteIf b (Note a)) ≡ notesOf (whenNote b a)
-the-note true a = refl
-the-note false a = refl
+pub eventList-note : (b : Bool) (a : ResAnomaly) → eventList (noteIf b (Note a)) ≡ notesOf (whenNote b a)
+eventList-note true a = refl
+eventList-note false a = refl
 
 abbrev isWhole : HeadEnd → ℕ
 isWhole Whole = 1
@@ -47,7 +47,7 @@ module _ (N : Names) (o : Opened) (t b : List ℕ) (c : Cursor) where
   unfolding pending fileEvents
   garbage-step w =
       let e = Note (StringPoolGarbageChunk (o .garbage .kind) (o .garbage .skipped)) in
-      made N o t b c AtGarbage _ (goes-if (o .garbage .found) e refl) (rw the-note)
+      made N o t b c AtGarbage _ (goes-if (o .garbage .found) e refl) (rw eventList-note)
       (stays N o t b c AtGarbage AtCount w (unmoved N o t b c AtCount (w .held))) (omega arith)
 
   pub count-step : Here o b c AtCount → SteppedBy N o t b c AtCount (countStep o c)
@@ -62,17 +62,17 @@ module _ (N : Names) (o : Opened) (t b : List ℕ) (c : Cursor) where
 
       go : (x : HeadEnd) → o .end ≡ x → SteppedBy N o t b c AtCount (toStep c e (poolNext x))
       go Whole q =
-          made N o t b c AtCount _ g (rw (the-note, q))
+          made N o t b c AtCount _ g (rw (eventList-note, q))
           (stays N o t b c AtCount AtOffsets w (unmoved N o t b c AtOffsets (w .held), rw q tt)) (omega arith)
       go (MapShort m) q =
-          made N o t b c AtCount _ g (rw (the-note, q))
+          made N o t b c AtCount _ g (rw (eventList-note, q))
           (stays N o t b c AtCount AtOffsets w (unmoved N o t b c AtOffsets (w .held), rw q tt)) (omega arith)
       go (PoolShort m) q =
-          made N o t b c AtCount _ g (rw (the-note, q)) (stays N o t b c AtCount AtRefuse w (λ z. not-whole (sym q ∙ z) refl)) (omega arith)
+          made N o t b c AtCount _ g (rw (eventList-note, q)) (stays N o t b c AtCount AtRefuse w (λ z. not-whole (sym q ∙ z) refl)) (omega arith)
       go (TooSmall m) q =
-          made N o t b c AtCount _ g (rw (the-note, q)) (stays N o t b c AtCount AtRefuse w (λ z. not-whole (sym q ∙ z) refl)) (omega arith)
+          made N o t b c AtCount _ g (rw (eventList-note, q)) (stays N o t b c AtCount AtRefuse w (λ z. not-whole (sym q ∙ z) refl)) (omega arith)
       go (HeaderSize m) q =
-          made N o t b c AtCount _ g (rw (the-note, q)) (stays N o t b c AtCount AtRefuse w (λ z. not-whole (sym q ∙ z) refl)) (omega arith)
+          made N o t b c AtCount _ g (rw (eventList-note, q)) (stays N o t b c AtCount AtRefuse w (λ z. not-whole (sym q ∙ z) refl)) (omega arith)
 
   -- the body begins at its first byte
   begins : Unmoved c → bodyEvents N b ≡ eventsOn N (drop (c .at) b) (spotOf c)
@@ -91,10 +91,10 @@ module _ (N : Names) (o : Opened) (t b : List ℕ) (c : Cursor) where
 
       go : (x : HeadEnd) → o .end ≡ x → SteppedBy N o t b c AtOffsets (toStep c e (mapNext x))
       go Whole q =
-          made N o t b c AtOffsets _ g (rw (the-note, q, begins (w .held .0)))
+          made N o t b c AtOffsets _ g (rw (eventList-note, q, begins (w .held .0)))
           (stays N o t b c AtOffsets AtChunk w (w .held .1)) (omega arith)
       go (MapShort m) q =
-          made N o t b c AtOffsets _ g (rw (the-note, q)) (stays N o t b c AtOffsets AtRefuse w (λ z. not-whole (sym q ∙ z) refl)) (omega arith)
+          made N o t b c AtOffsets _ g (rw (eventList-note, q)) (stays N o t b c AtOffsets AtRefuse w (λ z. not-whole (sym q ∙ z) refl)) (omega arith)
       go (PoolShort m) q = absurd (rw q at (w .held .1))
       go (TooSmall m) q = absurd (rw q at (w .held .1))
       go (HeaderSize m) q = absurd (rw q at (w .held .1))
@@ -114,14 +114,14 @@ module _ (N : Names) (o : Opened) (t b : List ℕ) (c : Cursor) where
   last-step w =
       let x = not (eqb (c .depth) 0) in
       let e = Note (UnclosedElements (c .depth)) in
-      made N o t b c AtLast _ (goes-if x e refl) (rw (the-if x e refl)) (stays N o t b c AtLast AtRoot w tt) (omega arith)
+      made N o t b c AtLast _ (goes-if x e refl) (rw (eventList-if x e refl)) (stays N o t b c AtLast AtRoot w tt) (omega arith)
 
   pub root-step : Here o b c AtRoot → SteppedBy N o t b c AtRoot (rootStep c)
   unfolding pending
   root-step w =
       let x = eqb (c .starts) 0 in
       let e = Refuse MissingRoot in
-      made N o t b c AtRoot _ (goes-if x e refl) (rw (the-if x e refl) (sym (append-nil (fromRoot (spotOf c)))))
+      made N o t b c AtRoot _ (goes-if x e refl) (rw (eventList-if x e refl) (sym (append-nil (fromRoot (spotOf c)))))
       (stays N o t b c AtRoot Over w tt) (omega arith)
 
   pub over-step : Here o b c Over → SteppedBy N o t b c Over (toStep c Finish Over)

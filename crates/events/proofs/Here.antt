@@ -16,7 +16,7 @@ use Rattle.events.specs.declared.Cursor.{Cursor}
 use Rattle.events.specs.declared.Step.{Step}
 use Rattle.events.specs.Events.{Names}
 use Rattle.events.specs.Inner.Steps.{toPhase}
-use Rattle.events.specs.Inner.Pending.{Held, Within, Unmoved, pendBy, pending, rank, steps, the}
+use Rattle.events.specs.Inner.Pending.{Held, Within, Unmoved, pendBy, pending, rank, steps, eventList}
 use Rattle.events.proofs.Model.{Goes}
 
 pub record Here (o : Opened) (b : List ℕ) (c : Cursor) (p : Phase) : Type 0 where
@@ -27,13 +27,13 @@ pub record Here (o : Opened) (b : List ℕ) (c : Cursor) (p : Phase) : Type 0 wh
   pub held : Held (o .end) (length b) c p
 
 pub record SteppedBy (N : Names) (o : Opened) (t b : List ℕ) (c : Cursor) (p : Phase) (s : Step) : Type 0 where
-  pub same : pendBy N o t b c p ≡ the (s .event) ++ pending N o t b (s .cur)
+  pub same : pendBy N o t b c p ≡ eventList (s .event) ++ pending N o t b (s .cur)
   pub within : Within o b (s .cur)
   pub less : (s .event ≡ Finish → ⊥) → steps b (s .cur) < 20 * (length b - c .at) + rank p
   pub over : s .event ≡ Finish → pendBy N o t b c p ≡ []
 
 module _ (N : Names) (o : Opened) (t b : List ℕ) (c : Cursor) where
-  pub made : (p : Phase) (s : Step) → Goes (s .event) → pendBy N o t b c p ≡ the (s .event) ++ pending N o t b (s .cur) → Within o b (s .cur)
+  pub made : (p : Phase) (s : Step) → Goes (s .event) → pendBy N o t b c p ≡ eventList (s .event) ++ pending N o t b (s .cur) → Within o b (s .cur)
       → steps b (s .cur) < 20 * (length b - c .at) + rank p → SteppedBy N o t b c p s
   made p s g e w l = record { same = e; within = w; less = λ _. l; over = λ z. absurd (g z) }
 

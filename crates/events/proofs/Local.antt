@@ -12,7 +12,7 @@ use Rattle.xml_elements.specs.declared.Chunk.the-variants.{Start, End, Other, L
 use Rattle.xml_elements.specs.Chunk.{strideOf, attributesAt, startLen, lenOf}
 use Rattle.xml_elements.proofs.Local.{attributeAt-append}
 use Rattle.events.specs.Events.{Names, attributeEvent, attributesOf}
-use Rattle.events.specs.Events.{Spot, startEvents, chunkYield}
+use Rattle.events.specs.Events.{WalkState, startEvents, chunkYield}
 use Rattle.events.specs.Inner.Starts.{fromLead, fromOpen, fromNamed, fromName, fromTrailing, fromSize, fromGap}
 
 module _ (N : Names) where
@@ -42,7 +42,7 @@ module _ (N : Names) where
   fromGap-append s reach k c m h = rw (fromLead-append s k c m h)
 
   -- THE LAW: a whole XML chunk within c makes the same whatever follows c
-  pub chunkYield-append : (c m m′ : List ℕ) (p : Spot) (x : Chunk) → lenOf x ≤ length c → chunkYield N (c ++ m′) p x ≡ chunkYield N (c ++ m) p x
+  pub chunkYield-append : (c m m′ : List ℕ) (p : WalkState) (x : Chunk) → lenOf x ≤ length c → chunkYield N (c ++ m′) p x ≡ chunkYield N (c ++ m) p x
   unfolding startEvents fromGap fromSize fromTrailing fromName fromNamed fromOpen fromLead
   chunkYield-append c m m′ p (Start s) h = fromGap-append s 3 (p .starts) c m′ h ∙ sym (fromGap-append s 3 (p .starts) c m h)
   chunkYield-append c m m′ p End h = refl

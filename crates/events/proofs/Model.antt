@@ -23,21 +23,21 @@ use Rattle.xml_elements.specs.Chunk.{trailingOf, attributeAt, turnOf, usedOf}
 use Rattle.xml_elements.proofs.Laws.{turnOf-stop, told, usedOf-le}
 use Rattle.events.specs.declared.Event.{Event}
 use Rattle.events.specs.declared.Event.the-variants.{Nothing, Open, Attribute, LeftOut, Close, Note, Refuse, Finish}
-use Rattle.events.specs.Events.{Names, when, attributeBy, attributeEvent, attributesOf, startEvents}
-use Rattle.events.specs.Events.{Spot, yieldOf, nextOf, lastOf, used, out, next, eventsOn}
+use Rattle.events.specs.Events.{Names, eventIf, attributeBy, attributeEvent, attributesOf, startEvents}
+use Rattle.events.specs.Events.{WalkState, yieldOf, nextOf, lastOf, used, out, next, eventsOn}
 use Rattle.events.specs.Inner.Starts.{fromLead, fromOpen, fromNamed, fromName, fromTrailing, fromSize, fromGap}
 use Rattle.events.specs.Inner.Steps.{isPlain, noteIf}
-use Rattle.events.specs.Inner.Pending.{the}
+use Rattle.events.specs.Inner.Pending.{eventList}
 
 -- ---- the walk
 
 module _ (N : Names) where
-  pub eventsOn-stop : (l : List ℕ) (p : Spot) → turnOf l ≡ Stop → eventsOn N l p ≡ lastOf p
+  pub eventsOn-stop : (l : List ℕ) (p : WalkState) → turnOf l ≡ Stop → eventsOn N l p ≡ lastOf p
   unfolding eventsOn
   eventsOn-stop l p e = trace-stop used (out N) next lastOf l p (ap (usedOf (length l)) e) ∙ rw e
 
   -- where the turn takes n bytes, the walk goes on behind them
-  pub eventsOn-step : (l : List ℕ) (p : Spot) (n : ℕ) {T : Turn} → turnOf l ≡ T → usedOf (length l) T ≡ n → 0 < n
+  pub eventsOn-step : (l : List ℕ) (p : WalkState) (n : ℕ) {T : Turn} → turnOf l ≡ T → usedOf (length l) T ≡ n → 0 < n
       → eventsOn N l p ≡ yieldOf N l p T ++ eventsOn N (drop n l) (nextOf p T)
   unfolding eventsOn
   eventsOn-step l p zero e q h = absurd (omega arith)
@@ -47,12 +47,12 @@ module _ (N : Names) where
       trace-step used (out N) next lastOf l p m u f ∙ rw e
 
   -- the same at a place of a body
-  pub eventsOn-turn : (s : List ℕ) (at : ℕ) (p : Spot) (n : ℕ) {T : Turn} → turnOf (drop at s) ≡ T → usedOf (length (drop at s)) T ≡ n → 0 < n
+  pub eventsOn-turn : (s : List ℕ) (at : ℕ) (p : WalkState) (n : ℕ) {T : Turn} → turnOf (drop at s) ≡ T → usedOf (length (drop at s)) T ≡ n → 0 < n
       → eventsOn N (drop at s) p ≡ yieldOf N (drop at s) p T ++ eventsOn N (drop (at + n) s) (nextOf p T)
   eventsOn-turn s at p n e q h = eventsOn-step (drop at s) p n e q h ∙ rw drop-drop
 
   -- behind the last byte
-  pub eventsOn-end : (s : List ℕ) (p : Spot) → eventsOn N (drop (length s) s) p ≡ lastOf p
+  pub eventsOn-end : (s : List ℕ) (p : WalkState) → eventsOn N (drop (length s) s) p ≡ lastOf p
   eventsOn-end s p = eventsOn-stop (drop (length s) s) p (turnOf-stop _ (headerOf-short _ (rw length-drop (omega arith))))
 
   -- ---- attributes
@@ -89,22 +89,22 @@ module _ (N : Names) where
 -- ---- events as lists
 
 -- an event that a test lets pass
-pub the-if : (b : Bool) (e : Event) → the e ≡ e ∷ [] → the (noteIf b e) ≡ when b e
-the-if true e h = h
-the-if false e h = refl
+pub eventList-if : (b : Bool) (e : Event) → eventList e ≡ e ∷ [] → eventList (noteIf b e) ≡ eventIf b e
+eventList-if true e h = h
+eventList-if false e h = refl
 
-pub the-unless : (b : Bool) (a : ResAnomaly) → the (cond b Nothing (Note a)) ≡ when (not b) (Note a)
-the-unless true a = refl
-the-unless false a = refl
+pub eventList-unless : (b : Bool) (a : ResAnomaly) → eventList (cond b Nothing (Note a)) ≡ eventIf (not b) (Note a)
+eventList-unless true a = refl
+eventList-unless false a = refl
 
-pub the-attributeBy : (N : Names) (a : XmlAttributeElement) (s : NameState) → the (attributeBy N a s) ≡ attributeBy N a s ∷ []
-the-attributeBy N a NoText = refl
-the-attributeBy N a Invalid = refl
-the-attributeBy N a Valid = refl
+pub eventList-attributeBy : (N : Names) (a : XmlAttributeElement) (s : NameState) → eventList (attributeBy N a s) ≡ attributeBy N a s ∷ []
+eventList-attributeBy N a NoText = refl
+eventList-attributeBy N a Invalid = refl
+eventList-attributeBy N a Valid = refl
 
-pub the-attribute : (N : Names) (l : List ℕ) → the (attributeEvent N l) ≡ attributeEvent N l ∷ []
+pub eventList-attribute : (N : Names) (l : List ℕ) → eventList (attributeEvent N l) ≡ attributeEvent N l ∷ []
 unfolding attributeEvent
-the-attribute N l = the-attributeBy N (attributeAt l) (N .state (attributeAt l .name .0))
+eventList-attribute N l = eventList-attributeBy N (attributeAt l) (N .state (attributeAt l .name .0))
 
 -- ---- events that are no end
 

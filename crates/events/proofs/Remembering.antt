@@ -180,7 +180,7 @@ module _ (h : Head) (t : List ℕ) (lent : Lent) where
           ap (λ (x : ℕ). x % 16) kept ∙ r .tells k (ap (λ (x : ℕ). x / 16) (sym kept) ∙ q)
 
   -- a long string more
-  pub remembers-long : (m : List ℕ) (p at n look : ℕ) → p < parts → look ≡ lookOf (some (h .wide) (take n (drop at t))) → Remembers h t lent m
+  pub remembers-long : (m : List ℕ) (p at n look : ℕ) → p < parts → look ≡ lookOf (some (h .utf16) (take n (drop at t))) → Remembers h t lent m
       → Remembers h t lent (withLong m p at n look)
   remembers-long m p at n look l e r = record {
     room = length-set (set m (lookPlace p) (16 * at + look)) (lengthPlace p) n ∙ length-set m (lookPlace p) (16 * at + look) ∙ r .room;
@@ -191,11 +191,11 @@ module _ (h : Head) (t : List ℕ) (lent : Lent) where
   }
     where
       bound : look ≤ 8
-      bound = rw e (lookOf-most (some (h .wide) (take n (drop at t))))
+      bound = rw e (lookOf-most (some (h .utf16) (take n (drop at t))))
 
       go : (q a k : ℕ) → q < parts → 1 ≤ k → (b : Bool) → eqb q p ≡ b → getD (withLong m p at n look) (lookPlace q) 0 / 16 ≡ a
           → getD (withLong m p at n look) (lengthPlace q) 0 ≡ k
-          → getD (withLong m p at n look) (lookPlace q) 0 % 16 ≡ lookOf (some (h .wide) (take k (drop a t)))
+          → getD (withLong m p at n look) (lookPlace q) 0 % 16 ≡ lookOf (some (h .utf16) (take k (drop a t)))
       go q a k f i true b x y =
           let part : q ≡ p = eqb-true q p b in
           let mine = ap (λ (j : ℕ). getD (withLong m p at n look) (lookPlace j) 0) part ∙ long-first m p at n look l (r .room) in
@@ -203,7 +203,7 @@ module _ (h : Head) (t : List ℕ) (lent : Lent) where
           let here : at ≡ a = omega (arith, mine, x, bound) in
           let much : n ≡ k = omega (arith, count, y) in
           let low : getD (withLong m p at n look) (lookPlace q) 0 % 16 ≡ look = omega (arith, mine, bound) in
-          low ∙ e ∙ ap (λ (z : ℕ). lookOf (some (h .wide) (take z (drop at t)))) much ∙ ap (λ (z : ℕ). lookOf (some (h .wide) (take k (drop z t)))) here
+          low ∙ e ∙ ap (λ (z : ℕ). lookOf (some (h .utf16) (take z (drop at t)))) much ∙ ap (λ (z : ℕ). lookOf (some (h .utf16) (take k (drop z t)))) here
       go q a k f i false b x y =
           let apart : q ≡ p → ⊥ = eqb-false q p b in
           let first = long-other m p at n look (lookPlace q) (λ z. apart (omega (arith, z))) (λ z. let w : ⊥ = omega (arith, z, f) in w) in

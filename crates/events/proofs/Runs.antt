@@ -14,21 +14,21 @@ use Rattle.chunk.specs.Inner.Run.{runUsed, skipRun}
 use Rattle.chunk.proofs.Walk.{walk-ind}
 use Rattle.chunk.proofs.Laws.{runUsed-fits, skipRun-stop, skipRun-step}
 use Rattle.xml_elements.specs.declared.Turn.the-variants.{Foreign}
-use Rattle.xml_elements.specs.Chunk.{numberOf, turnOf}
+use Rattle.xml_elements.specs.Chunk.{foreignNumber, turnOf}
 use Rattle.xml_elements.proofs.Laws.{turnOf-run}
-use Rattle.events.specs.Events.{Names, Spot, passed, eventsOn}
+use Rattle.events.specs.Events.{Names, WalkState, passed, eventsOn}
 use Rattle.events.proofs.Model.{eventsOn-turn}
 
-pub record Passed (N : Names) (b : List ℕ) (p : Spot) (k q : ℕ) : Type 0 where
+pub record Passed (N : Names) (b : List ℕ) (p : WalkState) (k q : ℕ) : Type 0 where
   pub same : eventsOn N (drop q b) (passed p k) ≡ eventsOn N (drop (skipRun b q k) b) (passed p k)
   pub more : q ≤ skipRun b q k
   pub fits : q ≤ length b → skipRun b q k ≤ length b
 
-module _ (N : Names) (b : List ℕ) (p : Spot) (k : ℕ) (small : k < 2) where
+module _ (N : Names) (b : List ℕ) (p : WalkState) (k : ℕ) (small : k < 2) where
   -- one further chunk of the sort makes nothing
   one : (q m : ℕ) → runUsed k (drop q b) ≡ suc m → eventsOn N (drop q b) (passed p k) ≡ eventsOn N (drop (q + suc m) b) (passed p k)
   one q m e =
-      let t : turnOf (drop q b) ≡ Foreign k (numberOf (headerHere (drop q b))) (suc m) = rw e at (turnOf-run k (drop q b) small (omega arith)) in
+      let t : turnOf (drop q b) ≡ Foreign k (foreignNumber (headerHere (drop q b))) (suc m) = rw e at (turnOf-run k (drop q b) small (omega arith)) in
       eventsOn-turn N b q (passed p k) (suc m) t refl (omega arith) ∙ rw (eq-eqb k k refl)
 
   stop : (l : List ℕ) (q : ℕ) → runUsed k l ≡ 0 → l ≡ drop q b → Passed N b p k q

@@ -21,12 +21,12 @@ use Rattle.events.specs.declared.Event.the-variants.{Open, Note}
 use Rattle.events.specs.declared.Phase.{Phase}
 use Rattle.events.specs.declared.Phase.the-variants.{AtGap, AtSize, AtTrailing, AtShort, AtName, AtNamed, AtOpen, AtLead, AtAttribute}
 use Rattle.events.specs.declared.Cursor.{Cursor}
-use Rattle.events.specs.Events.{Names, when, leading, attributeEvent, attributesOf, started, eventsOn}
+use Rattle.events.specs.Events.{Names, eventIf, leading, attributeEvent, attributesOf, started, eventsOn}
 use Rattle.events.specs.Inner.Starts.{fromGap, fromSize, fromTrailing, fromName, fromNamed, fromOpen, fromLead}
 use Rattle.events.specs.Inner.Steps.{toPhase, leftNext, behindOf, openedBy, movedBy, afterOpen}
 use Rattle.events.specs.Inner.Steps.{toStep, noteIf, gapStep, sizeStep, trailingStep, openStep, namedStep, nameStep}
-use Rattle.events.specs.Inner.Pending.{There, Held, Within, spotOf, behind, pendBy, pending, rank, steps, the}
-use Rattle.events.proofs.Model.{the-if, the-attribute, Goes, goes, goes-if, goes-attribute, attributesOf-step, fit-next, fit-same, fit-here}
+use Rattle.events.specs.Inner.Pending.{There, Held, Within, spotOf, behind, pendBy, pending, rank, steps, eventList}
+use Rattle.events.proofs.Model.{eventList-if, eventList-attribute, Goes, goes, goes-if, goes-attribute, attributesOf-step, fit-next, fit-same, fit-here}
 use Rattle.events.proofs.Here.{Here, SteppedBy, made, stays}
 
 module _ (N : Names) (o : Opened) (t b : List ℕ) where
@@ -158,8 +158,8 @@ module _ (N : Names) (o : Opened) (t b : List ℕ) where
         g : Goes (noteIf y e)
         g = goes-if y e refl
 
-        i : the (noteIf y e) ≡ when y e
-        i = the-if y e refl
+        i : eventList (noteIf y e) ≡ eventIf y e
+        i = eventList-if y e refl
 
         go : (x : Bool) → eqb (c .reach) 0 ≡ x → SteppedBy N o t b c AtGap (toStep c (noteIf y e) (cond x AtShort AtSize))
         go true r =
@@ -181,8 +181,8 @@ module _ (N : Names) (o : Opened) (t b : List ℕ) where
         g : Goes (noteIf y e)
         g = goes-if y e refl
 
-        i : the (noteIf y e) ≡ when y e
-        i = the-if y e refl
+        i : eventList (noteIf y e) ≡ eventIf y e
+        i = eventList-if y e refl
 
         go : (x : Bool) → ltb (c .reach) 2 ≡ x → SteppedBy N o t b c AtSize (toStep c (noteIf y e) (cond x AtShort AtTrailing))
         go true r =
@@ -204,8 +204,8 @@ module _ (N : Names) (o : Opened) (t b : List ℕ) where
         g : Goes (noteIf y e)
         g = goes-if y e refl
 
-        i : the (noteIf y e) ≡ when y e
-        i = the-if y e refl
+        i : eventList (noteIf y e) ≡ eventIf y e
+        i = eventList-if y e refl
 
         go : (x : Bool) → eqb (c .reach) 3 ≡ x → SteppedBy N o t b c AtTrailing (toStep c (noteIf y e) (cond x AtName AtShort))
         go true r =
@@ -231,7 +231,7 @@ module _ (N : Names) (o : Opened) (t b : List ℕ) where
           pending-attributes (movedBy c) (c .at + strideOf s) (c .left - 1) refl refl refl,
           drop-drop,
           fit-same (c .at) (c .left) (strideOf s) (trailingOf s) h,
-          the-attribute N (drop (c .at) b),
+          eventList-attribute N (drop (c .at) b),
         ))
         (record {
           short = w .short;

@@ -69,9 +69,9 @@ namesIn mode h t lent = record {
   repeats = byPrefix (sameName h t lent);
 }
 
-abbrev pub when : Bool → Event → List Event
-when true e = e ∷ []
-when false e = []
+abbrev pub eventIf : Bool → Event → List Event
+eventIf true e = e ∷ []
+eventIf false e = []
 
 abbrev pub isValid : NameState → Bool
 isValid NoText = false
@@ -113,20 +113,20 @@ cutShort = Note TruncatedXml ∷ []
 
 -- notes 6, 7 and 8: the attributes begin late, each is longer than 20 bytes, bytes are left behind them
 abbrev pub gapNote : XmlStartElement → List Event
-gapNote s = when (ltb 20 (s .«attribute_start»)) (Note (AttributeStartShifted (s .«attribute_start»)))
+gapNote s = eventIf (ltb 20 (s .«attribute_start»)) (Note (AttributeStartShifted (s .«attribute_start»)))
 
 abbrev pub sizeNote : XmlStartElement → List Event
-sizeNote s = when (not (eqb (s .«attribute_count») 0) && ltb 20 (s .«attribute_size»)) (Note (AttributeSizeMismatch (s .«attribute_size»)))
+sizeNote s = eventIf (not (eqb (s .«attribute_count») 0) && ltb 20 (s .«attribute_size»)) (Note (AttributeSizeMismatch (s .«attribute_size»)))
 
 abbrev pub trailingNote : XmlStartElement → List Event
-trailingNote s = when (not (eqb (trailingOf s) 0)) (Note (ElementTrailingBytes (trailingOf s)))
+trailingNote s = eventIf (not (eqb (trailingOf s) 0)) (Note (ElementTrailingBytes (trailingOf s)))
 
 -- notes 32 and 9: the text of the name is damaged, the name is no valid one
 abbrev pub damageNote : Names → XmlStartElement → List Event
-damageNote N s = when (not (eqb (N .damage (s .name .0)) 0)) (Note (DamagedElementName (s .name) (N .damage (s .name .0))))
+damageNote N s = eventIf (not (eqb (N .damage (s .name .0)) 0)) (Note (DamagedElementName (s .name) (N .damage (s .name .0))))
 
 abbrev pub nameNote : Names → XmlStartElement → List Event
-nameNote N s = when (not (isValid (N .state (s .name .0)))) (Note (InvalidElementName (s .name) (hasOne (N .state (s .name .0)))))
+nameNote N s = eventIf (not (isValid (N .state (s .name .0)))) (Note (InvalidElementName (s .name) (hasOne (N .state (s .name .0)))))
 
 abbrev pub openEvent : Names → XmlStartElement → Event
 openEvent N s = Open (s .name) (fixedOf (N .state (s .name .0))) (s .line)
@@ -135,12 +135,12 @@ openEvent N s = Open (s .name) (fixedOf (N .state (s .name .0))) (s .line)
 unfoldable pub startEvents : Names → XmlStartElement → ℕ → List ℕ → List Event
 startEvents N s k l =
     gapNote s ++ (sizeNote s ++ (trailingNote s ++ (damageNote N s ++ (nameNote N s ++ (openEvent N s ∷ (
-    when (eqb k 0) leading ++ attributesOf N (s .«attribute_count») (strideOf s) (drop (attributesAt s) l)))))))
+    eventIf (eqb k 0) leading ++ attributesOf N (s .«attribute_count») (strideOf s) (drop (attributesAt s) l)))))))
 
 -- ---- a turn
 
 -- the sort of the foreign chunk before (2: the chunk before is none), the depth, the starts so far
-pub record Spot : Type 0 where
+pub record WalkState : Type 0 where
   pub run : ℕ
   pub depth : ℕ
   pub starts : ℕ
@@ -149,14 +149,14 @@ pub record Spot : Type 0 where
 abbrev pub foreignNote : ℕ → ℕ → ResAnomaly
 foreignNote k a = cond (eqb k 0) (NonXmlChunk a) (XmlNodeHeaderSize a)
 
-abbrev pub chunkYield : Names → List ℕ → Spot → Chunk → List Event
+abbrev pub chunkYield : Names → List ℕ → WalkState → Chunk → List Event
 chunkYield N l p (Start s) = startEvents N s (p .starts) l
 chunkYield N l p End = Close ∷ []
 chunkYield N l p (Other n) = []
 chunkYield N l p Last = Note (UnknownChunk 0x17f) ∷ []
 
 -- a start that is cut: its notes as far as it is there, and note 11
-abbrev pub cutYield : Names → List ℕ → Spot → CutChunk → List Event
+abbrev pub cutYield : Names → List ℕ → WalkState → CutChunk → List Event
 cutYield N l p CutLine = cutShort
 cutYield N l p CutHead = cutShort
 cutYield N l p (CutGap s) = gapNote s ++ cutShort
@@ -166,29 +166,29 @@ cutYield N l p CutEnd = Close ∷ []
 cutYield N l p CutOther = []
 
 -- one note for each stretch of one sort, from its first chunk
-abbrev pub yieldOf : Names → List ℕ → Spot → Turn → List Event
+abbrev pub yieldOf : Names → List ℕ → WalkState → Turn → List Event
 yieldOf N l p Stop = []
-yieldOf N l p (Foreign k a n) = when (not (eqb k (p .run))) (Note (foreignNote k a))
+yieldOf N l p (Foreign k a n) = eventIf (not (eqb k (p .run))) (Note (foreignNote k a))
 yieldOf N l p (Met c) = chunkYield N l p c
 yieldOf N l p (Cut c) = cutYield N l p c
 
-abbrev pub started : Spot → Spot
+abbrev pub started : WalkState → WalkState
 started p = record { run = 2; depth = p .depth + 1; starts = p .starts + 1 }
 
 -- an end takes one from the depth, not below 0, even when its 8 bytes are cut
-abbrev pub ended : Spot → Spot
+abbrev pub ended : WalkState → WalkState
 ended p = record { run = 2; depth = p .depth - 1; starts = p .starts }
 
-abbrev pub passed : Spot → ℕ → Spot
+abbrev pub passed : WalkState → ℕ → WalkState
 passed p k = record { run = k; depth = p .depth; starts = p .starts }
 
-abbrev pub chunkNext : Spot → Chunk → Spot
+abbrev pub chunkNext : WalkState → Chunk → WalkState
 chunkNext p (Start s) = started p
 chunkNext p End = ended p
 chunkNext p (Other n) = passed p 2
 chunkNext p Last = passed p 2
 
-abbrev pub cutNext : Spot → CutChunk → Spot
+abbrev pub cutNext : WalkState → CutChunk → WalkState
 cutNext p CutLine = passed p 2
 cutNext p CutHead = passed p 2
 cutNext p (CutGap s) = passed p 2
@@ -197,7 +197,7 @@ cutNext p (CutTrailing s) = passed p 2
 cutNext p CutEnd = ended p
 cutNext p CutOther = passed p 2
 
-abbrev pub nextOf : Spot → Turn → Spot
+abbrev pub nextOf : WalkState → Turn → WalkState
 nextOf p Stop = p
 nextOf p (Foreign k a n) = passed p k
 nextOf p (Met c) = chunkNext p c
@@ -206,22 +206,22 @@ nextOf p (Cut c) = cutNext p c
 -- ---- a body
 
 -- behind the walk: note 12 where the depth is not 0; no start at all is a refusal
-abbrev pub fromRoot : Spot → List Event
-fromRoot p = when (eqb (p .starts) 0) (Refuse MissingRoot)
+abbrev pub fromRoot : WalkState → List Event
+fromRoot p = eventIf (eqb (p .starts) 0) (Refuse MissingRoot)
 
-abbrev pub lastOf : Spot → List Event
-lastOf p = when (not (eqb (p .depth) 0)) (Note (UnclosedElements (p .depth))) ++ fromRoot p
+abbrev pub lastOf : WalkState → List Event
+lastOf p = eventIf (not (eqb (p .depth) 0)) (Note (UnclosedElements (p .depth))) ++ fromRoot p
 
-abbrev pub used : List ℕ → Spot → ℕ
+abbrev pub used : List ℕ → WalkState → ℕ
 used l p = usedOf (length l) (turnOf l)
 
-abbrev pub out : Names → List ℕ → Spot → List Event
+abbrev pub out : Names → List ℕ → WalkState → List Event
 out N l p = yieldOf N l p (turnOf l)
 
-abbrev pub next : List ℕ → Spot → Spot
+abbrev pub next : List ℕ → WalkState → WalkState
 next l p = nextOf p (turnOf l)
 
-unfoldable pub eventsOn : Names → List ℕ → Spot → List Event
+unfoldable pub eventsOn : Names → List ℕ → WalkState → List Event
 eventsOn N l p = trace used (out N) next lastOf l p
 
 unfoldable pub bodyEvents : Names → List ℕ → List Event

@@ -80,25 +80,25 @@ fn look_by(state: u32, name: NameState) -> u32
 }
 
 // The look at a text that is not a valid name and whole: its state and its name are asked each for itself.
-fn look_again(t: &[u8], area: &[u8], wide: bool, f: Found) -> u32
+fn look_again(t: &[u8], area: &[u8], utf16: bool, f: Found) -> u32
     requires { ⌜ Inside (now t) (now area) f ⌝ }
-    ensures { λ r. ⌜ r ≡ lookOf (partOf wide (now (t .entry)) (now (area .entry)) f) ⌝ }
+    ensures { λ r. ⌜ r ≡ lookOf (partOf utf16 (now (t .entry)) (now (area .entry)) f) ⌝ }
 {
-    let state = state_of_found(t, area, wide, f);
-    let name = found_state(t, area, wide, f);
+    let state = state_of_found(t, area, utf16, f);
+    let name = found_state(t, area, utf16, f);
     look_by(state, name)
 }
 
 // The look at what was found. A valid name that is whole is passed over once.
 // Ruled out: 1 for FF in a UTF-8 pool, whose text is a valid name and not whole; 8 for a string that is cut, which is a text.
-fn look_found(t: &[u8], area: &[u8], wide: bool, f: Found) -> u32
+fn look_found(t: &[u8], area: &[u8], utf16: bool, f: Found) -> u32
     requires { ⌜ Inside (now t) (now area) f ⌝ }
-    ensures { λ r. ⌜ r ≡ lookOf (partOf wide (now (t .entry)) (now (area .entry)) f) ⌝ }
+    ensures { λ r. ⌜ r ≡ lookOf (partOf utf16 (now (t .entry)) (now (area .entry)) f) ⌝ }
 {
-    if found_whole(t, area, wide, f) {
+    if found_whole(t, area, utf16, f) {
         return 1;
     }
-    look_again(t, area, wide, f)
+    look_again(t, area, utf16, f)
 }
 
 // The look at a string of the pool, by what is remembered where it is long and came before, whatever its index was.
@@ -113,11 +113,11 @@ fn look_pool(
     memory: &mut [u32],
 ) -> u32
     requires { ⌜ (length (now t) ≤ fileLimit) × (at + n ≤ length (now t)) × Remembers h (now t) (lends (now names) (now area)) (now memory) ⌝ }
-    ensures { λ r. ⌜ (r ≡ lookOf (partOf (h .wide) (now (t .entry)) (now (area .entry)) (Pool at n)))
+    ensures { λ r. ⌜ (r ≡ lookOf (partOf (h .utf16) (now (t .entry)) (now (area .entry)) (Pool at n)))
         × Remembers h (now (t .entry)) (lends (now (names .entry)) (now (area .entry))) (now (memory .exit)) ⌝ }
 {
     if n < long_from(t.len()) {
-        return look_found(t, area, h.wide, Found::Pool(at, n));
+        return look_found(t, area, h.utf16, Found::Pool(at, n));
     }
     let part = part_of(t.len(), at);
     let seen = memory[INDICES + part];
@@ -126,7 +126,7 @@ fn look_pool(
             return seen % 16;
         }
     }
-    let look = look_found(t, area, h.wide, Found::Pool(at, n));
+    let look = look_found(t, area, h.utf16, Found::Pool(at, n));
     memory[INDICES + part] = 16 * (at as u32) + look;
     memory[LENGTHS + part] = n as u32;
     look
@@ -136,13 +136,13 @@ fn look_pool(
 // Ruled out: what is known of the pool's string for a system name.
 fn look_long(t: &[u8], names: &[u32], area: &[u8], h: Head, f: Found, memory: &mut [u32]) -> u32
     requires { ⌜ (length (now t) ≤ fileLimit) × Inside (now t) (now area) f × Remembers h (now t) (lends (now names) (now area)) (now memory) ⌝ }
-    ensures { λ r. ⌜ (r ≡ lookOf (partOf (h .wide) (now (t .entry)) (now (area .entry)) f))
+    ensures { λ r. ⌜ (r ≡ lookOf (partOf (h .utf16) (now (t .entry)) (now (area .entry)) f))
         × Remembers h (now (t .entry)) (lends (now (names .entry)) (now (area .entry))) (now (memory .exit)) ⌝ }
 {
     match f {
         Found::Nothing => 8,
         Found::Cut => 6,
-        Found::System(at, n) => look_found(t, area, h.wide, Found::System(at, n)),
+        Found::System(at, n) => look_found(t, area, h.utf16, Found::System(at, n)),
         Found::Pool(at, n) => look_pool(t, names, area, h, at, n, memory),
     }
 }
@@ -176,7 +176,7 @@ fn look_at(
     if is_long(f) {
         return look_long(t, names, area, h, f, memory);
     }
-    look_found(t, area, h.wide, f)
+    look_found(t, area, h.utf16, f)
 }
 
 // The look at the text of an index, by what is remembered where the index came before.

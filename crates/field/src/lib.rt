@@ -8,7 +8,7 @@ ghost use lib.ListN.{length};
 ghost use Rattle.field.specs.Le.{u8le, u16le, u32le};
 
 // A byte as a wider number.
-pub fn wide(x: u8) -> u32
+pub fn to_u32(x: u8) -> u32
     ensures { λ r. ⌜ (r ≡ x) × (r < 256) ⌝ }
 {
     x as u32
@@ -18,14 +18,14 @@ pub fn u8_at(s: &[u8], at: usize) -> u32
     requires { ⌜ at + 1 ≤ length (now s) ⌝ }
     ensures { λ r. ⌜ (r ≡ u8le (now (s .entry)) at) × (r < 256) ⌝ }
 {
-    wide(s[at])
+    to_u32(s[at])
 }
 
 pub fn u16_at(s: &[u8], at: usize) -> u32
     requires { ⌜ at + 2 ≤ length (now s) ⌝ }
     ensures { λ r. ⌜ (r ≡ u16le (now (s .entry)) at) × (r < 65536) ⌝ }
 {
-    wide(s[at]) + 256 * wide(s[at + 1])
+    to_u32(s[at]) + 256 * to_u32(s[at + 1])
 }
 
 pub fn u32_at(s: &[u8], at: usize) -> u32

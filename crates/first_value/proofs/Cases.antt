@@ -11,13 +11,13 @@ use mathlib.Core.Bool.{true, false}
 use Rattle.field.specs.Le.{u16le, u32le}
 use Rattle.common.specs.Header.{headerOf}
 use Rattle.common.specs.ValueType.{valueTypeOf, valueTypeNumber, isReference}
-use Rattle.utf.specs.Utf8.{matched, isWhole, longest, anyWhole, spelt, encode, step8}
+use Rattle.utf.specs.Utf8.{matched, isWholeForm, longest, anyWhole, spelt, encode, step8}
 use Rattle.utf.specs.Text.{stepsAfter, bytesOf, allSound, textOf, eqBytes}
 use Rattle.res_string_pool.specs.Pool.{countOf, numbered, endOf, poolFrom, behindGarbage, poolOf, offsetOf}
 use Rattle.res_string_pool.specs.Content.{split8, split16}
 use Rattle.resource_map.specs.Map.{idsIn, idsBy, mapOf, idOf}
 use Rattle.utf.specs.Plain.{isAscii}
-use Rattle.system_types.specs.Names.{lends, isGood, namesFrom, nameOf}
+use Rattle.system_types.specs.Names.{lends, isGood, namesFrom, nameById}
 use Rattle.errors.specs.declared.Refusal.the-variants.{NothingFound, TablesError}
 use Rattle.errors.specs.declared.FirstAnswer.{FirstAnswer}
 use Rattle.errors.specs.declared.FirstAnswer.the-variants.{Found, Refused}
@@ -77,8 +77,8 @@ results [] = []
 results (asked ns ats tag name n a r ∷ cs) = r ∷ results cs
 
 pub cases-right : answers cases ≡ results cases
-unfolding cases head two three u16le u32le headerOf valueTypeOf valueTypeNumber isReference matched isWhole longest anyWhole spelt encode step8
+unfolding cases head two three u16le u32le headerOf valueTypeOf valueTypeNumber isReference matched isWholeForm longest anyWhole spelt encode step8
     stepsAfter bytesOf allSound textOf eqBytes countOf numbered endOf poolFrom behindGarbage poolOf offsetOf split8 split16 idsIn idsBy mapOf
-    idOf isAscii isGood namesFrom nameOf systemOf stringAt stringOf contentOf tablesOf openedOf lengthCheck openOf runsFrom fitOf
+    idOf isAscii isGood namesFrom nameById systemOf stringAt stringOf contentOf tablesOf openedOf lengthCheck openOf runsFrom fitOf
     findNode findValue sharedOf firstAnswer
 cases-right = refl

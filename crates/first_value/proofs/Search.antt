@@ -53,7 +53,15 @@ module _ (h : Head) (t : List ℕ) (lent : Lent) (s : List ℕ) (n : ℕ) (w : L
   unfolding findNode
   findNode-step p =
       let e : n - k ≡ suc (n - (k + 1)) = omega arith in
-      rw (e, drop-record nodeWidth k w, getD-drop (nodeWidth * k) w nodeName 0, getD-drop (nodeWidth * k) w nodeFixed 0, getD-drop (nodeWidth * k) w nodeFirst 0, getD-drop (nodeWidth * k) w nodeCount 0)
+      rw (
+        e,
+        drop-record nodeWidth k w,
+        getD-drop (nodeWidth * k) w nodeName 0,
+        getD-drop (nodeWidth * k) w nodeFixed 0,
+        getD-drop (nodeWidth * k) w
+            nodeFirst 0,
+        getD-drop (nodeWidth * k) w nodeCount 0,
+      )
 
   pub findNode-found
       : {j : ℕ} {b : Bool}
@@ -81,12 +89,20 @@ module _ (h : Head) (t : List ℕ) (lent : Lent) (s : List ℕ) (n : ℕ) (w : L
   findValue-step
       : k < n
       → findValue h t lent s (n - k) (drop (attributeWidth * k) w)
-      ≡ cond (nameIs h t lent s (getD w (attributeWidth * k + attributePrefix) 0) (getD w (attributeWidth * k + attributeName) 0)) (foundBy (getD w (attributeWidth * k + attributeType) 0) (getD w (attributeWidth * k + attributeData) 0))
+      ≡ cond (nameIs h t lent s (getD w (attributeWidth * k + attributePrefix) 0) (getD w (attributeWidth * k + attributeName) 0))
+      (foundBy (getD w (attributeWidth * k + attributeType) 0) (getD w (attributeWidth * k + attributeData) 0))
       (findValue h t lent s (n - (k + 1)) (drop (attributeWidth * (k + 1)) w))
   unfolding findValue
   findValue-step p =
       let e : n - k ≡ suc (n - (k + 1)) = omega arith in
-      rw (e, drop-record attributeWidth k w, getD-drop (attributeWidth * k) w attributePrefix 0, getD-drop (attributeWidth * k) w attributeName 0, getD-drop (attributeWidth * k) w attributeType 0, getD-drop (attributeWidth * k) w attributeData 0)
+      rw (
+        e,
+        drop-record attributeWidth k w,
+        getD-drop (attributeWidth * k) w attributePrefix 0,
+        getD-drop (attributeWidth * k) w attributeName 0,
+        getD-drop (attributeWidth * k) w attributeType 0,
+        getD-drop (attributeWidth * k) w attributeData 0,
+      )
 
   pub findValue-found
       : {j : ℕ} {b : Bool} {r : FirstAnswer}

@@ -113,12 +113,12 @@ sharedBy fit (Open h) = fittedBy h fit
 unfoldable pub sharedOf : List ℕ → Lent → List ℕ → List ℕ → ℕ → ℕ → OpenRead
 sharedOf f lent ns ats nodes attributes = sharedBy (fitOf ns ats nodes attributes) (openOf f lent)
 
-abbrev pub askedBy : List ℕ → Lent → List ℕ → List ℕ → List ℕ → List ℕ → ℕ → OpenRead → FirstAnswer
-askedBy f lent ns ats tag name nodes (Closed r) = Refused r
-askedBy f lent ns ats tag name nodes (Open h) = valueBy h (tablesIn f h) lent name ats (findNode h (tablesIn f h) lent tag nodes ns)
+abbrev pub firstAskedBy : List ℕ → Lent → List ℕ → List ℕ → List ℕ → List ℕ → ℕ → OpenRead → FirstAnswer
+firstAskedBy f lent ns ats tag name nodes (Closed r) = Refused r
+firstAskedBy f lent ns ats tag name nodes (Open h) = valueBy h (tablesIn f h) lent name ats (findNode h (tablesIn f h) lent tag nodes ns)
 
 unfoldable pub firstAnswer : List ℕ → Lent → List ℕ → List ℕ → List ℕ → List ℕ → ℕ → ℕ → FirstAnswer
-firstAnswer f lent ns ats tag name nodes attributes = askedBy f lent ns ats tag name nodes (sharedOf f lent ns ats nodes attributes)
+firstAnswer f lent ns ats tag name nodes attributes = firstAskedBy f lent ns ats tag name nodes (sharedOf f lent ns ats nodes attributes)
 
 pub record FirstReads (f : List ℕ) (lent : Lent) (ns ats tag name : List ℕ) (nodes attributes : ℕ) (r : FirstAnswer) : Type 0 where
   pub answer : firstNumbersOf r ≡ firstNumbersOf (firstAnswer f lent ns ats tag name nodes attributes)

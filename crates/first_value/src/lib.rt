@@ -100,7 +100,7 @@ fn found(kind: u32, value: u32) -> FirstAnswer
     }
 }
 
-// In the attributes from the first of a node on.
+// The value of the first attribute of that name, among the `count` attributes of one node, whose words `attributes` begins with.
 fn find_value(
     t: &[u8],
     names: &[u32],

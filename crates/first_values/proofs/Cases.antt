@@ -10,14 +10,14 @@ use lib.ListN.{take}
 use Rattle.field.specs.Le.{u16le, u32le}
 use Rattle.common.specs.Header.{headerOf}
 use Rattle.common.specs.ValueType.{valueTypeOf, valueTypeNumber, isReference}
-use Rattle.utf.specs.Utf8.{matched, isWhole, longest, anyWhole, spelt, encode, step8}
+use Rattle.utf.specs.Utf8.{matched, isWholeForm, longest, anyWhole, spelt, encode, step8}
 use Rattle.utf.specs.Text.{stepsAfter, bytesOf, allSound, textOf, eqBytes}
 use Rattle.res_string_pool.specs.Pool.{countOf, numbered, endOf, poolFrom, behindGarbage, poolOf, offsetOf}
 use Rattle.res_string_pool.specs.Content.{split8, split16}
 use Rattle.resource_map.specs.Map.{idsIn, idsBy, mapOf, idOf}
 use Rattle.utf.specs.Plain.{isAscii}
-use Rattle.system_types.specs.Names.{lends, isGood, namesFrom, nameOf}
-use Rattle.errors.specs.Refusal.{numberOf, valueOf, firstNumbersOf}
+use Rattle.system_types.specs.Names.{lends, isGood, namesFrom, nameById}
+use Rattle.errors.specs.Refusal.{refusalNumber, refusalValue, firstNumbersOf}
 use Rattle.errors.specs.declared.Refusal.the-variants.{TooSmallError, TablesError, PairsError, AnswersFull}
 use Rattle.errors.specs.declared.ManyAnswer.{ManyAnswer}
 use Rattle.errors.specs.declared.ManyAnswer.the-variants.{Answered, Refused}
@@ -75,8 +75,8 @@ results [] = []
 results (asked f pairs m n a r l ∷ cs) = outcome r l ∷ results cs
 
 pub cases-right : outcomes cases ≡ results cases
-unfolding cases area threePairs head two three u16le u32le headerOf valueTypeOf valueTypeNumber isReference matched isWhole longest anyWhole spelt
+unfolding cases area threePairs head two three u16le u32le headerOf valueTypeOf valueTypeNumber isReference matched isWholeForm longest anyWhole spelt
     encode step8 stepsAfter bytesOf allSound textOf eqBytes countOf numbered endOf poolFrom behindGarbage poolOf offsetOf split8 split16 idsIn
-    idsBy mapOf idOf isAscii isGood namesFrom nameOf systemOf stringAt stringOf contentOf tablesOf openedOf lengthCheck openOf runsFrom fitOf
-    findNode findValue sharedOf firstAnswer numberOf valueOf firstNumbersOf pairsFrom pairsOf answersFrom manyAnswer answersAfter
+    idsBy mapOf idOf isAscii isGood namesFrom nameById systemOf stringAt stringOf contentOf tablesOf openedOf lengthCheck openOf runsFrom fitOf
+    findNode findValue sharedOf firstAnswer refusalNumber refusalValue firstNumbersOf pairsFrom pairsOf answersFrom manyAnswer answersAfter
 cases-right = refl

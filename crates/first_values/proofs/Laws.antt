@@ -31,7 +31,7 @@ use Rattle.text.specs.declared.Head.{Head}
 use Rattle.first_value.specs.Question.{sharedOf, valueBy}
 use Rattle.first_value.specs.declared.NodeFound.{NodeFound}
 use Rattle.first_value.proofs.Search.{first-shared}
-use Rattle.first_values.specs.Pairs.{isInside, pairInside, tagIn, nameIn, tagOf, nameOf, pairsFrom, pairsOf, numberWords, answerTo, answersFrom, manyBy, listBy}
+use Rattle.first_values.specs.Pairs.{isInside, pairInside, tagIn, nameIn, tagAt, nameAt, pairsFrom, pairsOf, numberWords, answerTo, answersFrom, manyBy, listBy}
 use Rattle.first_values.specs.Pairs.{asks, manyAnswer, answersAfter, ManyReads}
 use Rattle.first_values.specs.Inner.Known.{findsIn, asksIn, NodeOf, Repeats, Gives}
 use Rattle.first_values.specs.declared.PairsRead.{PairsRead}
@@ -43,10 +43,10 @@ module _ (area w : List ℕ) (k : ℕ) where
   word : (n : ℕ) → getD w (pairWidth * k + n) 0 ≡ getD (drop (pairWidth * k) w) n 0
   word n = sym (getD-drop (pairWidth * k) w n 0)
 
-  pub words-tag : {s : List ℕ} → s ≡ partIn area (getD w (pairWidth * k + pairTag) 0) (getD w (pairWidth * k + pairTagLength) 0) → s ≡ tagOf w area k
+  pub words-tag : {s : List ℕ} → s ≡ partIn area (getD w (pairWidth * k + pairTag) 0) (getD w (pairWidth * k + pairTagLength) 0) → s ≡ tagAt w area k
   words-tag e = e ∙ rw (word pairTag, word pairTagLength)
 
-  pub words-name : {s : List ℕ} → s ≡ partIn area (getD w (pairWidth * k + pairName) 0) (getD w (pairWidth * k + pairNameLength) 0) → s ≡ nameOf w area k
+  pub words-name : {s : List ℕ} → s ≡ partIn area (getD w (pairWidth * k + pairName) 0) (getD w (pairWidth * k + pairNameLength) 0) → s ≡ nameAt w area k
   words-name e = e ∙ rw (word pairName, word pairNameLength)
 
   pub words-outside
@@ -67,7 +67,7 @@ module _ (area w : List ℕ) (k : ℕ) where
       f ∙ rw (e′, word pairName, word pairNameLength)
 
 -- the tag of the pair before it
-pub repeats-before : (pairs area : List ℕ) (k : ℕ) {s s′ : List ℕ} {b : Bool} → 1 ≤ k → s ≡ tagOf pairs area k → s′ ≡ tagOf pairs area (k - 1)
+pub repeats-before : (pairs area : List ℕ) (k : ℕ) {s s′ : List ℕ} {b : Bool} → 1 ≤ k → s ≡ tagAt pairs area k → s′ ≡ tagAt pairs area (k - 1)
     → b ≡ eqBytes s s′ → b ≡ true → Repeats pairs area k
 repeats-before pairs area k {s} {s′} p e f g q =
     record { before = k - 1; next = (let z : k ≡ k - 1 + 1 = omega (arith, p) in z); same = sym e ∙ eqBytes-true s s′ (sym g ∙ q) ∙ f }
@@ -139,7 +139,7 @@ module _ (ask : List ℕ → List ℕ → FirstAnswer) (area : List ℕ) where
 
   answersFrom-last
       : (k : ℕ) (w : List ℕ)
-      → answersFrom ask area (suc k) w ≡ answersFrom ask area k w ++ answerTo (ask (tagOf w area k) (nameOf w area k))
+      → answersFrom ask area (suc k) w ≡ answersFrom ask area k w ++ answerTo (ask (tagAt w area k) (nameAt w area k))
   unfolding answersFrom
   answersFrom-last zero w = refl
   answersFrom-last (suc k) w =
@@ -152,7 +152,7 @@ module _ (ask : List ℕ → List ℕ → FirstAnswer) (area : List ℕ) where
       : (w before l l′ : List ℕ) (k : ℕ) {ws : List ℕ}
       → l ≡ answersFrom ask area k w ++ drop (answerWidth * k) before
       → l′ ≡ take (answerWidth * k) l ++ ws ++ drop (answerWidth * k + answerWidth) l
-      → ws ≡ answerTo (ask (tagOf w area k) (nameOf w area k))
+      → ws ≡ answerTo (ask (tagAt w area k) (nameAt w area k))
       → l′ ≡ answersFrom ask area (k + 1) w ++ drop (answerWidth * (k + 1)) before
   answers-put w before l l′ k {ws} e f g =
       let n : length (answersFrom ask area k w) ≡ answerWidth * k = answersFrom-length k w in
@@ -182,11 +182,11 @@ module _ (ask : List ℕ → List ℕ → FirstAnswer) (area : List ℕ) where
 pub answer-words
     : (h : Head) (t : List ℕ) (lent : Lent) (ns : List ℕ) (nodes : ℕ) (ats pairs area : List ℕ) (k : ℕ) {node : NodeFound} {name : List ℕ}
     {value : FirstAnswer} {numbers : FirstNumbers}
-    → node ≡ findsIn h t lent ns nodes (tagOf pairs area k)
-    → name ≡ nameOf pairs area k
+    → node ≡ findsIn h t lent ns nodes (tagAt pairs area k)
+    → name ≡ nameAt pairs area k
     → value ≡ valueBy h t lent name ats node
     → numbers ≡ firstNumbersOf value
-    → numberWords numbers ≡ answerTo (asksIn h t lent ns nodes ats (tagOf pairs area k) (nameOf pairs area k))
+    → numberWords numbers ≡ answerTo (asksIn h t lent ns nodes ats (tagAt pairs area k) (nameAt pairs area k))
 answer-words h t lent ns nodes ats pairs area k e f g q = ap numberWords (q ∙ ap firstNumbersOf (g ∙ rw (e, f)))
 
 pub answersFrom-same
@@ -202,13 +202,13 @@ answersFrom-same f g e area (suc n) w = rw (e (tagIn area w) (nameIn area w), an
 pub node-none : (find : List ℕ → NodeFound) (pairs area : List ℕ) (node : NodeFound) → NodeOf find pairs area 0 node
 node-none find pairs area node = record { known = λ j e. absurd (let z : ⊥ = omega (arith, e) in z) }
 
-pub node-next : (find : List ℕ → NodeFound) (pairs area : List ℕ) (k : ℕ) (node : NodeFound) → node ≡ find (tagOf pairs area k)
+pub node-next : (find : List ℕ → NodeFound) (pairs area : List ℕ) (k : ℕ) (node : NodeFound) → node ≡ find (tagAt pairs area k)
     → NodeOf find pairs area (k + 1) node
 node-next find pairs area k node e =
-    record { known = λ j q. e ∙ ap (λ (x : ℕ). find (tagOf pairs area x)) (let z : k ≡ j = omega (arith, q) in z) }
+    record { known = λ j q. e ∙ ap (λ (x : ℕ). find (tagAt pairs area x)) (let z : k ≡ j = omega (arith, q) in z) }
 
 pub node-repeats : (find : List ℕ → NodeFound) (pairs area : List ℕ) (k : ℕ) (node : NodeFound) → NodeOf find pairs area k node
-    → Repeats pairs area k → node ≡ find (tagOf pairs area k)
+    → Repeats pairs area k → node ≡ find (tagAt pairs area k)
 node-repeats find pairs area k node o r = o .known (r .before) (r .next) ∙ ap find (sym (r .same))
 
 -- ---- what is left behind

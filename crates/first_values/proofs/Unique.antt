@@ -28,7 +28,7 @@ use Rattle.first_value.specs.Question.{sharedOf, nameIs, foundBy, findNode, fin
 use Rattle.first_value.specs.declared.NodeFound.{NodeFound}
 use Rattle.first_value.specs.declared.NodeFound.the-variants.{Run, NoNode}
 use Rattle.first_value.proofs.Search.{first-shared}
-use Rattle.first_values.specs.Pairs.{tagOf, nameOf, pairsOf, numberWords, answerTo, answersFrom, manyBy, manyAskedBy, asks, manyAnswer, answersAfter, ManyReads}
+use Rattle.first_values.specs.Pairs.{tagAt, nameAt, pairsOf, numberWords, answerTo, answersFrom, manyBy, manyAskedBy, asks, manyAnswer, answersAfter, ManyReads}
 use Rattle.first_values.specs.declared.PairsRead.{PairsRead}
 use Rattle.first_values.specs.declared.PairsRead.the-variants.{Whole, Bad}
 use Rattle.first_values.proofs.Laws.{pairsOf-count, answersFrom-length}
@@ -57,7 +57,7 @@ only-twelve h t lent name ats (Run first number) x e = twelve-in h t lent name n
 -- the words of answer i, whatever follows all of them
 answer-at
     : (ask : List ℕ → List ℕ → FirstAnswer) (area z : List ℕ) (i n : ℕ) (w : List ℕ) → i < n
-    → take answerWidth (drop (answerWidth * i) (answersFrom ask area n w ++ z)) ≡ answerTo (ask (tagOf w area i) (nameOf w area i))
+    → take answerWidth (drop (answerWidth * i) (answersFrom ask area n w ++ z)) ≡ answerTo (ask (tagAt w area i) (nameAt w area i))
 unfolding answersFrom
 answer-at ask area z i zero w h = absurd (let v : ⊥ = omega (arith, h) in v)
 answer-at ask area z zero (suc n) w h = refl
@@ -144,7 +144,7 @@ module _ (f : List ℕ) (lent : Lent) (ns ats pairs area before : List ℕ) (nod
         (a .0, a .1, l, ap (drop (answerWidth * n)) list ∙ drop-at words (replicate (length before - answerWidth * n) 0) (answerWidth * n) long)
 
     -- answer i is that of the single question to pair i
-    pub many-asks : (i : ℕ) → i < n → (a : FirstAnswer) → FirstReads f lent ns ats (tagOf pairs area i) (nameOf pairs area i) nodes attributes a
+    pub many-asks : (i : ℕ) → i < n → (a : FirstAnswer) → FirstReads f lent ns ats (tagAt pairs area i) (nameAt pairs area i) nodes attributes a
         → take answerWidth (drop (answerWidth * i) after) ≡ answerTo a
     many-asks i h a q =
         ap (λ (l : List ℕ). take answerWidth (drop (answerWidth * i) l)) list

@@ -47,11 +47,11 @@ module _ (area w : List ℕ) where
   nameIn = partIn area (getD w pairName 0) (getD w pairNameLength 0)
 
 -- tag and name of pair k
-abbrev pub tagOf : List ℕ → List ℕ → ℕ → List ℕ
-tagOf pairs area k = tagIn area (drop (pairWidth * k) pairs)
+abbrev pub tagAt : List ℕ → List ℕ → ℕ → List ℕ
+tagAt pairs area k = tagIn area (drop (pairWidth * k) pairs)
 
-abbrev pub nameOf : List ℕ → List ℕ → ℕ → List ℕ
-nameOf pairs area k = nameIn area (drop (pairWidth * k) pairs)
+abbrev pub nameAt : List ℕ → List ℕ → ℕ → List ℕ
+nameAt pairs area k = nameIn area (drop (pairWidth * k) pairs)
 
 -- n pairs, numbered from k, all of them inside, or the first that is not; then come words that make no whole pair, `left` of them
 unfoldable pub pairsFrom : List ℕ → ℕ → ℕ → ℕ → List ℕ → PairsRead

@@ -20,7 +20,7 @@ ghost use Rattle.text.specs.Inner.Found.{Asks};
 ghost use Rattle.first_value.specs.declared.Fit.the-variants.{Fitting};
 ghost use Rattle.first_value.specs.Question.{fitOf};
 ghost use Rattle.first_values.specs.declared.PairsRead.the-variants.{Whole};
-ghost use Rattle.first_values.specs.Pairs.{tagOf, pairsOf, numberWords, answersFrom, manyBy, ManyReads};
+ghost use Rattle.first_values.specs.Pairs.{tagAt, pairsOf, numberWords, answersFrom, manyBy, ManyReads};
 ghost use Rattle.first_values.specs.Inner.Known.{findsIn, asksIn, NodeOf, Gives};
 use errors::FirstNumbers;
 use errors::ManyAnswer;
@@ -66,7 +66,7 @@ fn node_for(
         × (pairWidth * k + pairWidth ≤ length (now pairs))
         × NodeOf (findsIn h (now t) (lends (now names) (now area)) (now nodes) «node_count») (now pairs) (now «pair_area») k last ⌝ }
     ensures { λ r. ⌜ r ≡ findsIn h (now (t .entry)) (lends (now (names .entry)) (now (area .entry))) (now (nodes .entry)) «node_count»
-        (tagOf (now (pairs .entry)) (now («pair_area» .entry)) k) ⌝ }
+        (tagAt (now (pairs .entry)) (now («pair_area» .entry)) k) ⌝ }
 {
     if repeats_tag(pairs, pair_area, k) {
         return last;

@@ -7,7 +7,7 @@ ghost use mathlib.Core.Bool.{true};
 ghost use Prim.Native.Nat.{_+_, _*_, _≤_};
 ghost use lib.ListN.{length, drop};
 ghost use Rattle.records.specs.Words.{pairWidth};
-ghost use Rattle.first_values.specs.Pairs.{isInside, pairInside, tagOf, nameOf, pairsOf};
+ghost use Rattle.first_values.specs.Pairs.{isInside, pairInside, tagAt, nameAt, pairsOf};
 ghost use Rattle.first_values.specs.Inner.Known.{Repeats};
 use items::part_of;
 use records::PAIR_NAME;
@@ -58,7 +58,7 @@ pub fn read_pairs(pairs: &[u32], area: &[u8]) -> PairsRead
 // The tag of pair k.
 pub fn tag_at<'a>(pairs: &[u32], area: &'a [u8], k: usize) -> &'a [u8]
     requires { ⌜ pairWidth * k + pairWidth ≤ length (now pairs) ⌝ }
-    ensures { λ r. ⌜ now r ≡ tagOf (now (pairs .entry)) (now (area .entry)) k ⌝ }
+    ensures { λ r. ⌜ now r ≡ tagAt (now (pairs .entry)) (now (area .entry)) k ⌝ }
 {
     let at = PAIR_WORDS * k;
     part_of(area, pairs[at + PAIR_TAG], pairs[at + PAIR_TAG_LENGTH])
@@ -67,7 +67,7 @@ pub fn tag_at<'a>(pairs: &[u32], area: &'a [u8], k: usize) -> &'a [u8]
 // The name of pair k.
 pub fn name_at<'a>(pairs: &[u32], area: &'a [u8], k: usize) -> &'a [u8]
     requires { ⌜ pairWidth * k + pairWidth ≤ length (now pairs) ⌝ }
-    ensures { λ r. ⌜ now r ≡ nameOf (now (pairs .entry)) (now (area .entry)) k ⌝ }
+    ensures { λ r. ⌜ now r ≡ nameAt (now (pairs .entry)) (now (area .entry)) k ⌝ }
 {
     let at = PAIR_WORDS * k;
     part_of(area, pairs[at + PAIR_NAME], pairs[at + PAIR_NAME_LENGTH])

@@ -25,7 +25,7 @@ use Rattle.text.specs.declared.Found.{Found}
 use Rattle.text.specs.declared.Found.the-variants.{Nothing, Cut, System, Pool}
 use Rattle.text.specs.Content.{Content, none, contentOf, textIn, damageIn, rawOf}
 use Rattle.text.specs.Inner.Found.{partOf, isFound, Asks, Wrote}
-use Rattle.head.specs.Head.{openedOf, tablesIn, isWhole, refusalOf, PoolThere}
+use Rattle.head.specs.Head.{openedOf, tablesIn, headIsWhole, refusalOf, PoolThere}
 use Rattle.head.specs.Entry.{question, Check, passes, fails, firstOf, entryChecks}
 use Rattle.head.specs.Inner.Entered.{enteredOf}
 use Rattle.head.specs.Ask.{headRead, openBy, openOf, stateTold, fitted, textBy, textAnswer}
@@ -41,10 +41,10 @@ use Rattle.head.proofs.Zeros.{zero-behind}
 
 -- ---- the head, or the first refusal
 
-pub headRead-whole : (o : Opened) → isWhole (o .end) ≡ true → Open (o .head) ≡ headRead o
+pub headRead-whole : (o : Opened) → headIsWhole (o .end) ≡ true → Open (o .head) ≡ headRead o
 headRead-whole o w = rw w
 
-pub headRead-cut : (o : Opened) → isWhole (o .end) ≡ false → Closed (refusalOf (o .end)) ≡ headRead o
+pub headRead-cut : (o : Opened) → headIsWhole (o .end) ≡ false → Closed (refusalOf (o .end)) ≡ headRead o
 headRead-cut o w = rw w
 
 module _ (f : List ℕ) (lent : Lent) where
@@ -60,10 +60,10 @@ module _ (f : List ℕ) (lent : Lent) where
 
 pub record Opens (f : List ℕ) (lent : Lent) (h : Head) : Type 0 where
   pub passed : Passed f lent question
-  pub whole : isWhole (openedOf f .end) ≡ true
+  pub whole : headIsWhole (openedOf f .end) ≡ true
   pub head : openedOf f .head ≡ h
 
-there-of-whole : (e : HeadEnd) → isWhole e ≡ true → PoolThere e
+there-of-whole : (e : HeadEnd) → headIsWhole e ≡ true → PoolThere e
 there-of-whole Whole w = tt
 there-of-whole (MapShort m) w = tt
 there-of-whole (TooSmall n) w = let z : _≡_ {A = ℕ} 0 1 = cc in absurd (let y : ⊥ = omega arith in y)
@@ -73,11 +73,11 @@ there-of-whole (PoolShort p) w = let z : _≡_ {A = ℕ} 0 1 = cc in absurd (let
 module _ (f : List ℕ) (lent : Lent) {h : Head} (open′ : openOf f lent ≡ Open h) where
   pub openOf-open : Opens f lent h
   unfolding openOf
-  openOf-open = go (firstOf (entryChecks f lent question)) refl (isWhole (openedOf f .end)) refl open′
+  openOf-open = go (firstOf (entryChecks f lent question)) refl (headIsWhole (openedOf f .end)) refl open′
     where
       go
           : (c : Check) → firstOf (entryChecks f lent question) ≡ c
-          → (w : Bool) → isWhole (openedOf f .end) ≡ w
+          → (w : Bool) → headIsWhole (openedOf f .end) ≡ w
           → openBy (openedOf f) c ≡ Open h
           → Opens f lent h
       go (fails r) p w q e = let z : _≡_ {A = ℕ} 0 1 = cc in absurd (let y : ⊥ = omega arith in y)

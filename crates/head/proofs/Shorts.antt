@@ -13,7 +13,7 @@ use lib.Dec.{ltb, eqb}
 use Rattle.field.specs.Le.{u16le}
 use Rattle.text.proofs.Parts.{drop-take}
 use Rattle.field.proofs.Laws.{u16le-append}
-use Rattle.errors.specs.Refusal.{valueOf}
+use Rattle.errors.specs.Refusal.{refusalValue}
 use Rattle.errors.specs.declared.Refusal.{Refusal}
 use Rattle.res_string_pool.specs.Pool.{poolOf}
 use Rattle.res_string_pool.specs.declared.Garbage.{Garbage}
@@ -174,35 +174,35 @@ pub record OpenedCut (f : List ℕ) (v : ℕ) : Type 0 where
   pub high : v ≤ length f
   pub same : openedOf (take v f) ≡ openedOf f
 
-value-by : (t : List ℕ) (v : ℕ) (r : Refusal) → valueOf r ≡ v → TablesCut t v → TablesCut t (valueOf r)
+value-by : (t : List ℕ) (v : ℕ) (r : Refusal) → refusalValue r ≡ v → TablesCut t v → TablesCut t (refusalValue r)
 value-by t v r e c = rw e c
 
 mapped-short
     : (t : List ℕ) (r : Refusal) (all : poolOf t .end ≡ Complete)
     → (x : MapRead) → mapIn t ≡ x
     → ShortBy (mappedBy t (poolOf t .garbage) (poolOf t .pool) x .end) r
-    → TablesCut t (valueOf r)
-unfolding valueOf
+    → TablesCut t (refusalValue r)
+unfolding refusalValue
 mapped-short t r all (Ids n) e s = absurd s
-mapped-short t r all (MapHeaderShort k) e s = value-by t _ r (ap valueOf (sym s)) (rw e at (map-cut t all (rw e tt)))
-mapped-short t r all (IdsShort k) e s = value-by t _ r (ap valueOf (sym s)) (rw e at (map-cut t all (rw e tt)))
+mapped-short t r all (MapHeaderShort k) e s = value-by t _ r (ap refusalValue (sym s)) (rw e at (map-cut t all (rw e tt)))
+mapped-short t r all (IdsShort k) e s = value-by t _ r (ap refusalValue (sym s)) (rw e at (map-cut t all (rw e tt)))
 
-tables-short : (t : List ℕ) (r : Refusal) → ShortBy (tablesOf t .end) r → TablesCut t (valueOf r)
-unfolding tablesOf valueOf
+tables-short : (t : List ℕ) (r : Refusal) → ShortBy (tablesOf t .end) r → TablesCut t (refusalValue r)
+unfolding tablesOf refusalValue
 tables-short t r s = go (poolOf t .end) refl s
   where
-    go : (e : PoolEnd) → poolOf t .end ≡ e → ShortBy (pooledBy t (poolOf t .garbage) (poolOf t .pool) e .end) r → TablesCut t (valueOf r)
+    go : (e : PoolEnd) → poolOf t .end ≡ e → ShortBy (pooledBy t (poolOf t .garbage) (poolOf t .pool) e .end) r → TablesCut t (refusalValue r)
     go Complete e q = mapped-short t r e (mapIn t) refl q
-    go (GarbageShort k) e q = value-by t _ r (ap valueOf (sym q)) (rw e at (pool-cut t (rw e tt)))
-    go (HeaderShort k) e q = value-by t _ r (ap valueOf (sym q)) (rw e at (pool-cut t (rw e tt)))
-    go (OffsetsShort k) e q = value-by t _ r (ap valueOf (sym q)) (rw e at (pool-cut t (rw e tt)))
-    go (StylesShort k) e q = value-by t _ r (ap valueOf (sym q)) (rw e at (pool-cut t (rw e tt)))
-    go (DataShort k) e q = value-by t _ r (ap valueOf (sym q)) (rw e at (pool-cut t (rw e tt)))
+    go (GarbageShort k) e q = value-by t _ r (ap refusalValue (sym q)) (rw e at (pool-cut t (rw e tt)))
+    go (HeaderShort k) e q = value-by t _ r (ap refusalValue (sym q)) (rw e at (pool-cut t (rw e tt)))
+    go (OffsetsShort k) e q = value-by t _ r (ap refusalValue (sym q)) (rw e at (pool-cut t (rw e tt)))
+    go (StylesShort k) e q = value-by t _ r (ap refusalValue (sym q)) (rw e at (pool-cut t (rw e tt)))
+    go (DataShort k) e q = value-by t _ r (ap refusalValue (sym q)) (rw e at (pool-cut t (rw e tt)))
 
-pub opened-cut : (f : List ℕ) (r : Refusal) → ShortBy (openedOf f .end) r → OpenedCut f (valueOf r)
+pub opened-cut : (f : List ℕ) (r : Refusal) → ShortBy (openedOf f .end) r → OpenedCut f (refusalValue r)
 opened-cut f r s = go (ltb (length f) 8) refl (eqb (u16le f 2) 8) refl
   where
-    go : (a : Bool) → ltb (length f) 8 ≡ a → (b : Bool) → eqb (u16le f 2) 8 ≡ b → OpenedCut f (valueOf r)
+    go : (a : Bool) → ltb (length f) 8 ≡ a → (b : Bool) → eqb (u16le f 2) 8 ≡ b → OpenedCut f (refusalValue r)
     go true p b q = absurd (rw (openedOf-small f (ltb-true (length f) 8 p)) at s)
     go false p false q = absurd (rw (openedOf-size f (ltb-false (length f) 8 p) (eqb-false (u16le f 2) 8 q)) at s)
     go false p true q =
@@ -210,18 +210,18 @@ opened-cut f r s = go (ltb (length f) 8) refl (eqb (u16le f 2) 8) refl
         let e = openedOf-tables f long (eqb-true (u16le f 2) 8 q) in
         let c = tables-short (drop 8 f) r (rw e at s) in
         let l : length (drop 8 f) ≡ length f - 8 = length-drop 8 f in
-        let inside : valueOf r ≤ length f = omega (arith, c .high, l, long) in
-        let far : 8 ≤ valueOf r = omega (arith, c .low) in
-        let len : length (take (valueOf r) f) ≡ valueOf r = length-take-le (valueOf r) f inside in
-        let whole : take (valueOf r) f ++ drop (valueOf r) f ≡ f = take-append-drop (valueOf r) f in
-        let size : u16le (take (valueOf r) f) 2 ≡ 8 =
-        sym (u16le-append (take (valueOf r) f) (drop (valueOf r) f) 2 (omega (arith, len, far))) ∙ ap (λ (l : List ℕ). u16le l 2) whole
+        let inside : refusalValue r ≤ length f = omega (arith, c .high, l, long) in
+        let far : 8 ≤ refusalValue r = omega (arith, c .low) in
+        let len : length (take (refusalValue r) f) ≡ refusalValue r = length-take-le (refusalValue r) f inside in
+        let whole : take (refusalValue r) f ++ drop (refusalValue r) f ≡ f = take-append-drop (refusalValue r) f in
+        let size : u16le (take (refusalValue r) f) 2 ≡ 8 =
+        sym (u16le-append (take (refusalValue r) f) (drop (refusalValue r) f) 2 (omega (arith, len, far))) ∙ ap (λ (l : List ℕ). u16le l 2) whole
         ∙ eqb-true (u16le f 2) 8 q in
-        let k : 8 + (valueOf r - 8) ≡ valueOf r = omega (arith, far) in
-        let rest : drop 8 (take (valueOf r) f) ≡ take (valueOf r - 8) (drop 8 f) =
-        ap (λ (j : ℕ). drop 8 (take j f)) (sym k) ∙ drop-take 8 (valueOf r - 8) f (omega (arith, inside, far)) in
+        let k : 8 + (refusalValue r - 8) ≡ refusalValue r = omega (arith, far) in
+        let rest : drop 8 (take (refusalValue r) f) ≡ take (refusalValue r - 8) (drop 8 f) =
+        ap (λ (j : ℕ). drop 8 (take j f)) (sym k) ∙ drop-take 8 (refusalValue r - 8) f (omega (arith, inside, far)) in
         record {
           low = rw e (c .low);
           high = inside;
-          same = openedOf-tables (take (valueOf r) f) (omega (arith, len, far)) size ∙ ap tablesOf rest ∙ c .same ∙ sym e;
+          same = openedOf-tables (take (refusalValue r) f) (omega (arith, len, far)) size ∙ ap tablesOf rest ∙ c .same ∙ sym e;
         }

@@ -24,7 +24,7 @@ use Rattle.utf.specs.Text.{Damage, whole, replaced, unpaired, cut as cutText}
 use Rattle.system_types.specs.Names.{Lent}
 use Rattle.text.specs.declared.Head.{Head}
 use Rattle.text.specs.Content.{Content, none, cut, some, contentOf, textIn, damageIn, rawOf}
-use Rattle.head.specs.Head.{openedOf, isWhole, refusalOf, tablesIn}
+use Rattle.head.specs.Head.{openedOf, headIsWhole, refusalOf, tablesIn}
 use Rattle.head.specs.Entry.{question, Check, passes, fails, firstOf, entryChecks}
 use Rattle.head.specs.declared.Opened.{Opened}
 use Rattle.head.specs.declared.OpenRead.{OpenRead}
@@ -34,7 +34,7 @@ use Rattle.head.specs.declared.OpenRead.the-variants.{Open, Closed}
 
 -- of a file that the entry checks pass
 abbrev pub headRead : Opened → OpenRead
-headRead o = cond (isWhole (o .end)) (Open (o .head)) (Closed (refusalOf (o .end)))
+headRead o = cond (headIsWhole (o .end)) (Open (o .head)) (Closed (refusalOf (o .end)))
 
 abbrev pub openBy : Opened → Check → OpenRead
 openBy o passes = headRead o
@@ -60,12 +60,12 @@ textBy n none = Refused NothingFound
 textBy n cut = fitted n (textIn cut) (stateTold (damageIn cut))
 textBy n (some w s) = fitted n (textIn (some w s)) (stateTold (damageIn (some w s)))
 
-abbrev pub askedBy : List ℕ → Lent → ℕ → OpenRead → Content
-askedBy f lent i (Closed r) = none
-askedBy f lent i (Open h) = contentOf h (tablesIn f h) lent i
+abbrev pub contentAskedBy : List ℕ → Lent → ℕ → OpenRead → Content
+contentAskedBy f lent i (Closed r) = none
+contentAskedBy f lent i (Open h) = contentOf h (tablesIn f h) lent i
 
 abbrev pub contentAsked : List ℕ → Lent → ℕ → Content
-contentAsked f lent i = askedBy f lent i (openOf f lent)
+contentAsked f lent i = contentAskedBy f lent i (openOf f lent)
 
 abbrev pub textAnswerBy : ℕ → Content → OpenRead → TextAnswer
 textAnswerBy n c (Closed r) = Refused r

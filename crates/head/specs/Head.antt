@@ -4,7 +4,7 @@
 --   beginsAt     the file offset at which a part should begin
 --   tablesIn     the bytes that texts are read from, pool and map; bodyIn all that is behind them, which is walked
 --   PoolThere    the pool is there whole, so that texts can be read; the map may be short
---   isWhole      all of it is there; refusalOf the refusal of a head that is not whole: 1, 3, 41 to 45, 51, 52
+--   headIsWhole  all of it is there; refusalOf the refusal of a head that is not whole: 1, 3, 41 to 45, 51, 52
 --   garbageNotes note 0, countNotes note 1: both fall due before the pool is known to be whole; offsetNotes note 2, before the map
 --
 -- The type and the total size of the file's header are not looked at. A number that the bytes do not reach is 0. A place is counted
@@ -41,10 +41,10 @@ use Rattle.head.specs.declared.Opened.{Opened}
 -- ---- what the head says
 
 abbrev pub headBy : Pool → ℕ → ℕ → Head
-headBy p map ids = record { wide = p .wide; count = p .count; offsets = p .offsets; strings = p .strings; size = p .size; map = map; ids = ids }
+headBy p map ids = record { utf16 = p .utf16; count = p .count; offsets = p .offsets; strings = p .strings; size = p .size; map = map; ids = ids }
 
 abbrev pub noHead : Head
-noHead = record { wide = false; count = 0; offsets = 0; strings = 0; size = 0; map = 0; ids = 0 }
+noHead = record { utf16 = false; count = 0; offsets = 0; strings = 0; size = 0; map = 0; ids = 0 }
 
 abbrev pub unopened : HeadEnd → Opened
 unopened e = record { garbage = noGarbage; declared = 0; end = e; head = noHead }
@@ -107,12 +107,12 @@ PoolThere (HeaderSize n) = ⊥
 
 -- ---- its refusals and its notes
 
-abbrev pub isWhole : HeadEnd → Bool
-isWhole Whole = true
-isWhole (TooSmall n) = false
-isWhole (HeaderSize n) = false
-isWhole (PoolShort e) = false
-isWhole (MapShort e) = false
+abbrev pub headIsWhole : HeadEnd → Bool
+headIsWhole Whole = true
+headIsWhole (TooSmall n) = false
+headIsWhole (HeaderSize n) = false
+headIsWhole (PoolShort e) = false
+headIsWhole (MapShort e) = false
 
 abbrev pub poolRefusal : PoolPart → Refusal
 poolRefusal (Skipped at) = StringPoolGarbage at

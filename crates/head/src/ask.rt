@@ -86,16 +86,16 @@ fn refuse(out: &mut [u8], why: Refusal) -> TextAnswer
 
 // What became of the text that was found. Only one with characters that were replaced is looked at again, to count them.
 // Ruled out: `Whole` for a string that is cut, and one character replaced for every damaged text.
-pub fn found_told(t: &[u8], area: &[u8], wide: bool, f: Found) -> TextState
+pub fn found_told(t: &[u8], area: &[u8], utf16: bool, f: Found) -> TextState
     requires { ⌜ Inside (now t) (now area) f × (length (now t) ≤ fileLimit) ⌝ }
-    ensures { λ r. ⌜ r ≡ stateTold (damageIn (partOf wide (now (t .entry)) (now (area .entry)) f)) ⌝ }
+    ensures { λ r. ⌜ r ≡ stateTold (damageIn (partOf utf16 (now (t .entry)) (now (area .entry)) f)) ⌝ }
 {
-    let state = state_of_found(t, area, wide, f);
+    let state = state_of_found(t, area, utf16, f);
     if state == 0 {
         return TextState::Whole;
     }
     if state == 1 {
-        return TextState::Replaced(replaced_of_found(t, area, wide, f));
+        return TextState::Replaced(replaced_of_found(t, area, utf16, f));
     }
     if state == 2 {
         return TextState::Unpaired;
@@ -104,19 +104,19 @@ pub fn found_told(t: &[u8], area: &[u8], wide: bool, f: Found) -> TextState
 }
 
 // The text of what was found, if the buffer holds it whole.
-fn write_found(t: &[u8], area: &[u8], wide: bool, f: Found, out: &mut [u8]) -> TextAnswer
+fn write_found(t: &[u8], area: &[u8], utf16: bool, f: Found, out: &mut [u8]) -> TextAnswer
     requires { ⌜ Inside (now t) (now area) f × (length (now t) ≤ fileLimit) ⌝ }
-    ensures { λ r. ⌜ Gives (length (now (out .entry))) (textIn (partOf wide (now (t .entry)) (now (area .entry)) f))
-        (fitted (length (now (out .entry))) (textIn (partOf wide (now (t .entry)) (now (area .entry)) f))
-        (stateTold (damageIn (partOf wide (now (t .entry)) (now (area .entry)) f)))) r (now (out .exit)) ⌝ }
+    ensures { λ r. ⌜ Gives (length (now (out .entry))) (textIn (partOf utf16 (now (t .entry)) (now (area .entry)) f))
+        (fitted (length (now (out .entry))) (textIn (partOf utf16 (now (t .entry)) (now (area .entry)) f))
+        (stateTold (damageIn (partOf utf16 (now (t .entry)) (now (area .entry)) f)))) r (now (out .exit)) ⌝ }
 {
-    let n = found_into(t, area, wide, f, out);
+    let n = found_into(t, area, utf16, f, out);
     if out.len() < n {
         zero_from(out, 0);
         return TextAnswer::Refused(Refusal::TextShort(n));
     }
     zero_from(out, n);
-    let state = found_told(t, area, wide, f);
+    let state = found_told(t, area, utf16, f);
     TextAnswer::Text { length: n, state }
 }
 
@@ -136,7 +136,7 @@ fn text_in(
     if !is_found(f) {
         return refuse(out, Refusal::NothingFound);
     }
-    write_found(t, area, h.wide, f, out)
+    write_found(t, area, h.utf16, f, out)
 }
 
 // The text of a string index, in `out`: its UTF-8 and zeros behind it; on a refusal zeros alone. Head and names are checked again at

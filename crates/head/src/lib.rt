@@ -18,9 +18,9 @@ ghost use Rattle.system_types.specs.Names.{lends};
 ghost use Rattle.resource_map.specs.Map.{mapOf};
 ghost use Rattle.text.specs.Inner.Found.{Fits};
 ghost use Rattle.head.specs.Head.{headBy, unopened, wholeHead, cutPool, cutMap, mappedBy, tablesOf, openedOf};
-ghost use Rattle.head.specs.Head.{headLen, tablesIn, bodyIn, isWhole, poolRefusal, mapRefusal, refusalOf, outsideIn};
+ghost use Rattle.head.specs.Head.{headLen, tablesIn, bodyIn, headIsWhole, poolRefusal, mapRefusal, refusalOf, outsideIn};
 ghost use Rattle.head.specs.Entry.{keepsNone, modeOf, isMode};
-ghost use Rattle.head.specs.Inner.Entered.{askedBy, enteredOf};
+ghost use Rattle.head.specs.Inner.Entered.{termsOf, enteredOf};
 ghost use Rattle.head.specs.declared.Entered.the-variants.{In, Out};
 ghost use Rattle.errors.specs.declared.Refusal.the-variants.{ModeError};
 use errors::Refusal;
@@ -100,7 +100,7 @@ fn head_by(p: Pool, map: usize, ids: u32) -> Head
     ensures { λ r. ⌜ r ≡ headBy p map ids ⌝ }
 {
     Head {
-        wide: p.wide,
+        utf16: p.utf16,
         count: p.count,
         offsets: p.offsets,
         strings: p.strings,
@@ -123,7 +123,7 @@ fn not_opened(end: HeadEnd) -> Opened
         declared: 0,
         end,
         head: Head {
-            wide: false,
+            utf16: false,
             count: 0,
             offsets: 0,
             strings: 0,
@@ -305,7 +305,7 @@ fn enter_in(file: &[u8], mode: u32) -> Entered
 // the caller's to say, since notes can come before it; a caller that is lent items checks them behind this.
 // Ruled out: 1 for a file of 7 bytes with names that break their rule, a head for a file past the limit, and 7 for a cap of 0.
 pub fn enter(file: &[u8], names: &[u32], area: &[u8], asker: Asker) -> Entered
-    ensures { λ r. ⌜ r ≡ enteredOf (now (file .entry)) (lends (now (names .entry)) (now (area .entry))) (askedBy asker) ⌝ }
+    ensures { λ r. ⌜ r ≡ enteredOf (now (file .entry)) (lends (now (names .entry)) (now (area .entry))) (termsOf asker) ⌝ }
 {
     if FILE_LIMIT < file.len() {
         return Entered::Out(Refusal::TooLargeError);
@@ -322,17 +322,18 @@ pub fn enter(file: &[u8], names: &[u32], area: &[u8], asker: Asker) -> Entered
 
 // ---- its parts
 
-fn wide(x: u32) -> usize
+fn to_usize(x: u32) -> usize
     ensures { λ r. ⌜ r ≡ x ⌝ }
 {
     x as usize
 }
 
-// How many of n bytes the tables take, of a head that may be any.
+// How many of the n bytes behind the file's header the pool and the map take. A head that belongs to another file may say more than there is:
+// then all n.
 fn head_len(h: Head, n: usize) -> usize
     ensures { λ r. ⌜ r ≡ min (headLen h) n ⌝ }
 {
-    let ids = 4 * wide(h.ids);
+    let ids = 4 * to_usize(h.ids);
     if n <= ids {
         return n;
     }
@@ -369,7 +370,7 @@ pub fn body_of<'a>(file: &'a [u8], h: Head) -> &'a [u8]
 // ---- what it says
 
 pub fn is_whole(e: HeadEnd) -> bool
-    ensures { λ r. ⌜ r ≡ isWhole e ⌝ }
+    ensures { λ r. ⌜ r ≡ headIsWhole e ⌝ }
 {
     match e {
         HeadEnd::Whole => true,
@@ -422,6 +423,6 @@ pub fn outside_in(t: &[u8], h: Head) -> u32
     ensures { λ r. ⌜ r ≡ outsideIn (now (t .entry)) h ⌝ }
 {
     let from = h.offsets;
-    let n = 4 * wide(h.count);
+    let n = 4 * to_usize(h.count);
     outside_of(&t[from..from + n], h.size)
 }

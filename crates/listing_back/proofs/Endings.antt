@@ -14,7 +14,7 @@ use Rattle.digits.specs.Written.{fitted}
 use Rattle.errors.specs.declared.Numbers.{Numbers}
 use Rattle.errors.specs.declared.Refusal.{Refusal}
 use Rattle.errors.specs.declared.ReadAnswer.the-variants.{Refused}
-use Rattle.errors.specs.Refusal.{numberOf, valueOf, numbersOf}
+use Rattle.errors.specs.Refusal.{refusalNumber, refusalValue, numbersOf}
 use Rattle.records.specs.Words.{nodeWidth, attributeWidth, noteWidth}
 use Rattle.listing_text.specs.Keys.{refusalKey, valueKey, capKey, startsKey, nodesKey, attributesKey, notesKey}
 use Rattle.listing_back.specs.Forms.{Front, lost, front, taken, formText, formsOf, forms}

@@ -9,7 +9,7 @@ use native.Mathlib.Numerals.{add-one}
 use borrow.Author.Tests.{ne-eqb}
 use lib.ListN.{length, drop, getD, drop-of-length-le}
 use lib.Seq.{drop-cons, drop-drop, getD-drop}
-use Rattle.listing_back.specs.Forms.{Number, nothing, number, isDigit, digitsFrom, numberOf}
+use Rattle.listing_back.specs.Forms.{Number, nothing, number, isDigit, digitsFrom, numberAtFront}
 use Rattle.listing_back.specs.Inner.Stands.{FigureAt, IsFigure}
 use Rattle.listing_back.specs.declared.taking.Figure.{Figure}
 
@@ -67,20 +67,20 @@ front-drop : (text : List ℕ) (p : ℕ) → getD (drop p text) 0 0 ≡ getD tex
 front-drop text p = getD-drop p text 0 0 ∙ ap (λ (x : ℕ). getD text x 0) (add-zero p)
 
 module _ (text : List ℕ) (p : ℕ) where
-  pub number-end : length text ≤ p → numberOf (drop p text) ≡ nothing
-  unfolding numberOf
+  pub number-end : length text ≤ p → numberAtFront (drop p text) ≡ nothing
+  unfolding numberAtFront
   number-end h = rw (drop-of-length-le text h)
 
-  pub number-zero-at : getD text p 0 ≡ 48 → numberOf (drop p text) ≡ cond (isDigit (getD text (p + 1) 0)) nothing (number 0 (drop (p + 1) text))
-  unfolding numberOf
+  pub number-zero-at : getD text p 0 ≡ 48 → numberAtFront (drop p text) ≡ cond (isDigit (getD text (p + 1) 0)) nothing (number 0 (drop (p + 1) text))
+  unfolding numberAtFront
   number-zero-at e = rw (front-drop text p, e, getD-drop p text 1 0, drop-drop 1 p text)
 
-  pub number-none-at : (getD text p 0 ≡ 48 → ⊥) → isDigit (getD text p 0) ≡ false → numberOf (drop p text) ≡ nothing
-  unfolding numberOf
+  pub number-none-at : (getD text p 0 ≡ 48 → ⊥) → isDigit (getD text p 0) ≡ false → numberAtFront (drop p text) ≡ nothing
+  unfolding numberAtFront
   number-none-at n e = rw (front-drop text p, ne-eqb (getD text p 0) 48 n, e)
 
-  pub number-digits-at : (getD text p 0 ≡ 48 → ⊥) → isDigit (getD text p 0) ≡ true → numberOf (drop p text) ≡ digitsFrom 0 (drop p text)
-  unfolding numberOf
+  pub number-digits-at : (getD text p 0 ≡ 48 → ⊥) → isDigit (getD text p 0) ≡ true → numberAtFront (drop p text) ≡ digitsFrom 0 (drop p text)
+  unfolding numberAtFront
   number-digits-at n e = rw (front-drop text p, ne-eqb (getD text p 0) 48 n, e)
 
 pub zero-alone :

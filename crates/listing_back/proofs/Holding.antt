@@ -11,7 +11,7 @@ use lib.ListN.{length, drop, getD, set, drop-of-length-le, length-append}
 use lib.Seq.{drop-cons}
 use Rattle.digits.specs.Written.{written}
 use Rattle.digits.proofs.Written.{written-append}
-use Rattle.listing_back.specs.Forms.{Number, nothing, number, numberOf, Front, lost, front, numbered, next, held, taken}
+use Rattle.listing_back.specs.Forms.{Number, nothing, number, numberAtFront, Front, lost, front, numbered, next, held, taken}
 use Rattle.listing_back.specs.Due.{isOver, anyOver}
 use Rattle.listing_back.specs.Inner.Stands.{FigureAt, IsFigure, HoldsFront, HoldsNothing, Holds, MovesOn}
 use Rattle.listing_back.specs.declared.taking.Figure.{Figure}
@@ -26,7 +26,7 @@ contra b p q = absurd (let z : _≡_ {A = ℕ} 0 1 = cc in let y : ⊥ = omega a
 
 next-at :
     (c : ℕ) (ns s text : List ℕ) (at : ℕ) → s ≡ drop at text → at < length text →
-    next c (front ns s) ≡ cond (eqb (getD text at 0) c) (cond (eqb c 61) (numbered ns (numberOf (drop (at + 1) text))) (front ns (drop (at + 1) text))) lost
+    next c (front ns s) ≡ cond (eqb (getD text at 0) c) (cond (eqb c 61) (numbered ns (numberAtFront (drop (at + 1) text))) (front ns (drop (at + 1) text))) lost
 next-at c ns s text at e h = rw e (rw (drop-cons text at 0 h, add-one at))
 
 next-end : (c : ℕ) (ns s text : List ℕ) (at : ℕ) → s ≡ drop at text → length text ≤ at → next c (front ns s) ≡ lost
@@ -92,8 +92,8 @@ written-more i v n vs before now now′ e m q =
     q ∙ (rw (e, m) (sym (written-append vs (v ∷ []) before i ∙ written-one (i + length vs) v (written i vs before))))
 
 module _ (text : List ℕ) (i : ℕ) (now : List ℕ) (f r : Taking) (n : Figure) (g : f .good ≡ true) (l : f .at < length text) (e : getD text (f .at) 0 ≡ 61)
-    (k : IsFigure text n (numberOf (drop (f .at + 1) text))) where
-  next-number : (ns s : List ℕ) → s ≡ drop (f .at) text → next 61 (front ns s) ≡ numbered ns (numberOf (drop (f .at + 1) text))
+    (k : IsFigure text n (numberAtFront (drop (f .at + 1) text))) where
+  next-number : (ns s : List ℕ) → s ≡ drop (f .at) text → next 61 (front ns s) ≡ numbered ns (numberAtFront (drop (f .at + 1) text))
   next-number ns s q = next-at 61 ns s text (f .at) q l ∙ rw e
 
   none-of : (ns : List ℕ) (x : Number) → IsFigure text n x → n .found ≡ false → numbered ns x ≡ lost
@@ -105,7 +105,7 @@ module _ (text : List ℕ) (i : ℕ) (now : List ℕ) (f r : Taking) (n : Figure
     on : (before : List ℕ) (x : Front) → Holds text i before now f x → Holds text i before now r (next 61 x)
     on before lost h = contra (f .good) g (h .lost)
     on before (front ns s) h =
-        subst (Holds text i before now r) (sym (next-number ns s (h .rest) ∙ none-of ns (numberOf (drop (f .at + 1) text)) k z))
+        subst (Holds text i before now r) (sym (next-number ns s (h .rest) ∙ none-of ns (numberAtFront (drop (f .at + 1) text)) k z))
         (record { lost = q .0; same = h .same })
 
   first-of :
@@ -132,7 +132,7 @@ module _ (text : List ℕ) (i : ℕ) (now : List ℕ) (f r : Taking) (n : Figure
     on before lost h = contra (f .good) g (h .lost)
     on before (front [] s) h =
         subst (Holds text i before now r) (sym (next-number [] s (h .rest)))
-        (first-of (numberOf (drop (f .at + 1) text)) before k z (h .words no-over) (h .same) q)
+        (first-of (numberAtFront (drop (f .at + 1) text)) before k z (h .words no-over) (h .same) q)
     on before (front (m ∷ ns) s) h = absurd (let y = h .count in let x : ⊥ = omega arith in x)
 
   module _ (now′ : List ℕ) (st : n .value < 4294967296 → now′ ≡ set now (i + (f .count - 1)) (n .value)) (sm : length now′ ≡ length now) where
@@ -173,7 +173,7 @@ module _ (text : List ℕ) (i : ℕ) (now : List ℕ) (f r : Taking) (n : Figure
       on before lost h = contra (f .good) g (h .lost)
       on before (front [] s) h = absurd (o (h .count))
       on before (front (m ∷ ns) s) h =
-          subst (Holds text i before now′ r) (sym (next-number (m ∷ ns) s (h .rest))) (more-of (numberOf (drop (f .at + 1) text)) m ns s before k z h q)
+          subst (Holds text i before now′ r) (sym (next-number (m ∷ ns) s (h .rest))) (more-of (numberAtFront (drop (f .at + 1) text)) m ns s before k z h q)
 
 -- ---- all bytes of a form
 

@@ -10,7 +10,7 @@ use lib.Dec.{eqb, ltb}
 use lib.ListN.{length}
 use Rattle.digits.specs.Digits.{decimal}
 use Rattle.listing_text.specs.Listing.{Field, Line, field, fieldText, lineText}
-use Rattle.listing_back.specs.Forms.{Number, nothing, number, isDigit, numberOf, formText, Front, lost, front, numbered, next, held}
+use Rattle.listing_back.specs.Forms.{Number, nothing, number, isDigit, numberAtFront, formText, Front, lost, front, numbered, next, held}
 use Rattle.listing_back.specs.Due.{isOver, anyOver}
 use Rattle.listing_back.proofs.Numerals.{both, number-taken, number-printed}
 
@@ -67,7 +67,7 @@ key-back (b ∷ key) form ns (c ∷ s) {ms} {r} h e =
     go (eqb c b) refl (λ f. key-back key form ns s (both (not (eqb b 61)) (plainKey key) h .1) f) e where
       go :
           (t : Bool) → eqb c b ≡ t → (held (key ++ form) (front ns s) ≡ front ms r → Keyed key form ns s ms r) →
-          held (key ++ form) (cond t (cond (eqb b 61) (numbered ns (numberOf s)) (front ns s)) lost) ≡ front ms r → Keyed (b ∷ key) form ns (c ∷ s) ms r
+          held (key ++ form) (cond t (cond (eqb b 61) (numbered ns (numberAtFront s)) (front ns s)) lost) ≡ front ms r → Keyed (b ∷ key) form ns (c ∷ s) ms r
       go true q i f =
           let k = i (rw (not-true (eqb b 61) (both (not (eqb b 61)) (plainKey key) h .0)) at f) in
           let x : c ≡ b = eqb-true c b q in
@@ -89,22 +89,22 @@ record Equalled (e : ℕ) (form ns t ms r : List ℕ) : Type 0 where
   stands : value < 10 ^ 20 → t ≡ 61 ∷ (decimal value ++ (e ∷ rest))
   on : held form (front (ns ++ (value ∷ [])) rest) ≡ front ms r
 
-equals-stands : (c d e n : ℕ) (s u : List ℕ) → c ≡ 61 → d ≡ e → numberOf s ≡ number n (d ∷ u) → n < 10 ^ 20 → c ∷ s ≡ 61 ∷ (decimal n ++ (e ∷ u))
+equals-stands : (c d e n : ℕ) (s u : List ℕ) → c ≡ 61 → d ≡ e → numberAtFront s ≡ number n (d ∷ u) → n < 10 ^ 20 → c ∷ s ≡ 61 ∷ (decimal n ++ (e ∷ u))
 equals-stands c d e n s u p q g h = rw (p, ← q) (ap (λ (x : List ℕ). 61 ∷ x) (number-printed s h g))
 
 equals-back : (e : ℕ) (form ns t : List ℕ) {ms r : List ℕ} → eqb e 61 ≡ false → held (61 ∷ e ∷ form) (front ns t) ≡ front ms r → Equalled e form ns t ms r
 unfolding held
 equals-back e form ns [] {ms} {r} h f = never form ms r f
-equals-back e form ns (c ∷ s) {ms} {r} h f = at-equals (eqb c 61) refl (numberOf s) refl f where
+equals-back e form ns (c ∷ s) {ms} {r} h f = at-equals (eqb c 61) refl (numberAtFront s) refl f where
   behind :
-      (d n : ℕ) (u : List ℕ) (t : Bool) → c ≡ 61 → numberOf s ≡ number n (d ∷ u) → eqb d e ≡ t →
-      held form (cond t (cond (eqb e 61) (numbered (ns ++ (n ∷ [])) (numberOf u)) (front (ns ++ (n ∷ [])) u)) lost) ≡ front ms r → Equalled e form ns (c ∷ s) ms r
+      (d n : ℕ) (u : List ℕ) (t : Bool) → c ≡ 61 → numberAtFront s ≡ number n (d ∷ u) → eqb d e ≡ t →
+      held form (cond t (cond (eqb e 61) (numbered (ns ++ (n ∷ [])) (numberAtFront u)) (front (ns ++ (n ∷ [])) u)) lost) ≡ front ms r → Equalled e form ns (c ∷ s) ms r
   behind d n u true p g q k =
       record { value = n; rest = u; stands = λ b. equals-stands c d e n s u p (eqb-true d e q) g b; on = rw h at k }
   behind d n u false p g q k = never form ms r k
 
   at-equals :
-      (t : Bool) → eqb c 61 ≡ t → (x : Number) → numberOf s ≡ x → held form (next e (cond t (numbered ns x) lost)) ≡ front ms r →
+      (t : Bool) → eqb c 61 ≡ t → (x : Number) → numberAtFront s ≡ x → held form (next e (cond t (numbered ns x) lost)) ≡ front ms r →
       Equalled e form ns (c ∷ s) ms r
   at-equals false q x g k = never form ms r k
   at-equals true q nothing g k = never form ms r k

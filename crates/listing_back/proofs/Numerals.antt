@@ -11,7 +11,7 @@ use Rattle.digits.specs.Digits.{digits, decimal}
 use Rattle.digits.proofs.Back.{numberFrom}
 use Rattle.digits.proofs.Laws.{digits-lt, digits-suc}
 use Rattle.digits.proofs.Decimal.{digits-ind, digits-enough, decimal-lt, decimal-back, getD-decimal-lt}
-use Rattle.listing_back.specs.Forms.{Number, nothing, number, isDigit, digitsFrom, numberOf}
+use Rattle.listing_back.specs.Forms.{Number, nothing, number, isDigit, digitsFrom, numberAtFront}
 
 pub both : (a b : Bool) → (a && b) ≡ true → (a ≡ true) × (b ≡ true)
 both true b h = (refl, h)
@@ -48,25 +48,25 @@ digitsFrom-stop : (v e : ℕ) (r : List ℕ) → isDigit e ≡ false → digitsF
 unfolding digitsFrom
 digitsFrom-stop v e r h = rw h
 
-number-open : (d : ℕ) (s : List ℕ) → isDigit d ≡ true → eqb d 48 ≡ false → numberOf (d ∷ s) ≡ digitsFrom 0 (d ∷ s)
-unfolding numberOf
+number-open : (d : ℕ) (s : List ℕ) → isDigit d ≡ true → eqb d 48 ≡ false → numberAtFront (d ∷ s) ≡ digitsFrom 0 (d ∷ s)
+unfolding numberAtFront
 number-open d s p q = rw (q, p)
 
-number-zero : (e : ℕ) (r : List ℕ) → isDigit e ≡ false → numberOf (48 ∷ e ∷ r) ≡ number 0 (e ∷ r)
-unfolding numberOf
+number-zero : (e : ℕ) (r : List ℕ) → isDigit e ≡ false → numberAtFront (48 ∷ e ∷ r) ≡ number 0 (e ∷ r)
+unfolding numberAtFront
 number-zero e r i = rw i
 
 taken-positive :
-    (n e : ℕ) (r ds : List ℕ) → AllDigits ds → numberFrom 0 ds ≡ n → 48 < getD ds 0 0 → isDigit e ≡ false → numberOf (ds ++ (e ∷ r)) ≡ number n (e ∷ r)
+    (n e : ℕ) (r ds : List ℕ) → AllDigits ds → numberFrom 0 ds ≡ n → 48 < getD ds 0 0 → isDigit e ≡ false → numberAtFront (ds ++ (e ∷ r)) ≡ number n (e ∷ r)
 taken-positive n e r [] none b h i = absurd (let z : ⊥ = omega arith in z)
 taken-positive n e r (d ∷ ds) (one p a) b h i =
     let q : eqb d 48 ≡ false = ne-eqb d 48 (λ x. let z : ⊥ = omega arith in z) in
     number-open d (ds ++ (e ∷ r)) p q ∙ (digitsFrom-all 0 (e ∷ r) (one p a) ∙ (rw b (digitsFrom-stop n e r i)))
 
 -- TAKEN BEHIND PRINTED
-pub number-taken : (n e : ℕ) (r : List ℕ) → n < 10 ^ 20 → isDigit e ≡ false → numberOf (decimal n ++ (e ∷ r)) ≡ number n (e ∷ r)
+pub number-taken : (n e : ℕ) (r : List ℕ) → n < 10 ^ 20 → isDigit e ≡ false → numberAtFront (decimal n ++ (e ∷ r)) ≡ number n (e ∷ r)
 number-taken n e r h i = go (eqb n 0) refl where
-  go : (t : Bool) → eqb n 0 ≡ t → numberOf (decimal n ++ (e ∷ r)) ≡ number n (e ∷ r)
+  go : (t : Bool) → eqb n 0 ≡ t → numberAtFront (decimal n ++ (e ∷ r)) ≡ number n (e ∷ r)
   go true z =
       let p : n ≡ 0 = eqb-true n 0 z in
       rw (p, decimal-lt 0 (omega arith)) (number-zero e r i)
@@ -129,8 +129,8 @@ digits-printed b n s r e z h f =
       positive b l n = omega arith
 
 -- PRINTED BEHIND TAKEN
-pub number-printed : (s : List ℕ) {n : ℕ} {r : List ℕ} → n < 10 ^ 20 → numberOf s ≡ number n r → s ≡ decimal n ++ r
-unfolding numberOf
+pub number-printed : (s : List ℕ) {n : ℕ} {r : List ℕ} → n < 10 ^ 20 → numberAtFront s ≡ number n r → s ≡ decimal n ++ r
+unfolding numberAtFront
 number-printed [] h e = absurd (let z : _≡_ {A = ℕ} 0 1 = cc in let y : ⊥ = omega arith in y)
 number-printed (b ∷ s) {n} {r} h e = go (eqb b 48) refl (isDigit (getD s 0 0)) (isDigit b) refl e where
   go :

@@ -8,7 +8,7 @@ use Rattle.digits.specs.Digits.{digits}
 use Rattle.listing_text.specs.Listing.{fieldText, lineText, linesText, recordLines}
 use Rattle.listing_text.proofs.Sample.{sampleNumbers, sampleNodes, sampleAttributes, sampleText}
 use Rattle.listing_text.proofs.Sample.{refusalLine, valueLine, capLine, startsLine, nodesLine, attributesLine, notesLine, nodeText, attributeText}
-use Rattle.listing_back.specs.Forms.{digitsFrom, numberOf, formText, held, formsOf}
+use Rattle.listing_back.specs.Forms.{digitsFrom, numberAtFront, formText, held, formsOf}
 use Rattle.listing_back.specs.Due.{anyOver, strayIn, stray, records}
 use Rattle.listing_back.specs.Back.{Relisting, Found, fault, found, Words, headOf, relisting, relistText, faultNumbers}
 
@@ -74,7 +74,9 @@ capNine = 99 ∷ 97 ∷ 112 ∷ 61 ∷ 57 ∷ 10 ∷ []
 
 -- starts=0\nnodes=0\nattributes=0\nnotes=0\n
 abbrev zeros : List ℕ
-zeros = 115 ∷ 116 ∷ 97 ∷ 114 ∷ 116 ∷ 115 ∷ 61 ∷ 48 ∷ 10 ∷ 110 ∷ 111 ∷ 100 ∷ 101 ∷ 115 ∷ 61 ∷ 48 ∷ 10 ∷ 97 ∷ 116 ∷ 116 ∷ 114 ∷ 105 ∷ 98 ∷ 117 ∷ 116 ∷ 101 ∷ 115 ∷ 61 ∷ 48 ∷ 10 ∷ 110 ∷ 111 ∷ 116 ∷ 101 ∷ 115 ∷ 61 ∷ 48 ∷ 10 ∷ []
+zeros =
+    115 ∷ 116 ∷ 97 ∷ 114 ∷ 116 ∷ 115 ∷ 61 ∷ 48 ∷ 10 ∷ 110 ∷ 111 ∷ 100 ∷ 101 ∷ 115 ∷ 61 ∷ 48 ∷ 10 ∷ 97 ∷ 116 ∷ 116 ∷ 114 ∷ 105 ∷ 98 ∷ 117 ∷ 116 ∷ 101 ∷
+    115 ∷ 61 ∷ 48 ∷ 10 ∷ 110 ∷ 111 ∷ 116 ∷ 101 ∷ 115 ∷ 61 ∷ 48 ∷ 10 ∷ []
 
 -- node=1
 abbrev otherNode : List ℕ
@@ -143,29 +145,29 @@ read (t ∷ ts) = relisting room t ∷ read ts
 
 -- what is refused, with the line
 pub refused-right : read texts ≡ faults
-unfolding digitsFrom numberOf formText held formsOf anyOver strayIn stray records headOf relisting
+unfolding digitsFrom numberAtFront formText held formsOf anyOver strayIn stray records headOf relisting
 refused-right = refl
 
 -- what is read: the sample, one refused listing at another cap, notes as words, a cap of 0
 pub sample-right : relisting room sampleText ≡ found sample
-unfolding digitsFrom numberOf formText held formsOf anyOver strayIn stray records headOf relisting
+unfolding digitsFrom numberAtFront formText held formsOf anyOver strayIn stray records headOf relisting
 sample-right = refl
 
 pub listed-right :
     relisting room (first ++ secondValue ++ capNine ++ zeros) ≡
     found (record { cap = 9; numbers = faultNumbers 1 5; nodes = []; attributes = []; notes = [] })
-unfolding digitsFrom numberOf formText held formsOf anyOver strayIn stray records headOf relisting
+unfolding digitsFrom numberAtFront formText held formsOf anyOver strayIn stray records headOf relisting
 listed-right = refl
 
 pub unknown-right :
     relisting room (refusalLine ++ valueLine ++ capZero ++ zeros) ≡
     found (record { cap = 0; numbers = faultNumbers 0 0; nodes = []; attributes = []; notes = [] })
-unfolding digitsFrom numberOf formText held formsOf anyOver strayIn stray records headOf relisting
+unfolding digitsFrom numberAtFront formText held formsOf anyOver strayIn stray records headOf relisting
 unknown-right = refl
 
 -- a record without a place: at its line, and only there
 pub full-right : relisting none sampleText ≡ fault 8 0
-unfolding digitsFrom numberOf formText held formsOf anyOver strayIn stray records headOf relisting
+unfolding digitsFrom numberAtFront formText held formsOf anyOver strayIn stray records headOf relisting
 full-right = refl
 
 -- and back to its text

@@ -215,8 +215,8 @@ module _ (t : Table) {width : ℕ} {line : ℕ → List ℕ → Line} (sort : So
       (k : ℕ) (ns ws s : List ℕ) {u ms r : List ℕ} → Lined (line 0 []) [] s ns u → getD ns 0 0 ≡ k → anyOver ns ≡ false →
       goes (ws ++ drop 1 ns) u ≡ goes ms r → k < t .places → OneRecord (t .places) width line k ws s ms r
   record-fields k ns ws s {u} {ms} {r} l e o f h = go ns (l .all) e o f where
-    wide : (ns : List ℕ) → ns ≡ l .values → length ns ≡ suc width
-    wide ns q = ap length q ∙ (l .many ∙ sort .many)
+    utf16 : (ns : List ℕ) → ns ≡ l .values → length ns ≡ suc width
+    utf16 ns q = ap length q ∙ (l .many ∙ sort .many)
 
     text : (ns : List ℕ) → ns ≡ l .values → anyOver ns ≡ false → s ≡ lineText (fill (line 0 []) ns) ++ u
     text ns q o = l .printed (sym (ap anyOver q) ∙ o) ∙ ap (λ (x : List ℕ). lineText (fill (line 0 []) x) ++ u) (sym q)
@@ -224,8 +224,8 @@ module _ (t : Table) {width : ℕ} {line : ℕ → List ℕ → Line} (sort : So
     go :
         (ns : List ℕ) → ns ≡ l .values → getD ns 0 0 ≡ k → anyOver ns ≡ false → goes (ws ++ drop 1 ns) u ≡ goes ms r →
         OneRecord (t .places) width line k ws s ms r
-    go [] q e o f = absurd (let z : ⊥ = omega (arith, wide [] q) in z)
-    go (v ∷ vs) q e o f = record-made k v vs ws s (let z = wide (v ∷ vs) q in omega arith) e o (text (v ∷ vs) q o) f h
+    go [] q e o f = absurd (let z : ⊥ = omega (arith, utf16 [] q) in z)
+    go (v ∷ vs) q e o f = record-made k v vs ws s (let z = utf16 (v ∷ vs) q in omega arith) e o (text (v ∷ vs) q o) f h
 
   pub record-back : (ln k : ℕ) (ws s : List ℕ) {ms r : List ℕ} → recordLine t ln k (goes ws s) ≡ goes ms r → OneRecord (t .places) width line k ws s ms r
   record-back ln k ws s {ms} {r} e = by-front (taken (t .form) s) refl e where
@@ -252,7 +252,10 @@ module _ (t : Table) {width : ℕ} {line : ℕ → List ℕ → Line} (sort : So
       record {
         values = o .values ++ m .values;
         all = m .all ∙ (ap (λ (x : List ℕ). x ++ m .values) (o .all) ∙ append-assoc ws (o .values) (m .values));
-        many = length-append (o .values) (m .values) ∙ (let a = o .many in let b = m .many in let c = mul-suc width n in let d : length (o .values) + length (m .values) ≡ width * suc n = omega arith in d);
+        many =
+            length-append (o .values) (m .values) ∙
+            (let a = o .many in let b = m .many in let c = mul-suc width n in let d : length (o .values) + length (m .values) ≡ width * suc n =
+            omega arith in d);
         small = anyOver-append (o .values) (m .values) ∙ rw (o .small) (m .small);
         room = λ z. room n (m .room);
         printed = λ more. text more;

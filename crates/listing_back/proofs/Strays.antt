@@ -10,7 +10,7 @@ use borrow.Author.Tests.{eq-eqb, ne-eqb, le-leb, lt-leb, ltb-true, ltb-false, eq
 use lib.Dec.{eqb, ltb, leb}
 use lib.ListN.{length, drop, getD, drop-of-length-le, length-append}
 use lib.Seq.{drop-cons}
-use Rattle.listing_back.specs.Forms.{Number, nothing, number, numberOf, Front, lost, front, numbered, next, held, taken, formText, formsOf, forms}
+use Rattle.listing_back.specs.Forms.{Number, nothing, number, numberAtFront, Front, lost, front, numbered, next, held, taken, formText, formsOf, forms}
 use Rattle.listing_back.specs.Due.{isOver, anyOver, strayBy, strayIn, stray}
 use Rattle.listing_back.specs.Back.{isListed}
 use Rattle.listing_back.specs.Inner.Stands.{HoldsFront, HoldsNothing, Holds, formAt}
@@ -43,7 +43,7 @@ many-on [] ns s {ms} {r} e = let a : ns ≡ ms = cc in rw (← a) (sym (add-zero
 many-on (c ∷ form) ns [] {ms} {r} e = never form ms r e where
   never : (form ms r : List ℕ) {A : Type 0} → held form lost ≡ front ms r → A
   never form ms r e = let f : lost ≡ front ms r = sym (held-lost form) ∙ e in absurd (let z : _≡_ {A = ℕ} 0 1 = cc in let y : ⊥ = omega arith in y)
-many-on (c ∷ form) ns (b ∷ s) {ms} {r} e = go (eqb b c) (eqb c 61) (numberOf s) (λ ns s e. many-on form ns s e) e where
+many-on (c ∷ form) ns (b ∷ s) {ms} {r} e = go (eqb b c) (eqb c 61) (numberAtFront s) (λ ns s e. many-on form ns s e) e where
   never : {A : Type 0} → held form lost ≡ front ms r → A
   never e = let f : lost ≡ front ms r = sym (held-lost form) ∙ e in absurd (let z : _≡_ {A = ℕ} 0 1 = cc in let y : ⊥ = omega arith in y)
 

@@ -16,7 +16,7 @@ use mathlib.Core.Bool.{Bool, false, cond, _||_}
 use mathlib.Core.List.{List, [], _∷_, _++_}
 use lib.ListN.{drop, getD}
 use lib.Dec.{eqb, ltb}
-use Rattle.listing_back.specs.Forms.{Front, lost, front, numberOf, held, taken, formText, formsOf, forms}
+use Rattle.listing_back.specs.Forms.{Front, lost, front, numberAtFront, held, taken, formText, formsOf, forms}
 
 pub data Step : Type 0 where
   stops : ℕ → ℕ → Step

@@ -1,6 +1,6 @@
 -- The ten forms of a listing's lines, and taking a line apart by its form: docs/FORMAT.md, L7.
 --
---   numberOf   the number at the front of bytes and the bytes behind it: `0`, or digits of which the first is not 0. No number where a 0 stands
+--   numberAtFront  the number at the front of bytes and the bytes behind it: `0`, or digits of which the first is not 0. No number where a 0 stands
 --              before another digit, or no digit stands there. It has any length
 --   formText   the form of a line: its text with every number left out, so that a number stands behind each `=`. The keys are those that the
 --              printer prints (listing_text/specs/Listing.antt), and how many there are is said there alone
@@ -31,9 +31,9 @@ unfoldable pub digitsFrom : ℕ → List ℕ → Number
 digitsFrom v [] = number v []
 digitsFrom v (b ∷ s) = cond (isDigit b) (digitsFrom (v * 10 + (b - 48)) s) (number v (b ∷ s))
 
-unfoldable pub numberOf : List ℕ → Number
+unfoldable pub numberAtFront : List ℕ → Number
 unfolding digitsFrom
-numberOf s =
+numberAtFront s =
     cond (eqb (getD s 0 0) 48) (cond (isDigit (getD s 1 0)) nothing (number 0 (drop 1 s)))
     (cond (isDigit (getD s 0 0)) (digitsFrom 0 s) nothing)
 
@@ -56,10 +56,10 @@ numbered ns (number v s) = front (ns ++ (v ∷ [])) s
 abbrev pub next : ℕ → Front → Front
 next c lost = lost
 next c (front ns []) = lost
-next c (front ns (b ∷ s)) = cond (eqb b c) (cond (eqb c 61) (numbered ns (numberOf s)) (front ns s)) lost
+next c (front ns (b ∷ s)) = cond (eqb b c) (cond (eqb c 61) (numbered ns (numberAtFront s)) (front ns s)) lost
 
 unfoldable pub held : List ℕ → Front → Front
-unfolding numberOf
+unfolding numberAtFront
 held [] f = f
 held (c ∷ form) f = held form (next c f)
 

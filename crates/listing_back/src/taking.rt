@@ -7,7 +7,7 @@ ghost use mathlib.Core.Bool.{true, false, cond, _||_};
 ghost use mathlib.Core.List.{[]};
 ghost use Prim.Native.Nat.{_+_, _-_, _*_, _≤_, _<_, min};
 ghost use lib.ListN.{length, drop, getD, set};
-ghost use Rattle.listing_back.specs.Forms.{isDigit, nothing, number, digitsFrom, numberOf, taken};
+ghost use Rattle.listing_back.specs.Forms.{isDigit, nothing, number, digitsFrom, numberAtFront, taken};
 ghost use Rattle.listing_back.specs.Due.{isOver};
 ghost use Rattle.listing_back.specs.Inner.Stands.{IsFigure, Holds, MovesOn, formAt};
 
@@ -120,7 +120,7 @@ fn zero_at(text: &[u8], p: usize) -> Figure
 // The number at this place. Ruled out: a leading zero taken, `+1`, and a number over 32 bits that wraps.
 fn number_at(text: &[u8], p: usize) -> Figure
     requires { ⌜ p ≤ length (now text) ⌝ }
-    ensures { λ r. ⌜ IsFigure (now (text .entry)) r (numberOf (drop p (now (text .entry)))) ⌝ }
+    ensures { λ r. ⌜ IsFigure (now (text .entry)) r (numberAtFront (drop p (now (text .entry)))) ⌝ }
 {
     if text.len() <= p {
         return no_figure();

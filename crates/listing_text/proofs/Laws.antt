@@ -53,7 +53,20 @@ pub nodeLine-drop :
     (threeText 32 32 (field parentKey c) (field firstKey d) (field countKey e) ++ (fieldText (field lineKey f) ++ (10 ∷ []))) ≡
     lineText (nodeLine k (drop i w))
 nodeLine-drop k i w {a} {b} {c} {d} {e} {f} pa pb pc pd pe pf =
-    rw (getD-drop i w nodeName 0, getD-drop i w nodeFixed 0, getD-drop i w nodeParent 0, getD-drop i w nodeFirst 0, getD-drop i w nodeCount 0, getD-drop i w lineWord 0, ← pa, ← pb, ← pc, ← pd, ← pe, ← pf)
+    rw (
+      getD-drop i w nodeName 0,
+      getD-drop i w nodeFixed 0,
+      getD-drop i w nodeParent 0,
+      getD-drop i w nodeFirst 0,
+      getD-drop i w nodeCount 0,
+      getD-drop i w lineWord 0,
+      ← pa,
+      ← pb,
+      ← pc,
+      ← pd,
+      ← pe,
+      ← pf,
+    )
     (lineText-seven (field nodeKey k) (field nameKey a) (field fixedKey b) (field parentKey c) (field firstKey d) (field countKey e) (field lineKey f))
 
 pub attributeLine-drop :
@@ -63,5 +76,19 @@ pub attributeLine-drop :
     (threeText 32 32 (field nameKey c) (field typeKey d) (field dataKey e) ++ (fieldText (field nsKey f) ++ (10 ∷ []))) ≡
     lineText (attributeLine k (drop i w))
 attributeLine-drop k i w {a} {b} {c} {d} {e} {f} pa pb pc pd pe pf =
-    rw (getD-drop i w attributeOwner 0, getD-drop i w attributePrefix 0, getD-drop i w attributeName 0, getD-drop i w attributeType 0, getD-drop i w attributeData 0, getD-drop i w attributeNamespace 0, ← pa, ← pb, ← pc, ← pd, ← pe, ← pf)
+    rw (
+      getD-drop i w attributeOwner 0,
+      getD-drop i w attributePrefix 0,
+      getD-drop i w attributeName 0,
+      getD-drop i w attributeType 0,
+      getD-drop i w
+          attributeData 0,
+      getD-drop i w attributeNamespace 0,
+      ← pa,
+      ← pb,
+      ← pc,
+      ← pd,
+      ← pe,
+      ← pf,
+    )
     (lineText-seven (field attributeKey k) (field ownerKey a) (field prefixKey b) (field nameKey c) (field typeKey d) (field dataKey e) (field nsKey f))

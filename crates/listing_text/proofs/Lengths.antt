@@ -56,7 +56,8 @@ nodeLine-le k w =
 pub attributeLine-le : (k : ℕ) (w : List ℕ) → length (lineText (attributeLine k w)) ≤ lineBytes
 attributeLine-le k w =
     let h =
-    seven-le (field attributeKey k) (field ownerKey (getD w attributeOwner 0)) (field prefixKey (getD w attributePrefix 0)) (field nameKey (getD w attributeName 0)) (field typeKey (getD w attributeType 0))
+    seven-le (field attributeKey k) (field ownerKey (getD w attributeOwner 0)) (field prefixKey (getD w attributePrefix 0))
+    (field nameKey (getD w attributeName 0)) (field typeKey (getD w attributeType 0))
     (field dataKey (getD w attributeData 0)) (field nsKey (getD w attributeNamespace 0))
     in
     omega arith

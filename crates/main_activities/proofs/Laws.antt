@@ -10,7 +10,7 @@ use borrow.Author.Tests.{lt-ltb, le-ltb, eq-eqb, ne-eqb}
 use lib.ListN.{length, getD}
 use lib.Dec.{ltb, eqb}
 use Rattle.records.specs.Words.{nodeWidth, nodeFixed, nodeName, attributeWidth, attributePrefix, attributeName}
-use Rattle.value_text.specs.Value.{falseText, valueOf}
+use Rattle.value_text.specs.Value.{falseText, attributeValue}
 use Rattle.value_text.specs.declared.Attribute.{Attribute}
 use Rattle.many_texts.specs.Many.{attributeAt}
 use Rattle.main_activities.specs.declared.AttributeFound.{AttributeFound}
@@ -273,7 +273,7 @@ module _ (w : Tree) (name s : List ℕ) (k : ℕ) {x : AttributeFound} (e : x �
       {j : ℕ} {a : Attribute} {r : Bool} →
       x ≡ At j →
       a ≡ attributeAt (w .attributes) j →
-      r ≡ shownAs s (valueOf (w .head) (w .bytes) (w .lent) (w .items) (w .itemArea) a) →
+      r ≡ shownAs s (attributeValue (w .head) (w .bytes) (w .lent) (w .items) (w .itemArea) a) →
       r ≡ says w name s k
   unfolding says
   saying f g h =

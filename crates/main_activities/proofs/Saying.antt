@@ -27,7 +27,7 @@ use Rattle.items.specs.declared.Said.{Said}
 use Rattle.value_text.specs.declared.Attribute.{Attribute}
 use Rattle.value_text.specs.declared.plain.Form.{Form}
 use Rattle.value_text.specs.declared.plain.Form.the-variants.{Reference, Attribute as AttributeForm, Pool, Number, Word, Truth, Color, Other}
-use Rattle.value_text.specs.Value.{orPlain, plainBy, plainState, namedValue, valueBy, valueOf}
+use Rattle.value_text.specs.Value.{orPlain, plainBy, plainState, namedValue, valueBy, attributeValue}
 use Rattle.value_text.specs.Inner.Leads.{Leads}
 use Rattle.value_text.specs.Inner.Forms.{formOf, formText, isOther}
 use Rattle.value_text.proofs.Front.{form-said, form-other, leads-wrote}
@@ -142,8 +142,8 @@ module _ (h : Head) (t : List ℕ) (lent : Lent) (items area name : List ℕ) (k
 -- ---- the value
 
 module _ (h : Head) (t : List ℕ) (lent : Lent) (items area : List ℕ) (a : Attribute) (s : List ℕ) {r : Bool} where
-  pub value-uri : a .prefix ≡ 2 → r ≡ eqBytes androidUri s → r ≡ shownAs s (valueOf h t lent items area a)
-  unfolding valueOf
+  pub value-uri : a .prefix ≡ 2 → r ≡ eqBytes androidUri s → r ≡ shownAs s (attributeValue h t lent items area a)
+  unfolding attributeValue
   value-uri e g = rw (eq-eqb (a .prefix) 2 e) g
 
   value-by :
@@ -151,17 +151,17 @@ module _ (h : Head) (t : List ℕ) (lent : Lent) (items area : List ℕ) (a : At
       (a .prefix ≡ 2 → ⊥) →
       c ≡ contentOf h t lent (a .name .0) →
       r ≡ shownAs s (valueBy h t lent items area c (a .kind) (a .«data»)) →
-      r ≡ shownAs s (valueOf h t lent items area a)
-  unfolding valueOf
+      r ≡ shownAs s (attributeValue h t lent items area a)
+  unfolding attributeValue
   value-by p e g = rw (ne-eqb (a .prefix) 2 p, ← e) g
 
   pub value-none :
       (f : Found) →
       (a .prefix ≡ 2 → ⊥) →
-      partOf (h .wide) t (lent .area) f ≡ contentOf h t lent (a .name .0) →
+      partOf (h .utf16) t (lent .area) f ≡ contentOf h t lent (a .name .0) →
       isFound f ≡ false →
       r ≡ false →
-      r ≡ shownAs s (valueOf h t lent items area a)
+      r ≡ shownAs s (attributeValue h t lent items area a)
   value-none Nothing p e q n = value-by p e n
   value-none Cut p e q n = let z : _≡_ {A = ℕ} 0 1 = cc in absurd (let y : ⊥ = omega arith in y)
   value-none (System at i) p e q n = let z : _≡_ {A = ℕ} 0 1 = cc in absurd (let y : ⊥ = omega arith in y)
@@ -170,10 +170,10 @@ module _ (h : Head) (t : List ℕ) (lent : Lent) (items area : List ℕ) (a : At
   pub value-named :
       (f : Found) →
       (a .prefix ≡ 2 → ⊥) →
-      partOf (h .wide) t (lent .area) f ≡ contentOf h t lent (a .name .0) →
+      partOf (h .utf16) t (lent .area) f ≡ contentOf h t lent (a .name .0) →
       isFound f ≡ true →
-      r ≡ shownAs s (namedValue h t lent items area (textIn (partOf (h .wide) t (lent .area) f)) (a .kind) (a .«data»)) →
-      r ≡ shownAs s (valueOf h t lent items area a)
+      r ≡ shownAs s (namedValue h t lent items area (textIn (partOf (h .utf16) t (lent .area) f)) (a .kind) (a .«data»)) →
+      r ≡ shownAs s (attributeValue h t lent items area a)
   value-named Nothing p e q g = let z : _≡_ {A = ℕ} 0 1 = cc in absurd (let y : ⊥ = omega arith in y)
   value-named Cut p e q g = value-by p e g
   value-named (System at i) p e q g = value-by p e g

@@ -9,7 +9,7 @@ use borrow.Author.Tests.{leb-true}
 use lib.ListN.{length, take, drop, replicate, length-append, length-replicate}
 use lib.Seq.{drop-at, take-at}
 use lib.Dec.{leb}
-use Rattle.errors.specs.Refusal.{numberOf, valueOf, pairNumbersOf}
+use Rattle.errors.specs.Refusal.{refusalNumber, refusalValue, pairNumbersOf}
 use Rattle.errors.specs.declared.Refusal.{Refusal}
 use Rattle.errors.specs.declared.Refusal.the-variants.{ListFull}
 use Rattle.errors.specs.declared.ManyAnswer.{ManyAnswer}

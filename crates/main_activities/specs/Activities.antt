@@ -18,7 +18,7 @@ use mathlib.Core.Bool.{Bool, true, false, cond, not, _&&_, _||_}
 use lib.ListN.{length, getD, replicate}
 use lib.Dec.{ltb, leb, eqb}
 use Rattle.utf.specs.Text.{eqBytes}
-use Rattle.errors.specs.Refusal.{numberOf, valueOf as valueNumber}
+use Rattle.errors.specs.Refusal.{refusalNumber, refusalValue as valueNumber}
 use Rattle.errors.specs.declared.Refusal.the-variants.{ListFull}
 use Rattle.system_types.specs.Names.{Lent}
 use Rattle.text.specs.declared.Head.{Head}
@@ -28,7 +28,7 @@ use Rattle.head.specs.declared.OpenRead.the-variants.{Open, Closed}
 use Rattle.records.specs.Words.{nodeWidth, nodeName, nodeFixed, nodeParent, nodeFirst, nodeCount}
 use Rattle.records.specs.Words.{attributeWidth, attributePrefix, attributeName}
 use Rattle.first_value.specs.Question.{tagIs, nameIs, fitOf, sharedBy}
-use Rattle.value_text.specs.Value.{Value, noName, noText, shows, falseText, valueOf, valueOpen}
+use Rattle.value_text.specs.Value.{Value, noName, noText, shows, falseText, attributeValue, valueOpen}
 use Rattle.many_texts.specs.Many.{attributeAt}
 use Rattle.main_activities.specs.declared.AttributeFound.{AttributeFound}
 use Rattle.main_activities.specs.declared.AttributeFound.the-variants.{At, NoAttribute}
@@ -155,7 +155,7 @@ shownAs s (shows x u d) = eqBytes x s
 
 abbrev pub saysBy : Tree → List ℕ → AttributeFound → Bool
 saysBy w s NoAttribute = false
-saysBy w s (At j) = shownAs s (valueOf (w .head) (w .bytes) (w .lent) (w .items) (w .itemArea) (attributeAt (w .attributes) j))
+saysBy w s (At j) = shownAs s (attributeValue (w .head) (w .bytes) (w .lent) (w .items) (w .itemArea) (attributeAt (w .attributes) j))
 
 unfoldable pub says : Tree → List ℕ → List ℕ → ℕ → Bool
 says w name s k = saysBy w s (attributeOf w name k)
@@ -234,7 +234,7 @@ module _ (f : List ℕ) (lent : Lent) (items area ns ats : List ℕ) (nodes attr
 -- the numbers of an answer: how many, or a refusal and its value
 unfoldable pub mainNumbersOf : MainAnswer → MainNumbers
 mainNumbersOf (Found n) = record { refusal = 0; value = 0; count = n }
-mainNumbersOf (Refused r) = record { refusal = numberOf r; value = valueNumber r; count = 0 }
+mainNumbersOf (Refused r) = record { refusal = refusalNumber r; value = valueNumber r; count = 0 }
 
 pub record MainReads
     (f : List ℕ) (lent : Lent) (items area ns ats before : List ℕ) (nodes attributes : ℕ) (r : MainAnswer) (after : List ℕ) : Type 0 where

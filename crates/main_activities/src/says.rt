@@ -15,7 +15,7 @@ ghost use Rattle.items.specs.declared.ItemsRead.the-variants.{Good};
 ghost use Rattle.records.specs.Words.{itemWidth};
 ghost use Rattle.items.specs.Inner.Turns.{RunOf};
 ghost use Rattle.common.specs.ValueType.{valueTypeOf};
-ghost use Rattle.value_text.specs.Value.{plainBy, namedValue, valueOf};
+ghost use Rattle.value_text.specs.Value.{plainBy, namedValue, attributeValue};
 ghost use Rattle.value_text.specs.Inner.Leads.{Leads};
 ghost use Rattle.main_activities.specs.Activities.{shownAs};
 ghost use Rattle.main_activities.specs.Inner.Pass.{Fits, saidIs, isPool};
@@ -141,7 +141,7 @@ pub fn value_is(
     requires { ⌜ Asks (now t) (lends (now names) (now area)) h × (tableOf (now «item_area») (now items) ≡ Good)
         × (0 < length (now expected)) × (length (now expected) ≤ 32) ⌝ }
     ensures { λ r. ⌜ r ≡ shownAs (now (expected .entry))
-        (valueOf h (now (t .entry)) (lends (now (names .entry)) (now (area .entry))) (now (items .entry)) (now («item_area» .entry)) a) ⌝ }
+        (attributeValue h (now (t .entry)) (lends (now (names .entry)) (now (area .entry))) (now (items .entry)) (now («item_area» .entry)) a) ⌝ }
 {
     if a.prefix == 2 {
         return same_bytes(&ANDROID_URI, expected);
@@ -150,7 +150,7 @@ pub fn value_is(
     if !is_found(f) {
         return false;
     }
-    let first = find_item(t, area, h.wide, f, items, item_area);
+    let first = find_item(t, area, h.utf16, f, items, item_area);
     let run = run_of(items, item_area, first);
     let mut out = [0u8; LONGEST];
     named_is(

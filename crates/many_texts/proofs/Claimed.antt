@@ -10,7 +10,7 @@ use borrow.Author.Tests.{eqb-true, eqb-false, ltb-true, ltb-false}
 use lib.ListN.{length, take, drop, getD, replicate}
 use lib.Seq.{drop-append-seam, drop-at, take-append-seam, take-at, getD-take, getD-drop}
 use lib.Dec.{eqb, ltb, leb}
-use Rattle.errors.specs.Refusal.{stateOf, replacedOf, numberOf, textNumbersOf, valueNumbersOf, manyNumbersOf}
+use Rattle.errors.specs.Refusal.{stateOf, replacedOf, refusalNumber, textNumbersOf, valueNumbersOf, manyNumbersOf}
 use Rattle.errors.specs.declared.Refusal.{Refusal}
 use Rattle.errors.specs.declared.Refusal.the-variants.{TextShort, TablesError, AnswersFull}
 use Rattle.errors.specs.declared.ManyTexts.{ManyTexts}
@@ -25,13 +25,13 @@ use Rattle.many_texts.specs.Words.{answerWidth, answerRefusal, answerSta
 use Rattle.system_types.specs.Names.{Lent}
 use Rattle.text.specs.Content.{Content, none, cut, some, contentOf, textIn, damageIn}
 use Rattle.head.specs.Head.{tablesIn}
-use Rattle.head.specs.Ask.{openOf, stateTold, fitted as fits, textBy, askedBy as contentBy, textAnswerBy, textAnswer, bufferBy as buffered, textBuffer}
+use Rattle.head.specs.Ask.{openOf, stateTold, fitted as fits, textBy, contentAskedBy as contentBy, textAnswerBy, textAnswer, bufferBy as buffered, textBuffer}
 use Rattle.head.specs.declared.OpenRead.{OpenRead}
 use Rattle.head.specs.declared.OpenRead.the-variants.{Open, Closed}
-use Rattle.value_text.specs.Value.{Value, noName, noText, shows, shown, valueOf, valueOpen}
+use Rattle.value_text.specs.Value.{Value, noName, noText, shows, shown, attributeValue, valueOpen}
 use Rattle.value_text.specs.Value.{answerBy, bufferBy, answerIn, bufferIn, valueAnswer, valueBuffer}
 use Rattle.many_texts.specs.Single.{IsPart}
-use Rattle.many_texts.specs.Many.{askedBy, valueIn, attributeAt, wordsAt, textsTo, wordsTo, manyBy, mostBytes, mostCount, leaves}
+use Rattle.many_texts.specs.Many.{valueAskedBy, valueIn, attributeAt, wordsAt, textsTo, wordsTo, manyBy, mostBytes, mostCount, leaves}
 use Rattle.many_texts.specs.Many.{valueOne, valuesBy, valuesAnswer, ReadsValues, textOne, textsBy, textsAnswer, ReadsTexts}
 use Rattle.many_texts.proofs.Going.{wordsAt-length, length-words}
 
@@ -199,7 +199,7 @@ module _ (start i : ℕ) (out table : List ℕ) where
       IsPart (valueNumbersOf (answerBy room kind v) .refusal) (valueNumbersOf (answerBy room kind v) .length)
       (valueNumbersOf (answerBy room kind v) .uncovered) (valueNumbersOf (answerBy room kind v) .state)
       (valueNumbersOf (answerBy room kind v) .replaced) (bufferBy room v) i out table
-  unfolding valueNumbersOf numberOf fitted
+  unfolding valueNumbersOf refusalNumber fitted
   part-is noName room kind p c = part-none 12 (replicate room 0) (p .words)
   part-is noText room kind p c = part-none 15 (replicate room 0) (p .words)
   part-is (shows s u d) room kind p c = go (leb (length s) room) c
@@ -223,7 +223,7 @@ module _ (start i : ℕ) (out table : List ℕ) where
       (textNumbersOf (fits room s t) .refusal ≡ 11 → ⊥) →
       IsPart (textNumbersOf (fits room s t) .refusal) (textNumbersOf (fits room s t) .length) 0
       (textNumbersOf (fits room s t) .state) (textNumbersOf (fits room s t) .replaced) (buffered room s (fits room s t)) i out table
-  unfolding textNumbersOf numberOf
+  unfolding textNumbersOf refusalNumber
   text-fits room s t p c = go (leb (length s) room) c
     where
       go :
@@ -243,7 +243,7 @@ module _ (start i : ℕ) (out table : List ℕ) where
       (textNumbersOf (textBy room c) .refusal ≡ 11 → ⊥) →
       IsPart (textNumbersOf (textBy room c) .refusal) (textNumbersOf (textBy room c) .length) 0
       (textNumbersOf (textBy room c) .state) (textNumbersOf (textBy room c) .replaced) (buffered room (textIn c) (textBy room c)) i out table
-  unfolding textNumbersOf numberOf
+  unfolding textNumbersOf refusalNumber
   text-is none room p c = part-none 12 (replicate room 0) (p .words)
   text-is cut room p c = text-fits room (textIn cut) (stateTold (damageIn cut)) p c
   text-is (some w s) room p c = text-fits room (textIn (some w s)) (stateTold (damageIn (some w s))) p c
@@ -304,7 +304,7 @@ module _ (f : List ℕ) (lent : Lent) (items area ats out₀ table₀ : List ℕ
     values-by :
         (o : OpenRead) (i start room : ℕ) →
         ((r : Refusal) → o ≡ Closed r → ⊥) →
-        PartAt (askedBy f lent items area (attributeAt ats i) o) start i out table →
+        PartAt (valueAskedBy f lent items area (attributeAt ats i) o) start i out table →
         (valueNumbersOf (answerIn f lent items area room (attributeAt ats i) o) .refusal ≡ 11 → ⊥) →
         IsPart (valueNumbersOf (answerIn f lent items area room (attributeAt ats i) o) .refusal)
         (valueNumbersOf (answerIn f lent items area room (attributeAt ats i) o) .length)
@@ -314,7 +314,7 @@ module _ (f : List ℕ) (lent : Lent) (items area ats out₀ table₀ : List ℕ
         table
     values-by (Closed r) i start room c p d = absurd (c r refl)
     values-by (Open h) i start room c p d =
-        part-is start i out table (valueOf h (tablesIn f h) lent items area (attributeAt ats i)) room (attributeAt ats i .kind) p d
+        part-is start i out table (attributeValue h (tablesIn f h) lent items area (attributeAt ats i)) room (attributeAt ats i .kind) p d
 
     pub values-single :
         (i room : ℕ) →

@@ -28,7 +28,7 @@ use Rattle.text.specs.Content.{Content, textIn, damageIn}
 use Rattle.text.specs.Inner.Found.{Wrote as Put, partOf, isFound, asciiIn}
 use Rattle.text.proofs.Read.{ascii-whole}
 use Rattle.head.specs.Head.{tablesIn}
-use Rattle.head.specs.Ask.{openOf, stateTold, askedBy as contentBy}
+use Rattle.head.specs.Ask.{openOf, stateTold, contentAskedBy as contentBy}
 use Rattle.head.specs.declared.OpenRead.{OpenRead}
 use Rattle.head.specs.declared.OpenRead.the-variants.{Open, Closed}
 use Rattle.value_text.specs.declared.Attribute.{Attribute}
@@ -37,10 +37,10 @@ use Rattle.errors.specs.Refusal.{stateOf, replacedOf}
 use Rattle.errors.specs.declared.TextState.{TextState}
 use Rattle.errors.specs.declared.TextState.the-variants.{Whole}
 use Rattle.value_text.specs.declared.Told.the-variants.{Shown, NoName, NoText}
-use Rattle.value_text.specs.Value.{Value, noName, noText, shows, shown, valueOf, valueOpen}
+use Rattle.value_text.specs.Value.{Value, noName, noText, shows, shown, attributeValue, valueOpen}
 use Rattle.value_text.specs.Inner.Leads.{Tells, toldOf}
 use Rattle.value_text.proofs.Front.{leads-put, tells-text}
-use Rattle.many_texts.specs.Many.{askedBy, valueIn, attributeAt, wordsAt, textsTo, wordsTo, manyBy, mostBytes, mostCount, leaves}
+use Rattle.many_texts.specs.Many.{valueAskedBy, valueIn, attributeAt, wordsAt, textsTo, wordsTo, manyBy, mostBytes, mostCount, leaves}
 use Rattle.many_texts.specs.Many.{valuesBy, valuesAnswer, ReadsValues, textsBy, textsAnswer, ReadsTexts}
 use Rattle.many_texts.specs.Inner.Going.{TellsAt, Puts, Done, Gives, recordValue, indexValue}
 
@@ -111,7 +111,7 @@ module _ {c : Content} {out : List ℕ} (w : Bool) (t area : List ℕ) where
 pub value-turn :
     (h : Head) (t : List ℕ) (lent : Lent) (items area ats : List ℕ) (k : ℕ) {at : ℕ} {a : Attribute} {told : Told} {out out′ : List ℕ} →
     a ≡ attributeAt ats k →
-    TellsAt at (valueOf h t lent items area a) out told out′ →
+    TellsAt at (attributeValue h t lent items area a) out told out′ →
     TellsAt at (recordValue h t lent items area ats k) out told out′
 value-turn h t lent items area ats k e x = rw (← e) x
 
@@ -249,7 +249,7 @@ module _ {k at r : ℕ} {before after : List ℕ} where
 
 pub done-first : (one : ℕ → Value) (out table : List ℕ) → Done one (length out) (length table) 0 0 out table
 unfolding textsTo wordsTo
-done-first one out table = record { place = omega arith; long = refl; wide = refl; bytes = λ h. refl; words = λ h. refl }
+done-first one out table = record { place = omega arith; long = refl; utf16 = refl; bytes = λ h. refl; words = λ h. refl }
 
 module _ (one : ℕ → Value) (k : ℕ) where
   texts-next : textsTo one (k + 1) ≡ textsTo one k ++ shown (one k)
@@ -281,7 +281,7 @@ done-step {one} {n} {m} {k} {at} {at′} {told} {out} {table} {out′} {table′
     record {
       place = omega arith;
       long = t .long ∙ d .long;
-      wide = p .long ∙ d .wide;
+      utf16 = p .long ∙ d .utf16;
       bytes = λ h.
           let i : length s ≡ at = omega arith in
           let j : length s ≤ n = omega arith in
@@ -369,7 +369,7 @@ module _ {count n m at : ℕ} {one : ℕ → Value} {out table : List ℕ} (d : 
       (record {
         same = rw s;
         bytes = e ∙ rw (t, s, d .long);
-        words = i ∙ rw (u, length-words one count, d .wide);
+        words = i ∙ rw (u, length-words one count, d .utf16);
       })
 
 -- the same of the buffers that came in
@@ -381,8 +381,8 @@ pub settled :
     Gives (length out) (length table) count one (manyBy count one (length out) (length table / answerWidth)) r out′ table′) →
     Gives n m count one (manyBy count one n (m / answerWidth)) r out′ table′
 settled {one = one} d s =
-    let g = s one (rw (d .long, d .wide) d) in
-    rw (d .long, d .wide) at g
+    let g = s one (rw (d .long, d .utf16) d) in
+    rw (d .long, d .utf16) at g
 
 -- ---- the promises
 
@@ -406,7 +406,7 @@ module _ (f : List ℕ) (lent : Lent) (items area ats out₀ table₀ : List ℕ
   unfolding valuesAnswer
   values-open {h} e q g =
       let g′ = rw q at g in
-      let one : OpenRead → ℕ → Value = λ o k. askedBy f lent items area (attributeAt ats k) o in
+      let one : OpenRead → ℕ → Value = λ o k. valueAskedBy f lent items area (attributeAt ats k) o in
       let many : OpenRead → ManyTexts =
       λ o. cond (ltb (length ats) (attributeWidth * count)) (Refused (TablesError count))
       (manyBy count (one o) (length out₀) (length table₀ / answerWidth)) in

@@ -59,7 +59,7 @@ module _ (h : Head) (t : List ℕ) (lent : Lent) (items area : List ℕ) where
           let q′ : 0 < getD ends i 0 = rw y at q in
           rw (x, y) (k .right i q′)
 
-  pub looks-none : (i : ℕ) (f : Found) → partOf (h .wide) t (lent .area) f ≡ contentOf h t lent i → isFound f ≡ false → contentOf h t lent i ≡ none
+  pub looks-none : (i : ℕ) (f : Found) → partOf (h .utf16) t (lent .area) f ≡ contentOf h t lent i → isFound f ≡ false → contentOf h t lent i ≡ none
   looks-none i Nothing e p = sym e
   looks-none i Cut e p = let z : _≡_ {A = ℕ} 0 1 = cc in absurd (let y : ⊥ = omega arith in y)
   looks-none i (System at n) e p = let z : _≡_ {A = ℕ} 0 1 = cc in absurd (let y : ⊥ = omega arith in y)
@@ -67,11 +67,11 @@ module _ (h : Head) (t : List ℕ) (lent : Lent) (items area : List ℕ) where
 
   pub looks-at :
       (i : ℕ) (f : Found) {r : Run} →
-      partOf (h .wide) t (lent .area) f ≡ contentOf h t lent i →
+      partOf (h .utf16) t (lent .area) f ≡ contentOf h t lent i →
       isFound f ≡ true →
-      RunOf area (textIn (partOf (h .wide) t (lent .area) f)) items r →
+      RunOf area (textIn (partOf (h .utf16) t (lent .area) f)) items r →
       HasRun h t lent items area i r
-  looks-at i f e p g = record { named = rw (← e) (part-text (h .wide) t (lent .area) f p); run = rw (← e) g }
+  looks-at i f e p g = record { named = rw (← e) (part-text (h .utf16) t (lent .area) f p); run = rw (← e) g }
 
   -- by which case was told
   pub looks-same : (i : ℕ) {x y : Looked} → x ≡ y → Looks h t lent items area i x → Looks h t lent items area i y

@@ -17,7 +17,7 @@ use mathlib.Core.List.{List, [], _∷_, _++_}
 use mathlib.Core.Bool.{cond}
 use lib.ListN.{length, replicate, getD}
 use lib.Dec.{ltb, leb}
-use Rattle.errors.specs.Refusal.{numberOf, stateOf, replacedOf, manyNumbersOf}
+use Rattle.errors.specs.Refusal.{refusalNumber, stateOf, replacedOf, manyNumbersOf}
 use Rattle.errors.specs.declared.Refusal.the-variants.{NothingFound, TextShort, TablesError, NoPlainText, AnswersFull}
 use Rattle.errors.specs.declared.ManyTexts.{ManyTexts}
 use Rattle.errors.specs.declared.ManyTexts.the-variants.{Answered, Refused}
@@ -30,16 +30,16 @@ use Rattle.head.specs.Ask.{openOf, contentAsked, stateTold}
 use Rattle.head.specs.declared.OpenRead.{OpenRead}
 use Rattle.head.specs.declared.OpenRead.the-variants.{Open, Closed}
 use Rattle.value_text.specs.declared.Attribute.{Attribute}
-use Rattle.value_text.specs.Value.{Value, noName, noText, shows, shown, valueOf, valueOpen}
+use Rattle.value_text.specs.Value.{Value, noName, noText, shows, shown, attributeValue, valueOpen}
 
 -- ---- one question
 
-abbrev pub askedBy : List ℕ → Lent → List ℕ → List ℕ → Attribute → OpenRead → Value
-askedBy f lent items area a (Closed r) = noName
-askedBy f lent items area a (Open h) = valueOf h (tablesIn f h) lent items area a
+abbrev pub valueAskedBy : List ℕ → Lent → List ℕ → List ℕ → Attribute → OpenRead → Value
+valueAskedBy f lent items area a (Closed r) = noName
+valueAskedBy f lent items area a (Open h) = attributeValue h (tablesIn f h) lent items area a
 
 abbrev pub valueAsked : List ℕ → Lent → List ℕ → List ℕ → Attribute → Value
-valueAsked f lent items area a = askedBy f lent items area a (valueOpen f lent items area)
+valueAsked f lent items area a = valueAskedBy f lent items area a (valueOpen f lent items area)
 
 -- no bits are uncovered in the text of an index, and its damage is told
 abbrev pub valueIn : Content → Value
@@ -65,8 +65,8 @@ attributeAt w k =
 
 -- the words of an answer whose text begins at this place
 abbrev pub wordsAt : ℕ → Value → List ℕ
-wordsAt start noName = answerWords (numberOf NothingFound) 0 0 0 0 0
-wordsAt start noText = answerWords (numberOf (NoPlainText 0)) 0 0 0 0 0
+wordsAt start noName = answerWords (refusalNumber NothingFound) 0 0 0 0 0
+wordsAt start noText = answerWords (refusalNumber (NoPlainText 0)) 0 0 0 0 0
 wordsAt start (shows s u d) = answerWords 0 start (length s) u (stateOf d) (replacedOf d)
 
 unfoldable pub textsTo : (ℕ → Value) → ℕ → List ℕ

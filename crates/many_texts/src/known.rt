@@ -44,7 +44,7 @@ fn look(
     if !is_found(f) {
         return Looked::NoName;
     }
-    Looked::At(known_run(t, area, h.wide, f, items, item_area, firsts))
+    Looked::At(known_run(t, area, h.utf16, f, items, item_area, firsts))
 }
 
 // The items of an index's text. In `ends` stands for a name that is known the number behind the last of them and one more, 0 for a name that

@@ -24,7 +24,7 @@ ghost use Rattle.text.specs.Inner.Found.{Asks};
 ghost use Rattle.items.specs.Items.{tableOf};
 ghost use Rattle.items.specs.declared.ItemsRead.the-variants.{Good};
 ghost use Rattle.items.specs.Inner.Firsts.{Firsts};
-ghost use Rattle.value_text.specs.Value.{Value, shows, shown, valueOf};
+ghost use Rattle.value_text.specs.Value.{Value, shows, shown, attributeValue};
 ghost use Rattle.value_text.specs.Inner.Leads.{Tells, toldOf};
 ghost use Rattle.many_texts.specs.Many.{valueIn, attributeAt, wordsAt, manyBy, mostBytes, mostCount, ReadsValues, ReadsTexts};
 ghost use Rattle.many_texts.specs.Inner.Known.{Knows};
@@ -217,7 +217,7 @@ fn value_by(
 ) -> Told
     requires { ⌜ Asks (now t) (lends (now names) (now area)) h × (tableOf (now «item_area») (now items) ≡ Good)
         × Firsts (now «item_area») (now items) (now firsts) × Knows h (now t) (lends (now names) (now area)) (now items) (now «item_area») (now starts) (now ends) ⌝ }
-    ensures { λ r. ⌜ Tells (valueOf h (now (t .entry)) (lends (now (names .entry)) (now (area .entry))) (now (items .entry)) (now («item_area» .entry)) a)
+    ensures { λ r. ⌜ Tells (attributeValue h (now (t .entry)) (lends (now (names .entry)) (now (area .entry))) (now (items .entry)) (now («item_area» .entry)) a)
         (now (out .entry)) r (now (out .exit))
         × Knows h (now (t .entry)) (lends (now (names .entry)) (now (area .entry))) (now (items .entry)) (now («item_area» .entry)) (now (starts .exit)) (now (ends .exit)) ⌝ }
 {
@@ -269,7 +269,7 @@ fn value_at(
 ) -> Told
     requires { ⌜ Asks (now t) (lends (now names) (now area)) h × (tableOf (now «item_area») (now items) ≡ Good)
         × Firsts (now «item_area») (now items) (now firsts) × Knows h (now t) (lends (now names) (now area)) (now items) (now «item_area») (now starts) (now ends) ⌝ }
-    ensures { λ r. ⌜ TellsAt at (valueOf h (now (t .entry)) (lends (now (names .entry)) (now (area .entry))) (now (items .entry)) (now («item_area» .entry)) a)
+    ensures { λ r. ⌜ TellsAt at (attributeValue h (now (t .entry)) (lends (now (names .entry)) (now (area .entry))) (now (items .entry)) (now («item_area» .entry)) a)
         (now (out .entry)) r (now (out .exit))
         × Knows h (now (t .entry)) (lends (now (names .entry)) (now (area .entry))) (now (items .entry)) (now («item_area» .entry)) (now (starts .exit)) (now (ends .exit)) ⌝ }
 {
@@ -302,15 +302,15 @@ fn index_into(
     ensures { λ r. ⌜ Tells (valueIn (contentOf h (now (t .entry)) (lends (now (names .entry)) (now (area .entry))) (index .0))) (now (out .entry)) r (now (out .exit)) ⌝ }
 {
     let f = find(t, names, area, h, index);
-    if found_ascii(t, area, h.wide, f) {
-        let n = found_ascii_into(t, area, h.wide, f, out);
+    if found_ascii(t, area, h.utf16, f) {
+        let n = found_ascii_into(t, area, h.utf16, f, out);
         return Told::Shown(n, 0, TextState::Whole);
     }
     if !is_found(f) {
         return Told::NoName;
     }
-    let n = found_into(t, area, h.wide, f, out);
-    let state = found_told(t, area, h.wide, f);
+    let n = found_into(t, area, h.utf16, f, out);
+    let state = found_told(t, area, h.utf16, f);
     Told::Shown(n, 0, state)
 }
 

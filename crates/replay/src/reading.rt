@@ -13,7 +13,7 @@ use records::LISTED_NOTES;
 use records::NOTE_WORDS;
 use stored::part;
 use stored::tally;
-use stored::wide;
+use stored::to_u64;
 use stored::word;
 
 // ---- an answer
@@ -23,7 +23,7 @@ fn tells(row: &[u8], n: Numbers) -> bool {
     if n.refusal != word(row, 6) {
         return false;
     }
-    if n.value != wide(word(row, 7)) {
+    if n.value != to_u64(word(row, 7)) {
         return false;
     }
     if n.starts != word(row, 8) {

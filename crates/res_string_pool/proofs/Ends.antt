@@ -15,7 +15,7 @@ use Rattle.field.specs.Le.{u32le}
 use Rattle.common.specs.Header.{headerOf, contentSize}
 use Rattle.common.specs.declared.ResChunkHeader.{ResChunkHeader}
 use Rattle.common.specs.declared.HeaderRead.the-variants.{Whole, Short}
-use Rattle.res_string_pool.specs.Pool.{countOf, wideOf, noGarbage, unread, numbered, endOf, poolFrom, secondBy, behindGarbage, poolOf}
+use Rattle.res_string_pool.specs.Pool.{countOf, isUtf16, noGarbage, unread, numbered, endOf, poolFrom, secondBy, behindGarbage, poolOf}
 use Rattle.res_string_pool.specs.declared.Garbage.{Garbage}
 use Rattle.res_string_pool.specs.declared.Pool.{Pool}
 use Rattle.res_string_pool.specs.declared.PoolEnd.{PoolEnd}
@@ -91,7 +91,7 @@ pub numbered-by
     → t ≡ start
     → size ≡ z - t
     → _≡_ {A = Pool}
-    (record { declared = declared; count = count; wide = wideOf flags; offsets = at + 28; strings = at + 28 + 4 * c′ + 4 * s′; size = size })
+    (record { declared = declared; count = count; utf16 = isUtf16 flags; offsets = at + 28; strings = at + 28 + 4 * c′ + 4 * s′; size = size })
     (numbered at h m)
 unfolding numbered
 numbered-by at h m declared styles flags start count c′ s′ z t size e₁ e₂ e₃ e₄ e₅ e₆ e₇ e₈ e₉ e₁₀ = rw (e₁₀, e₉, e₈, e₇, e₆, e₅, e₄, e₃, e₂, e₁)

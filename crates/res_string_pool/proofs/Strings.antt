@@ -1,6 +1,6 @@
 -- Laws of specs/Content.antt, for the functions and for the crates above. No contract cites this file.
 -- In order: the cases of a length (`width8-..`, `length8-..`, `split16-..`); a content lies in its list, with its closing bytes
--- (`splitOf-fits`, `splitOf-closed`); UTF-16 content is whole units (`splitOf-wide`).
+-- (`splitOf-fits`, `splitOf-closed`); UTF-16 content is whole units (`splitOf-utf16`).
 use Prim.Native.Nat.{ℕ, _+_, _-_, _*_, _%_, _≤_, _<_}
 use native.Mathlib.Omega.{arith}
 use mathlib.Core.Path.{_≡_, refl, sym, _∙_}
@@ -73,16 +73,16 @@ module _ (l : List ℕ) (at n closing : ℕ) where
           absurd (let y : ⊥ = omega arith in y)
 
 -- with at least one closing byte behind it
-pub splitOf-closed : (wide : Bool) (l : List ℕ) {k n : ℕ} → splitOf wide l ≡ Content k n → k + n + 1 ≤ length l
+pub splitOf-closed : (utf16 : Bool) (l : List ℕ) {k n : ℕ} → splitOf utf16 l ≡ Content k n → k + n + 1 ≤ length l
 unfolding split8 split16
 splitOf-closed true l e = let q = within-fits l (width16 l) (2 * length16 l) 2 e in omega arith
 splitOf-closed false l e = let q = within-fits l (width8 l 0 + width8 l (width8 l 0)) (length8 l (width8 l 0)) 1 e in omega arith
 
-pub splitOf-fits : (wide : Bool) (l : List ℕ) {k n : ℕ} → splitOf wide l ≡ Content k n → k + n ≤ length l
-splitOf-fits wide l e = let q = splitOf-closed wide l e in omega arith
+pub splitOf-fits : (utf16 : Bool) (l : List ℕ) {k n : ℕ} → splitOf utf16 l ≡ Content k n → k + n ≤ length l
+splitOf-fits utf16 l e = let q = splitOf-closed utf16 l e in omega arith
 
 -- ---- UTF-16 content is whole units
 
-pub splitOf-wide : (l : List ℕ) {k n : ℕ} → splitOf true l ≡ Content k n → n ≡ 2 * length16 l
+pub splitOf-utf16 : (l : List ℕ) {k n : ℕ} → splitOf true l ≡ Content k n → n ≡ 2 * length16 l
 unfolding split16
-splitOf-wide l e = sym (within-fits l (width16 l) (2 * length16 l) 2 e .1)
+splitOf-utf16 l e = sym (within-fits l (width16 l) (2 * length16 l) 2 e .1)

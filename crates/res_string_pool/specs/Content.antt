@@ -40,4 +40,4 @@ unfoldable pub split16 : List ℕ → Split
 split16 l = within l (width16 l) (2 * length16 l) 2
 
 abbrev pub splitOf : Bool → List ℕ → Split
-splitOf wide l = cond wide (split16 l) (split8 l)
+splitOf utf16 l = cond utf16 (split16 l) (split8 l)

@@ -32,9 +32,9 @@ capped n = min n 4294967295
 unfoldable pub countOf : ℕ → ℕ → ℕ
 countOf start styles = (start - capped (capped (4 * styles) + 28)) / 4
 
--- bit 8 of the flags says UTF-8; UTF-16 is `wide`
-abbrev pub wideOf : ℕ → Bool
-wideOf flags = eqb (flags / 256 % 2) 0
+-- bit 8 of the flags says UTF-8; UTF-16 is `utf16`
+abbrev pub isUtf16 : ℕ → Bool
+isUtf16 flags = eqb (flags / 256 % 2) 0
 
 -- ---- the parts, each behind the one before
 
@@ -43,7 +43,7 @@ abbrev pub noGarbage : Garbage
 noGarbage = record { found = false; kind = 0; skipped = 0 }
 
 abbrev pub noPool : Pool
-noPool = record { declared = 0; count = 0; wide = false; offsets = 0; strings = 0; size = 0 }
+noPool = record { declared = 0; count = 0; utf16 = false; offsets = 0; strings = 0; size = 0 }
 
 abbrev pub unread : Garbage → PoolEnd → PoolRead
 unread g e = record { garbage = g; pool = noPool; end = e }
@@ -55,7 +55,7 @@ numbered at h m =
     record {
       declared = u32le m 8;
       count = count;
-      wide = wideOf (u32le m 16);
+      utf16 = isUtf16 (u32le m 16);
       offsets = at + 28;
       strings = at + 28 + 4 * count + 4 * u32le m 12;
       size = h .size - u32le m 20;

@@ -7,7 +7,7 @@ ghost use Prim.Native.Nat.{_≤_, _<_};
 ghost use Rattle.field.specs.Le.{u8le, u16le};
 ghost use Rattle.res_string_pool.specs.Content.{within, width8, length8, split8, split16, splitOf};
 use super::Split;
-use super::wide;
+use super::to_usize;
 use field::u8_at;
 
 // The byte at a place, and 0 past the end: a string that lacks a byte of its lengths lacks its closing bytes too.
@@ -43,9 +43,9 @@ fn length8_at(s: &[u8], at: usize) -> usize
     let b = byte_at(s, at);
     if 128 <= b {
         let low = byte_at(s, at + 1);
-        return wide(b % 128 * 256 + low);
+        return to_usize(b % 128 * 256 + low);
     }
-    wide(b)
+    to_usize(b)
 }
 
 // A content of n bytes at the place `at`, if it and the closing bytes behind it are there.
@@ -72,11 +72,11 @@ fn split_utf16(s: &[u8]) -> Split
 {
     let u = unit_at(s, 0);
     if 32768 <= u {
-        let high = wide(u % 32768);
-        let low = wide(unit_at(s, 2));
+        let high = to_usize(u % 32768);
+        let low = to_usize(unit_at(s, 2));
         return content_in(s, 4, 2 * (high * 65536 + low), 2);
     }
-    content_in(s, 2, 2 * wide(u), 2)
+    content_in(s, 2, 2 * to_usize(u), 2)
 }
 
 // The string at the front of s, which is the pool's data from an offset on.

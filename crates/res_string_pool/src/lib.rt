@@ -31,7 +31,7 @@ pub struct Garbage {
 pub struct Pool {
     pub declared: u32,
     pub count: u32,
-    pub wide: bool,
+    pub utf16: bool,
     pub offsets: usize,
     pub strings: usize,
     pub size: usize,
@@ -62,7 +62,7 @@ pub enum Split {
 
 // ---- numbers
 
-fn wide(x: u32) -> usize
+fn to_usize(x: u32) -> usize
     ensures { λ r. ⌜ r ≡ x ⌝ }
 {
     x as usize
@@ -84,8 +84,8 @@ fn cap_u32(n: usize) -> usize
 fn count_of(start: u32, styles: u32) -> u32
     ensures { λ r. ⌜ r ≡ countOf start styles ⌝ }
 {
-    let before = cap_u32(cap_u32(4 * wide(styles)) + 28);
-    (less(wide(start), before) / 4) as u32
+    let before = cap_u32(cap_u32(4 * to_usize(styles)) + 28);
+    (less(to_usize(start), before) / 4) as u32
 }
 
 // ---- the parts
@@ -118,7 +118,7 @@ fn short(garbage: Garbage, end: PoolEnd) -> PoolRead
         pool: Pool {
             declared: 0,
             count: 0,
-            wide: false,
+            utf16: false,
             offsets: 0,
             strings: 0,
             size: 0,
@@ -150,10 +150,10 @@ fn numbers_of(at: usize, h: ResChunkHeader, m: &[u8]) -> Pool
     Pool {
         declared,
         count,
-        wide: flags / 256 % 2 == 0,
+        utf16: flags / 256 % 2 == 0,
         offsets: at + 28,
-        strings: at + 28 + 4 * wide(count) + 4 * wide(styles),
-        size: less(wide(h.size), wide(start)),
+        strings: at + 28 + 4 * to_usize(count) + 4 * to_usize(styles),
+        size: less(to_usize(h.size), to_usize(start)),
     }
 }
 
@@ -168,8 +168,8 @@ fn pool_from(garbage: Garbage, at: usize, h: ResChunkHeader, m: &[u8]) -> PoolRe
     let pool = numbers_of(at, h, m);
     let end = end_of(
         m.len() - 28,
-        wide(pool.count),
-        wide(u32_at(m, 12)),
+        to_usize(pool.count),
+        to_usize(u32_at(m, 12)),
         pool.size,
     );
     PoolRead { garbage, pool, end }
@@ -193,7 +193,7 @@ fn behind_garbage(h: ResChunkHeader, s: &[u8]) -> PoolRead
     ensures { λ r. ⌜ r ≡ behindGarbage h (now (s .entry)) ⌝ }
 {
     let skipped = h.content_size();
-    let n = wide(skipped);
+    let n = to_usize(skipped);
     if s.len() - 8 < n {
         return short(no_garbage(), PoolEnd::GarbageShort(s.len() - 8));
     }
@@ -238,7 +238,7 @@ pub fn outside_of(o: &[u8], size: usize) -> u32
     let mut i = 0;
     let mut k = 0;
     while i < n {
-        if size <= wide(u32_at(o, 4 * i)) {
+        if size <= to_usize(u32_at(o, 4 * i)) {
             k += 1;
         }
         i += 1;

@@ -4,4 +4,4 @@ pub mod Shares
 pub mod Tallies
 pub mod Order
 pub mod Sums
-pub mod Told
+pub mod AnswerLaws

@@ -12,7 +12,7 @@ use borrow.Author.Tests.{eq-eqb, ne-eqb}
 use Rattle.errors.specs.Refusal.{numbersOf}
 use Rattle.errors.specs.declared.ReadAnswer.{ReadAnswer}
 use Rattle.errors.specs.declared.ReadAnswer.the-variants.{Done, Refused}
-use Rattle.errors.proofs.Laws.{numberOf-le}
+use Rattle.errors.proofs.Laws.{refusalNumber-le}
 use Rattle.errors.specs.declared.Numbers.{Numbers}
 use Rattle.round_up.specs.declared.Added.{Added}
 use Rattle.round_up.specs.declared.RoundUp.{RoundUp}
@@ -102,7 +102,7 @@ module _ (class : ℕ) (counts : List ℕ) (inside : class < classes) (whole : l
 pub number-lt : (a : ReadAnswer) → numbersOf a .refusal < numbers
 unfolding numbersOf
 number-lt (Done c) = omega arith
-number-lt (Refused r) = omega (arith, numberOf-le r)
+number-lt (Refused r) = omega (arith, refusalNumber-le r)
 
 pub shareBy-read : (counts : List ℕ) (number len : ℕ) → number ≡ 0 → shareBy counts number len ≡ readShare counts (classOf len)
 unfolding shareBy

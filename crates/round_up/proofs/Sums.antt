@@ -11,10 +11,10 @@ use mathlib.Core.Bool.{Bool, true, false, cond}
 use lib.ListN.{length, getD, set, drop, replicate, length-append, length-drop, length-set}
 use lib.Seq.{drop-set-lt, drop-append-seam}
 use lib.Dec.{eqb}
-use Rattle.errors.specs.Refusal.{numberOf, numbersOf}
+use Rattle.errors.specs.Refusal.{refusalNumber, numbersOf}
 use Rattle.errors.specs.declared.ReadAnswer.{ReadAnswer}
 use Rattle.errors.specs.declared.ReadAnswer.the-variants.{Done, Refused}
-use Rattle.errors.proofs.Laws.{numberOf-le, numberOf-some}
+use Rattle.errors.proofs.Laws.{refusalNumber-le, refusalNumber-some}
 use Rattle.round_up.specs.declared.AddAnswer.the-variants as add
 use Rattle.round_up.specs.declared.RoundUp.{RoundUp}
 use Rattle.round_up.specs.RoundUp.{classes, places, gridFrom, refusedFrom, emptyRoundUp, gridOf, rowOf, cellsOf, classOf, headOf}
@@ -69,9 +69,9 @@ unfolding shareBy numbersOf
 share-grid counts (Done c) len =
     ap total (drop-append-seam headOf (cellsOf (classOf len) counts)) ∙ total-cells (classOf len) counts (classOf-lt len)
 share-grid counts (Refused x) len =
-    let none : drop gridFrom (refusedShare (numberOf x)) ≡ drop gridFrom (replicate places 0) =
-    drop-set-lt gridFrom (replicate places 0) (refusedFrom + numberOf x) 1 (omega (arith, numberOf-le x)) in
-    rw (numberOf-some x) (ap total none ∙ total-zeros 78)
+    let none : drop gridFrom (refusedShare (refusalNumber x)) ≡ drop gridFrom (replicate places 0) =
+    drop-set-lt gridFrom (replicate places 0) (refusedFrom + refusalNumber x) 1 (omega (arith, refusalNumber-le x)) in
+    rw (refusalNumber-some x) (ap total none ∙ total-zeros 78)
 
 -- ---- a history
 

@@ -23,7 +23,7 @@ use mathlib.Core.Bool.{Bool, true, cond, _&&_}
 use mathlib.Core.List.{List, [], _∷_, _++_}
 use lib.ListN.{getD, set, drop, replicate}
 use lib.Dec.{ltb, leb, eqb}
-use Rattle.errors.specs.Refusal.{numberOf, valueOf, numbersOf}
+use Rattle.errors.specs.Refusal.{refusalNumber, refusalValue, numbersOf}
 use Rattle.errors.specs.declared.ReadAnswer.{ReadAnswer}
 use Rattle.errors.specs.declared.Refusal.the-variants.{RoundUpFull}
 use Rattle.round_up.specs.declared.Added.{Added}
@@ -137,4 +137,4 @@ addedTo r share = cond (hasRoom (r .counts) share) (addedOf (sums (r .counts) sh
 
 unfoldable pub addNumbers : AddAnswer → AddNumbers
 addNumbers add.Added = record { refusal = 0; value = 0 }
-addNumbers (add.Refused r) = record { refusal = numberOf r; value = valueOf r }
+addNumbers (add.Refused r) = record { refusal = refusalNumber r; value = refusalValue r }

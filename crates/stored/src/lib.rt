@@ -51,14 +51,14 @@ pub fn load(words: &[u8], table: &mut [u32]) -> usize
 
 // ---- what was asked for and what was right, in one table of numbers: two for each group, and others that stand alone
 
-pub fn wide(n: u32) -> u64 {
+pub fn to_u64(n: u32) -> u64 {
     n as u64
 }
 
 // The number at a place; 0 outside the table.
 pub fn count_at(counts: &[u32], place: usize) -> u64 {
     if place < counts.len() {
-        return wide(counts[place]);
+        return to_u64(counts[place]);
     }
     0
 }

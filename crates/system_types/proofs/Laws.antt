@@ -11,7 +11,7 @@ use borrow.Author.Tests.{not-true, not-false, ltb-true, leb-true, eqb-true, lt-l
 use lib.ListN.{length, take, drop, getD}
 use lib.Seq.{drop-cons}
 use lib.Dec.{ltb, leb, eqb}
-use Rattle.system_types.specs.Names.{Lent, topByte, isGood, namesFrom, namesOf, Rising, nameOf, systemName}
+use Rattle.system_types.specs.Names.{Lent, topByte, isGood, namesFrom, namesOf, Rising, nameById, systemName}
 use Rattle.system_types.specs.declared.NamesRead.{NamesRead}
 use Rattle.system_types.specs.declared.NamesRead.the-variants.{Good, Bad}
 use Rattle.system_types.specs.declared.Lookup.the-variants.{Name, Missing}
@@ -204,9 +204,9 @@ rising-of-good lent e = namesFrom-rises (lent .area) 0 0 (lent .names) e .rising
 nameOf-of-good
     : (area : List ℕ) (last k : ℕ) (w : List ℕ) (id s n : ℕ)
     → namesFrom area last k w ≡ Good
-    → nameOf id w ≡ Name s n
+    → nameById id w ≡ Name s n
     → (s + n ≤ length area) × (1 ≤ n) × (isAscii (take n (drop s area)) ≡ true)
-unfolding namesFrom nameOf
+unfolding namesFrom nameById
 nameOf-of-good area last k [] id s n e f = let z : _≡_ {A = ℕ} 0 1 = cc in absurd (let y : ⊥ = omega arith in y)
 nameOf-of-good area last k (x ∷ []) id s n e f = let z : _≡_ {A = ℕ} 0 1 = cc in absurd (let y : ⊥ = omega arith in y)
 nameOf-of-good area last k (x ∷ y ∷ []) id s n e f = let z : _≡_ {A = ℕ} 0 1 = cc in absurd (let a : ⊥ = omega arith in a)
@@ -218,9 +218,9 @@ nameOf-of-good area last k (x ∷ start ∷ m ∷ w) id s n e f =
         → isGood area last x start m ≡ b
         → cond b (namesFrom area x (k + 1) w) (Bad k) ≡ Good
         → (d : Bool)
-        → cond d (Name start m) (nameOf id w) ≡ Name s n
+        → cond d (Name start m) (nameById id w) ≡ Name s n
         → (namesFrom area x (k + 1) w ≡ Good
-        → nameOf id w ≡ Name s n
+        → nameById id w ≡ Name s n
         → (s + n ≤ length area) × (1 ≤ n) × (isAscii (take n (drop s area)) ≡ true))
         → (s + n ≤ length area) × (1 ≤ n) × (isAscii (take n (drop s area)) ≡ true)
     go false t g d f more = let z : _≡_ {A = ℕ} 0 1 = cc in absurd (let y : ⊥ = omega arith in y)
@@ -240,7 +240,7 @@ systemName-of-good lent id s n e f = go (eqb (topByte id) 1) f
   where
     go
         : (b : Bool)
-        → cond b (nameOf id (lent .names)) Missing ≡ Name s n
+        → cond b (nameById id (lent .names)) Missing ≡ Name s n
         → (s + n ≤ length (lent .area)) × (1 ≤ n) × (isAscii (take n (drop s (lent .area))) ≡ true)
     go true g = nameOf-of-good (lent .area) 0 0 (lent .names) id s n e g
     go false g = let z : _≡_ {A = ℕ} 0 1 = cc in absurd (let y : ⊥ = omega arith in y)

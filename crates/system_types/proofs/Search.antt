@@ -1,5 +1,5 @@
--- Laws of looking a name up: specs/Names.antt, `nameOf`, `systemName`. No contract cites this file.
--- In order: the entry with the id, where none before it has it (`nameOf-at`); no entry has it (`nameOf-missing`); of a table whose
+-- Laws of looking a name up: specs/Names.antt, `nameById`, `systemName`. No contract cites this file.
+-- In order: the entry with the id, where none before it has it (`nameOf-at`); no entry has it (`nameById-missing`); of a table whose
 -- ids rise, how far an entry's id is from the first (`rises-by`), an entry with the id (`rising-found`), and the two parts that a
 -- search by halves knows (`Between`), one law for each way that a turn goes.
 use Prim.Native.Nat.{ℕ, zero, suc, _+_, _*_, _/_, _≤_, _<_}
@@ -10,27 +10,27 @@ use mathlib.Core.Bool.{Bool, true, false}
 use borrow.Author.Tests.{ltb-true, ltb-false, eq-eqb, ne-eqb}
 use lib.ListN.{length, getD}
 use lib.Dec.{ltb, eqb}
-use Rattle.system_types.specs.Names.{topByte, Rising, nameOf, systemName}
+use Rattle.system_types.specs.Names.{topByte, Rising, nameById, systemName}
 use Rattle.system_types.specs.declared.Lookup.the-variants.{Name, Missing}
 use Rattle.system_types.proofs.Laws.{getD-behind}
 
 -- ---- one entry after the other
 
-pub nameOf-missing : (id : ℕ) (w : List ℕ) → ((i : ℕ) → 3 * i + 3 ≤ length w → getD w (3 * i) 0 ≡ id → ⊥) → nameOf id w ≡ Missing
-unfolding nameOf
-nameOf-missing id [] h = refl
-nameOf-missing id (x ∷ []) h = refl
-nameOf-missing id (x ∷ y ∷ []) h = refl
-nameOf-missing id (x ∷ y ∷ z ∷ w) h =
-    rw (ne-eqb x id (λ e. h 0 (omega arith) e)) (nameOf-missing id w (λ i p e. h (suc i) (omega arith) (getD-behind x y z w i ∙ e)))
+pub nameById-missing : (id : ℕ) (w : List ℕ) → ((i : ℕ) → 3 * i + 3 ≤ length w → getD w (3 * i) 0 ≡ id → ⊥) → nameById id w ≡ Missing
+unfolding nameById
+nameById-missing id [] h = refl
+nameById-missing id (x ∷ []) h = refl
+nameById-missing id (x ∷ y ∷ []) h = refl
+nameById-missing id (x ∷ y ∷ z ∷ w) h =
+    rw (ne-eqb x id (λ e. h 0 (omega arith) e)) (nameById-missing id w (λ i p e. h (suc i) (omega arith) (getD-behind x y z w i ∙ e)))
 
 pub nameOf-at
     : (id : ℕ) (w : List ℕ) (i : ℕ)
     → 3 * i + 3 ≤ length w
     → getD w (3 * i) 0 ≡ id
     → ((j : ℕ) → j < i → getD w (3 * j) 0 ≡ id → ⊥)
-    → nameOf id w ≡ Name (getD w (3 * i + 1) 0) (getD w (3 * i + 2) 0)
-unfolding nameOf
+    → nameById id w ≡ Name (getD w (3 * i + 1) 0) (getD w (3 * i + 2) 0)
+unfolding nameById
 nameOf-at id [] i p e h = absurd (let y : ⊥ = omega arith in y)
 nameOf-at id (x ∷ []) i p e h = absurd (let y : ⊥ = omega arith in y)
 nameOf-at id (x ∷ y ∷ []) i p e h = absurd (let a : ⊥ = omega arith in a)
@@ -41,7 +41,7 @@ nameOf-at id (x ∷ y ∷ z ∷ w) (suc i) p e h =
     rw (ne-eqb x id (λ f. h 0 (omega arith) f), a, b)
     (nameOf-at id w i (omega arith) (sym (getD-behind x y z w i) ∙ e) (λ j q f. h (suc j) (omega arith) (getD-behind x y z w j ∙ f)))
 
-pub systemName-top : (id : ℕ) (w : List ℕ) → topByte id ≡ 1 → systemName id w ≡ nameOf id w
+pub systemName-top : (id : ℕ) (w : List ℕ) → topByte id ≡ 1 → systemName id w ≡ nameById id w
 systemName-top id w e = rw (eq-eqb (topByte id) 1 e)
 
 pub systemName-other : (id : ℕ) (w : List ℕ) → (topByte id ≡ 1 → ⊥) → systemName id w ≡ Missing
@@ -63,7 +63,7 @@ pub rising-found
     → Rising w
     → i < length w / 3
     → getD w (3 * i) 0 ≡ id
-    → nameOf id w ≡ Name (getD w (3 * i + 1) 0) (getD w (3 * i + 2) 0)
+    → nameById id w ≡ Name (getD w (3 * i + 1) 0) (getD w (3 * i + 2) 0)
 rising-found id w i r p e = nameOf-at id w i (omega arith) e (λ j k g. let s = r .rises j i k (omega arith) in omega arith)
 
 -- ---- by halves
@@ -107,8 +107,8 @@ module _ (w : List ℕ) (id low high middle : ℕ) (r : Rising w) (b : Between w
           at true e = let s = r .rises middle j (ltb-true middle j e) l in omega arith
           at false e = let f = ltb-false middle j e in let g : j ≡ middle = omega arith in rw g h
 
-pub between-missing : (w : List ℕ) (id low high : ℕ) → Between w id low high → high ≤ low → nameOf id w ≡ Missing
-between-missing w id low high b p = nameOf-missing id w go
+pub between-missing : (w : List ℕ) (id low high : ℕ) → Between w id low high → high ≤ low → nameById id w ≡ Missing
+between-missing w id low high b p = nameById-missing id w go
   where
     go : (i : ℕ) → 3 * i + 3 ≤ length w → getD w (3 * i) 0 ≡ id → ⊥
     go i q e = at (ltb i low) refl

@@ -58,15 +58,15 @@ namesOf lent = namesFrom (lent .area) 0 0 (lent .names)
 pub record Rising (w : List ℕ) : Type 0 where
   pub rises : (i j : ℕ) → i < j → 3 * j + 3 ≤ length w → getD w (3 * i) 0 < getD w (3 * j) 0
 
-unfoldable pub nameOf : ℕ → List ℕ → Lookup
-nameOf id [] = Missing
-nameOf id (x ∷ []) = Missing
-nameOf id (x ∷ start ∷ []) = Missing
-nameOf id (x ∷ start ∷ n ∷ w) = cond (eqb x id) (Name start n) (nameOf id w)
+unfoldable pub nameById : ℕ → List ℕ → Lookup
+nameById id [] = Missing
+nameById id (x ∷ []) = Missing
+nameById id (x ∷ start ∷ []) = Missing
+nameById id (x ∷ start ∷ n ∷ w) = cond (eqb x id) (Name start n) (nameById id w)
 
 -- only an id with top byte 1 has a system name
 abbrev pub systemName : ℕ → List ℕ → Lookup
-systemName id w = cond (eqb (topByte id) 1) (nameOf id w) Missing
+systemName id w = cond (eqb (topByte id) 1) (nameById id w) Missing
 
 -- ---- one leading `android:attr/`
 

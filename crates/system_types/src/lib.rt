@@ -8,7 +8,7 @@ ghost use mathlib.Core.Bool.{true, false, cond};
 ghost use Prim.Native.Nat.{_+_, _/_, _≤_, _<_};
 ghost use lib.ListN.{length};
 ghost use lib.Dec.{ltb};
-ghost use Rattle.system_types.specs.Names.{lends, isGood, namesOf, nameOf, systemName, startsWith, without, androidAttr};
+ghost use Rattle.system_types.specs.Names.{lends, isGood, namesOf, nameById, systemName, startsWith, without, androidAttr};
 ghost use Rattle.system_types.specs.Names.{Rising};
 ghost use Rattle.system_types.specs.declared.NamesRead.the-variants.{Good};
 ghost use Rattle.utf.specs.Plain.{isAscii};
@@ -73,7 +73,7 @@ fn last_byte(start: u32, n: u32) -> usize
     (start as usize) + (std::num::wrapping_sub_u32(n, 1) as usize)
 }
 
-// The greater of two numbers, of which no more is asked than that neither is above it.
+// The greater of two numbers. Its promise says only that neither is above it, which is all that the check of the names needs.
 fn greater(a: usize, b: usize) -> usize
     ensures { λ r. ⌜ (a ≤ r) × (b ≤ r) ⌝ }
 {
@@ -182,7 +182,7 @@ fn guess(names: &[u32], wanted: ResourceId) -> usize
 // The name of an id by halves, as the ids rise.
 fn by_halves(names: &[u32], wanted: ResourceId) -> Lookup
     requires { ⌜ Rising (now names) ⌝ }
-    ensures { λ r. ⌜ r ≡ nameOf (wanted .0) (now (names .entry)) ⌝ }
+    ensures { λ r. ⌜ r ≡ nameById (wanted .0) (now (names .entry)) ⌝ }
 {
     let mut low = 0;
     let mut high = names.len() / 3;

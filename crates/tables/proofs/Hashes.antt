@@ -11,8 +11,8 @@ use lib.ListN.{length, getD, drop, length-append}
 use borrow.Author.Tests.{eqb-true, eq-eqb, ne-eqb, eqb-false}
 use Rattle.utf.specs.declared.Step.{Step}
 use Rattle.utf.specs.Utf8.{encode}
-use Rattle.utf.specs.Text.{stepOf, valueOf, widthOf, stepsOf, bytesOf, refused, textOf, eqBytes}
-use Rattle.utf.specs.Inner.Told.{Took}
+use Rattle.utf.specs.Text.{stepOf, stepValue, widthOf, stepsOf, bytesOf, refused, textOf, eqBytes}
+use Rattle.utf.specs.Inner.StepRuns.{Took}
 use Rattle.utf.proofs.Scalars.{encode-length-lt}
 use Rattle.utf.proofs.Tables.{both-true}
 use Rattle.utf.proofs.Equal.{eqBytes-true, eqBytes-encode}
@@ -30,7 +30,7 @@ use Rattle.tables.specs.Inner.Ways.{sameAt}
 
 some-bytes : (t : Step) (ts : List Step) → 0 < length (bytesOf (t ∷ ts))
 unfolding bytesOf
-some-bytes t ts = rw (length-append (encode (valueOf t)) (bytesOf ts)) (omega (arith, encode-length-lt (valueOf t)))
+some-bytes t ts = rw (length-append (encode (stepValue t)) (bytesOf ts)) (omega (arith, encode-length-lt (stepValue t)))
 
 fold-same : (ts us : List Step) (s : ℕ) → eqBytes (bytesOf ts) (bytesOf us) ≡ true → foldOf s ts ≡ foldOf s us
 unfolding foldOf bytesOf
@@ -42,30 +42,30 @@ fold-same (t ∷ ts) [] s e =
     absurd (let q : length (bytesOf (t ∷ ts)) ≡ length (bytesOf []) = ap length (eqBytes-true (bytesOf (t ∷ ts)) (bytesOf []) e) in
     let z : ⊥ = omega (arith, q, some-bytes t ts) in z)
 fold-same (t ∷ ts) (u ∷ us) s e =
-    let p = both-true (eqb (valueOf t) (valueOf u)) (eqBytes (bytesOf ts) (bytesOf us)) (sym (eqBytes-encode (valueOf t) (valueOf u) (bytesOf ts) (bytesOf us)) ∙ e) in
-    let v : valueOf t ≡ valueOf u = eqb-true (valueOf t) (valueOf u) (p .0) in
-    ap (λ (n : ℕ). foldOf (mixed s n) ts) v ∙ fold-same ts us (mixed s (valueOf u)) (p .1)
+    let p = both-true (eqb (stepValue t) (stepValue u)) (eqBytes (bytesOf ts) (bytesOf us)) (sym (eqBytes-encode (stepValue t) (stepValue u) (bytesOf ts) (bytesOf us)) ∙ e) in
+    let v : stepValue t ≡ stepValue u = eqb-true (stepValue t) (stepValue u) (p .0) in
+    ap (λ (n : ℕ). foldOf (mixed s n) ts) v ∙ fold-same ts us (mixed s (stepValue u)) (p .1)
 
 -- the steps that the text is made of
 abbrev kept : Bool → List ℕ → List Step
-kept wide b = cond (refused wide b) [] (stepsOf wide b)
+kept utf16 b = cond (refused utf16 b) [] (stepsOf utf16 b)
 
 none-bytes : [] ≡ bytesOf []
 unfolding bytesOf
 none-bytes = refl
 
-text-kept : (wide : Bool) (b : List ℕ) → textOf wide b ≡ bytesOf (kept wide b)
-text-kept wide b = go (refused wide b) refl
+text-kept : (utf16 : Bool) (b : List ℕ) → textOf utf16 b ≡ bytesOf (kept utf16 b)
+text-kept utf16 b = go (refused utf16 b) refl
   where
-    go : (r : Bool) → refused wide b ≡ r → textOf wide b ≡ bytesOf (cond r [] (stepsOf wide b))
-    go true e = textOf-refused wide b e ∙ none-bytes
-    go false e = textOf-kept wide b e
+    go : (r : Bool) → refused utf16 b ≡ r → textOf utf16 b ≡ bytesOf (cond r [] (stepsOf utf16 b))
+    go true e = textOf-refused utf16 b e ∙ none-bytes
+    go false e = textOf-kept utf16 b e
 
-hash-kept : (s : ℕ) (wide : Bool) (b : List ℕ) → hashOf s wide b ≡ foldOf s (kept wide b)
+hash-kept : (s : ℕ) (utf16 : Bool) (b : List ℕ) → hashOf s utf16 b ≡ foldOf s (kept utf16 b)
 unfolding hashOf foldOf
-hash-kept s wide b = go (refused wide b)
+hash-kept s utf16 b = go (refused utf16 b)
   where
-    go : (r : Bool) → cond r s (foldOf s (stepsOf wide b)) ≡ foldOf s (cond r [] (stepsOf wide b))
+    go : (r : Bool) → cond r s (foldOf s (stepsOf utf16 b)) ≡ foldOf s (cond r [] (stepsOf utf16 b))
     go true = refl
     go false = refl
 
@@ -75,17 +75,17 @@ hash-same s wa a wb b e =
     hash-kept s wa a ∙ fold-same (kept wa a) (kept wb b) s f ∙ sym (hash-kept s wb b)
 
 -- the empty text is that of no bytes
-hash-none : (s : ℕ) (wide : Bool) (b : List ℕ) → eqBytes [] (textOf wide b) ≡ true → s ≡ hashOf s wide b
+hash-none : (s : ℕ) (utf16 : Bool) (b : List ℕ) → eqBytes [] (textOf utf16 b) ≡ true → s ≡ hashOf s utf16 b
 unfolding foldOf
-hash-none s wide b e =
-    let f : eqBytes (bytesOf []) (bytesOf (kept wide b)) ≡ true = rw (← none-bytes, sym (text-kept wide b)) e in
-    fold-same [] (kept wide b) s f ∙ sym (hash-kept s wide b)
+hash-none s utf16 b e =
+    let f : eqBytes (bytesOf []) (bytesOf (kept utf16 b)) ≡ true = rw (← none-bytes, sym (text-kept utf16 b)) e in
+    fold-same [] (kept utf16 b) s f ∙ sym (hash-kept s utf16 b)
 
-hash-empty : (s : ℕ) (wide : Bool) (b : List ℕ) → eqBytes (textOf wide b) [] ≡ true → hashOf s wide b ≡ s
+hash-empty : (s : ℕ) (utf16 : Bool) (b : List ℕ) → eqBytes (textOf utf16 b) [] ≡ true → hashOf s utf16 b ≡ s
 unfolding foldOf
-hash-empty s wide b e =
-    let f : eqBytes (bytesOf (kept wide b)) (bytesOf []) ≡ true = rw (← none-bytes, sym (text-kept wide b)) e in
-    hash-kept s wide b ∙ fold-same (kept wide b) [] s f
+hash-empty s utf16 b e =
+    let f : eqBytes (bytesOf (kept utf16 b)) (bytesOf []) ≡ true = rw (← none-bytes, sym (text-kept utf16 b)) e in
+    hash-kept s utf16 b ∙ fold-same (kept utf16 b) [] s f
 
 -- ---- what an index stands for
 
@@ -152,27 +152,27 @@ mixed-by s v a p q e f g =
 
 -- ---- the loop
 
-pub record Mixing (seed : ℕ) (wide : Bool) (b : List ℕ) (at s : ℕ) : Type 0 where
-  pub whole : hashOf seed wide b ≡ foldOf s (stepsOf wide (drop at b))
+pub record Mixing (seed : ℕ) (utf16 : Bool) (b : List ℕ) (at s : ℕ) : Type 0 where
+  pub whole : hashOf seed utf16 b ≡ foldOf s (stepsOf utf16 (drop at b))
 
-module _ (seed : ℕ) (wide : Bool) (b : List ℕ) where
-  pub mixing-first : (r : Bool) → r ≡ refused wide b → r ≡ false → Mixing seed wide b 0 seed
+module _ (seed : ℕ) (utf16 : Bool) (b : List ℕ) where
+  pub mixing-first : (r : Bool) → r ≡ refused utf16 b → r ≡ false → Mixing seed utf16 b 0 seed
   unfolding hashOf
   mixing-first r e f = record { whole = rw (sym e ∙ f) }
 
-  pub mixing-none : (r : Bool) → r ≡ refused wide b → r ≡ true → seed ≡ hashOf seed wide b
+  pub mixing-none : (r : Bool) → r ≡ refused utf16 b → r ≡ true → seed ≡ hashOf seed utf16 b
   unfolding hashOf
   mixing-none r e f = rw (sym e ∙ f)
 
-  pub mixing-next : (at s v n k : ℕ) (sound : Bool) → Mixing seed wide b at s → at < length b → Took wide b at v n sound → k ≡ mixed s v
-      → Mixing seed wide b (at + n) k
+  pub mixing-next : (at s v n k : ℕ) (sound : Bool) → Mixing seed utf16 b at s → at < length b → Took utf16 b at v n sound → k ≡ mixed s v
+      → Mixing seed utf16 b (at + n) k
   unfolding foldOf
   mixing-next at s v n k sound m l t e = record {
     whole =
-        m .whole ∙ ap (foldOf s) (stepsOf-next wide b at n l (t .width-is) (t .least))
-        ∙ ap (λ (x : ℕ). foldOf x (stepsOf wide (drop (at + n) b))) (sym (e ∙ ap (mixed s) (t .value-is)));
+        m .whole ∙ ap (foldOf s) (stepsOf-next utf16 b at n l (t .width-is) (t .least))
+        ∙ ap (λ (x : ℕ). foldOf x (stepsOf utf16 (drop (at + n) b))) (sym (e ∙ ap (mixed s) (t .value-is)));
   }
 
-  pub mixing-last : (at s : ℕ) → Mixing seed wide b at s → length b ≤ at → s ≡ hashOf seed wide b
+  pub mixing-last : (at s : ℕ) → Mixing seed utf16 b at s → length b ≤ at → s ≡ hashOf seed utf16 b
   unfolding foldOf
-  mixing-last at s m l = sym (m .whole ∙ ap (foldOf s) (stepsOf-end wide b at l))
+  mixing-last at s m l = sym (m .whole ∙ ap (foldOf s) (stepsOf-end utf16 b at l))

@@ -90,5 +90,5 @@ module _ (same : ℕ → ℕ → Bool) (p n ns : ℕ) (l : List ℕ) (i : ℕ) w
 
 -- what the code compares is what the indices stand for
 pub same-found : (h : Head) (t : List ℕ) (lent : Lent) (i n : ℕ) (wanted : Found) → Finds t lent h n wanted
-    → (r b : Bool) → r ≡ sameText (contentOf h t lent i) (partOf (h .wide) t (lent .area) wanted) → r ≡ b → sameName h t lent i n ≡ b
+    → (r b : Bool) → r ≡ sameText (contentOf h t lent i) (partOf (h .utf16) t (lent .area) wanted) → r ≡ b → sameName h t lent i n ≡ b
 same-found h t lent i n wanted g r b e q = sym (rw (g .same) at e) ∙ q

@@ -60,16 +60,16 @@ false-by false n = refl
 -- what the code compares is what two indices stand for: both found, and one of them known to be the other
 module _ (h : Head) (t : List ℕ) (lent : Lent) (i j : ℕ) where
   pub same-parts : (f g : Found) {r : Bool} → Finds t lent h i f → Finds t lent h j g
-      → r ≡ sameText (partOf (h .wide) t (lent .area) f) (partOf (h .wide) t (lent .area) g) → r ≡ sameName h t lent i j
+      → r ≡ sameText (partOf (h .utf16) t (lent .area) f) (partOf (h .utf16) t (lent .area) g) → r ≡ sameName h t lent i j
   same-parts f g x y e =
-      e ∙ ap (λ (k : Content). sameText k (partOf (h .wide) t (lent .area) g)) (x .same) ∙ ap (λ (k : Content). sameText (contentOf h t lent i) k) (y .same)
+      e ∙ ap (λ (k : Content). sameText k (partOf (h .utf16) t (lent .area) g)) (x .same) ∙ ap (λ (k : Content). sameText (contentOf h t lent i) k) (y .same)
 
   pub same-own : {r : Bool} → r ≡ hasText (contentOf h t lent i) → i ≡ j → r ≡ sameName h t lent i j
   same-own e q = e ∙ sym (sameText-self (contentOf h t lent i)) ∙ ap (λ (k : ℕ). sameName h t lent i k) q
 
   pub found-own : (g : Found) {r : Bool} → Finds t lent h j g → r ≡ isFound g → i ≡ j → r ≡ sameName h t lent i j
   found-own g y e q =
-      same-own (e ∙ isFound-text (h .wide) t (lent .area) g ∙ ap hasText (y .same) ∙ ap (λ (k : ℕ). hasText (contentOf h t lent k)) (sym q)) q
+      same-own (e ∙ isFound-text (h .utf16) t (lent .area) g ∙ ap hasText (y .same) ∙ ap (λ (k : ℕ). hasText (contentOf h t lent k)) (sym q)) q
 
 -- what is told
 pub told-yes : (b : Bool) (r : Told) → ToldBy b r → r ≡ Same → true ≡ b

@@ -35,15 +35,15 @@ valid-plain s e = go (refused true s) refl
     go true q = absurd (true≢false (sym e ∙ refused-none s q))
     go false q = ap not (sym (textOf-empty true s q .1) ∙ valid-some s e)
 
-name-wide : (t area : List ℕ) (f : Found) → Inside t area f → isName (partOf true t area f) ≡ true → true ≡ plainIn (partOf true t area f)
-name-wide t area Nothing i e = absurd (true≢false (sym e))
-name-wide t area Cut i e = absurd (true≢false (sym e))
-name-wide t area (System at n) i e = sym (i .1)
-name-wide t area (Pool at n) i e = sym (valid-plain (take n (drop at t)) e)
+name-utf16 : (t area : List ℕ) (f : Found) → Inside t area f → isName (partOf true t area f) ≡ true → true ≡ plainIn (partOf true t area f)
+name-utf16 t area Nothing i e = absurd (true≢false (sym e))
+name-utf16 t area Cut i e = absurd (true≢false (sym e))
+name-utf16 t area (System at n) i e = sym (i .1)
+name-utf16 t area (Pool at n) i e = sym (valid-plain (take n (drop at t)) e)
 
 pub name-plain : (w : Bool) (t area : List ℕ) (f : Found) → w ≡ true → Inside t area f → isName (partOf w t area f) ≡ true
     → true ≡ plainIn (partOf w t area f)
-name-plain true t area f q i e = name-wide t area f i e
+name-plain true t area f q i e = name-utf16 t area f i e
 name-plain false t area f q i e = absurd (true≢false (sym q))
 
 pub both-left : (x y : Bool) → (x && y) ≡ true → x ≡ true

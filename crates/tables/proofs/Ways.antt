@@ -224,7 +224,9 @@ put s n k = set (set (set s (linkWidth * n) 0) (linkWidth * n + 1) 0) (linkWidth
 
 module _ (s : List ℕ) (n k : ℕ) where
   put-length : length (put s n k) ≡ length s
-  put-length = length-set (set (set s (linkWidth * n) 0) (linkWidth * n + 1) 0) (linkWidth * n + linkKey) k ∙ length-set (set s (linkWidth * n) 0) (linkWidth * n + 1) 0 ∙ length-set s (linkWidth * n) 0
+  put-length =
+      length-set (set (set s (linkWidth * n) 0) (linkWidth * n + 1) 0) (linkWidth * n + linkKey) k ∙ length-set (set s (linkWidth * n) 0)
+      (linkWidth * n + 1) 0 ∙ length-set s (linkWidth * n) 0
 
   put-below : (j : ℕ) → j < linkWidth * n → getD (put s n k) j 0 ≡ getD s j 0
   put-below j l =

@@ -42,12 +42,12 @@ use text::same_found_known;
 // ---- two texts
 
 // Whether two that were found have the same text, with nothing known of either: both are passed over.
-fn same_whole(t: &[u8], area: &[u8], wide: bool, f: Found, g: Found) -> bool
+fn same_whole(t: &[u8], area: &[u8], utf16: bool, f: Found, g: Found) -> bool
     requires { ⌜ Inside (now t) (now area) f × Inside (now t) (now area) g ⌝ }
-    ensures { λ r. ⌜ r ≡ sameText (partOf wide (now (t .entry)) (now (area .entry)) f) (partOf wide (now (t .entry)) (now (area .entry)) g) ⌝ }
+    ensures { λ r. ⌜ r ≡ sameText (partOf utf16 (now (t .entry)) (now (area .entry)) f) (partOf utf16 (now (t .entry)) (now (area .entry)) g) ⌝ }
 {
-    let plain = is_plain_found(t, area, wide, g);
-    same_found_known(t, area, wide, plain, f, g)
+    let plain = is_plain_found(t, area, utf16, g);
+    same_found_known(t, area, utf16, plain, f, g)
 }
 
 // Whether two indices, found as f and g, have the same text. Both are known afterwards, if there are places for them.
@@ -72,7 +72,7 @@ fn same_kept(
     enter(t, names, area, h, index, f, numbers);
     let told = told_of(numbers, index, name, near_of(g));
     match told {
-        Told::Unknown => same_whole(t, area, h.wide, f, g),
+        Told::Unknown => same_whole(t, area, h.utf16, f, g),
         Told::Same => true,
         Told::Other => false,
     }
@@ -92,19 +92,19 @@ fn same_found_by(
     numbers: &mut [u64],
 ) -> bool
     requires { ⌜ Asks (now t) (lends (now names) (now area)) h × Finds (now t) (lends (now names) (now area)) h (name .0) g
-        × Known plain (plainIn (partOf (h .wide) (now t) (now area) g))
+        × Known plain (plainIn (partOf (h .utf16) (now t) (now area) g))
         × Numbered h (now t) (lends (now names) (now area)) (now numbers) ⌝ }
     ensures { λ r. ⌜ (r ≡ sameName h (now (t .entry)) (lends (now (names .entry)) (now (area .entry))) (index .0) (name .0))
         × Numbered h (now (t .entry)) (lends (now (names .entry)) (now (area .entry))) (now (numbers .exit)) ⌝ }
 {
     let f = find(t, names, area, h, index);
-    if ends_apart(t, area, h.wide, plain, f, g) {
+    if ends_apart(t, area, h.utf16, plain, f, g) {
         return false;
     }
     if long {
         return same_kept(t, names, area, h, index, f, name, g, numbers);
     }
-    same_found_known(t, area, h.wide, plain, f, g)
+    same_found_known(t, area, h.utf16, plain, f, g)
 }
 
 // What is known of two indices, of which the second has a long text; of any other nothing is kept.
@@ -134,7 +134,7 @@ pub fn same_by(
     numbers: &mut [u64],
 ) -> bool
     requires { ⌜ Asks (now t) (lends (now names) (now area)) h × Finds (now t) (lends (now names) (now area)) h (name .0) g
-        × Known plain (plainIn (partOf (h .wide) (now t) (now area) g))
+        × Known plain (plainIn (partOf (h .utf16) (now t) (now area) g))
         × Numbered h (now t) (lends (now names) (now area)) (now numbers) ⌝ }
     ensures { λ r. ⌜ (r ≡ sameName h (now (t .entry)) (lends (now (names .entry)) (now (area .entry))) (index .0) (name .0))
         × Numbered h (now (t .entry)) (lends (now (names .entry)) (now (area .entry))) (now (numbers .exit)) ⌝ }
@@ -173,7 +173,7 @@ pub fn same_numbered(
     if is_long(f) | is_long(g) {
         return same_kept(t, names, area, h, i, f, j, g, numbers);
     }
-    same_found(t, area, h.wide, f, g)
+    same_found(t, area, h.utf16, f, g)
 }
 
 // ---- attributes
@@ -190,25 +190,25 @@ pub fn is_numbered(prefix: u32, wanted: Found) -> bool
 
 // Whether no other bytes in the same encoding have what was found, as far as this is known without a pass over a long text.
 // Ruled out: yes for a name that is not plain.
-pub fn plain_unless(t: &[u8], area: &[u8], wide: bool, f: Found, long: bool) -> bool
+pub fn plain_unless(t: &[u8], area: &[u8], utf16: bool, f: Found, long: bool) -> bool
     requires { ⌜ Inside (now t) (now area) f ⌝ }
-    ensures { λ r. ⌜ Known r (plainIn (partOf wide (now (t .entry)) (now (area .entry)) f)) ⌝ }
+    ensures { λ r. ⌜ Known r (plainIn (partOf utf16 (now (t .entry)) (now (area .entry)) f)) ⌝ }
 {
     if long {
         return false;
     }
-    is_plain_found(t, area, wide, f)
+    is_plain_found(t, area, utf16, f)
 }
 
 // The same of an attribute's name, which is known to be valid unless it is the leading one's.
-fn is_plain_long(t: &[u8], area: &[u8], wide: bool, prefix: u32, f: Found, long: bool) -> bool
-    requires { ⌜ Inside (now t) (now area) f × ((prefix ≡ 2 → ⊥) → isName (partOf wide (now t) (now area) f) ≡ true) ⌝ }
-    ensures { λ r. ⌜ Known r (plainIn (partOf wide (now (t .entry)) (now (area .entry)) f)) ⌝ }
+fn is_plain_long(t: &[u8], area: &[u8], utf16: bool, prefix: u32, f: Found, long: bool) -> bool
+    requires { ⌜ Inside (now t) (now area) f × ((prefix ≡ 2 → ⊥) → isName (partOf utf16 (now t) (now area) f) ≡ true) ⌝ }
+    ensures { λ r. ⌜ Known r (plainIn (partOf utf16 (now (t .entry)) (now (area .entry)) f)) ⌝ }
 {
-    if long & !wide {
+    if long & !utf16 {
         return false;
     }
-    is_plain_name(t, area, wide, prefix, f)
+    is_plain_name(t, area, utf16, prefix, f)
 }
 
 // Whether the record whose words begin at the place i is repeated by the attribute of this prefix, name and namespace, whose name was found as g.
@@ -229,7 +229,7 @@ pub fn is_same(
     numbers: &mut [u64],
 ) -> bool
     requires { ⌜ Asks (now t) (lends (now names) (now area)) h × Finds (now t) (lends (now names) (now area)) h (name .0) g
-        × Known plain (plainIn (partOf (h .wide) (now t) (now area) g))
+        × Known plain (plainIn (partOf (h .utf16) (now t) (now area) g))
         × Numbered h (now t) (lends (now names) (now area)) (now numbers) × (i + attributeWidth ≤ length (now words)) ⌝ }
     ensures { λ r. ⌜ (r ≡ sameAt (sameName h (now (t .entry)) (lends (now (names .entry)) (now (area .entry)))) prefix (name .0) (ns .0)
         (now (words .entry)) i)
@@ -268,7 +268,7 @@ pub fn has_numbered(
         × Numbered h (now (t .entry)) (lends (now (names .entry)) (now (area .entry))) (now (numbers .exit)) ⌝ }
 {
     let long = is_long(wanted);
-    let plain = is_plain_long(t, area, h.wide, prefix, wanted, long);
+    let plain = is_plain_long(t, area, h.utf16, prefix, wanted, long);
     let mut i = 0;
     while ATTRIBUTE_WORDS <= words.len() - i {
         if is_same(

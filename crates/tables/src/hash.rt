@@ -37,16 +37,16 @@ fn mix(s: u64, v: u32) -> u64
 
 // The values of a text's steps, mixed one by one: no copy is made, and a text that is refused is the empty one.
 // Ruled out: two numbers for one text in UTF-16 and in UTF-8, and one by the bytes of a bad step.
-pub fn hash_of(wide: bool, b: &[u8], seed: u64) -> u64
-    ensures { λ r. ⌜ r ≡ hashOf seed wide (now (b .entry)) ⌝ }
+pub fn hash_of(utf16: bool, b: &[u8], seed: u64) -> u64
+    ensures { λ r. ⌜ r ≡ hashOf seed utf16 (now (b .entry)) ⌝ }
 {
     let mut s = seed;
-    if is_refused(wide, b) {
+    if is_refused(utf16, b) {
         return s;
     }
     let mut at: usize = 0;
     while at < b.len() {
-        let t = next_of(wide, b, at);
+        let t = next_of(utf16, b, at);
         s = mix(s, t.value);
         at += t.width;
     }
@@ -55,15 +55,15 @@ pub fn hash_of(wide: bool, b: &[u8], seed: u64) -> u64
 
 // The same of what was found.
 // Ruled out: another number for a system name than for the pool's string of the same text.
-pub fn hash_found(t: &[u8], area: &[u8], wide: bool, f: Found, seed: u64) -> u64
+pub fn hash_found(t: &[u8], area: &[u8], utf16: bool, f: Found, seed: u64) -> u64
     requires { ⌜ Inside (now t) (now area) f ⌝ }
-    ensures { λ r. ⌜ r ≡ hashIn seed (partOf wide (now (t .entry)) (now (area .entry)) f) ⌝ }
+    ensures { λ r. ⌜ r ≡ hashIn seed (partOf utf16 (now (t .entry)) (now (area .entry)) f) ⌝ }
 {
     match f {
         Found::Nothing => seed,
         Found::Cut => seed,
         Found::System(at, n) => hash_of(false, &area[at..at + n], seed),
-        Found::Pool(at, n) => hash_of(wide, &t[at..at + n], seed),
+        Found::Pool(at, n) => hash_of(utf16, &t[at..at + n], seed),
     }
 }
 

@@ -90,14 +90,14 @@ const LEADING_PREFIX: u32 = 2;
 // Whether no other bytes in the same encoding have the name that was found. Under any prefix but that of the leading attribute it is valid, and
 // a valid name in UTF-16 is sound and not empty, so that it is not passed over.
 // Ruled out: yes for a name of UTF-8 that is valid and not ASCII, and yes for the leading attribute's where its text is refused.
-fn is_plain_name(t: &[u8], area: &[u8], wide: bool, prefix: u32, f: Found) -> bool
-    requires { ⌜ Inside (now t) (now area) f × ((prefix ≡ 2 → ⊥) → isName (partOf wide (now t) (now area) f) ≡ true) ⌝ }
-    ensures { λ r. ⌜ r ≡ plainIn (partOf wide (now (t .entry)) (now (area .entry)) f) ⌝ }
+fn is_plain_name(t: &[u8], area: &[u8], utf16: bool, prefix: u32, f: Found) -> bool
+    requires { ⌜ Inside (now t) (now area) f × ((prefix ≡ 2 → ⊥) → isName (partOf utf16 (now t) (now area) f) ≡ true) ⌝ }
+    ensures { λ r. ⌜ r ≡ plainIn (partOf utf16 (now (t .entry)) (now (area .entry)) f) ⌝ }
 {
-    if wide & (prefix != LEADING_PREFIX) {
+    if utf16 & (prefix != LEADING_PREFIX) {
         return true;
     }
-    is_plain_found(t, area, wide, f)
+    is_plain_found(t, area, utf16, f)
 }
 
 // Whether an attribute of this prefix, name and namespace, whatever its other words, repeats one of these (W23). The name's own text is
@@ -128,7 +128,7 @@ pub fn has(
     if is_numbered(prefix, wanted) {
         return has_numbered(t, names, area, h, words, prefix, name, ns, wanted, numbers);
     }
-    let plain = is_plain_name(t, area, h.wide, prefix, wanted);
+    let plain = is_plain_name(t, area, h.utf16, prefix, wanted);
     let marks = marks_of(t, names, area, h, plain, wanted);
     let mut i = 0;
     while ATTRIBUTE_WORDS <= words.len() - i {

@@ -84,7 +84,7 @@ fn is_hit(
     numbers: &mut [u64],
 ) -> bool
     requires { ⌜ Asks (now t) (lends (now names) (now area)) h × Finds (now t) (lends (now names) (now area)) h (name .0) g
-        × Known plain (plainIn (partOf (h .wide) (now t) (now area) g))
+        × Known plain (plainIn (partOf (h .utf16) (now t) (now area) g))
         × Numbered h (now t) (lends (now names) (now area)) (now numbers)
         × (attributeWidth * i + attributeWidth ≤ length (now words)) × (linkWidth * i + linkWidth ≤ length (now links)) ⌝ }
     ensures { λ r. ⌜ (r ≡ (eqb (getD (now (links .entry)) (linkWidth * i + linkKey) 0) key
@@ -145,7 +145,7 @@ pub fn seek(
         };
     }
     let long = is_long(g);
-    let plain = plain_unless(t, area, h.wide, g, long);
+    let plain = plain_unless(t, area, h.utf16, g, long);
     let mut i: usize = 0;
     let mut left = key;
     loop {

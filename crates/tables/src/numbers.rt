@@ -139,7 +139,7 @@ fn is_met(
         return false;
     }
     let g = find(t, names, area, h, StringIndex(seen - 1));
-    same_found(t, area, h.wide, f, g)
+    same_found(t, area, h.utf16, f, g)
 }
 
 // The index that stands for the text of `own`: that of a place of the same text, or itself.
@@ -190,10 +190,10 @@ fn enter_at(
 )
     requires { ⌜ Asks (now t) (lends (now names) (now area)) h × Finds (now t) (lends (now names) (now area)) h (index .0) f
         × Numbered h (now t) (lends (now names) (now area)) (now numbers)
-        × (hasText (partOf (h .wide) (now t) (now area) f) ≡ true) × (p < placeCount) × (index .0 < 4294967295) ⌝ }
+        × (hasText (partOf (h .utf16) (now t) (now area) f) ≡ true) × (p < placeCount) × (index .0 < 4294967295) ⌝ }
     ensures { λ _. ⌜ Numbered h (now (t .entry)) (lends (now (names .entry)) (now (area .entry))) (now (numbers .exit)) ⌝ }
 {
-    let number = hash_found(t, area, h.wide, f, 0);
+    let number = hash_found(t, area, h.utf16, f, 0);
     let first = first_same(t, names, area, h, index, f, number, numbers);
     put(numbers, p, index, first, number);
 }
@@ -221,7 +221,7 @@ fn takes(
     seen: u32,
 ) -> bool
     requires { ⌜ Asks (now t) (lends (now names) (now area)) h ⌝ }
-    ensures { λ r. ⌜ (r ≡ true → (hasText (partOf (h .wide) (now (t .entry)) (now (area .entry)) f) ≡ true) × (index .0 < 4294967295)) ⌝ }
+    ensures { λ r. ⌜ (r ≡ true → (hasText (partOf (h .utf16) (now (t .entry)) (now (area .entry)) f) ≡ true) × (index .0 < 4294967295)) ⌝ }
 {
     if 4294967295 <= index.0 {
         return false;
@@ -279,7 +279,7 @@ fn kept_number(
     if numbers[p] / HALF == index.0 as u64 + 1 {
         return numbers[p + PLACES];
     }
-    hash_found(t, area, h.wide, f, 0)
+    hash_found(t, area, h.utf16, f, 0)
 }
 
 // The number of the text of an index, which was found as f: a long one is passed over once in a reading, if there is a place for it.
@@ -301,5 +301,5 @@ pub fn number_of(
     if is_long(f) {
         return kept_number(t, names, area, h, index, f, numbers);
     }
-    hash_found(t, area, h.wide, f, 0)
+    hash_found(t, area, h.utf16, f, 0)
 }

@@ -27,11 +27,11 @@ module _ (h : Head) (t : List ℕ) (i : ℕ) where
   unfolding stringOf
   stringOf-past p = rw (le-ltb i (h .count) p)
 
-  pub stringOf-in : i < h .count → stringOf h t i ≡ stringAt (h .wide) (dataOf h t) (offsetOf (drop (h .offsets) t) i)
+  pub stringOf-in : i < h .count → stringOf h t i ≡ stringAt (h .utf16) (dataOf h t) (offsetOf (drop (h .offsets) t) i)
   unfolding stringOf
   stringOf-in p = rw (lt-ltb i (h .count) p)
 
-  pub string-past : (area : List ℕ) → h .count ≤ i → Stands (h .wide) t area (stringOf h t i) Nothing
+  pub string-past : (area : List ℕ) → h .count ≤ i → Stands (h .utf16) t area (stringOf h t i) Nothing
   string-past area p = record { same = sym (stringOf-past p); inside = tt }
 
   -- with o the offset as it is read
@@ -39,8 +39,8 @@ module _ (h : Head) (t : List ℕ) (i : ℕ) where
       : (area : List ℕ) (r : Found) (o : ℕ)
       → i < h .count
       → o ≡ u32le t (h .offsets + 4 * i)
-      → Stands (h .wide) t area (stringAt (h .wide) (dataOf h t) o) r
-      → Stands (h .wide) t area (stringOf h t i) r
+      → Stands (h .utf16) t area (stringAt (h .utf16) (dataOf h t) o) r
+      → Stands (h .utf16) t area (stringOf h t i) r
   string-in area r o p e s = let q : offsetOf (drop (h .offsets) t) i ≡ o = offsetOf-drop t (h .offsets) i ∙ sym e in rw (stringOf-in p, q) s
 
   -- an id as it is read from the bytes that are lent for it
@@ -58,7 +58,7 @@ module _ (h : Head) (t : List ℕ) (lent : Lent) (i : ℕ) where
   unfolding systemOf
   systemOf-in p = rw (lt-ltb i (h .ids) p)
 
-  pub system-past : h .ids ≤ i → Stands (h .wide) t (lent .area) (systemOf h t lent i) Nothing
+  pub system-past : h .ids ≤ i → Stands (h .utf16) t (lent .area) (systemOf h t lent i) Nothing
   system-past p = record { same = sym (systemOf-past p); inside = tt }
 
   pub system-missing
@@ -66,7 +66,7 @@ module _ (h : Head) (t : List ℕ) (lent : Lent) (i : ℕ) where
       → i < h .ids
       → id ≡ idOf (drop (h .map) t) i
       → systemName id (lent .names) ≡ Missing
-      → Stands (h .wide) t (lent .area) (systemOf h t lent i) Nothing
+      → Stands (h .utf16) t (lent .area) (systemOf h t lent i) Nothing
   system-missing p e m =
       let q : systemName (idOf (drop (h .map) t) i) (lent .names) ≡ Missing = rw (← e) m in
       record { same = sym (systemOf-in p ∙ ap (namedBy (lent .area)) q); inside = tt }
@@ -76,8 +76,8 @@ module _ (h : Head) (t : List ℕ) (lent : Lent) (i : ℕ) where
       → i < h .ids
       → id ≡ idOf (drop (h .map) t) i
       → systemName id (lent .names) ≡ Name start n
-      → Stands (h .wide) t (lent .area) (namedBy (lent .area) (Name start n)) r
-      → Stands (h .wide) t (lent .area) (systemOf h t lent i) r
+      → Stands (h .utf16) t (lent .area) (namedBy (lent .area) (Name start n)) r
+      → Stands (h .utf16) t (lent .area) (systemOf h t lent i) r
   system-name {id} {start} {n} p e m s =
       let q : systemName (idOf (drop (h .map) t) i) (lent .names) ≡ Name start n = rw (← e) m in
       record { same = s .same ∙ sym (systemOf-in p ∙ ap (namedBy (lent .area)) q); inside = s .inside }

@@ -59,8 +59,8 @@ module _ (c m : List ℕ) (lent : Lent) (h : Head) (fits : Fits c h) (i : ℕ) w
           let e : offsetOf (drop (h .offsets) (c ++ m)) i ≡ offsetOf (drop (h .offsets) c) i =
           rw (drop-append-le (h .offsets) c m (omega arith)) (offsetOf-append (drop (h .offsets) c) m i room) in
           stringOf-in h (c ++ m) i p
-          ∙ ap (λ (d : List ℕ). stringAt (h .wide) d (offsetOf (drop (h .offsets) (c ++ m)) i)) data-same
-          ∙ ap (stringAt (h .wide) (dataOf h c)) e
+          ∙ ap (λ (d : List ℕ). stringAt (h .utf16) d (offsetOf (drop (h .offsets) (c ++ m)) i)) data-same
+          ∙ ap (stringAt (h .utf16) (dataOf h c)) e
           ∙ sym (stringOf-in h c i p)
       go false t =
           let p = ltb-false i (h .count) t in

@@ -17,8 +17,8 @@ use Rattle.text.specs.declared.Found.the-variants.{Pool}
 use Rattle.text.specs.declared.Marks.{Marks}
 use Rattle.text.specs.Content.{plainIn}
 use Rattle.text.specs.Inner.Found.{partOf}
-use Rattle.text.specs.Inner.Told.{Other, stringIn, Heads, Ends, Chosen, firstOf, Marked}
-use Rattle.text.proofs.Others.{other-at, narrow-in, wide-in, system-first}
+use Rattle.text.specs.Inner.Marks.{Other, stringIn, Heads, Ends, Chosen, firstOf, Marked}
+use Rattle.text.proofs.Others.{other-at, utf8-in, utf16-in, system-first}
 
 -- ---- a string of the same length
 
@@ -37,7 +37,7 @@ module _ (t : List ℕ) (end p : ℕ) (h : end ≤ length t) (small : (i : ℕ) 
       let i : p + 2 + n - back ≡ p + far = omega arith in
       other-at t (p + 2) n at n (omega arith) in-t back refl b l (λ z. d (ap (λ (j : ℕ). getD t j 0) (sym i) ∙ z ∙ sym e))
 
-  alike-narrow
+  alike-utf8
       : Heads false n head
       → 1 ≤ n
       → far + 1 ≡ n + 2
@@ -47,16 +47,16 @@ module _ (t : List ℕ) (end p : ℕ) (h : end ≤ length t) (small : (i : ℕ) 
       → (getD t (p + far) 0 ≡ last → ⊥)
       → Other false t (stringIn false t end p) (take n (drop at t))
   unfolding u16le
-  alike-narrow k l f r e u d =
+  alike-utf8 k l f r e u d =
       let x = small p in
       let y = small (p + 1) in
       let v : getD t p 0 + 256 * getD t (p + 1) 0 ≡ 257 * n = u ∙ k .1 in
       let m = k .0 in
       let b : n ≡ getD t (p + 1) 0 = omega arith in
-      narrow-in t end p h (omega arith) n (take n (drop at t)) (omega arith) (k .0) b (omega arith)
+      utf8-in t end p h (omega arith) n (take n (drop at t)) (omega arith) (k .0) b (omega arith)
       (last-other 1 (omega arith) l f (omega arith) e d)
 
-  alike-wide
+  alike-utf16
       : Heads true n head
       → 2 ≤ n
       → far + 2 ≡ n + 2
@@ -65,11 +65,11 @@ module _ (t : List ℕ) (end p : ℕ) (h : end ≤ length t) (small : (i : ℕ) 
       → u16le t p ≡ head
       → (getD t (p + far) 0 ≡ last → ⊥)
       → Other true t (stringIn true t end p) (take n (drop at t))
-  alike-wide k l f r e u d =
+  alike-utf16 k l f r e u d =
       let v : 2 * head ≡ n = sym (k .1) in
       let q : p + 4 + 2 * head ≤ end = omega arith in
       let b = last-other 2 (omega arith) l f (omega arith) e d in
-      wide-in t end p h (omega arith) head (take n (drop at t)) (k .0) (sym u) q
+      utf16-in t end p h (omega arith) head (take n (drop at t)) (k .0) (sym u) q
       (ap (λ (m : ℕ). eqBytes (take m (drop (p + 2) t)) (take n (drop at t))) v ∙ b)
 
 pub other-alike
@@ -83,10 +83,10 @@ pub other-alike
     → Other w t (stringIn w t end p) (take (k .n) (drop (k .at) t))
 other-alike true t end p k h small e l u d =
     let r : p + (k .n + 2 + 2) ≤ end = omega (arith, e .room) in
-    alike-wide t end p h small (k .at) (k .n) (k .far) (k .head) (k .last) (e .inside) (e .head) (e .some) (e .far) r (e .last) u d
+    alike-utf16 t end p h small (k .at) (k .n) (k .far) (k .head) (k .last) (e .inside) (e .head) (e .some) (e .far) r (e .last) u d
 other-alike false t end p k h small e l u d =
     let r : p + (k .n + 2 + 1) ≤ end = omega (arith, e .room) in
-    alike-narrow t end p h small (k .at) (k .n) (k .far) (k .head) (k .last) (e .inside) (e .head) (e .some) (e .far) r (e .last) u d
+    alike-utf8 t end p h small (k .at) (k .n) (k .far) (k .head) (k .last) (e .inside) (e .head) (e .some) (e .far) r (e .last) u d
 
 -- where the bytes lie that are looked at
 pub alike-room : (w : Bool) (t : List ℕ) (end p : ℕ) (k : Marks) → Ends w t end k → p ≤ k .room → (p + 2 ≤ end) × (p + k .far < end)
@@ -105,9 +105,9 @@ module _ (t : List ℕ) (lent : Lent) (h : Head) (g : Found) (k : Marks) where
   pub marked-pool
       : {at n : ℕ} {plain : Bool}
       → plain ≡ true
-      → Known plain (plainIn (partOf (h .wide) t (lent .area) g))
+      → Known plain (plainIn (partOf (h .utf16) t (lent .area) g))
       → g ≡ Pool at n
-      → Chosen (h .wide) t (h .count) (firstOf (lent .names) (h .ids)) (h .strings + h .size) at n k
+      → Chosen (h .utf16) t (h .count) (firstOf (lent .names) (h .ids)) (h .strings + h .size) at n k
       → Marked t lent h g k
   marked-pool {at} {n} y p e c = record {
     bare = λ i l m. system-first h t lent i (c .later i l m);

@@ -5,14 +5,14 @@ use mathlib.Core.List.{List}
 use mathlib.Core.Bool.{Bool, true, false, _&&_}
 use lib.Dec.{eqb}
 use Rattle.utf.specs.Text.{isSound, damageOf, stateNumber}
-use Rattle.utf.proofs.BadSteps.{state-whole, state-wide, state-narrow}
+use Rattle.utf.proofs.BadSteps.{state-whole, state-utf16, state-utf8}
 use Rattle.xml.specs.NCName.{validName}
 use Rattle.text.specs.Content.{some}
 use Rattle.text.specs.Inner.Found.{wholeName}
 
 unsound : (w : Bool) (s : List ℕ) → isSound w s ≡ false → false ≡ eqb (stateNumber (damageOf w s)) 0
-unsound true s e = ap (λ (n : ℕ). eqb n 0) (state-wide true s refl e)
-unsound false s e = ap (λ (n : ℕ). eqb n 0) (state-narrow false s refl e)
+unsound true s e = ap (λ (n : ℕ). eqb n 0) (state-utf16 true s refl e)
+unsound false s e = ap (λ (n : ℕ). eqb n 0) (state-utf8 false s refl e)
 
 -- the state of a text is 0 exactly where it is sound
 pub state-sound : (w : Bool) (s : List ℕ) → isSound w s ≡ eqb (stateNumber (damageOf w s)) 0

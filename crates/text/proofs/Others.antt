@@ -1,5 +1,5 @@
 -- Strings that are told apart by their length or a byte, without being read whole. No contract cites this file.
--- In order: other bytes (`other-length`, `other-at`); a string whose head is two bytes (`narrow-in`, `wide-in`); the string of an index
+-- In order: other bytes (`other-length`, `other-at`); a string whose head is two bytes (`utf8-in`, `utf16-in`); the string of an index
 -- (`system-first`, `other-index`); another text (`other-text`).
 use Prim.Native.Nat.{ℕ, _+_, _-_, _*_, _≤_, _<_}
 use native.Mathlib.Omega.{arith}
@@ -16,7 +16,7 @@ use Rattle.utf.specs.Text.{textOf, eqBytes}
 use Rattle.utf.specs.Plain.{isPlain}
 use Rattle.utf.proofs.Equal.{eqBytes-length, eqBytes-here}
 use Rattle.utf.proofs.PlainLaws.{plain-same}
-use Rattle.system_types.specs.Names.{Lent, nameOf, systemName, topByte}
+use Rattle.system_types.specs.Names.{Lent, nameById, systemName, topByte}
 use Rattle.system_types.specs.declared.Lookup.the-variants.{Missing}
 use Rattle.resource_map.specs.Map.{idOf}
 use Rattle.res_string_pool.specs.Pool.{offsetOf}
@@ -30,7 +30,7 @@ use Rattle.text.specs.declared.Found.the-variants.{Pool}
 use Rattle.text.specs.Content.{Content, none, cut, some, namedBy, systemOf, splitBy, stringAt, dataOf, stringOf, orElse, contentOf}
 use Rattle.text.specs.Content.{plainIn, sameText}
 use Rattle.text.specs.Inner.Found.{Fits, partOf}
-use Rattle.text.specs.Inner.Told.{Other, stringIn, firstOf}
+use Rattle.text.specs.Inner.Marks.{Other, stringIn, firstOf}
 use Rattle.text.proofs.Parts.{take-drop-part, slice-of, data-from, length-data}
 use Rattle.text.proofs.Index.{stringOf-in, systemOf-past, systemOf-in}
 use Rattle.text.proofs.Read.{part-lt}
@@ -92,7 +92,7 @@ module _ (t : List ℕ) (end p : ℕ) (h : end ≤ length t) (k : p + 2 ≤ end)
         bytes = b;
       }
 
-  pub narrow-in
+  pub utf8-in
       : (m : ℕ) (s : List ℕ)
       → getD t p 0 < 128
       → m < 128
@@ -100,7 +100,7 @@ module _ (t : List ℕ) (end p : ℕ) (h : end ≤ length t) (k : p + 2 ≤ end)
       → p + 3 + m ≤ end
       → eqBytes (take m (drop (p + 2) t)) s ≡ false
       → Other false t (stringIn false t end p) s
-  narrow-in m s a b e r d =
+  utf8-in m s a b e r d =
       let l = take (end - p) (drop p t) in
       let ll : length l ≡ end - p = length-take-le (end - p) (drop p t) (rw length-drop (omega arith)) in
       let x : u8le l 0 ≡ getD t p 0 = data-byte 0 (omega arith) ∙ ap (λ (z : ℕ). getD t z 0) (add-zero p) in
@@ -111,7 +111,7 @@ module _ (t : List ℕ) (end p : ℕ) (h : end ≤ length t) (k : p + 2 ≤ end)
       let split = sym (split8-by l 1 m 1 (sym wa) (sym (c ∙ y)) (sym wb)) ∙ within-content l 2 m 1 (omega arith) in
       head-other false m s (omega arith) split d
 
-  pub wide-in
+  pub utf16-in
       : (u : ℕ) (s : List ℕ)
       → u < 32768
       → u ≡ u16le t p
@@ -119,7 +119,7 @@ module _ (t : List ℕ) (end p : ℕ) (h : end ≤ length t) (k : p + 2 ≤ end)
       → eqBytes (take (2 * u) (drop (p + 2) t)) s ≡ false
       → Other true t (stringIn true t end p) s
   unfolding u16le
-  wide-in u s a e r d =
+  utf16-in u s a e r d =
       let l = take (end - p) (drop p t) in
       let ll : length l ≡ end - p = length-take-le (end - p) (drop p t) (rw length-drop (omega arith)) in
       let x : getD l 0 0 ≡ getD t p 0 = data-byte 0 (omega arith) ∙ ap (λ (z : ℕ). getD t z 0) (add-zero p) in
@@ -152,10 +152,10 @@ other-inside w t end p s r = go (ltb p end) refl
 
 -- no names, no system name
 missing-nil : (id : ℕ) → systemName id [] ≡ Missing
-unfolding nameOf
+unfolding nameById
 missing-nil id = go (eqb (topByte id) 1)
   where
-    go : (b : Bool) → cond b (nameOf id []) Missing ≡ Missing
+    go : (b : Bool) → cond b (nameById id []) Missing ≡ Missing
     go true = refl
     go false = refl
 
@@ -184,23 +184,23 @@ module _ (h : Head) (t : List ℕ) (lent : Lent) (i : ℕ) (fits : Fits t h) whe
       → systemOf h t lent i ≡ none
       → i < h .count
       → o ≡ u32le t (h .offsets + 4 * i)
-      → Other (h .wide) t (stringIn (h .wide) t (h .strings + h .size) (h .strings + o)) s
-      → Other (h .wide) t (contentOf h t lent i) s
+      → Other (h .utf16) t (stringIn (h .utf16) t (h .strings + h .size) (h .strings + o)) s
+      → Other (h .utf16) t (contentOf h t lent i) s
   unfolding contentOf stringAt
   other-index o s none-here p e r =
       let size = h .size in
       let strings = h .strings in
       let room : strings + size ≤ length t = fits .strings in
-      let inner : strings + o < strings + size = other-inside (h .wide) t (strings + size) (strings + o) s r in
+      let inner : strings + o < strings + size = other-inside (h .utf16) t (strings + size) (strings + o) s r in
       let d : drop o (dataOf h t) ≡ take (size - o) (drop (strings + o) t) = data-from t strings size o room (omega arith) in
       let f : size - o ≡ strings + size - (strings + o) = omega arith in
       let d′ : drop o (dataOf h t) ≡ take (strings + size - (strings + o)) (drop (strings + o) t) =
       d ∙ ap (λ (k : ℕ). take k (drop (strings + o) t)) f in
       let at : offsetOf (drop (h .offsets) t) i ≡ o = offsetOf-drop t (h .offsets) i ∙ sym e in
       let l : length (dataOf h t) ≡ size = length-data t strings size room in
-      let c : stringAt (h .wide) (dataOf h t) o ≡ stringIn (h .wide) t (strings + size) (strings + o) =
-      rw (lt-ltb o (length (dataOf h t)) (omega arith)) (ap (λ (x : List ℕ). splitBy (h .wide) x (splitOf (h .wide) x)) d′) in
-      let b : stringOf h t i ≡ stringIn (h .wide) t (strings + size) (strings + o) = stringOf-in h t i p ∙ rw at c in
+      let c : stringAt (h .utf16) (dataOf h t) o ≡ stringIn (h .utf16) t (strings + size) (strings + o) =
+      rw (lt-ltb o (length (dataOf h t)) (omega arith)) (ap (λ (x : List ℕ). splitBy (h .utf16) x (splitOf (h .utf16) x)) d′) in
+      let b : stringOf h t i ≡ stringIn (h .utf16) t (strings + size) (strings + o) = stringOf-in h t i p ∙ rw at c in
       record {
         from = r .from;
         count = r .count;

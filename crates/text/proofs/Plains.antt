@@ -30,22 +30,22 @@ pub known-android : Known true (isPlain false androidUri)
 known-android = record { holds = λ _. android-ascii }
 
 -- the same in UTF-16
-abbrev androidWide : List ℕ
-androidWide =
+abbrev androidUtf16 : List ℕ
+androidUtf16 =
     104 ∷ 0 ∷ 116 ∷ 0 ∷ 116 ∷ 0 ∷ 112 ∷ 0 ∷ 58 ∷ 0 ∷ 47 ∷ 0 ∷ 47 ∷ 0 ∷ 115 ∷ 0 ∷ 99 ∷ 0 ∷ 104 ∷ 0 ∷ 101 ∷ 0 ∷ 109 ∷ 0 ∷ 97 ∷ 0 ∷ 115 ∷ 0 ∷ 46 ∷
     0 ∷ 97 ∷ 0 ∷ 110 ∷ 0 ∷ 100 ∷ 0 ∷ 114 ∷ 0 ∷ 111 ∷ 0 ∷ 105 ∷ 0 ∷ 100 ∷ 0 ∷ 46 ∷ 0 ∷ 99 ∷ 0 ∷ 111 ∷ 0 ∷ 109 ∷ 0 ∷ 47 ∷ 0 ∷ 97 ∷ 0 ∷ 112 ∷ 0 ∷
     107 ∷ 0 ∷ 47 ∷ 0 ∷ 114 ∷ 0 ∷ 101 ∷ 0 ∷ 115 ∷ 0 ∷ 47 ∷ 0 ∷ 97 ∷ 0 ∷ 110 ∷ 0 ∷ 100 ∷ 0 ∷ 114 ∷ 0 ∷ 111 ∷ 0 ∷ 105 ∷ 0 ∷ 100 ∷ 0 ∷ []
 
-android-text : textOf true androidWide ≡ androidUri
+android-text : textOf true androidUtf16 ≡ androidUri
 unfolding textOf stepsAfter bytesOf allSound step16 encode
 android-text = refl
 
-pub known-android-wide : Known true (isPlain true androidWide)
+pub known-android-utf16 : Known true (isPlain true androidUtf16)
 unfolding eqBytes
-known-android-wide = record { holds = λ _. ap (λ (s : List ℕ). not (eqBytes [] s)) android-text }
+known-android-utf16 = record { holds = λ _. ap (λ (s : List ℕ). not (eqBytes [] s)) android-text }
 
-pub isText-android-wide : {a b : Content} {r : Bool} → r ≡ isText a (textOf true androidWide) → a ≡ b → r ≡ isAndroid b
-isText-android-wide {a} e f = e ∙ ap (isText a) android-text ∙ ap isAndroid f
+pub isText-android-utf16 : {a b : Content} {r : Bool} → r ≡ isText a (textOf true androidUtf16) → a ≡ b → r ≡ isAndroid b
+isText-android-utf16 {a} e f = e ∙ ap (isText a) android-text ∙ ap isAndroid f
 
 pub isText-android : {a b : Content} {r : Bool} → r ≡ isText a (textOf false androidUri) → a ≡ b → r ≡ isAndroid b
 isText-android {a} e f = e ∙ ap (isText a) (textOf-system androidUri android-ascii) ∙ ap isAndroid f

@@ -92,7 +92,7 @@ module _ (h : Head) (t : List ℕ) (lent : Lent) (i : ℕ) where
   hasText-in p =
       let d = dataOf h t in
       let o = offsetOf (drop (h .offsets) t) i in
-      let e : hasText (stringOf h t i) ≡ true = ap hasText (stringOf-in h t i p) ∙ hasText-string (h .wide) d o in
+      let e : hasText (stringOf h t i) ≡ true = ap hasText (stringOf-in h t i p) ∙ hasText-string (h .utf16) d o in
       hasText-orElse (systemOf h t lent i) (stringOf h t i) e
 
   -- past the pool a system name alone

@@ -11,7 +11,7 @@ use Rattle.utf.specs.Plain.{isAscii}
 use Rattle.utf.proofs.Laws.{isSound-ascii}
 use Rattle.utf.proofs.Ascii.{isAscii-at}
 use Rattle.utf.proofs.Turns.{textOf-refused}
-use Rattle.utf.proofs.BadSteps.{state-whole, state-wide, state-narrow, replaced-whole}
+use Rattle.utf.proofs.BadSteps.{state-whole, state-utf16, state-utf8, replaced-whole}
 use Rattle.text.specs.declared.Found.{Found}
 use Rattle.text.specs.declared.Found.the-variants.{System}
 use Rattle.text.specs.Content.{Content, none, cut, some, textIn, damageIn}
@@ -35,8 +35,8 @@ some-state P w s whole′ bad one = go w refl (isSound w s) refl
   where
     go : (x : Bool) → w ≡ x → (t : Bool) → isSound w s ≡ t → P (stateNumber (damageOf w s))
     go x f true g = rw (← state-whole w s g) (whole′ g)
-    go true f false g = rw (← state-wide w s f g) (bad f g)
-    go false f false g = rw (← state-narrow w s f g) one
+    go true f false g = rw (← state-utf16 w s f g) (bad f g)
+    go false f false g = rw (← state-utf8 w s f g) one
 
 -- bad UTF-16 is the empty text
 pub unpaired-empty : (c : Content) → stateNumber (damageIn c) ≡ 2 → textIn c ≡ []

@@ -31,7 +31,7 @@ use Rattle.text.specs.declared.Head.{Head}
 use Rattle.text.specs.declared.NameState.{NameState}
 use Rattle.text.specs.declared.NameState.the-variants.{NoText, Invalid, Valid}
 
--- none: no text; cut: a string that is cut or outside; else bytes in UTF-16 (wide) or UTF-8
+-- none: no text; cut: a string that is cut or outside; else bytes, with true for UTF-16 and false for UTF-8
 pub data Content : Type 0 where
   none : Content
   cut : Content
@@ -60,7 +60,7 @@ abbrev pub dataOf : Head → List ℕ → List ℕ
 dataOf h t = take (h .size) (drop (h .strings) t)
 
 unfoldable pub stringOf : Head → List ℕ → ℕ → Content
-stringOf h t i = cond (ltb i (h .count)) (stringAt (h .wide) (dataOf h t) (offsetOf (drop (h .offsets) t) i)) none
+stringOf h t i = cond (ltb i (h .count)) (stringAt (h .utf16) (dataOf h t) (offsetOf (drop (h .offsets) t) i)) none
 
 -- ---- the text of an index
 

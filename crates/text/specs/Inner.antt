@@ -1,3 +1,3 @@
 -- How the code goes: no public promise and no claim reaches these definitions, so they need not be believed.
 pub mod Found
-pub mod Told
+pub mod Marks

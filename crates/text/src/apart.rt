@@ -2,7 +2,7 @@
 // `find` does.
 //
 // Stands for the hash in the Rust's `HashSet` of attribute names, which tells most names apart. An answer of no says nothing: the string
-// may be cut, or have lengths of two parts. Definitions: specs/Inner/Told.antt, specs/Content.antt, specs/Inner/Found.antt.
+// may be cut, or have lengths of two parts. Definitions: specs/Inner/Marks.antt, specs/Content.antt, specs/Inner/Found.antt.
 use super::Found;
 use super::Head;
 use super::Marks;
@@ -15,7 +15,7 @@ ghost use Rattle.utf.specs.Plain.{Known};
 ghost use Rattle.system_types.specs.Names.{lends};
 ghost use Rattle.text.specs.Content.{some, contentOf, plainIn, sameText};
 ghost use Rattle.text.specs.Inner.Found.{Fits, Asks, Inside, partOf};
-ghost use Rattle.text.specs.Inner.Told.{Other, stringIn, Ends, Chosen, Marked, firstOf};
+ghost use Rattle.text.specs.Inner.Marks.{Other, stringIn, Ends, Chosen, Marked, firstOf};
 use common::StringIndex;
 use field::u16_at;
 use field::u32_at;
@@ -45,7 +45,7 @@ fn bytes_apart(t: &[u8], q: usize, m: usize, at: usize, n: usize, back: usize) -
 }
 
 // The same of the UTF-8 string that begins at the place p, in data that ends at the place `end`: its head is two lengths of one byte.
-fn narrow_apart(t: &[u8], end: usize, p: usize, at: usize, n: usize) -> bool
+fn utf8_apart(t: &[u8], end: usize, p: usize, at: usize, n: usize) -> bool
     requires { ⌜ (end ≤ length (now t)) × (p < 8589934592) × (at + n ≤ length (now t)) ⌝ }
     ensures { λ r. ⌜ (r ≡ true → Other false (now (t .entry)) (stringIn false (now (t .entry)) end p) (take n (drop at (now (t .entry))))) ⌝ }
 {
@@ -66,7 +66,7 @@ fn narrow_apart(t: &[u8], end: usize, p: usize, at: usize, n: usize) -> bool
 }
 
 // The same of a UTF-16 string: its head is one length of two bytes.
-fn wide_apart(t: &[u8], end: usize, p: usize, at: usize, n: usize) -> bool
+fn utf16_apart(t: &[u8], end: usize, p: usize, at: usize, n: usize) -> bool
     requires { ⌜ (end ≤ length (now t)) × (p < 8589934592) × (at + n ≤ length (now t)) ⌝ }
     ensures { λ r. ⌜ (r ≡ true → Other true (now (t .entry)) (stringIn true (now (t .entry)) end p) (take n (drop at (now (t .entry))))) ⌝ }
 {
@@ -84,20 +84,20 @@ fn wide_apart(t: &[u8], end: usize, p: usize, at: usize, n: usize) -> bool
     bytes_apart(t, p + 2, m, at, n, 2)
 }
 
-fn string_apart(t: &[u8], wide: bool, end: usize, p: usize, at: usize, n: usize) -> bool
+fn string_apart(t: &[u8], utf16: bool, end: usize, p: usize, at: usize, n: usize) -> bool
     requires { ⌜ (end ≤ length (now t)) × (p < 8589934592) × (at + n ≤ length (now t)) ⌝ }
-    ensures { λ r. ⌜ (r ≡ true → Other wide (now (t .entry)) (stringIn wide (now (t .entry)) end p) (take n (drop at (now (t .entry))))) ⌝ }
+    ensures { λ r. ⌜ (r ≡ true → Other utf16 (now (t .entry)) (stringIn utf16 (now (t .entry)) end p) (take n (drop at (now (t .entry))))) ⌝ }
 {
-    if wide {
-        return wide_apart(t, end, p, at, n);
+    if utf16 {
+        return utf16_apart(t, end, p, at, n);
     }
-    narrow_apart(t, end, p, at, n)
+    utf8_apart(t, end, p, at, n)
 }
 
 // The same by what tells most strings apart from one of the same length: the low byte of the last unit, `far` from the string's place p.
 fn alike_apart(t: &[u8], h: Head, k: Marks, p: usize) -> bool
-    requires { ⌜ Fits (now t) h × Ends (h .wide) (now t) (h .strings + h .size) k ⌝ }
-    ensures { λ r. ⌜ (r ≡ true → Other (h .wide) (now (t .entry)) (stringIn (h .wide) (now (t .entry)) (h .strings + h .size) p)
+    requires { ⌜ Fits (now t) h × Ends (h .utf16) (now t) (h .strings + h .size) k ⌝ }
+    ensures { λ r. ⌜ (r ≡ true → Other (h .utf16) (now (t .entry)) (stringIn (h .utf16) (now (t .entry)) (h .strings + h .size) p)
         (take (k .n) (drop (k .at) (now (t .entry))))) ⌝ }
 {
     if k.room < p {
@@ -113,20 +113,20 @@ fn alike_apart(t: &[u8], h: Head, k: Marks, p: usize) -> bool
 }
 
 fn place_apart(t: &[u8], h: Head, k: Marks, p: usize) -> bool
-    requires { ⌜ Fits (now t) h × Ends (h .wide) (now t) (h .strings + h .size) k × (p < 8589934592) ⌝ }
-    ensures { λ r. ⌜ (r ≡ true → Other (h .wide) (now (t .entry)) (stringIn (h .wide) (now (t .entry)) (h .strings + h .size) p)
+    requires { ⌜ Fits (now t) h × Ends (h .utf16) (now t) (h .strings + h .size) k × (p < 8589934592) ⌝ }
+    ensures { λ r. ⌜ (r ≡ true → Other (h .utf16) (now (t .entry)) (stringIn (h .utf16) (now (t .entry)) (h .strings + h .size) p)
         (take (k .n) (drop (k .at) (now (t .entry))))) ⌝ }
 {
     if alike_apart(t, h, k, p) {
         return true;
     }
-    string_apart(t, h.wide, h.strings + h.size, p, k.at, k.n)
+    string_apart(t, h.utf16, h.strings + h.size, p, k.at, k.n)
 }
 
 // Whether a part of the file surely has another text than what was found, which is plain.
-fn part_apart(t: &[u8], area: &[u8], wide: bool, q: usize, m: usize, g: Found) -> bool
-    requires { ⌜ (q + m ≤ length (now t)) × Inside (now t) (now area) g × (plainIn (partOf wide (now t) (now area) g) ≡ true) ⌝ }
-    ensures { λ r. ⌜ (r ≡ true → sameText (some wide (take m (drop q (now (t .entry))))) (partOf wide (now (t .entry)) (now (area .entry)) g) ≡ false) ⌝ }
+fn part_apart(t: &[u8], area: &[u8], utf16: bool, q: usize, m: usize, g: Found) -> bool
+    requires { ⌜ (q + m ≤ length (now t)) × Inside (now t) (now area) g × (plainIn (partOf utf16 (now t) (now area) g) ≡ true) ⌝ }
+    ensures { λ r. ⌜ (r ≡ true → sameText (some utf16 (take m (drop q (now (t .entry))))) (partOf utf16 (now (t .entry)) (now (area .entry)) g) ≡ false) ⌝ }
 {
     match g {
         Found::Nothing => false,
@@ -137,34 +137,34 @@ fn part_apart(t: &[u8], area: &[u8], wide: bool, q: usize, m: usize, g: Found) -
 }
 
 // The same of two that were found.
-fn pool_apart(t: &[u8], area: &[u8], wide: bool, f: Found, g: Found) -> bool
-    requires { ⌜ Inside (now t) (now area) f × Inside (now t) (now area) g × (plainIn (partOf wide (now t) (now area) g) ≡ true) ⌝ }
-    ensures { λ r. ⌜ (r ≡ true → sameText (partOf wide (now (t .entry)) (now (area .entry)) f) (partOf wide (now (t .entry)) (now (area .entry)) g) ≡ false) ⌝ }
+fn pool_apart(t: &[u8], area: &[u8], utf16: bool, f: Found, g: Found) -> bool
+    requires { ⌜ Inside (now t) (now area) f × Inside (now t) (now area) g × (plainIn (partOf utf16 (now t) (now area) g) ≡ true) ⌝ }
+    ensures { λ r. ⌜ (r ≡ true → sameText (partOf utf16 (now (t .entry)) (now (area .entry)) f) (partOf utf16 (now (t .entry)) (now (area .entry)) g) ≡ false) ⌝ }
 {
     match f {
         Found::Nothing => false,
         Found::Cut => false,
         Found::System(_, _) => false,
-        Found::Pool(q, m) => part_apart(t, area, wide, q, m, g),
+        Found::Pool(q, m) => part_apart(t, area, utf16, q, m, g),
     }
 }
 
 // Whether two that were found in the pool surely have other texts, by their lengths and last units, the second being plain where `plain` is true.
 // A long text is not passed over.
 // Ruled out: yes for a system name and the pool's string of the same text, and yes for other bytes of a text that is not plain.
-pub fn ends_apart(t: &[u8], area: &[u8], wide: bool, plain: bool, f: Found, g: Found) -> bool
-    requires { ⌜ Inside (now t) (now area) f × Inside (now t) (now area) g × Known plain (plainIn (partOf wide (now t) (now area) g)) ⌝ }
-    ensures { λ r. ⌜ (r ≡ true → sameText (partOf wide (now (t .entry)) (now (area .entry)) f) (partOf wide (now (t .entry)) (now (area .entry)) g) ≡ false) ⌝ }
+pub fn ends_apart(t: &[u8], area: &[u8], utf16: bool, plain: bool, f: Found, g: Found) -> bool
+    requires { ⌜ Inside (now t) (now area) f × Inside (now t) (now area) g × Known plain (plainIn (partOf utf16 (now t) (now area) g)) ⌝ }
+    ensures { λ r. ⌜ (r ≡ true → sameText (partOf utf16 (now (t .entry)) (now (area .entry)) f) (partOf utf16 (now (t .entry)) (now (area .entry)) g) ≡ false) ⌝ }
 {
     if plain {
-        return pool_apart(t, area, wide, f, g);
+        return pool_apart(t, area, utf16, f, g);
     }
     false
 }
 
 // Whether an index surely has another text than what was found, by the marks of this. A long text is not passed over for it.
 // Ruled out: yes for a string that is cut, whose length says nothing, and yes for a system name of the same text.
-pub fn told_apart(
+pub fn surely_differs(
     t: &[u8],
     names: &[u32],
     area: &[u8],
@@ -175,7 +175,7 @@ pub fn told_apart(
 ) -> bool
     requires { ⌜ Asks (now t) (lends (now names) (now area)) h × Marked (now t) (lends (now names) (now area)) h g k ⌝ }
     ensures { λ r. ⌜ (r ≡ true → sameText (contentOf h (now (t .entry)) (lends (now (names .entry)) (now (area .entry))) (index .0))
-        (partOf (h .wide) (now (t .entry)) (now (area .entry)) g) ≡ false) ⌝ }
+        (partOf (h .utf16) (now (t .entry)) (now (area .entry)) g) ≡ false) ⌝ }
 {
     if index.0 < k.first.0 {
         return false;
@@ -189,7 +189,7 @@ pub fn told_apart(
 
 // ---- the marks
 
-// Those of what is told apart from nothing.
+// Marks that tell no index apart: the first index that they can tell is behind the last.
 fn no_marks(count: u32) -> Marks
     ensures { λ r. ⌜ r .first .0 ≡ count ⌝ }
 {
@@ -205,7 +205,7 @@ fn no_marks(count: u32) -> Marks
 }
 
 // Those of n bytes of UTF-8 at a place, against the strings from `first` up to `count`, whose data ends at the place `end`.
-fn narrow_marks(t: &[u8], count: u32, first: StringIndex, end: usize, at: usize, n: usize) -> Marks
+fn utf8_marks(t: &[u8], count: u32, first: StringIndex, end: usize, at: usize, n: usize) -> Marks
     requires { ⌜ at + n ≤ length (now t) ⌝ }
     ensures { λ r. ⌜ Chosen false (now (t .entry)) count (first .0) end at n r ⌝ }
 {
@@ -230,7 +230,7 @@ fn narrow_marks(t: &[u8], count: u32, first: StringIndex, end: usize, at: usize,
 }
 
 // Those of n bytes of UTF-16.
-fn wide_marks(t: &[u8], count: u32, first: StringIndex, end: usize, at: usize, n: usize) -> Marks
+fn utf16_marks(t: &[u8], count: u32, first: StringIndex, end: usize, at: usize, n: usize) -> Marks
     requires { ⌜ at + n ≤ length (now t) ⌝ }
     ensures { λ r. ⌜ Chosen true (now (t .entry)) count (first .0) end at n r ⌝ }
 {
@@ -269,19 +269,19 @@ fn first_of(names: &[u32], ids: u32) -> StringIndex
 
 fn pool_marks(t: &[u8], names: &[u32], h: Head, at: usize, n: usize) -> Marks
     requires { ⌜ Fits (now t) h × (at + n ≤ length (now t)) ⌝ }
-    ensures { λ r. ⌜ Chosen (h .wide) (now (t .entry)) (h .count) (firstOf (now (names .entry)) (h .ids)) (h .strings + h .size) at n r ⌝ }
+    ensures { λ r. ⌜ Chosen (h .utf16) (now (t .entry)) (h .count) (firstOf (now (names .entry)) (h .ids)) (h .strings + h .size) at n r ⌝ }
 {
     let first = first_of(names, h.ids);
-    if h.wide {
-        return wide_marks(t, h.count, first, h.strings + h.size, at, n);
+    if h.utf16 {
+        return utf16_marks(t, h.count, first, h.strings + h.size, at, n);
     }
-    narrow_marks(t, h.count, first, h.strings + h.size, at, n)
+    utf8_marks(t, h.count, first, h.strings + h.size, at, n)
 }
 
 // The marks of what was found, which is known to be plain where `plain` is true: only then are other bytes of the pool another text.
 // Ruled out: marks of a text that is not plain, and indices of the map among those told apart while names are lent.
 pub fn marks_of(t: &[u8], names: &[u32], area: &[u8], h: Head, plain: bool, g: Found) -> Marks
-    requires { ⌜ Fits (now t) h × Inside (now t) (now area) g × Known plain (plainIn (partOf (h .wide) (now t) (now area) g)) ⌝ }
+    requires { ⌜ Fits (now t) h × Inside (now t) (now area) g × Known plain (plainIn (partOf (h .utf16) (now t) (now area) g)) ⌝ }
     ensures { λ r. ⌜ Marked (now (t .entry)) (lends (now (names .entry)) (now (area .entry))) h g r ⌝ }
 {
     if !plain {

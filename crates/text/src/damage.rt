@@ -15,35 +15,35 @@ use utf::state_of;
 // The state of the text that was found: 0 whole, 1 replaced characters, 2 bad UTF-16, 3 cut or outside; 0 where there is none. A system
 // name is ASCII, by the rule of the lent names, and is not looked at.
 // Ruled out: 2 for a string of UTF-16 that is cut, and 0 for a string that is cut, since its text is empty.
-pub fn state_of_found(t: &[u8], area: &[u8], wide: bool, f: Found) -> u32
+pub fn state_of_found(t: &[u8], area: &[u8], utf16: bool, f: Found) -> u32
     requires { ⌜ Inside (now t) (now area) f ⌝ }
-    ensures { λ r. ⌜ r ≡ stateNumber (damageIn (partOf wide (now (t .entry)) (now (area .entry)) f)) ⌝ }
+    ensures { λ r. ⌜ r ≡ stateNumber (damageIn (partOf utf16 (now (t .entry)) (now (area .entry)) f)) ⌝ }
 {
     match f {
         Found::Nothing => 0,
         Found::Cut => 3,
         Found::System(_, _) => 0,
-        Found::Pool(at, n) => state_of(wide, &t[at..at + n]),
+        Found::Pool(at, n) => state_of(utf16, &t[at..at + n]),
     }
 }
 
-fn replaced_in_part(wide: bool, s: &[u8]) -> u32
+fn replaced_in_part(utf16: bool, s: &[u8]) -> u32
     requires { ⌜ length (now s) ≤ fileLimit ⌝ }
-    ensures { λ r. ⌜ r ≡ replacedCount (damageOf wide (now (s .entry))) ⌝ }
+    ensures { λ r. ⌜ r ≡ replacedCount (damageOf utf16 (now (s .entry))) ⌝ }
 {
-    replaced_of(wide, s) as u32
+    replaced_of(utf16, s) as u32
 }
 
 // How many characters of the text that was found were replaced.
 // Ruled out: a U+FFFD of the file's own counted, and any count but 0 for UTF-16.
-pub fn replaced_of_found(t: &[u8], area: &[u8], wide: bool, f: Found) -> u32
+pub fn replaced_of_found(t: &[u8], area: &[u8], utf16: bool, f: Found) -> u32
     requires { ⌜ Inside (now t) (now area) f × (length (now t) ≤ fileLimit) ⌝ }
-    ensures { λ r. ⌜ r ≡ replacedCount (damageIn (partOf wide (now (t .entry)) (now (area .entry)) f)) ⌝ }
+    ensures { λ r. ⌜ r ≡ replacedCount (damageIn (partOf utf16 (now (t .entry)) (now (area .entry)) f)) ⌝ }
 {
     match f {
         Found::Nothing => 0,
         Found::Cut => 0,
         Found::System(_, _) => 0,
-        Found::Pool(at, n) => replaced_in_part(wide, &t[at..at + n]),
+        Found::Pool(at, n) => replaced_in_part(utf16, &t[at..at + n]),
     }
 }

@@ -9,7 +9,7 @@ pub mod part;
 
 pub use apart::ends_apart;
 pub use apart::marks_of;
-use apart::told_apart;
+use apart::surely_differs;
 pub use damage::replaced_of_found;
 pub use damage::state_of_found;
 pub use equal::is_plain_found;
@@ -31,7 +31,7 @@ ghost use Rattle.system_types.specs.Names.{lends};
 ghost use Rattle.system_types.specs.declared.Lookup.the-variants.{Name};
 ghost use Rattle.text.specs.Content.{namedBy, systemOf, stringAt, stringOf, contentOf, hasText, plainIn, sameText, isText, isAndroid};
 ghost use Rattle.text.specs.Inner.Found.{Fits, Asks, Inside, Stands, Finds, partOf, isFound};
-ghost use Rattle.text.specs.Inner.Told.{Marked};
+ghost use Rattle.text.specs.Inner.Marks.{Marked};
 use common::StringIndex;
 use field::u32_at;
 use res_string_pool::Split;
@@ -44,7 +44,7 @@ use utf::is_sound;
 
 // What texts are read by: the pool's numbers and the map's, as places in the bytes behind the file's header.
 pub struct Head {
-    pub wide: bool,
+    pub utf16: bool,
     pub count: u32,
     pub offsets: usize,
     pub strings: usize,
@@ -57,7 +57,7 @@ pub struct Head {
 pub const ANDROID_URI: [u8; 42] = *b"http://schemas.android.com/apk/res/android";
 
 // The same in UTF-16.
-const ANDROID_WIDE: [u8; 84] =
+const ANDROID_UTF16: [u8; 84] =
     *b"h\0t\0t\0p\0:\0/\0/\0s\0c\0h\0e\0m\0a\0s\0.\0a\0n\0d\0r\0o\0i\0d\0.\0c\0o\0m\0/\0a\0p\0k\0/\0r\0e\0s\0/\0a\0n\0d\0r\0o\0i\0d\0";
 
 // Where the text of an index lies.
@@ -109,7 +109,7 @@ fn stripped(area: &[u8], start: usize, n: usize) -> Found
 
 fn find_system(t: &[u8], names: &[u32], area: &[u8], h: Head, index: StringIndex) -> Found
     requires { ⌜ Asks (now t) (lends (now names) (now area)) h ⌝ }
-    ensures { λ r. ⌜ Stands (h .wide) (now (t .entry)) (now (area .entry))
+    ensures { λ r. ⌜ Stands (h .utf16) (now (t .entry)) (now (area .entry))
         (systemOf h (now (t .entry)) (lends (now (names .entry)) (now (area .entry))) (index .0)) r ⌝ }
 {
     if h.ids <= index.0 {
@@ -127,14 +127,14 @@ fn find_system(t: &[u8], names: &[u32], area: &[u8], h: Head, index: StringIndex
 // ---- the pool string
 
 // The string at the offset o of the data, which is `size` bytes from the place `strings` on.
-fn string_at(t: &[u8], wide: bool, strings: usize, size: usize, o: usize) -> Found
+fn string_at(t: &[u8], utf16: bool, strings: usize, size: usize, o: usize) -> Found
     requires { ⌜ strings + size ≤ length (now t) ⌝ }
-    ensures { λ r. ⌜ ((area : List _) → Stands wide (now (t .entry)) area (stringAt wide (take size (drop strings (now (t .entry)))) o) r) ⌝ }
+    ensures { λ r. ⌜ ((area : List _) → Stands utf16 (now (t .entry)) area (stringAt utf16 (take size (drop strings (now (t .entry)))) o) r) ⌝ }
 {
     if size <= o {
         return Found::Cut;
     }
-    let split = split_string(wide, &t[strings + o..strings + size]);
+    let split = split_string(utf16, &t[strings + o..strings + size]);
     match split {
         Split::Cut => Found::Cut,
         Split::Content(at, n) => Found::Pool(strings + o + at, n),
@@ -143,13 +143,13 @@ fn string_at(t: &[u8], wide: bool, strings: usize, size: usize, o: usize) -> Fou
 
 fn find_string(t: &[u8], h: Head, index: StringIndex) -> Found
     requires { ⌜ Fits (now t) h ⌝ }
-    ensures { λ r. ⌜ ((area : List _) → Stands (h .wide) (now (t .entry)) area (stringOf h (now (t .entry)) (index .0)) r) ⌝ }
+    ensures { λ r. ⌜ ((area : List _) → Stands (h .utf16) (now (t .entry)) area (stringOf h (now (t .entry)) (index .0)) r) ⌝ }
 {
     if h.count <= index.0 {
         return Found::Nothing;
     }
     let o = u32_at(t, h.offsets + 4 * (index.0 as usize));
-    string_at(t, h.wide, h.strings, h.size, o as usize)
+    string_at(t, h.utf16, h.strings, h.size, o as usize)
 }
 
 // ---- the text of an index
@@ -218,7 +218,7 @@ pub fn same_index(
     }
     let f = find(t, names, area, h, i);
     let g = find(t, names, area, h, j);
-    same_found(t, area, h.wide, f, g)
+    same_found(t, area, h.utf16, f, g)
 }
 
 // Whether an index has a text and it is that of `name`, which was found as g: at once where both indices are equal. The marks of g tell
@@ -237,18 +237,18 @@ pub fn same_as_known(
     g: Found,
 ) -> bool
     requires { ⌜ Asks (now t) (lends (now names) (now area)) h × Finds (now t) (lends (now names) (now area)) h (name .0) g
-        × Known plain (plainIn (partOf (h .wide) (now t) (now area) g)) × Marked (now t) (lends (now names) (now area)) h g k ⌝ }
+        × Known plain (plainIn (partOf (h .utf16) (now t) (now area) g)) × Marked (now t) (lends (now names) (now area)) h g k ⌝ }
     ensures { λ r. ⌜ r ≡ sameText (contentOf h (now (t .entry)) (lends (now (names .entry)) (now (area .entry))) (index .0))
-        (partOf (h .wide) (now (t .entry)) (now (area .entry)) g) ⌝ }
+        (partOf (h .utf16) (now (t .entry)) (now (area .entry)) g) ⌝ }
 {
     if index.0 == name.0 {
         return is_found(g);
     }
-    if told_apart(t, names, area, h, k, index, g) {
+    if surely_differs(t, names, area, h, k, index, g) {
         return false;
     }
     let f = find(t, names, area, h, index);
-    same_found_known(t, area, h.wide, plain, f, g)
+    same_found_known(t, area, h.utf16, plain, f, g)
 }
 
 // Whether an index has a text and its UTF-8 is the lent bytes: bytes that are no UTF-8 are no text's.
@@ -268,7 +268,7 @@ pub fn is_index_text(
     if !is_sound(false, bytes) {
         return false;
     }
-    same_part(t, area, h.wide, false, false, bytes, f)
+    same_part(t, area, h.utf16, false, false, bytes, f)
 }
 
 // Whether an index has a text and it is the Android namespace, which is plain in either encoding, so that a string of the pool is told by its
@@ -279,8 +279,8 @@ pub fn is_android(t: &[u8], names: &[u32], area: &[u8], h: Head, index: StringIn
     ensures { λ r. ⌜ r ≡ isAndroid (contentOf h (now (t .entry)) (lends (now (names .entry)) (now (area .entry))) (index .0)) ⌝ }
 {
     let f = find(t, names, area, h, index);
-    if h.wide {
-        return same_part(t, area, h.wide, true, true, &ANDROID_WIDE, f);
+    if h.utf16 {
+        return same_part(t, area, h.utf16, true, true, &ANDROID_UTF16, f);
     }
-    same_part(t, area, h.wide, true, false, &ANDROID_URI, f)
+    same_part(t, area, h.utf16, true, false, &ANDROID_URI, f)
 }

@@ -43,70 +43,70 @@ fn state_of(valid: bool) -> NameState
 
 // Whether there is a text, and whether it is a valid name: a string that is cut is an empty text, and no name.
 // Ruled out: a system name read as UTF-16 because the pool is, and no text for a string that is cut.
-pub fn found_state(t: &[u8], area: &[u8], wide: bool, f: Found) -> NameState
+pub fn found_state(t: &[u8], area: &[u8], utf16: bool, f: Found) -> NameState
     requires { ⌜ Inside (now t) (now area) f ⌝ }
-    ensures { λ r. ⌜ r ≡ stateIn (partOf wide (now (t .entry)) (now (area .entry)) f) ⌝ }
+    ensures { λ r. ⌜ r ≡ stateIn (partOf utf16 (now (t .entry)) (now (area .entry)) f) ⌝ }
 {
     match f {
         Found::Nothing => NameState::NoText,
         Found::Cut => NameState::Invalid,
         Found::System(at, n) => state_of(valid_name(false, &area[at..at + n])),
-        Found::Pool(at, n) => state_of(valid_name(wide, &t[at..at + n])),
+        Found::Pool(at, n) => state_of(valid_name(utf16, &t[at..at + n])),
     }
 }
 
 // Writes the text of what was found as UTF-8 at the front of `out` if it holds it whole, and returns its length; the rest of `out` stays.
 // Ruled out: the content bytes as they stand for UTF-16, and a byte changed where the text does not fit.
-pub fn found_into(t: &[u8], area: &[u8], wide: bool, f: Found, out: &mut [u8]) -> usize
+pub fn found_into(t: &[u8], area: &[u8], utf16: bool, f: Found, out: &mut [u8]) -> usize
     requires { ⌜ Inside (now t) (now area) f × (length (now t) ≤ fileLimit) ⌝ }
-    ensures { λ r. ⌜ Wrote (textIn (partOf wide (now (t .entry)) (now (area .entry)) f)) (now (out .entry)) (now (out .exit)) r ⌝ }
+    ensures { λ r. ⌜ Wrote (textIn (partOf utf16 (now (t .entry)) (now (area .entry)) f)) (now (out .entry)) (now (out .exit)) r ⌝ }
 {
     match f {
         Found::Nothing => 0,
         Found::Cut => 0,
         Found::System(at, n) => text_into(false, &area[at..at + n], out),
-        Found::Pool(at, n) => text_into(wide, &t[at..at + n], out),
+        Found::Pool(at, n) => text_into(utf16, &t[at..at + n], out),
     }
 }
 
 // Whether there is a text that is a valid name and whole.
 // Ruled out: true of FF in a UTF-8 pool, whose text is a valid name, and false of a system name in a UTF-16 pool.
-pub fn found_whole(t: &[u8], area: &[u8], wide: bool, f: Found) -> bool
+pub fn found_whole(t: &[u8], area: &[u8], utf16: bool, f: Found) -> bool
     requires { ⌜ Inside (now t) (now area) f ⌝ }
-    ensures { λ r. ⌜ r ≡ wholeName (partOf wide (now (t .entry)) (now (area .entry)) f) ⌝ }
+    ensures { λ r. ⌜ r ≡ wholeName (partOf utf16 (now (t .entry)) (now (area .entry)) f) ⌝ }
 {
     match f {
         Found::Nothing => false,
         Found::Cut => false,
         Found::System(at, n) => whole_name(false, &area[at..at + n]),
-        Found::Pool(at, n) => whole_name(wide, &t[at..at + n]),
+        Found::Pool(at, n) => whole_name(utf16, &t[at..at + n]),
     }
 }
 
 // Whether there is a text that is seen at once to be ASCII, and so to be whole: a system name, or a string of the pool with no other character.
 // Ruled out: true of a string that is cut, whose text is empty; true of 41 01 in a UTF-16 pool, which is U+0141.
-pub fn found_ascii(t: &[u8], area: &[u8], wide: bool, f: Found) -> bool
+pub fn found_ascii(t: &[u8], area: &[u8], utf16: bool, f: Found) -> bool
     requires { ⌜ Inside (now t) (now area) f ⌝ }
-    ensures { λ r. ⌜ r ≡ asciiIn (partOf wide (now (t .entry)) (now (area .entry)) f) ⌝ }
+    ensures { λ r. ⌜ r ≡ asciiIn (partOf utf16 (now (t .entry)) (now (area .entry)) f) ⌝ }
 {
     match f {
         Found::Nothing => false,
         Found::Cut => false,
         Found::System(_, _) => true,
-        Found::Pool(at, n) => is_ascii_text(wide, &t[at..at + n]),
+        Found::Pool(at, n) => is_ascii_text(utf16, &t[at..at + n]),
     }
 }
 
 // What `found_into` does, for a text that `found_ascii` has told to be ASCII: it is copied, and not looked at again.
 // Ruled out: both bytes of a unit of UTF-16; a byte changed where the text does not fit.
-pub fn found_ascii_into(t: &[u8], area: &[u8], wide: bool, f: Found, out: &mut [u8]) -> usize
-    requires { ⌜ Inside (now t) (now area) f × (length (now t) ≤ fileLimit) × (asciiIn (partOf wide (now t) (now area) f) ≡ true) ⌝ }
-    ensures { λ r. ⌜ Wrote (textIn (partOf wide (now (t .entry)) (now (area .entry)) f)) (now (out .entry)) (now (out .exit)) r ⌝ }
+pub fn found_ascii_into(t: &[u8], area: &[u8], utf16: bool, f: Found, out: &mut [u8]) -> usize
+    requires { ⌜ Inside (now t) (now area) f × (length (now t) ≤ fileLimit) × (asciiIn (partOf utf16 (now t) (now area) f) ≡ true) ⌝ }
+    ensures { λ r. ⌜ Wrote (textIn (partOf utf16 (now (t .entry)) (now (area .entry)) f)) (now (out .entry)) (now (out .exit)) r ⌝ }
 {
     match f {
         Found::Nothing => 0,
         Found::Cut => 0,
         Found::System(at, n) => ascii_into(false, &area[at..at + n], out),
-        Found::Pool(at, n) => ascii_into(wide, &t[at..at + n], out),
+        Found::Pool(at, n) => ascii_into(utf16, &t[at..at + n], out),
     }
 }

@@ -4,7 +4,7 @@ use stored::count_at;
 use stored::print_group;
 use stored::print_one;
 use stored::say;
-use stored::wide;
+use stored::to_u64;
 
 // Groups 1 to 63 are the refusals with that number.
 pub const TEXTS: usize = 0;
@@ -20,7 +20,7 @@ pub const SETS: usize = 133;
 
 // A file is new where its number is how many there were: they are numbered in the order in which they are asked about.
 pub(crate) fn new_file(counts: &mut [u32], number: u32) {
-    if count_at(counts, FILES) == wide(number) {
+    if count_at(counts, FILES) == to_u64(number) {
         bump(counts, FILES);
     }
 }

@@ -64,13 +64,13 @@ fn with(t: Tally, v: Verdict) -> Tally {
 }
 
 // Whether the text of s is `want`, by its length and by its bytes.
-fn text_right(wide: bool, s: &[u8], want: &[u8]) -> bool {
+fn text_right(utf16: bool, s: &[u8], want: &[u8]) -> bool {
     let mut out = [0u8; 4096];
-    let n = text_len(wide, s);
+    let n = text_len(utf16, s);
     if 4096 < n {
         return false;
     }
-    let m = text_into(wide, s, &mut out);
+    let m = text_into(utf16, s, &mut out);
     if m != n {
         return false;
     }
@@ -78,11 +78,11 @@ fn text_right(wide: bool, s: &[u8], want: &[u8]) -> bool {
 }
 
 // Whether the text of s has this state, with so many U+FFFD put in.
-fn state_right(wide: bool, s: &[u8], state: u8, replaced: usize) -> bool {
-    if state_of(wide, s) != state as u32 {
+fn state_right(utf16: bool, s: &[u8], state: u8, replaced: usize) -> bool {
+    if state_of(utf16, s) != state as u32 {
         return false;
     }
-    replaced_of(wide, s) == replaced
+    replaced_of(utf16, s) == replaced
 }
 
 // ---- the vectors
@@ -90,7 +90,7 @@ fn state_right(wide: bool, s: &[u8], state: u8, replaced: usize) -> bool {
 // A record of a file: its marks, and where its bytes and their text lie.
 pub struct Record {
     pub whole: bool,
-    pub wide: bool,
+    pub utf16: bool,
     pub name: bool,
     pub same: bool,
     pub state: u8,
@@ -119,7 +119,7 @@ fn record_at(file: &[u8], at: usize) -> Record
     }
     Record {
         whole: true,
-        wide: marks % 2 == 1,
+        utf16: marks % 2 == 1,
         name: marks / 2 % 2 == 1,
         same: marks / 4 % 2 == 1,
         state: marks / 8,
@@ -135,7 +135,7 @@ fn cut(size: usize) -> Record
 {
     Record {
         whole: false,
-        wide: false,
+        utf16: false,
         name: false,
         same: false,
         state: 0,
@@ -147,14 +147,14 @@ fn cut(size: usize) -> Record
 }
 
 // The text of a record, against its answers and against the text before it, which lies from `from` to `to`.
-fn judge(file: &[u8], r: Record, wide: bool, from: usize, to: usize) -> Verdict
+fn judge(file: &[u8], r: Record, utf16: bool, from: usize, to: usize) -> Verdict
     requires { ⌜ Lies (length (now file)) (r .start) (r .middle) (r .end) × (from ≤ to) × (to ≤ length (now file)) ⌝ }
 {
     let s = &file[r.start..r.middle];
-    let text = text_right(r.wide, s, &file[r.middle..r.end]);
-    let state = state_right(r.wide, s, r.state, r.replaced);
-    let name = valid_name(r.wide, s);
-    let pair = same_text(wide, &file[from..to], r.wide, s);
+    let text = text_right(r.utf16, s, &file[r.middle..r.end]);
+    let state = state_right(r.utf16, s, r.state, r.replaced);
+    let name = valid_name(r.utf16, s);
+    let pair = same_text(utf16, &file[from..to], r.utf16, s);
     Verdict {
         text: text && r.whole,
         state,
@@ -166,15 +166,15 @@ fn judge(file: &[u8], r: Record, wide: bool, from: usize, to: usize) -> Verdict
 // All records of a file, each beside the one before it; before the first stands the empty text.
 fn walk(file: &[u8]) -> Tally {
     let mut tally = none();
-    let mut wide = false;
+    let mut utf16 = false;
     let mut from = 0;
     let mut to = 0;
     let mut at = 0;
     while at < file.len() {
         let r = record_at(file, at);
-        let v = judge(file, r, wide, from, to);
+        let v = judge(file, r, utf16, from, to);
         tally = with(tally, v);
-        wide = r.wide;
+        utf16 = r.utf16;
         from = r.start;
         to = r.middle;
         at = r.end;

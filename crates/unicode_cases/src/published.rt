@@ -16,10 +16,10 @@ fn state_with(replaced: usize) -> u8 {
     1
 }
 
-fn text_case(t: Tally, wide: bool, s: &[u8], want: &[u8], replaced: usize) -> Tally {
-    let text = text_right(wide, s, want);
-    let state = state_right(wide, s, state_with(replaced), replaced);
-    let pair = same_text(wide, s, false, want);
+fn text_case(t: Tally, utf16: bool, s: &[u8], want: &[u8], replaced: usize) -> Tally {
+    let text = text_right(utf16, s, want);
+    let state = state_right(utf16, s, state_with(replaced), replaced);
+    let pair = same_text(utf16, s, false, want);
     with(
         t,
         Verdict {

@@ -1,5 +1,5 @@
 -- Texts of ASCII in either encoding: the greatest low byte and the greatest high byte decide (`seenUnits-..`); such a text is whole
--- (`asciiText-sound`) and is its bytes, or the low bytes of its units (`asciiText-narrow`, `asciiText-wide`); how they are written.
+-- (`asciiText-sound`) and is its bytes, or the low bytes of its units (`asciiText-utf8`, `asciiText-utf16`); how they are written.
 -- No contract cites this file.
 use mathlib.Core.Path.{_≡_, refl, sym, ap, _∙_}
 use mathlib.Core.Bool.{Bool, true, false, _&&_, and-true, and-false, true≢false}
@@ -14,7 +14,7 @@ use lib.Seq.{drop-cons, drop-drop, drop-length, take-suc, take-suc-set, drop-set
 use Rattle.utf.specs.declared.Step.the-variants.{Scalar}
 use Rattle.utf.specs.Utf16.{step16}
 use Rattle.utf.specs.Text.{stepsAfter, stepsOf, bytesOf, allSound, isSound, textOf, putText}
-use Rattle.utf.specs.Inner.Told.{asciiUnits, lowBytes, isAsciiText}
+use Rattle.utf.specs.Inner.StepRuns.{asciiUnits, lowBytes, isAsciiText}
 use Rattle.utf.proofs.Tables.{both-true}
 use Rattle.utf.proofs.Scalars.{encode-one}
 use Rattle.utf.proofs.Laws.{isSound-ascii, textOf-ascii}
@@ -104,16 +104,16 @@ units-bytes (a ∷ b ∷ s) e =
     let p = units-first a b s e in
     rw (unit-step a b s (p .0) (p .1), encode-one a (p .0), units-bytes s (p .2))
 
-pub asciiText-sound : (wide : Bool) (s : List ℕ) → isAsciiText wide s ≡ true → isSound wide s ≡ true
+pub asciiText-sound : (utf16 : Bool) (s : List ℕ) → isAsciiText utf16 s ≡ true → isSound utf16 s ≡ true
 asciiText-sound true s e = units-sound s e
 asciiText-sound false s e = isSound-ascii s (isAscii-at s e)
 
-pub asciiText-wide : (s : List ℕ) → isAsciiText true s ≡ true → textOf true s ≡ lowBytes s
+pub asciiText-utf16 : (s : List ℕ) → isAsciiText true s ≡ true → textOf true s ≡ lowBytes s
 unfolding textOf
-asciiText-wide s e = rw (units-sound s e) (units-bytes s e)
+asciiText-utf16 s e = rw (units-sound s e) (units-bytes s e)
 
-pub asciiText-narrow : (s : List ℕ) → isAsciiText false s ≡ true → textOf false s ≡ s
-asciiText-narrow s e = textOf-ascii s (isAscii-at s e)
+pub asciiText-utf8 : (s : List ℕ) → isAsciiText false s ≡ true → textOf false s ≡ s
+asciiText-utf8 s e = textOf-ascii s (isAscii-at s e)
 
 pub lowBytes-length : (s : List ℕ) → length (lowBytes s) ≡ length s / 2
 unfolding lowBytes
@@ -165,15 +165,15 @@ all-copied l out₀ out i c e =
 
 -- ---- the text in its buffer
 
-pub into-wide : (s out after : List ℕ) (n : ℕ) → isAsciiText true s ≡ true → length s ≤ 0xffffffffffffffff
+pub into-utf16 : (s out after : List ℕ) (n : ℕ) → isAsciiText true s ≡ true → length s ≤ 0xffffffffffffffff
     → (n ≡ length (lowBytes s)) × (after ≡ putText (lowBytes s) out)
     → (n ≡ min (length (textOf true s)) 0xffffffffffffffff) × (after ≡ putText (textOf true s) out)
-into-wide s out after n e h p = rw (asciiText-wide s e) (omega (arith, p .0, lowBytes-length s), p .1)
+into-utf16 s out after n e h p = rw (asciiText-utf16 s e) (omega (arith, p .0, lowBytes-length s), p .1)
 
-pub into-narrow : (s out after : List ℕ) (n : ℕ) → isAsciiText false s ≡ true → length s ≤ 0xffffffffffffffff
+pub into-utf8 : (s out after : List ℕ) (n : ℕ) → isAsciiText false s ≡ true → length s ≤ 0xffffffffffffffff
     → (n ≡ length s) × (after ≡ putText s out)
     → (n ≡ min (length (textOf false s)) 0xffffffffffffffff) × (after ≡ putText (textOf false s) out)
-into-narrow s out after n e h p = rw (asciiText-narrow s e) (omega (arith, p .0), p .1)
+into-utf8 s out after n e h p = rw (asciiText-utf8 s e) (omega (arith, p .0), p .1)
 
 pub put-short : (x out : List ℕ) → length out < length x → out ≡ putText x out
 unfolding putText

@@ -8,7 +8,7 @@ use native.Mathlib.Omega.{arith}
 use lib.ListN.{length, drop}
 use Rattle.utf.specs.declared.Step.{Step}
 use Rattle.utf.specs.Text.{stepOf, widthOf, soundOf, stepsAfter, stepsOf, allSound, badCount, isSound, damageOf, stateNumber, replacedCount}
-use Rattle.utf.specs.Inner.Told.{Took}
+use Rattle.utf.specs.Inner.StepRuns.{Took}
 use Rattle.utf.proofs.Tables.{both-true}
 use Rattle.utf.proofs.Steps.{stepsOf-next, stepsOf-end}
 use Rattle.utf.proofs.Laws.{damageOf-whole, damageOf-unpaired, damageOf-replaced}
@@ -47,20 +47,20 @@ unfolding badCount
 all-tallied s at n c h = omega (arith, c .rest, ap badCount (stepsOf-end false s at h))
 
 -- each bad step has a byte of its own
-badCount-after : (wide : Bool) (k : ℕ) (s : List ℕ) → badCount (stepsAfter wide k s) ≤ length s
+badCount-after : (utf16 : Bool) (k : ℕ) (s : List ℕ) → badCount (stepsAfter utf16 k s) ≤ length s
 unfolding stepsAfter badCount
-badCount-after wide k [] = omega arith
-badCount-after wide zero (b ∷ s) =
-    let t = stepOf wide (b ∷ s) in
-    go (soundOf t) (badCount (stepsAfter wide (widthOf t - 1) s)) (badCount-after wide (widthOf t - 1) s)
+badCount-after utf16 k [] = omega arith
+badCount-after utf16 zero (b ∷ s) =
+    let t = stepOf utf16 (b ∷ s) in
+    go (soundOf t) (badCount (stepsAfter utf16 (widthOf t - 1) s)) (badCount-after utf16 (widthOf t - 1) s)
   where
     go : (x : Bool) (m : ℕ) → m ≤ length s → cond x m (suc m) ≤ suc (length s)
     go true m h = omega arith
     go false m h = omega arith
-badCount-after wide (suc k) (b ∷ s) = omega (arith, badCount-after wide k s)
+badCount-after utf16 (suc k) (b ∷ s) = omega (arith, badCount-after utf16 k s)
 
-pub badCount-le : (wide : Bool) (s : List ℕ) → badCount (stepsOf wide s) ≤ length s
-badCount-le wide s = badCount-after wide 0 s
+pub badCount-le : (utf16 : Bool) (s : List ℕ) → badCount (stepsOf utf16 s) ≤ length s
+badCount-le utf16 s = badCount-after utf16 0 s
 
 sound-none : (ts : List Step) → allSound ts ≡ true → badCount ts ≡ 0
 unfolding allSound badCount
@@ -71,37 +71,37 @@ sound-none (t ∷ ts) e =
 
 -- ---- the state, and how many were replaced
 
-pub state-whole : (wide : Bool) (s : List ℕ) → isSound wide s ≡ true → 0 ≡ stateNumber (damageOf wide s)
-state-whole wide s e = sym (ap stateNumber (damageOf-whole wide s e))
+pub state-whole : (utf16 : Bool) (s : List ℕ) → isSound utf16 s ≡ true → 0 ≡ stateNumber (damageOf utf16 s)
+state-whole utf16 s e = sym (ap stateNumber (damageOf-whole utf16 s e))
 
-pub state-wide : (wide : Bool) (s : List ℕ) → wide ≡ true → isSound wide s ≡ false → 2 ≡ stateNumber (damageOf wide s)
-state-wide true s w e = sym (ap stateNumber (damageOf-unpaired s e))
-state-wide false s w e = absurd (true≢false (sym w))
+pub state-utf16 : (utf16 : Bool) (s : List ℕ) → utf16 ≡ true → isSound utf16 s ≡ false → 2 ≡ stateNumber (damageOf utf16 s)
+state-utf16 true s w e = sym (ap stateNumber (damageOf-unpaired s e))
+state-utf16 false s w e = absurd (true≢false (sym w))
 
-pub state-narrow : (wide : Bool) (s : List ℕ) → wide ≡ false → isSound wide s ≡ false → 1 ≡ stateNumber (damageOf wide s)
-state-narrow true s w e = absurd (true≢false w)
-state-narrow false s w e = sym (ap stateNumber (damageOf-replaced s e .0))
+pub state-utf8 : (utf16 : Bool) (s : List ℕ) → utf16 ≡ false → isSound utf16 s ≡ false → 1 ≡ stateNumber (damageOf utf16 s)
+state-utf8 true s w e = absurd (true≢false w)
+state-utf8 false s w e = sym (ap stateNumber (damageOf-replaced s e .0))
 
-pub replaced-whole : (wide : Bool) (s : List ℕ) → isSound wide s ≡ true → 0 ≡ replacedCount (damageOf wide s)
-replaced-whole wide s e = sym (ap replacedCount (damageOf-whole wide s e))
+pub replaced-whole : (utf16 : Bool) (s : List ℕ) → isSound utf16 s ≡ true → 0 ≡ replacedCount (damageOf utf16 s)
+replaced-whole utf16 s e = sym (ap replacedCount (damageOf-whole utf16 s e))
 
-pub replaced-wide : (wide : Bool) (s : List ℕ) → wide ≡ true → 0 ≡ replacedCount (damageOf wide s)
-replaced-wide false s w = absurd (true≢false (sym w))
-replaced-wide true s w = go (isSound true s) refl
+pub replaced-utf16 : (utf16 : Bool) (s : List ℕ) → utf16 ≡ true → 0 ≡ replacedCount (damageOf utf16 s)
+replaced-utf16 false s w = absurd (true≢false (sym w))
+replaced-utf16 true s w = go (isSound true s) refl
   where
     go : (t : Bool) → isSound true s ≡ t → 0 ≡ replacedCount (damageOf true s)
     go true e = replaced-whole true s e
     go false e = sym (ap replacedCount (damageOf-unpaired s e))
 
-pub replaced-narrow : (wide : Bool) (s : List ℕ) (n : ℕ) → wide ≡ false → n ≡ badCount (stepsOf false s) → n ≡ replacedCount (damageOf wide s)
-replaced-narrow true s n w e = absurd (true≢false w)
-replaced-narrow false s n w e = go (isSound false s) refl
+pub replaced-utf8 : (utf16 : Bool) (s : List ℕ) (n : ℕ) → utf16 ≡ false → n ≡ badCount (stepsOf false s) → n ≡ replacedCount (damageOf utf16 s)
+replaced-utf8 true s n w e = absurd (true≢false w)
+replaced-utf8 false s n w e = go (isSound false s) refl
   where
     go : (t : Bool) → isSound false s ≡ t → n ≡ replacedCount (damageOf false s)
     go true f = e ∙ sound-none (stepsOf false s) f ∙ replaced-whole false s f
     go false f = e ∙ sym (ap replacedCount (damageOf-replaced s f .0))
 
 -- no more than there are bytes
-pub replacedCount-le : (wide : Bool) (s : List ℕ) → replacedCount (damageOf wide s) ≤ length s
-replacedCount-le true s = omega (arith, replaced-wide true s refl)
-replacedCount-le false s = omega (arith, replaced-narrow false s (badCount (stepsOf false s)) refl refl, badCount-le false s)
+pub replacedCount-le : (utf16 : Bool) (s : List ℕ) → replacedCount (damageOf utf16 s) ≤ length s
+replacedCount-le true s = omega (arith, replaced-utf16 true s refl)
+replacedCount-le false s = omega (arith, replaced-utf8 false s (badCount (stepsOf false s)) refl refl, badCount-le false s)

@@ -11,7 +11,7 @@ use lib.Dec.{ltb, eqb}
 use lib.ListN.{length, getD, take, drop}
 use lib.Seq.{drop-cons, drop-length}
 use Rattle.utf.specs.Plain.{isAscii}
-use Rattle.utf.specs.Inner.Told.{Ran, basicFrom, isBasic, isSingle}
+use Rattle.utf.specs.Inner.StepRuns.{Ran, basicFrom, isBasic, isSingle}
 use Rattle.utf.proofs.Tables.{both-true}
 use Rattle.utf.proofs.Units.{ran-ascii, ran-unit}
 
@@ -62,20 +62,20 @@ seenBasic-end s i most e = rw (e, drop-length) (and-true (ltb most 1))
 
 -- ---- a block of single units is a run of sound steps
 
-ran-narrow : (n : ℕ) (s : List ℕ) (at i : ℕ) → Ran false s at i → i + n ≤ length s → isAscii (take n (drop i s)) ≡ true → Ran false s at (i + n)
+ran-utf8 : (n : ℕ) (s : List ℕ) (at i : ℕ) → Ran false s at i → i + n ≤ length s → isAscii (take n (drop i s)) ≡ true → Ran false s at (i + n)
 unfolding isAscii
-ran-narrow zero s at i r h e = subst (λ (k : ℕ). Ran false s at k) (omega arith) r
-ran-narrow (suc n) s at i r h e =
+ran-utf8 zero s at i r h e = subst (λ (k : ℕ). Ran false s at k) (omega arith) r
+ran-utf8 (suc n) s at i r h e =
     let f : isAscii (getD s i 0 ∷ take n (drop (suc i) s)) ≡ true = rw (drop-cons s i 0 (omega arith)) at e in
     let p = both-true (ltb (getD s i 0) 0x80) (isAscii (take n (drop (suc i) s))) f in
     let q : Ran false s at (suc i) = rw (add-one i) at (ran-ascii s at i r (omega arith) (ltb-true (getD s i 0) 0x80 (p .0))) in
-    subst (λ (k : ℕ). Ran false s at k) (omega arith) (ran-narrow n s at (suc i) q (omega arith) (p .1))
+    subst (λ (k : ℕ). Ran false s at k) (omega arith) (ran-utf8 n s at (suc i) q (omega arith) (p .1))
 
-ran-wide : (n : ℕ) (s : List ℕ) (at i : ℕ) → Ran true s at i → i + 2 * n ≤ length s → ((k : ℕ) → getD s k 0 < 256)
+ran-utf16 : (n : ℕ) (s : List ℕ) (at i : ℕ) → Ran true s at i → i + 2 * n ≤ length s → ((k : ℕ) → getD s k 0 < 256)
     → isBasic (take (2 * n) (drop i s)) ≡ true → Ran true s at (i + 2 * n)
 unfolding basicFrom
-ran-wide zero s at i r h b e = subst (λ (k : ℕ). Ran true s at k) (omega arith) r
-ran-wide (suc n) s at i r h b e =
+ran-utf16 zero s at i r h b e = subst (λ (k : ℕ). Ran true s at k) (omega arith) r
+ran-utf16 (suc n) s at i r h b e =
     let two : 2 * suc n ≡ suc (suc (2 * n)) = omega arith in
     let f : isBasic (getD s i 0 ∷ getD s (suc i) 0 ∷ take (2 * n) (drop (suc (suc i)) s)) ≡ true =
     rw (two, drop-cons s i 0 (omega arith), drop-cons s (suc i) 0 (omega arith)) at e in
@@ -83,10 +83,10 @@ ran-wide (suc n) s at i r h b e =
     let differs = eqb-false (getD s (suc i) 0 / 8) 27 (not-true (eqb (getD s (suc i) 0 / 8) 27) (p .0)) in
     let no-mark : getD s (i + 1) 0 / 8 ≡ 27 → ⊥ = rw (add-one i) differs in
     let q : Ran true s at (suc (suc i)) = subst (λ (k : ℕ). Ran true s at k) (omega arith) (ran-unit s at i r (omega arith) b no-mark) in
-    subst (λ (k : ℕ). Ran true s at k) (omega arith) (ran-wide n s at (suc (suc i)) q (omega arith) b (p .1))
+    subst (λ (k : ℕ). Ran true s at k) (omega arith) (ran-utf16 n s at (suc (suc i)) q (omega arith) b (p .1))
 
 -- the code's part from i to i + 64 is n bytes, n the difference of its ends
-pub ran-block : (wide : Bool) (s : List ℕ) (at i n : ℕ) → Ran wide s at i → i + 64 ≤ length s → ((k : ℕ) → getD s k 0 < 256)
-    → isSingle wide (take n (drop i s)) ≡ true → n ≡ 64 → Ran wide s at (i + 64)
-ran-block false s at i n r h b e m = ran-narrow 64 s at i r h (rw m at e)
-ran-block true s at i n r h b e m = ran-wide 32 s at i r h b (rw m at e)
+pub ran-block : (utf16 : Bool) (s : List ℕ) (at i n : ℕ) → Ran utf16 s at i → i + 64 ≤ length s → ((k : ℕ) → getD s k 0 < 256)
+    → isSingle utf16 (take n (drop i s)) ≡ true → n ≡ 64 → Ran utf16 s at (i + 64)
+ran-block false s at i n r h b e m = ran-utf8 64 s at i r h (rw m at e)
+ran-block true s at i n r h b e m = ran-utf16 32 s at i r h b (rw m at e)

@@ -11,7 +11,7 @@ use lib.ListN.{length, take, drop, length-append, length-drop, take-append-drop}
 use lib.Seq.{drop-drop, sets, sets-eq, length-sets, take-at, drop-at, length-take-le}
 use Rattle.utf.specs.Utf8.{encode}
 use Rattle.utf.specs.Text.{stepsOf, bytesOf, putText}
-use Rattle.utf.specs.Inner.Told.{Took}
+use Rattle.utf.specs.Inner.StepRuns.{Took}
 use Rattle.utf.proofs.Turns.{turn-bytes, end-bytes}
 
 -- ---- the length, and no more than a usize holds

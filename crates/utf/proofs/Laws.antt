@@ -2,7 +2,7 @@
 -- In order: the empty text and ASCII; a sound UTF-8 text is its own text (`textOf-whole`); what comes out is sound UTF-8 (`textOf-sound`), so
 -- reading it again changes nothing (`textOf-back`); equal texts are equal byte for byte, in either encoding (`textOf-scalars`); its length; its damage.
 -- Elsewhere: the steps by Table 3-7, `step8-sound` and `step8-width` (Sound8); encoding and decoding, `step8-encode` (Decode), `pairOf-back`
--- (Scalars); UTF-16 by its units, `differ-wide` (Units); plain texts, `plain-same` (PlainLaws); `eqBytes-true`, `eqBytes-false`, `eqBytes-refl` (Equal).
+-- (Scalars); UTF-16 by its units, `differ-utf16` (Units); plain texts, `plain-same` (PlainLaws); `eqBytes-true`, `eqBytes-false`, `eqBytes-refl` (Equal).
 use mathlib.Core.Path.{_≡_, refl, sym, ap, _∙_}
 use mathlib.Core.Bool.{Bool, true, false, _&&_, cond, true≢false}
 use mathlib.Core.List.{List, [], _∷_, _++_}
@@ -14,7 +14,7 @@ use Rattle.utf.specs.declared.Step.{Step}
 use Rattle.utf.specs.Utf8.{isScalar, encode, step8}
 use Rattle.utf.specs.Text.{
   stepOf,
-  valueOf,
+  stepValue,
   widthOf,
   soundOf,
   stepsAfter,
@@ -41,7 +41,7 @@ use Rattle.utf.proofs.Equal.{eqBytes-some, eqBytes-encode}
 
 -- ---- the empty text
 
-pub textOf-nil : (wide : Bool) → textOf wide [] ≡ []
+pub textOf-nil : (utf16 : Bool) → textOf utf16 [] ≡ []
 unfolding textOf bytesOf allSound stepsAfter
 textOf-nil true = refl
 textOf-nil false = refl
@@ -79,58 +79,58 @@ textOf-ascii s a = textOf-whole s (isSound-ascii s a)
 
 data Scalars : List Step → Type 0 where
   none : Scalars []
-  more : {t : Step} {ts : List Step} → isScalar (valueOf t) ≡ true → Scalars ts → Scalars (t ∷ ts)
+  more : {t : Step} {ts : List Step} → isScalar (stepValue t) ≡ true → Scalars ts → Scalars (t ∷ ts)
 
-scalars-after : (wide : Bool) (k : ℕ) (s : List ℕ) → ((i : ℕ) → getD s i 0 < 256) → Scalars (stepsAfter wide k s)
+scalars-after : (utf16 : Bool) (k : ℕ) (s : List ℕ) → ((i : ℕ) → getD s i 0 < 256) → Scalars (stepsAfter utf16 k s)
 unfolding stepsAfter
-scalars-after wide k [] b = none
-scalars-after wide zero (a ∷ s) b =
-    more (stepOf-is wide (a ∷ s) (omega arith) b .scalar) (scalars-after wide (widthOf (stepOf wide (a ∷ s)) - 1) s (λ i. b (suc i)))
-scalars-after wide (suc k) (a ∷ s) b = scalars-after wide k s (λ i. b (suc i))
+scalars-after utf16 k [] b = none
+scalars-after utf16 zero (a ∷ s) b =
+    more (stepOf-is utf16 (a ∷ s) (omega arith) b .scalar) (scalars-after utf16 (widthOf (stepOf utf16 (a ∷ s)) - 1) s (λ i. b (suc i)))
+scalars-after utf16 (suc k) (a ∷ s) b = scalars-after utf16 k s (λ i. b (suc i))
 
 sound-bytes : (ts : List Step) → Scalars ts → isSound false (bytesOf ts) ≡ true
 unfolding bytesOf allSound stepsAfter
 sound-bytes [] none = refl
-sound-bytes (t ∷ ts) (more k r) = rw (stepsOf-encode (valueOf t) (bytesOf ts) k) (sound-bytes ts r)
+sound-bytes (t ∷ ts) (more k r) = rw (stepsOf-encode (stepValue t) (bytesOf ts) k) (sound-bytes ts r)
 
-pub textOf-sound : (wide : Bool) (s : List ℕ) → ((i : ℕ) → getD s i 0 < 256) → isSound false (textOf wide s) ≡ true
+pub textOf-sound : (utf16 : Bool) (s : List ℕ) → ((i : ℕ) → getD s i 0 < 256) → isSound false (textOf utf16 s) ≡ true
 unfolding textOf allSound stepsAfter
-textOf-sound wide s b = go (refused wide s)
+textOf-sound utf16 s b = go (refused utf16 s)
   where
-    go : (t : Bool) → isSound false (cond t [] (bytesOf (stepsOf wide s))) ≡ true
+    go : (t : Bool) → isSound false (cond t [] (bytesOf (stepsOf utf16 s))) ≡ true
     go true = refl
-    go false = sound-bytes (stepsOf wide s) (scalars-after wide 0 s b)
+    go false = sound-bytes (stepsOf utf16 s) (scalars-after utf16 0 s b)
 
 values-back : (ts : List Step) → Scalars ts → valuesOf (stepsOf false (bytesOf ts)) ≡ valuesOf ts
 unfolding bytesOf valuesOf stepsAfter
 values-back [] none = refl
-values-back (t ∷ ts) (more k r) = rw (stepsOf-encode (valueOf t) (bytesOf ts) k) (ap (λ (l : List ℕ). valueOf t ∷ l) (values-back ts r))
+values-back (t ∷ ts) (more k r) = rw (stepsOf-encode (stepValue t) (bytesOf ts) k) (ap (λ (l : List ℕ). stepValue t ∷ l) (values-back ts r))
 
 -- the values of a text that is not refused are those of its bytes
-pub textOf-values : (wide : Bool) (s : List ℕ) → ((i : ℕ) → getD s i 0 < 256) → refused wide s ≡ false
-    → valuesOf (stepsOf false (textOf wide s)) ≡ valuesOf (stepsOf wide s)
+pub textOf-values : (utf16 : Bool) (s : List ℕ) → ((i : ℕ) → getD s i 0 < 256) → refused utf16 s ≡ false
+    → valuesOf (stepsOf false (textOf utf16 s)) ≡ valuesOf (stepsOf utf16 s)
 unfolding textOf
-textOf-values wide s b e = rw e (values-back (stepsOf wide s) (scalars-after wide 0 s b))
+textOf-values utf16 s b e = rw e (values-back (stepsOf utf16 s) (scalars-after utf16 0 s b))
 
-pub textOf-back : (wide : Bool) (s : List ℕ) → ((i : ℕ) → getD s i 0 < 256) → textOf false (textOf wide s) ≡ textOf wide s
-textOf-back wide s b = textOf-whole (textOf wide s) (textOf-sound wide s b)
+pub textOf-back : (utf16 : Bool) (s : List ℕ) → ((i : ℕ) → getD s i 0 < 256) → textOf false (textOf utf16 s) ≡ textOf utf16 s
+textOf-back utf16 s b = textOf-whole (textOf utf16 s) (textOf-sound utf16 s b)
 
 -- ---- equal texts: the same values are the same bytes, and the other way round
 
-cons-some : (t : Step) (ts : List Step) → 0 < length (encode (valueOf t) ++ bytesOf ts)
-cons-some t ts = omega (arith, length-append (encode (valueOf t)) (bytesOf ts), encode-length-lt (valueOf t))
+cons-some : (t : Step) (ts : List Step) → 0 < length (encode (stepValue t) ++ bytesOf ts)
+cons-some t ts = omega (arith, length-append (encode (stepValue t)) (bytesOf ts), encode-length-lt (stepValue t))
 
 pub bytesOf-values : (ts us : List Step) → eqBytes (bytesOf ts) (bytesOf us) ≡ eqBytes (valuesOf ts) (valuesOf us)
 unfolding bytesOf eqBytes valuesOf
 bytesOf-values [] [] = refl
-bytesOf-values [] (u ∷ us) = eqBytes-some (encode (valueOf u) ++ bytesOf us) (cons-some u us) .1
-bytesOf-values (t ∷ ts) [] = eqBytes-some (encode (valueOf t) ++ bytesOf ts) (cons-some t ts) .0
+bytesOf-values [] (u ∷ us) = eqBytes-some (encode (stepValue u) ++ bytesOf us) (cons-some u us) .1
+bytesOf-values (t ∷ ts) [] = eqBytes-some (encode (stepValue t) ++ bytesOf ts) (cons-some t ts) .0
 bytesOf-values (t ∷ ts) (u ∷ us) =
-    eqBytes-encode (valueOf t) (valueOf u) (bytesOf ts) (bytesOf us) ∙ ap (λ (b : Bool). eqb (valueOf t) (valueOf u) && b) (bytesOf-values ts us)
+    eqBytes-encode (stepValue t) (stepValue u) (bytesOf ts) (bytesOf us) ∙ ap (λ (b : Bool). eqb (stepValue t) (stepValue u) && b) (bytesOf-values ts us)
 
 -- a text's scalar values; in either encoding two texts have the same ones where they have the same bytes
 pub scalarsOf : Bool → List ℕ → List ℕ
-scalarsOf wide s = cond (refused wide s) [] (valuesOf (stepsOf wide s))
+scalarsOf utf16 s = cond (refused utf16 s) [] (valuesOf (stepsOf utf16 s))
 
 pub textOf-scalars : (wa : Bool) (a : List ℕ) (wb : Bool) (b : List ℕ) → eqBytes (textOf wa a) (textOf wb b) ≡ eqBytes (scalarsOf wa a) (scalarsOf wb b)
 unfolding textOf scalarsOf bytesOf valuesOf
@@ -146,25 +146,25 @@ textOf-scalars wa a wb b = go (refused wa a) (refused wb b)
 
 -- ---- its length
 
-length-after : (wide : Bool) (k : ℕ) (s : List ℕ) → length (bytesOf (stepsAfter wide k s)) ≤ 4 * length s
+length-after : (utf16 : Bool) (k : ℕ) (s : List ℕ) → length (bytesOf (stepsAfter utf16 k s)) ≤ 4 * length s
 unfolding stepsAfter bytesOf
-length-after wide k [] = omega arith
-length-after wide zero (a ∷ s) =
-    let t = stepOf wide (a ∷ s) in
-    let r = bytesOf (stepsAfter wide (widthOf t - 1) s) in
-    omega (arith, length-append (encode (valueOf t)) r, encode-length-le (valueOf t), length-after wide (widthOf t - 1) s)
-length-after wide (suc k) (a ∷ s) = omega (arith, length-after wide k s)
+length-after utf16 k [] = omega arith
+length-after utf16 zero (a ∷ s) =
+    let t = stepOf utf16 (a ∷ s) in
+    let r = bytesOf (stepsAfter utf16 (widthOf t - 1) s) in
+    omega (arith, length-append (encode (stepValue t)) r, encode-length-le (stepValue t), length-after utf16 (widthOf t - 1) s)
+length-after utf16 (suc k) (a ∷ s) = omega (arith, length-after utf16 k s)
 
-pub bytesOf-length-le : (wide : Bool) (s : List ℕ) → length (bytesOf (stepsOf wide s)) ≤ 4 * length s
-bytesOf-length-le wide s = length-after wide 0 s
+pub bytesOf-length-le : (utf16 : Bool) (s : List ℕ) → length (bytesOf (stepsOf utf16 s)) ≤ 4 * length s
+bytesOf-length-le utf16 s = length-after utf16 0 s
 
-pub textOf-length-le : (wide : Bool) (s : List ℕ) → length (textOf wide s) ≤ 4 * length s
+pub textOf-length-le : (utf16 : Bool) (s : List ℕ) → length (textOf utf16 s) ≤ 4 * length s
 unfolding textOf
-textOf-length-le wide s = go (refused wide s)
+textOf-length-le utf16 s = go (refused utf16 s)
   where
-    go : (t : Bool) → length (cond t [] (bytesOf (stepsOf wide s))) ≤ 4 * length s
+    go : (t : Bool) → length (cond t [] (bytesOf (stepsOf utf16 s))) ≤ 4 * length s
     go true = omega arith
-    go false = bytesOf-length-le wide s
+    go false = bytesOf-length-le utf16 s
 
 -- ---- its damage
 
@@ -177,9 +177,9 @@ badCount-zero (t ∷ ts) e = go (badCount-zero ts) (soundOf t) e
     go r true f = r f
     go r false f = absurd (let z : ⊥ = omega (arith, f) in z)
 
-pub damageOf-whole : (wide : Bool) (s : List ℕ) → isSound wide s ≡ true → damageOf wide s ≡ whole
+pub damageOf-whole : (utf16 : Bool) (s : List ℕ) → isSound utf16 s ≡ true → damageOf utf16 s ≡ whole
 unfolding damageOf
-damageOf-whole wide s e = rw e
+damageOf-whole utf16 s e = rw e
 
 pub damageOf-unpaired : (s : List ℕ) → isSound true s ≡ false → damageOf true s ≡ unpaired
 unfolding damageOf

@@ -9,7 +9,7 @@ use lib.Dec.{ltb, lit<}
 use lib.ListN.{getD}
 use Rattle.utf.specs.declared.Step.the-variants.{Scalar}
 use Rattle.utf.specs.declared.utf8.Lead.{Lead}
-use Rattle.utf.specs.Utf8.{inside, matched, isWhole, spelt, step8}
+use Rattle.utf.specs.Utf8.{inside, matched, isWholeForm, spelt, step8}
 use Rattle.utf.specs.Inner.Lead.{row, leadOf, stepBy}
 use Rattle.utf.proofs.Rows.{longestRest, anyRest, restsOf, rests-are, stepRests, step8-rests}
 
@@ -21,7 +21,7 @@ inside-zero first last h = rw (lt-leb first 0 h)
 
 module _ (first last b : ℕ) (h : 0 < first) where
   rest1 : (s : List ℕ) → stepRests ((first ∷ last ∷ []) ∷ []) b s ≡ stepBy (row 1 first last) b (getD s 0 0) (getD s 1 0) (getD s 2 0)
-  unfolding stepRests longestRest anyRest matched isWhole spelt stepBy
+  unfolding stepRests longestRest anyRest matched isWholeForm spelt stepBy
   rest1 [] = rw (inside-zero first last h)
   rest1 (c ∷ s) = go (inside first last c) refl
     where
@@ -30,7 +30,7 @@ module _ (first last b : ℕ) (h : 0 < first) where
       go false e = rw e
 
   rest2 : (s : List ℕ) → stepRests ((first ∷ last ∷ 0x80 ∷ 0xbf ∷ []) ∷ []) b s ≡ stepBy (row 2 first last) b (getD s 0 0) (getD s 1 0) (getD s 2 0)
-  unfolding stepRests longestRest anyRest matched isWhole spelt stepBy
+  unfolding stepRests longestRest anyRest matched isWholeForm spelt stepBy
   rest2 [] = rw (inside-zero first last h)
   rest2 (c ∷ []) = go (inside first last c) refl
     where
@@ -47,7 +47,7 @@ module _ (first last b : ℕ) (h : 0 < first) where
 
   rest3 : (s : List ℕ)
       → stepRests ((first ∷ last ∷ 0x80 ∷ 0xbf ∷ 0x80 ∷ 0xbf ∷ []) ∷ []) b s ≡ stepBy (row 3 first last) b (getD s 0 0) (getD s 1 0) (getD s 2 0)
-  unfolding stepRests longestRest anyRest matched isWhole spelt stepBy
+  unfolding stepRests longestRest anyRest matched isWholeForm spelt stepBy
   rest3 [] = rw (inside-zero first last h)
   rest3 (c ∷ []) = go (inside first last c) refl
     where
@@ -72,7 +72,7 @@ module _ (first last b : ℕ) (h : 0 < first) where
       go false e y f z g = rw e
 
 rest0 : (b : ℕ) (s : List ℕ) → stepRests ([] ∷ []) b s ≡ stepBy (row 0 0 0) b (getD s 0 0) (getD s 1 0) (getD s 2 0)
-unfolding stepRests longestRest anyRest matched isWhole spelt stepBy
+unfolding stepRests longestRest anyRest matched isWholeForm spelt stepBy
 rest0 b s = refl
 
 rest4 : (b : ℕ) (s : List ℕ) → stepRests [] b s ≡ stepBy (row 4 0 0) b (getD s 0 0) (getD s 1 0) (getD s 2 0)

@@ -12,7 +12,7 @@ use lib.ListN.{length, length-append}
 use Rattle.utf.specs.declared.Step.{Step}
 use Rattle.utf.specs.Utf8.{encode, inside}
 use Rattle.utf.specs.Utf16.{unit, pairOf, step16}
-use Rattle.utf.specs.Text.{stepOf, valueOf, widthOf, stepsAfter, stepsOf, bytesOf, refused, textOf, eqBytes}
+use Rattle.utf.specs.Text.{stepOf, stepValue, widthOf, stepsAfter, stepsOf, bytesOf, refused, textOf, eqBytes}
 use Rattle.utf.proofs.Scalars.{encode-length-lt}
 use Rattle.utf.proofs.Sound8.{step8-is}
 use Rattle.utf.proofs.Equal.{eqBytes-not}
@@ -35,42 +35,44 @@ step16-width : (s : List ℕ) → widthOf (step16 s) ≤ 4
 unfolding step16
 step16-width s = by-test (ltb 1 (length s)) _ _ (pair-width (unit s 0) (unit s 2)) (by-test (ltb 0 (length s)) _ _ (omega arith) (omega arith))
 
-step-width : (wide : Bool) (b : ℕ) (s : List ℕ) → widthOf (stepOf wide (b ∷ s)) ≤ 4
+step-width : (utf16 : Bool) (b : ℕ) (s : List ℕ) → widthOf (stepOf utf16 (b ∷ s)) ≤ 4
 step-width false b s = step8-is b s .most
 step-width true b s = step16-width (b ∷ s)
 
 -- ---- so that a text is not much shorter than its bytes
 
-least-after : (wide : Bool) (k : ℕ) (s : List ℕ) → length s ≤ k + 4 * length (bytesOf (stepsAfter wide k s))
+least-after : (utf16 : Bool) (k : ℕ) (s : List ℕ) → length s ≤ k + 4 * length (bytesOf (stepsAfter utf16 k s))
 unfolding stepsAfter bytesOf
-least-after wide k [] = omega arith
-least-after wide zero (a ∷ s) =
-    let t = stepOf wide (a ∷ s) in
-    let r = bytesOf (stepsAfter wide (widthOf t - 1) s) in
-    omega (arith, length-append (encode (valueOf t)) r, encode-length-lt (valueOf t), least-after wide (widthOf t - 1) s, step-width wide a s)
-least-after wide (suc k) (a ∷ s) = omega (arith, least-after wide k s)
+least-after utf16 k [] = omega arith
+least-after utf16 zero (a ∷ s) =
+    let t = stepOf utf16 (a ∷ s) in
+    let r = bytesOf (stepsAfter utf16 (widthOf t - 1) s) in
+    omega (arith, length-append (encode (stepValue t)) r, encode-length-lt (stepValue t), least-after utf16 (widthOf t - 1) s, step-width utf16 a s)
+least-after utf16 (suc k) (a ∷ s) = omega (arith, least-after utf16 k s)
 
-pub bytesOf-length-ge : (wide : Bool) (s : List ℕ) → length s ≤ 4 * length (bytesOf (stepsOf wide s))
-bytesOf-length-ge wide s = let z = least-after wide 0 s in omega (arith, z)
+pub bytesOf-length-ge : (utf16 : Bool) (s : List ℕ) → length s ≤ 4 * length (bytesOf (stepsOf utf16 s))
+bytesOf-length-ge utf16 s = let z = least-after utf16 0 s in omega (arith, z)
 
-pub textOf-far : (wide : Bool) (a b : List ℕ) → 0 < length b → 16 * length b < length a
-    → (eqBytes (textOf wide a) (textOf false b) ≡ false) × (eqBytes (textOf false b) (textOf wide a) ≡ false)
-textOf-far wide a b some far = (eqBytes-not _ _ other, eqBytes-not _ _ (λ e. other (sym e)))
+pub textOf-far : (utf16 : Bool) (a b : List ℕ) → 0 < length b → 16 * length b < length a
+    → (eqBytes (textOf utf16 a) (textOf false b) ≡ false) × (eqBytes (textOf false b) (textOf utf16 a) ≡ false)
+textOf-far utf16 a b some far = (eqBytes-not _ _ other, eqBytes-not _ _ (λ e. other (sym e)))
   where
-    other : textOf wide a ≡ textOf false b → ⊥
-    other e = go (refused wide a) refl
+    other : textOf utf16 a ≡ textOf false b → ⊥
+    other e = go (refused utf16 a) refl
       where
         short : length (textOf false b) ≤ 4 * length b
         short = rw (textOf-kept false b refl) (bytesOf-length-le false b)
+
         there : 0 < length (textOf false b)
         there = rw (textOf-kept false b refl) (bytesOf-some false b some)
-        go : (t : Bool) → refused wide a ≡ t → ⊥
-        go true r = let z = ap (λ (l : List ℕ). length l) (sym (textOf-refused wide a r) ∙ e) in omega (arith, z, there)
+
+        go : (t : Bool) → refused utf16 a ≡ t → ⊥
+        go true r = let z = ap (λ (l : List ℕ). length l) (sym (textOf-refused utf16 a r) ∙ e) in omega (arith, z, there)
         go false k =
-            let z = ap (λ (l : List ℕ). length l) (sym (textOf-kept wide a k) ∙ e) in
-            omega (arith, z, short, bytesOf-length-ge wide a, far)
+            let z = ap (λ (l : List ℕ). length l) (sym (textOf-kept utf16 a k) ∙ e) in
+            omega (arith, z, short, bytesOf-length-ge utf16 a, far)
 
 -- the same by the tests that the code makes
-pub by-lengths : (wide wide-b : Bool) (a b : List ℕ) → wide-b ≡ false → (length b ≡ 0 → ⊥) → length b < length a / 16
-    → (eqBytes (textOf wide a) (textOf wide-b b) ≡ false) × (eqBytes (textOf wide-b b) (textOf wide a) ≡ false)
-by-lengths wide wide-b a b e some far = rw e (textOf-far wide a b (omega (arith, some)) (omega (arith, far)))
+pub by-lengths : (utf16 utf16-b : Bool) (a b : List ℕ) → utf16-b ≡ false → (length b ≡ 0 → ⊥) → length b < length a / 16
+    → (eqBytes (textOf utf16 a) (textOf utf16-b b) ≡ false) × (eqBytes (textOf utf16-b b) (textOf utf16 a) ≡ false)
+by-lengths utf16 utf16-b a b e some far = rw e (textOf-far utf16 a b (omega (arith, some)) (omega (arith, far)))

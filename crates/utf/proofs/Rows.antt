@@ -12,7 +12,7 @@ use lib.ListN.{take}
 use Rattle.utf.specs.declared.Step.{Step}
 use Rattle.utf.specs.declared.Step.the-variants.{Scalar, Bad}
 use Rattle.utf.specs.declared.utf8.Lead.{Lead}
-use Rattle.utf.specs.Utf8.{inside, table37, matched, isWhole, longest, anyWhole, spelt, step8}
+use Rattle.utf.specs.Utf8.{inside, table37, matched, isWholeForm, longest, anyWhole, spelt, step8}
 use Rattle.utf.specs.Inner.Lead.{row, leadOf}
 use Rattle.utf.proofs.Tables.{both-true, below-at}
 
@@ -30,7 +30,7 @@ longestRest (r ∷ rs) s = max (suc (matched r s)) (longestRest rs s)
 
 unfoldable pub anyRest : List (List ℕ) → List ℕ → Bool
 anyRest [] s = false
-anyRest (r ∷ rs) s = isWhole r s || anyRest rs s
+anyRest (r ∷ rs) s = isWholeForm r s || anyRest rs s
 
 -- each row has a first byte
 formed : List (List ℕ) → Bool
@@ -52,15 +52,15 @@ longest-rests ((first ∷ last ∷ r) ∷ rs) b s f = go (longest-rests rs b s f
     go e false = zero-max (longest rs (b ∷ s)) ∙ e
 
 any-rests : (rs : List (List ℕ)) (b : ℕ) (s : List ℕ) → formed rs ≡ true → anyWhole rs (b ∷ s) ≡ anyRest (rests rs b) s
-unfolding anyWhole isWhole rests anyRest formed
+unfolding anyWhole isWholeForm rests anyRest formed
 any-rests [] b s f = refl
 any-rests ([] ∷ rs) b s f = absurd (true≢false (sym f))
 any-rests ((first ∷ []) ∷ rs) b s f = absurd (true≢false (sym f))
 any-rests ((first ∷ last ∷ r) ∷ rs) b s f = go (any-rests rs b s f) (inside first last b)
   where
     go : anyWhole rs (b ∷ s) ≡ anyRest (rests rs b) s → (x : Bool)
-        → (x && isWhole r s) || anyWhole rs (b ∷ s) ≡ anyRest (cond x (r ∷ rests rs b) (rests rs b)) s
-    go e true = ap (λ (y : Bool). isWhole r s || y) e
+        → (x && isWholeForm r s) || anyWhole rs (b ∷ s) ≡ anyRest (cond x (r ∷ rests rs b) (rests rs b)) s
+    go e true = ap (λ (y : Bool). isWholeForm r s || y) e
     go e false = e
 
 -- ---- they are the row of `leadOf`

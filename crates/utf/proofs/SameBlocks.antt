@@ -11,7 +11,7 @@ use lib.Dec.{ltb, eqb}
 use lib.ListN.{length, getD, take, drop, drop-of-length-le}
 use lib.Seq.{drop-cons, getD-take, getD-drop, ext-getD}
 use Rattle.utf.specs.Text.{eqBytes}
-use Rattle.utf.specs.Inner.Told.{Agree}
+use Rattle.utf.specs.Inner.StepRuns.{Agree}
 use Rattle.utf.proofs.Equal.{eqBytes-true, eqBytes-false, eqBytes-not, eqBytes-refl}
 
 -- ---- the greatest mark

@@ -13,7 +13,7 @@ use Rattle.utf.specs.declared.Step.the-variants.{Scalar, Bad}
 use Rattle.utf.specs.declared.utf8.Lead.{Lead}
 use Rattle.utf.specs.Utf8.{inside, isScalar, table37, matched, longest, anyWhole, encode, step8}
 use Rattle.utf.specs.Inner.Lead.{row, leadOf, stepBy}
-use Rattle.utf.specs.Text.{valueOf, widthOf, soundOf}
+use Rattle.utf.specs.Text.{stepValue, widthOf, soundOf}
 use Rattle.utf.proofs.Leads.{by-lead, step8-lead}
 use Rattle.utf.proofs.Scalars.{inside-ends, scalar-low, scalar-high, encode-one, encode-two, encode-three, encode-four}
 
@@ -49,8 +49,8 @@ four-back a b c d l h k m p q r s big =
 -- ---- what is known of a step, by the row of its first byte
 
 pub record Step8Is (t : Step) (s : List ℕ) : Type 0 where
-  pub back : soundOf t ≡ true → encode (valueOf t) ≡ take (widthOf t) s
-  pub scalar : isScalar (valueOf t) ≡ true
+  pub back : soundOf t ≡ true → encode (stepValue t) ≡ take (widthOf t) s
+  pub scalar : isScalar (stepValue t) ≡ true
   pub least : 1 ≤ widthOf t
   pub most : widthOf t ≤ 4
 

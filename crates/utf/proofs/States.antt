@@ -1,5 +1,5 @@
--- What the state of a text means, for readers of specs/Text.antt. In order: state 0 by the bytes, in UTF-8 (`whole-narrow`) and in UTF-16
--- (`whole-wide`); the count by Table 3-7 (`replaced-front`) and for a character of the file's own (`replaced-own`); which states have a count.
+-- What the state of a text means, for readers of specs/Text.antt. In order: state 0 by the bytes, in UTF-8 (`whole-utf8`) and in UTF-16
+-- (`whole-utf16`); the count by Table 3-7 (`replaced-front`) and for a character of the file's own (`replaced-own`); which states have a count.
 use mathlib.Core.Path.{_≡_, refl, sym, ap, _∙_}
 use mathlib.Core.Bool.{Bool, true, false, cond, true≢false}
 use mathlib.Core.List.{List, [], _∷_, _++_}
@@ -17,28 +17,28 @@ use Rattle.utf.proofs.Steps.{stepsOf-step, stepsOf-encode}
 use Rattle.utf.proofs.Turns.{textOf-refused}
 use Rattle.utf.proofs.Laws.{textOf-whole, textOf-sound, textOf-values, damageOf-replaced}
 use Rattle.utf.proofs.Units.{whole-units}
-use Rattle.utf.proofs.BadSteps.{state-whole, state-wide, state-narrow, replaced-narrow, badCount-le}
+use Rattle.utf.proofs.BadSteps.{state-whole, state-utf16, state-utf8, replaced-utf8, badCount-le}
 
 -- ---- state 0
 
-sound-of : (wide : Bool) (s : List ℕ) → stateNumber (damageOf wide s) ≡ 0 → isSound wide s ≡ true
-sound-of wide s e = go wide refl (isSound wide s) refl
+sound-of : (utf16 : Bool) (s : List ℕ) → stateNumber (damageOf utf16 s) ≡ 0 → isSound utf16 s ≡ true
+sound-of utf16 s e = go utf16 refl (isSound utf16 s) refl
   where
-    go : (w : Bool) → wide ≡ w → (t : Bool) → isSound wide s ≡ t → isSound wide s ≡ true
+    go : (w : Bool) → utf16 ≡ w → (t : Bool) → isSound utf16 s ≡ t → isSound utf16 s ≡ true
     go w f true g = g
-    go true f false g = absurd (let z : ⊥ = omega (arith, e, state-wide wide s f g) in z)
-    go false f false g = absurd (let z : ⊥ = omega (arith, e, state-narrow wide s f g) in z)
+    go true f false g = absurd (let z : ⊥ = omega (arith, e, state-utf16 utf16 s f g) in z)
+    go false f false g = absurd (let z : ⊥ = omega (arith, e, state-utf8 utf16 s f g) in z)
 
 -- in UTF-8 the text is the bytes themselves
-pub whole-narrow : (s : List ℕ) → stateNumber (damageOf false s) ≡ 0 → textOf false s ≡ s
-whole-narrow s e = textOf-whole s (sound-of false s e)
+pub whole-utf8 : (s : List ℕ) → stateNumber (damageOf false s) ≡ 0 → textOf false s ≡ s
+whole-utf8 s e = textOf-whole s (sound-of false s e)
 
-pub narrow-whole : (s : List ℕ) → ((i : ℕ) → getD s i 0 < 256) → textOf false s ≡ s → stateNumber (damageOf false s) ≡ 0
-narrow-whole s b e = sym (state-whole false s (ap (isSound false) (sym e) ∙ textOf-sound false s b))
+pub utf8-whole : (s : List ℕ) → ((i : ℕ) → getD s i 0 < 256) → textOf false s ≡ s → stateNumber (damageOf false s) ≡ 0
+utf8-whole s b e = sym (state-whole false s (ap (isSound false) (sym e) ∙ textOf-sound false s b))
 
 -- in UTF-16 the text, written as UTF-16, is the bytes
-pub whole-wide : (s : List ℕ) → ((i : ℕ) → getD s i 0 < 256) → stateNumber (damageOf true s) ≡ 0 → utf16Of (textOf true s) ≡ s
-whole-wide s b e =
+pub whole-utf16 : (s : List ℕ) → ((i : ℕ) → getD s i 0 < 256) → stateNumber (damageOf true s) ≡ 0 → utf16Of (textOf true s) ≡ s
+whole-utf16 s b e =
     let r : refused true s ≡ false = rw (sound-of true s e) in
     ap spellAll (textOf-values true s b r) ∙ whole-units s b r
 
@@ -47,9 +47,9 @@ unfolding allSound stepsAfter
 blank-sound [] e = refl
 blank-sound (a ∷ s) e = let z : _≡_ {A = ℕ} 0 1 = cc in absurd (let y : ⊥ = omega arith in y)
 
-pub wide-whole : (s : List ℕ) → ((i : ℕ) → getD s i 0 < 256) → utf16Of (textOf true s) ≡ s → stateNumber (damageOf true s) ≡ 0
+pub utf16-whole : (s : List ℕ) → ((i : ℕ) → getD s i 0 < 256) → utf16Of (textOf true s) ≡ s → stateNumber (damageOf true s) ≡ 0
 unfolding stepsAfter valuesOf spellAll
-wide-whole s b e = go (isSound true s) refl
+utf16-whole s b e = go (isSound true s) refl
   where
     go : (t : Bool) → isSound true s ≡ t → stateNumber (damageOf true s) ≡ 0
     go true f = sym (state-whole true s f)
@@ -61,7 +61,7 @@ wide-whole s b e = go (isSound true s) refl
 -- ---- how many were replaced
 
 count-is : (s : List ℕ) → replacedCount (damageOf false s) ≡ badCount (stepsOf false s)
-count-is s = sym (replaced-narrow false s (badCount (stepsOf false s)) refl refl)
+count-is s = sym (replaced-utf8 false s (badCount (stepsOf false s)) refl refl)
 
 pub replaced-nil : replacedCount (damageOf false []) ≡ 0
 unfolding badCount stepsAfter
@@ -94,16 +94,16 @@ replaced-own v s k = count-is (encode v ++ s) ∙ ap badCount (stepsOf-encode v 
 
 -- ---- which states have a count
 
-pub replaced-some : (wide : Bool) (s : List ℕ) → stateNumber (damageOf wide s) ≡ 1 → (0 < replacedCount (damageOf wide s))
-replaced-some wide s e = go wide refl (isSound wide s) refl
+pub replaced-some : (utf16 : Bool) (s : List ℕ) → stateNumber (damageOf utf16 s) ≡ 1 → (0 < replacedCount (damageOf utf16 s))
+replaced-some utf16 s e = go utf16 refl (isSound utf16 s) refl
   where
-    narrow : wide ≡ false → isSound wide s ≡ false → 0 < replacedCount (damageOf wide s)
-    narrow f g = let h = rw f at g in rw f (omega (arith, damageOf-replaced s h .1, count-is s))
+    utf8 : utf16 ≡ false → isSound utf16 s ≡ false → 0 < replacedCount (damageOf utf16 s)
+    utf8 f g = let h = rw f at g in rw f (omega (arith, damageOf-replaced s h .1, count-is s))
 
-    go : (w : Bool) → wide ≡ w → (t : Bool) → isSound wide s ≡ t → 0 < replacedCount (damageOf wide s)
-    go w f true g = absurd (let z : ⊥ = omega (arith, e, state-whole wide s g) in z)
-    go true f false g = absurd (let z : ⊥ = omega (arith, e, state-wide wide s f g) in z)
-    go false f false g = narrow f g
+    go : (w : Bool) → utf16 ≡ w → (t : Bool) → isSound utf16 s ≡ t → 0 < replacedCount (damageOf utf16 s)
+    go w f true g = absurd (let z : ⊥ = omega (arith, e, state-whole utf16 s g) in z)
+    go true f false g = absurd (let z : ⊥ = omega (arith, e, state-utf16 utf16 s f g) in z)
+    go false f false g = utf8 f g
 
 pub replaced-none : (d : Damage) → (stateNumber d ≡ 1 → ⊥) → replacedCount d ≡ 0
 replaced-none whole e = refl

@@ -13,13 +13,13 @@ use Rattle.utf.specs.declared.Step.{Step}
 use Rattle.utf.specs.declared.Step.the-variants.{Scalar, Bad}
 use Rattle.utf.specs.Utf8.{inside, isScalar, encode, step8}
 use Rattle.utf.specs.Utf16.{unit, pairOf, step16}
-use Rattle.utf.specs.Text.{stepOf, valueOf, widthOf, stepsAfter, stepsOf}
+use Rattle.utf.specs.Text.{stepOf, stepValue, widthOf, stepsAfter, stepsOf}
 use Rattle.utf.proofs.Scalars.{inside-ends, scalar-low, scalar-high, encode-length-lt}
 use Rattle.utf.proofs.Sound8.{step8-is}
 use Rattle.utf.proofs.Decode.{step8-encode}
 
 pub record StepIs (t : Step) : Type 0 where
-  pub scalar : isScalar (valueOf t) ≡ true
+  pub scalar : isScalar (stepValue t) ≡ true
   pub least : 1 ≤ widthOf t
   pub most : widthOf t ≤ 4
 
@@ -75,45 +75,45 @@ step8-okay : (s : List ℕ) → 0 < length s → StepIs (step8 s)
 step8-okay [] h = absurd (let z : ⊥ = omega arith in z)
 step8-okay (b ∷ s) h = let r = step8-is b s in record { scalar = r .scalar; least = r .least; most = r .most }
 
-pub stepOf-is : (wide : Bool) (s : List ℕ) → 0 < length s → ((i : ℕ) → getD s i 0 < 256) → StepIs (stepOf wide s)
+pub stepOf-is : (utf16 : Bool) (s : List ℕ) → 0 < length s → ((i : ℕ) → getD s i 0 < 256) → StepIs (stepOf utf16 s)
 stepOf-is false s h b = step8-okay s h
 stepOf-is true s h b = step16-is s h b
 
-pub stepOf-is-drop : (wide : Bool) (s : List ℕ) (at : ℕ) → at < length s → ((i : ℕ) → getD s i 0 < 256) → StepIs (stepOf wide (drop at s))
-stepOf-is-drop wide s at h b = stepOf-is wide (drop at s) (omega (arith, length-drop at s)) (λ i. rw (getD-drop at s i 0) (b (at + i)))
+pub stepOf-is-drop : (utf16 : Bool) (s : List ℕ) (at : ℕ) → at < length s → ((i : ℕ) → getD s i 0 < 256) → StepIs (stepOf utf16 (drop at s))
+stepOf-is-drop utf16 s at h b = stepOf-is utf16 (drop at s) (omega (arith, length-drop at s)) (λ i. rw (getD-drop at s i 0) (b (at + i)))
 
 -- ---- the steps from a place on
 
-skip : (wide : Bool) (k : ℕ) (s : List ℕ) → stepsAfter wide k s ≡ stepsOf wide (drop k s)
+skip : (utf16 : Bool) (k : ℕ) (s : List ℕ) → stepsAfter utf16 k s ≡ stepsOf utf16 (drop k s)
 unfolding stepsAfter
-skip wide zero s = refl
-skip wide (suc k) [] = refl
-skip wide (suc k) (b ∷ s) = skip wide k s
+skip utf16 zero s = refl
+skip utf16 (suc k) [] = refl
+skip utf16 (suc k) (b ∷ s) = skip utf16 k s
 
-pub stepsOf-nil : (wide : Bool) → stepsOf wide [] ≡ []
+pub stepsOf-nil : (utf16 : Bool) → stepsOf utf16 [] ≡ []
 unfolding stepsAfter
-stepsOf-nil wide = refl
+stepsOf-nil utf16 = refl
 
-pub stepsOf-step : (wide : Bool) (s : List ℕ) (width : ℕ) → 0 < length s → width ≡ widthOf (stepOf wide s) → 1 ≤ width
-    → stepsOf wide s ≡ stepOf wide s ∷ stepsOf wide (drop width s)
+pub stepsOf-step : (utf16 : Bool) (s : List ℕ) (width : ℕ) → 0 < length s → width ≡ widthOf (stepOf utf16 s) → 1 ≤ width
+    → stepsOf utf16 s ≡ stepOf utf16 s ∷ stepsOf utf16 (drop width s)
 unfolding stepsAfter
-stepsOf-step wide [] width h e l = absurd (let z : ⊥ = omega arith in z)
-stepsOf-step wide (b ∷ s) zero h e l = absurd (let z : ⊥ = omega arith in z)
-stepsOf-step wide (b ∷ s) (suc width) h e l =
-    let f : width ≡ widthOf (stepOf wide (b ∷ s)) - 1 = omega (arith, e) in
-    ap (λ (n : ℕ). stepOf wide (b ∷ s) ∷ stepsAfter wide n s) (sym f) ∙ ap (λ (r : List Step). stepOf wide (b ∷ s) ∷ r) (skip wide width s)
+stepsOf-step utf16 [] width h e l = absurd (let z : ⊥ = omega arith in z)
+stepsOf-step utf16 (b ∷ s) zero h e l = absurd (let z : ⊥ = omega arith in z)
+stepsOf-step utf16 (b ∷ s) (suc width) h e l =
+    let f : width ≡ widthOf (stepOf utf16 (b ∷ s)) - 1 = omega (arith, e) in
+    ap (λ (n : ℕ). stepOf utf16 (b ∷ s) ∷ stepsAfter utf16 n s) (sym f) ∙ ap (λ (r : List Step). stepOf utf16 (b ∷ s) ∷ r) (skip utf16 width s)
 
-pub stepsOf-next : (wide : Bool) (s : List ℕ) (at width : ℕ) → at < length s → width ≡ widthOf (stepOf wide (drop at s)) → 1 ≤ width
-    → stepsOf wide (drop at s) ≡ stepOf wide (drop at s) ∷ stepsOf wide (drop (at + width) s)
-stepsOf-next wide s at width h e l =
-    stepsOf-step wide (drop at s) width (omega (arith, length-drop at s)) e l
-    ∙ ap (λ (r : List ℕ). stepOf wide (drop at s) ∷ stepsOf wide r) (drop-drop width at s)
+pub stepsOf-next : (utf16 : Bool) (s : List ℕ) (at width : ℕ) → at < length s → width ≡ widthOf (stepOf utf16 (drop at s)) → 1 ≤ width
+    → stepsOf utf16 (drop at s) ≡ stepOf utf16 (drop at s) ∷ stepsOf utf16 (drop (at + width) s)
+stepsOf-next utf16 s at width h e l =
+    stepsOf-step utf16 (drop at s) width (omega (arith, length-drop at s)) e l
+    ∙ ap (λ (r : List ℕ). stepOf utf16 (drop at s) ∷ stepsOf utf16 r) (drop-drop width at s)
 
-pub stepsOf-end : (wide : Bool) (s : List ℕ) (at : ℕ) → length s ≤ at → stepsOf wide (drop at s) ≡ []
+pub stepsOf-end : (utf16 : Bool) (s : List ℕ) (at : ℕ) → length s ≤ at → stepsOf utf16 (drop at s) ≡ []
 unfolding stepsAfter
-stepsOf-end wide [] at h = rw (drop-nil at)
-stepsOf-end wide (b ∷ s) zero h = absurd (let z : ⊥ = omega arith in z)
-stepsOf-end wide (b ∷ s) (suc at) h = stepsOf-end wide s at (omega arith)
+stepsOf-end utf16 [] at h = rw (drop-nil at)
+stepsOf-end utf16 (b ∷ s) zero h = absurd (let z : ⊥ = omega arith in z)
+stepsOf-end utf16 (b ∷ s) (suc at) h = stepsOf-end utf16 s at (omega arith)
 
 -- the bytes of a scalar value are one step of UTF-8
 pub stepsOf-encode : (v : ℕ) (s : List ℕ) → isScalar v ≡ true → stepsOf false (encode v ++ s) ≡ Scalar v (length (encode v)) ∷ stepsOf false s

@@ -1,5 +1,5 @@
 -- UTF-16 by its units: one that is no surrogate is a step of its own (`took-unit`); sound bytes are the spelling of their steps' values
--- (`whole-units`), so that of two texts with different bytes none but the empty one is the other (`differ-wide`).
+-- (`whole-units`), so that of two texts with different bytes none but the empty one is the other (`differ-utf16`).
 use mathlib.Core.Path.{_≡_, refl, sym, ap, _∙_}
 use mathlib.Core.Bool.{Bool, true, false, cond, true≢false}
 use mathlib.Core.List.{List, [], _∷_, _++_}
@@ -12,8 +12,8 @@ use Rattle.utf.specs.declared.Step.{Step}
 use Rattle.utf.specs.declared.Step.the-variants.{Scalar, Bad}
 use Rattle.utf.specs.Utf8.{inside}
 use Rattle.utf.specs.Utf16.{unit, pairOf, step16, spellPair, spell16, spellAll}
-use Rattle.utf.specs.Text.{valueOf, widthOf, soundOf, stepsAfter, stepsOf, bytesOf, valuesOf, allSound, isSound, refused, textOf, eqBytes}
-use Rattle.utf.specs.Inner.Told.{Took, Ran, Halted}
+use Rattle.utf.specs.Text.{stepValue, widthOf, soundOf, stepsAfter, stepsOf, bytesOf, valuesOf, allSound, isSound, refused, textOf, eqBytes}
+use Rattle.utf.specs.Inner.StepRuns.{Took, Ran, Halted}
 use Rattle.utf.proofs.Tables.{both-true}
 use Rattle.utf.proofs.Scalars.{inside-ends}
 use Rattle.utf.proofs.Steps.{stepOf-is}
@@ -45,7 +45,7 @@ took-unit s at h b n =
     let m : u / 2048 ≡ 27 → ⊥ = λ e. n (omega arith) in
     let e : step16 (drop at s) ≡ Scalar u 2 = step16-at s at h ∙ pairOf-plain u (unit s (at + 2)) m in
     record {
-      value-is = sym (ap valueOf e);
+      value-is = sym (ap stepValue e);
       width-is = sym (ap widthOf e);
       sound-is = sym (ap soundOf e);
       small = omega arith;
@@ -55,17 +55,17 @@ took-unit s at h b n =
 
 -- ---- a run of sound steps
 
-pub ran-none : (wide : Bool) (s : List ℕ) (at : ℕ) → Ran wide s at at
-ran-none wide s at = record { later = omega arith; rest = refl }
+pub ran-none : (utf16 : Bool) (s : List ℕ) (at : ℕ) → Ran utf16 s at at
+ran-none utf16 s at = record { later = omega arith; rest = refl }
 
-pub ran-join : (wide : Bool) (s : List ℕ) (at i to : ℕ) → Ran wide s at i → Ran wide s i to → Ran wide s at to
-ran-join wide s at i to p q = record { later = omega (arith, p .later, q .later); rest = q .rest ∙ p .rest }
+pub ran-join : (utf16 : Bool) (s : List ℕ) (at i to : ℕ) → Ran utf16 s at i → Ran utf16 s i to → Ran utf16 s at to
+ran-join utf16 s at i to p q = record { later = omega (arith, p .later, q .later); rest = q .rest ∙ p .rest }
 
-pub ran-step : (wide : Bool) (s : List ℕ) (at i value width : ℕ) (sound : Bool) → Ran wide s at i → i < length s
-    → Took wide s i value width sound → sound ≡ true → Ran wide s at (i + width)
-ran-step wide s at i value width sound r h t e = record {
+pub ran-step : (utf16 : Bool) (s : List ℕ) (at i value width : ℕ) (sound : Bool) → Ran utf16 s at i → i < length s
+    → Took utf16 s i value width sound → sound ≡ true → Ran utf16 s at (i + width)
+ran-step utf16 s at i value width sound r h t e = record {
   later = omega (arith, r .later);
-  rest = sym (goes _ _ sound (turn-sound wide s i value width sound h t) e) ∙ r .rest;
+  rest = sym (goes _ _ sound (turn-sound utf16 s i value width sound h t) e) ∙ r .rest;
 }
 
 pub ran-ascii : (s : List ℕ) (at i : ℕ) → Ran false s at i → i < length s → getD s i 0 < 128 → Ran false s at (i + 1)
@@ -76,15 +76,15 @@ pub ran-unit : (s : List ℕ) (at i : ℕ) → Ran true s at i → i + 1 < lengt
 ran-unit s at i r h b n = ran-step true s at i (getD s i 0 + getD s (i + 1) 0 * 256) 2 true r (omega arith) (took-unit s i h b n) refl
 
 -- where a run ends: at a step that is bad, or behind all that was looked at
-pub halted-bad : (wide : Bool) (s : List ℕ) (at end i value width : ℕ) (sound : Bool) → Ran wide s at i → i < length s
-    → Took wide s i value width sound → sound ≡ false → Halted wide s at end i
-halted-bad wide s at end i value width sound r h t e = record {
+pub halted-bad : (utf16 : Bool) (s : List ℕ) (at end i value width : ℕ) (sound : Bool) → Ran utf16 s at i → i < length s
+    → Took utf16 s i value width sound → sound ≡ false → Halted utf16 s at end i
+halted-bad utf16 s at end i value width sound r h t e = record {
   ran = r;
-  halts = λ _. stops _ _ sound (turn-sound wide s i value width sound h t) e;
+  halts = λ _. stops _ _ sound (turn-sound utf16 s i value width sound h t) e;
 }
 
-pub halted-end : (wide : Bool) (s : List ℕ) (at end i : ℕ) → Ran wide s at i → end ≤ i → Halted wide s at end i
-halted-end wide s at end i r h = record { ran = r; halts = λ l. absurd (let z : ⊥ = omega arith in z) }
+pub halted-end : (utf16 : Bool) (s : List ℕ) (at end i : ℕ) → Ran utf16 s at i → end ≤ i → Halted utf16 s at end i
+halted-end utf16 s at end i r h = record { ran = r; halts = λ l. absurd (let z : ⊥ = omega arith in z) }
 
 -- ---- the spelling of a value: a unit, or a pair of them, the low byte first
 
@@ -109,7 +109,7 @@ spell-pair a b c d ha hc lu lw hw =
 
 -- what a sound step spells, and what follows it, is what stands there
 abbrev Spelt : List ℕ → Step → Type 0
-Spelt s t = spell16 (valueOf t) ++ drop (widthOf t) s ≡ s
+Spelt s t = spell16 (stepValue t) ++ drop (widthOf t) s ≡ s
 
 by-pair : (s : List ℕ) (x y z : Bool) (p q r t : Step) → (x ≡ true → y ≡ true → Spelt s p) → (x ≡ false → z ≡ false → Spelt s t)
     → soundOf q ≡ false → soundOf r ≡ false → soundOf (cond x (cond y p q) (cond z r t)) ≡ true → Spelt s (cond x (cond y p q) (cond z r t))
@@ -183,22 +183,22 @@ same-units a b ha hb ra rb e =
     sym (whole-units a ha ra) ∙ ap spellAll v ∙ whole-units b hb rb
 
 -- where a text is not empty, another is the same by its bytes alone
-pub differ-wide : (a b : List ℕ) → ((i : ℕ) → getD a i 0 < 256) → ((i : ℕ) → getD b i 0 < 256) → eqBytes a b ≡ false
+pub differ-utf16 : (a b : List ℕ) → ((i : ℕ) → getD a i 0 < 256) → ((i : ℕ) → getD b i 0 < 256) → eqBytes a b ≡ false
     → eqBytes [] (textOf true a) ≡ false → eqBytes (textOf true a) (textOf true b) ≡ false
-differ-wide a b ha hb n some = eqBytes-not (textOf true a) (textOf true b) (λ e. go e (refused true a) refl (refused true b) refl)
+differ-utf16 a b ha hb n some = eqBytes-not (textOf true a) (textOf true b) (λ e. go e (refused true a) refl (refused true b) refl)
   where
     go : textOf true a ≡ textOf true b → (x : Bool) → refused true a ≡ x → (y : Bool) → refused true b ≡ y → ⊥
     go e true f y g = eqBytes-false [] (textOf true a) some (sym (textOf-refused true a f))
     go e false f true g = eqBytes-false [] (textOf true a) some (sym (e ∙ textOf-refused true b g))
     go e false f false g = eqBytes-false a b n (same-units a b ha hb f g e)
 
-pub same-bytes : (wide : Bool) (a b : List ℕ) → eqBytes a b ≡ true → eqBytes (textOf wide a) (textOf wide b) ≡ true
-same-bytes wide a b e = rw (eqBytes-true a b e) (eqBytes-refl (textOf wide b))
+pub same-bytes : (utf16 : Bool) (a b : List ℕ) → eqBytes a b ≡ true → eqBytes (textOf utf16 a) (textOf utf16 b) ≡ true
+same-bytes utf16 a b e = rw (eqBytes-true a b e) (eqBytes-refl (textOf utf16 b))
 
-pub sound-wide : (a b : List ℕ) → ((i : ℕ) → getD a i 0 < 256) → ((i : ℕ) → getD b i 0 < 256) → eqBytes [] (textOf true a) ≡ false
+pub sound-utf16 : (a b : List ℕ) → ((i : ℕ) → getD a i 0 < 256) → ((i : ℕ) → getD b i 0 < 256) → eqBytes [] (textOf true a) ≡ false
     → eqBytes a b ≡ eqBytes (textOf true a) (textOf true b)
-sound-wide a b ha hb some = go (eqBytes a b) refl
+sound-utf16 a b ha hb some = go (eqBytes a b) refl
   where
     go : (t : Bool) → eqBytes a b ≡ t → eqBytes a b ≡ eqBytes (textOf true a) (textOf true b)
     go true e = e ∙ sym (same-bytes true a b e)
-    go false e = e ∙ sym (differ-wide a b ha hb e some)
+    go false e = e ∙ sym (differ-utf16 a b ha hb e some)

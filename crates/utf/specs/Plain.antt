@@ -2,7 +2,7 @@
 --
 --   isAscii    each byte is below 80 hexadecimal
 --   isPlain    in UTF-8 ASCII, and in UTF-16 any text that is not empty: the empty text is that of all that is refused too
---   Known      what a flag tells that may be false where the fact holds
+--   Known      where the flag is true, the fact holds; where it is false, nothing is known
 use Prim.Native.Nat.{ℕ}
 use mathlib.Core.Path.{_≡_}
 use mathlib.Core.Bool.{Bool, true, false, not, _&&_}

@@ -1,4 +1,4 @@
--- The text of some bytes, in UTF-16 (wide) or UTF-8, and how it was damaged: The Unicode Standard, chapter 3, and its section 3.9 on U+FFFD.
+-- The text of some bytes, in UTF-16 (the flag `utf16`) or UTF-8, and how it was damaged: The Unicode Standard, chapter 3, and its section 3.9 on U+FFFD.
 --
 --   stepsOf    the steps through the bytes, from the front: after a step of n bytes the next begins n bytes on
 --   bytesOf    the steps' values as UTF-8; each bad step, a maximal subpart, is one U+FFFD
@@ -25,10 +25,10 @@ abbrev pub stepOf : Bool → List ℕ → Step
 stepOf false s = step8 s
 stepOf true s = step16 s
 
-abbrev pub valueOf : Step → ℕ
-valueOf (Scalar v n) = v
-valueOf (Bad n) = 0xfffd
-valueOf End = 0
+abbrev pub stepValue : Step → ℕ
+stepValue (Scalar v n) = v
+stepValue (Bad n) = 0xfffd
+stepValue End = 0
 
 abbrev pub widthOf : Step → ℕ
 widthOf (Scalar v n) = n
@@ -43,24 +43,24 @@ soundOf End = false
 -- ---- the steps: k bytes are left of a step that has been taken
 
 unfoldable pub stepsAfter : Bool → ℕ → List ℕ → List Step
-stepsAfter wide k [] = []
-stepsAfter wide zero (b ∷ s) = let t = stepOf wide (b ∷ s) in t ∷ stepsAfter wide (widthOf t - 1) s
-stepsAfter wide (suc k) (b ∷ s) = stepsAfter wide k s
+stepsAfter utf16 k [] = []
+stepsAfter utf16 zero (b ∷ s) = let t = stepOf utf16 (b ∷ s) in t ∷ stepsAfter utf16 (widthOf t - 1) s
+stepsAfter utf16 (suc k) (b ∷ s) = stepsAfter utf16 k s
 
 abbrev pub stepsOf : Bool → List ℕ → List Step
-stepsOf wide s = stepsAfter wide 0 s
+stepsOf utf16 s = stepsAfter utf16 0 s
 
 -- ---- readings of the steps
 
 unfoldable pub bytesOf : List Step → List ℕ
 unfolding encode
 bytesOf [] = []
-bytesOf (t ∷ ts) = encode (valueOf t) ++ bytesOf ts
+bytesOf (t ∷ ts) = encode (stepValue t) ++ bytesOf ts
 
 -- the scalar values that the steps stand for
 unfoldable pub valuesOf : List Step → List ℕ
 valuesOf [] = []
-valuesOf (t ∷ ts) = valueOf t ∷ valuesOf ts
+valuesOf (t ∷ ts) = stepValue t ∷ valuesOf ts
 
 unfoldable pub allSound : List Step → Bool
 allSound [] = true
@@ -73,13 +73,13 @@ badCount (t ∷ ts) = cond (soundOf t) (badCount ts) (suc (badCount ts))
 -- ---- the text
 
 abbrev pub isSound : Bool → List ℕ → Bool
-isSound wide s = allSound (stepsOf wide s)
+isSound utf16 s = allSound (stepsOf utf16 s)
 
 abbrev pub refused : Bool → List ℕ → Bool
-refused wide s = wide && not (isSound wide s)
+refused utf16 s = utf16 && not (isSound utf16 s)
 
 unfoldable pub textOf : Bool → List ℕ → List ℕ
-textOf wide s = cond (refused wide s) [] (bytesOf (stepsOf wide s))
+textOf utf16 s = cond (refused utf16 s) [] (bytesOf (stepsOf utf16 s))
 
 -- a text in UTF-8 as UTF-16
 abbrev pub utf16Of : List ℕ → List ℕ
@@ -96,7 +96,7 @@ pub data Damage : Type 0 where
 
 unfoldable pub damageOf : Bool → List ℕ → Damage
 unfolding allSound badCount
-damageOf wide s = cond (isSound wide s) whole (cond wide unpaired (replaced (badCount (stepsOf wide s))))
+damageOf utf16 s = cond (isSound utf16 s) whole (cond utf16 unpaired (replaced (badCount (stepsOf utf16 s))))
 
 -- the number of a state (docs/FORMAT.md): 0 whole, 1 replaced characters, 2 bad UTF-16, 3 cut or outside; and how many characters were replaced
 abbrev pub stateNumber : Damage → ℕ

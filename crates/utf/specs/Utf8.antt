@@ -2,7 +2,7 @@
 --
 --   table37    Table 3-7, "Well-Formed UTF-8 Byte Sequences": a row holds a first and a last number for each of its bytes
 --   matched    how many bytes of the front lie in a row's ranges, in order
---   isWhole    whether each range of the row has its byte; anyWhole: whether some row does
+--   isWholeForm  whether each range of the row has its byte; anyWhole: whether some row does
 --   longest    the most bytes that a row matches; 0 where no row has the first byte
 --   spelt      Table 3-6 from the bytes of one sequence to its scalar value; encode: from the value to its bytes
 --   step8      where a row is whole its scalar value and length; else the maximal subpart, which is the longest part of a row and at least
@@ -42,11 +42,11 @@ matched (first ∷ []) s = 0
 matched (first ∷ last ∷ r) [] = 0
 matched (first ∷ last ∷ r) (b ∷ s) = cond (inside first last b) (suc (matched r s)) 0
 
-unfoldable pub isWhole : List ℕ → List ℕ → Bool
-isWhole [] s = true
-isWhole (first ∷ []) s = false
-isWhole (first ∷ last ∷ r) [] = false
-isWhole (first ∷ last ∷ r) (b ∷ s) = inside first last b && isWhole r s
+unfoldable pub isWholeForm : List ℕ → List ℕ → Bool
+isWholeForm [] s = true
+isWholeForm (first ∷ []) s = false
+isWholeForm (first ∷ last ∷ r) [] = false
+isWholeForm (first ∷ last ∷ r) (b ∷ s) = inside first last b && isWholeForm r s
 
 unfoldable pub longest : List (List ℕ) → List ℕ → ℕ
 unfolding matched
@@ -54,9 +54,9 @@ longest [] s = 0
 longest (r ∷ rs) s = max (matched r s) (longest rs s)
 
 unfoldable pub anyWhole : List (List ℕ) → List ℕ → Bool
-unfolding isWhole
+unfolding isWholeForm
 anyWhole [] s = false
-anyWhole (r ∷ rs) s = isWhole r s || anyWhole rs s
+anyWhole (r ∷ rs) s = isWholeForm r s || anyWhole rs s
 
 -- ---- Table 3-6: 6 bits of the value in each byte after the first, and the rest in the first
 

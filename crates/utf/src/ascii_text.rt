@@ -1,6 +1,6 @@
 // Texts of ASCII alone, in either encoding: told at a glance, and copied with no step taken. Most strings of a manifest are such.
 //
-// Mirrors nothing of the Rust, which takes std's decoders for every text. Definitions: specs/Text.antt, specs/Inner/Told.antt.
+// Mirrors nothing of the Rust, which takes std's decoders for every text. Definitions: specs/Text.antt, specs/Inner/StepRuns.antt.
 use super::span::is_ascii;
 use super::span::is_ascii_units;
 ghost use mathlib.Core.Path.{_≡_};
@@ -9,14 +9,14 @@ ghost use mathlib.Core.List.{_++_};
 ghost use Prim.Native.Nat.{_/_, _≤_, min};
 ghost use lib.ListN.{length, drop};
 ghost use Rattle.utf.specs.Text.{textOf, putText};
-ghost use Rattle.utf.specs.Inner.Told.{lowBytes, isAsciiText};
+ghost use Rattle.utf.specs.Inner.StepRuns.{lowBytes, isAsciiText};
 
 // Whether the text is seen at once to be ASCII, and so to be whole: each byte of UTF-8 is, or each unit of UTF-16.
 // Ruled out: true of 41 01 in UTF-16, which is U+0141; true of 41 00 42 in UTF-16, where a byte stands alone at the end.
-pub fn is_ascii_text(wide: bool, s: &[u8]) -> bool
-    ensures { λ r. ⌜ r ≡ isAsciiText wide (now (s .entry)) ⌝ }
+pub fn is_ascii_text(utf16: bool, s: &[u8]) -> bool
+    ensures { λ r. ⌜ r ≡ isAsciiText utf16 (now (s .entry)) ⌝ }
 {
-    if wide {
+    if utf16 {
         return is_ascii_units(s);
     }
     is_ascii(s)
@@ -70,12 +70,12 @@ fn copy_into(s: &[u8], out: &mut [u8]) -> usize
 
 // What `text_into` does, for a text that `is_ascii_text` has told to be ASCII: in UTF-8 its bytes, and in UTF-16 the low byte of each unit.
 // Ruled out: both bytes of a unit; a byte of `out` changed where the text does not fit.
-pub fn ascii_into(wide: bool, s: &[u8], out: &mut [u8]) -> usize
-    requires { ⌜ isAsciiText wide (now s) ≡ true ⌝ }
-    ensures { λ r. ⌜ (r ≡ min (length (textOf wide (now (s .entry)))) 0xffffffffffffffff)
-        × (now (out .exit) ≡ putText (textOf wide (now (s .entry))) (now (out .entry))) ⌝ }
+pub fn ascii_into(utf16: bool, s: &[u8], out: &mut [u8]) -> usize
+    requires { ⌜ isAsciiText utf16 (now s) ≡ true ⌝ }
+    ensures { λ r. ⌜ (r ≡ min (length (textOf utf16 (now (s .entry)))) 0xffffffffffffffff)
+        × (now (out .exit) ≡ putText (textOf utf16 (now (s .entry))) (now (out .entry))) ⌝ }
 {
-    if wide {
+    if utf16 {
         return lows_into(s, out);
     }
     copy_into(s, out)

@@ -9,13 +9,13 @@ ghost use Rattle.utf.specs.Text.{stepsOf, badCount, damageOf, stateNumbe
 
 // The number of the text's state: 0 whole, 1 replaced characters, 2 bad UTF-16. Nothing is counted, so that a whole text is looked at once.
 // Ruled out: 1 for EF BF BD in UTF-8, which is a U+FFFD of the file's own; 0 for 00 DC in UTF-16, a low surrogate that stands alone.
-pub fn state_of(wide: bool, s: &[u8]) -> u32
-    ensures { λ r. ⌜ r ≡ stateNumber (damageOf wide (now (s .entry))) ⌝ }
+pub fn state_of(utf16: bool, s: &[u8]) -> u32
+    ensures { λ r. ⌜ r ≡ stateNumber (damageOf utf16 (now (s .entry))) ⌝ }
 {
-    if is_sound(wide, s) {
+    if is_sound(utf16, s) {
         return 0;
     }
-    if wide {
+    if utf16 {
         return 2;
     }
     1
@@ -46,10 +46,10 @@ fn replaced_in(s: &[u8]) -> usize
 
 // How many U+FFFD the text has that the file has not, one for each maximal subpart; UTF-16 has none, since bad UTF-16 is the empty text.
 // Ruled out: a U+FFFD of the file's own counted; 4 for F0 9F 98 41, whose first three bytes are one maximal subpart.
-pub fn replaced_of(wide: bool, s: &[u8]) -> usize
-    ensures { λ r. ⌜ r ≡ replacedCount (damageOf wide (now (s .entry))) ⌝ }
+pub fn replaced_of(utf16: bool, s: &[u8]) -> usize
+    ensures { λ r. ⌜ r ≡ replacedCount (damageOf utf16 (now (s .entry))) ⌝ }
 {
-    if wide {
+    if utf16 {
         return 0;
     }
     replaced_in(s)

@@ -13,7 +13,7 @@ ghost use Prim.Native.Nat.{_≤_, _<_};
 ghost use lib.Dec.{eqb};
 ghost use lib.ListN.{length};
 ghost use Rattle.utf.specs.Text.{stepsOf, bytesOf, textOf, eqBytes};
-ghost use Rattle.utf.specs.Inner.Told.{Paired};
+ghost use Rattle.utf.specs.Inner.StepRuns.{Paired};
 ghost use Rattle.utf.specs.Plain.{isPlain, Known};
 
 // ---- step by step
@@ -26,12 +26,12 @@ pub struct Both {
 }
 
 // Two bytes of ASCII are compared as they stand.
-fn both_at(wide_a: bool, a: &[u8], i: usize, wide_b: bool, b: &[u8], j: usize) -> Both
+fn both_at(utf16_a: bool, a: &[u8], i: usize, utf16_b: bool, b: &[u8], j: usize) -> Both
     requires { ⌜ (i < length (now a)) × (j < length (now b)) ⌝ }
-    ensures { λ r. ⌜ Paired «wide_a» (now (a .entry)) i «wide_b» (now (b .entry)) j (r .same) (r .i) (r .j) ⌝ }
+    ensures { λ r. ⌜ Paired «utf16_a» (now (a .entry)) i «utf16_b» (now (b .entry)) j (r .same) (r .i) (r .j) ⌝ }
 {
-    if !wide_a {
-        if !wide_b {
+    if !utf16_a {
+        if !utf16_b {
             let x = a[i];
             let y = b[j];
             if x < 128 {
@@ -45,8 +45,8 @@ fn both_at(wide_a: bool, a: &[u8], i: usize, wide_b: bool, b: &[u8], j: usize) -
             }
         }
     }
-    let t = next_of(wide_a, a, i);
-    let u = next_of(wide_b, b, j);
+    let t = next_of(utf16_a, a, i);
+    let u = next_of(utf16_b, b, j);
     Both {
         same: t.value == u.value,
         i: i + t.width,
@@ -54,8 +54,8 @@ fn both_at(wide_a: bool, a: &[u8], i: usize, wide_b: bool, b: &[u8], j: usize) -
     }
 }
 
-fn same_steps(wide_a: bool, a: &[u8], wide_b: bool, b: &[u8]) -> bool
-    ensures { λ r. ⌜ r ≡ eqBytes (bytesOf (stepsOf «wide_a» (now (a .entry)))) (bytesOf (stepsOf «wide_b» (now (b .entry)))) ⌝ }
+fn same_steps(utf16_a: bool, a: &[u8], utf16_b: bool, b: &[u8]) -> bool
+    ensures { λ r. ⌜ r ≡ eqBytes (bytesOf (stepsOf «utf16_a» (now (a .entry)))) (bytesOf (stepsOf «utf16_b» (now (b .entry)))) ⌝ }
 {
     let mut i = 0;
     let mut j = 0;
@@ -63,7 +63,7 @@ fn same_steps(wide_a: bool, a: &[u8], wide_b: bool, b: &[u8]) -> bool
         if b.len() <= j {
             return false;
         }
-        let t = both_at(wide_a, a, i, wide_b, b, j);
+        let t = both_at(utf16_a, a, i, utf16_b, b, j);
         if !t.same {
             return false;
         }
@@ -156,7 +156,7 @@ fn is_blank(s: &[u8]) -> bool
 }
 
 // Whether two texts in UTF-16 are the same: bytes that differ are the same text only where both are empty.
-fn same_wide(a: &[u8], b: &[u8]) -> bool
+fn same_utf16(a: &[u8], b: &[u8]) -> bool
     ensures { λ r. ⌜ r ≡ eqBytes (textOf true (now (a .entry))) (textOf true (now (b .entry))) ⌝ }
 {
     if same_bytes(a, b) {
@@ -172,11 +172,11 @@ fn same_wide(a: &[u8], b: &[u8]) -> bool
 
 // Whether a text is surely another than that of some bytes of UTF-8, because it has more than sixteen times as many bytes: nothing of it is read.
 // A step takes at most four bytes and makes at least one, and a byte of UTF-8 makes at most four.
-fn is_far_longer(a: &[u8], wide_b: bool, b: &[u8]) -> bool
-    ensures { λ r. ⌜ (r ≡ true → (w : Bool) → (eqBytes (textOf w (now (a .entry))) (textOf «wide_b» (now (b .entry))) ≡ false)
-        × (eqBytes (textOf «wide_b» (now (b .entry))) (textOf w (now (a .entry))) ≡ false)) ⌝ }
+fn is_far_longer(a: &[u8], utf16_b: bool, b: &[u8]) -> bool
+    ensures { λ r. ⌜ (r ≡ true → (w : Bool) → (eqBytes (textOf w (now (a .entry))) (textOf «utf16_b» (now (b .entry))) ≡ false)
+        × (eqBytes (textOf «utf16_b» (now (b .entry))) (textOf w (now (a .entry))) ≡ false)) ⌝ }
 {
-    if wide_b {
+    if utf16_b {
         return false;
     }
     if b.len() == 0 {
@@ -187,38 +187,38 @@ fn is_far_longer(a: &[u8], wide_b: bool, b: &[u8]) -> bool
 
 // Whether two texts, each in its own encoding, are the same. One that is far longer than the other is not looked at.
 // Ruled out: false of FF in UTF-8 and FD FF in UTF-16, since both are U+FFFD; true of a text and a longer one that begins with it.
-pub fn same_text(wide_a: bool, a: &[u8], wide_b: bool, b: &[u8]) -> bool
-    ensures { λ r. ⌜ r ≡ eqBytes (textOf «wide_a» (now (a .entry))) (textOf «wide_b» (now (b .entry))) ⌝ }
+pub fn same_text(utf16_a: bool, a: &[u8], utf16_b: bool, b: &[u8]) -> bool
+    ensures { λ r. ⌜ r ≡ eqBytes (textOf «utf16_a» (now (a .entry))) (textOf «utf16_b» (now (b .entry))) ⌝ }
 {
-    if wide_a {
-        if wide_b {
-            return same_wide(a, b);
+    if utf16_a {
+        if utf16_b {
+            return same_utf16(a, b);
         }
     }
-    if is_far_longer(a, wide_b, b) {
+    if is_far_longer(a, utf16_b, b) {
         return false;
     }
-    if is_far_longer(b, wide_a, a) {
+    if is_far_longer(b, utf16_a, a) {
         return false;
     }
-    let no_b = is_refused(wide_b, b);
-    if is_refused(wide_a, a) {
+    let no_b = is_refused(utf16_b, b);
+    if is_refused(utf16_a, a) {
         return no_b || b.len() == 0;
     }
     if no_b {
         return a.len() == 0;
     }
-    same_steps(wide_a, a, wide_b, b)
+    same_steps(utf16_a, a, utf16_b, b)
 }
 
 // ---- a text that its bytes decide
 
 // Whether no other bytes in the same encoding are this text: in UTF-8 it is ASCII, and in UTF-16 it is not empty.
 // Ruled out: true of a text that is refused, since there are others; true of EF BF BD in UTF-8, since FF is the same text.
-pub fn is_plain(wide: bool, s: &[u8]) -> bool
-    ensures { λ r. ⌜ r ≡ isPlain wide (now (s .entry)) ⌝ }
+pub fn is_plain(utf16: bool, s: &[u8]) -> bool
+    ensures { λ r. ⌜ r ≡ isPlain utf16 (now (s .entry)) ⌝ }
 {
-    if wide {
+    if utf16 {
         return !is_blank(s);
     }
     is_ascii(s)
@@ -226,14 +226,14 @@ pub fn is_plain(wide: bool, s: &[u8]) -> bool
 
 // Whether two texts are the same, as `same_text` tells it; the second is known to be plain where `plain` is true, and then its bytes decide.
 // Ruled out: true of two texts that are refused and differ; false of a plain text in UTF-8 and the same in UTF-16.
-pub fn same_known(plain: bool, wide_a: bool, a: &[u8], wide_b: bool, b: &[u8]) -> bool
-    requires { ⌜ Known plain (isPlain «wide_b» (now b)) ⌝ }
-    ensures { λ r. ⌜ r ≡ eqBytes (textOf «wide_a» (now (a .entry))) (textOf «wide_b» (now (b .entry))) ⌝ }
+pub fn same_known(plain: bool, utf16_a: bool, a: &[u8], utf16_b: bool, b: &[u8]) -> bool
+    requires { ⌜ Known plain (isPlain «utf16_b» (now b)) ⌝ }
+    ensures { λ r. ⌜ r ≡ eqBytes (textOf «utf16_a» (now (a .entry))) (textOf «utf16_b» (now (b .entry))) ⌝ }
 {
     if plain {
-        if wide_a == wide_b {
+        if utf16_a == utf16_b {
             return same_bytes(a, b);
         }
     }
-    same_text(wide_a, a, wide_b, b)
+    same_text(utf16_a, a, utf16_b, b)
 }

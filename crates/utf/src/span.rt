@@ -1,12 +1,12 @@
 // Bytes looked at as a whole, with no early way out, so that the compiler takes many at once.
 //
-// `is_ascii` mirrors std's of that name. Definitions: specs/Plain.antt and specs/Inner/Told.antt.
+// `is_ascii` mirrors std's of that name. Definitions: specs/Plain.antt and specs/Inner/StepRuns.antt.
 ghost use mathlib.Core.Path.{_≡_};
 ghost use mathlib.Core.Bool.{_&&_, cond};
 ghost use Prim.Native.Nat.{_/_, _%_, max};
 ghost use lib.Dec.{eqb};
 ghost use Rattle.utf.specs.Plain.{isAscii};
-ghost use Rattle.utf.specs.Inner.Told.{isBasic, isSingle, asciiUnits};
+ghost use Rattle.utf.specs.Inner.StepRuns.{isBasic, isSingle, asciiUnits};
 
 // Whether every byte is below 128: the greatest of them decides.
 // Ruled out: true of 80, the first byte that is not ASCII; false of no bytes.
@@ -88,10 +88,10 @@ pub fn is_ascii_units(s: &[u8]) -> bool
 
 // Whether each step is a single unit: a byte of ASCII, or a unit of UTF-16 that is no surrogate.
 // Ruled out: true of D800 in UTF-16, a surrogate; false of 00D8, whose low byte alone is D8.
-pub fn is_single(wide: bool, s: &[u8]) -> bool
-    ensures { λ r. ⌜ r ≡ isSingle wide (now (s .entry)) ⌝ }
+pub fn is_single(utf16: bool, s: &[u8]) -> bool
+    ensures { λ r. ⌜ r ≡ isSingle utf16 (now (s .entry)) ⌝ }
 {
-    if wide {
+    if utf16 {
         return is_basic(s);
     }
     is_ascii(s)

@@ -13,13 +13,13 @@ use lib.ListN.{length, replicate, getD}
 use Rattle.field.specs.Le.{u16le, u32le}
 use Rattle.common.specs.Header.{headerOf}
 use Rattle.common.specs.ValueType.{valueTypeOf}
-use Rattle.utf.specs.Utf8.{matched, isWhole, longest, anyWhole, spelt, encode, step8}
+use Rattle.utf.specs.Utf8.{matched, isWholeForm, longest, anyWhole, spelt, encode, step8}
 use Rattle.utf.specs.Text.{stepsAfter, bytesOf, allSound, textOf, eqBytes}
 use Rattle.utf.specs.Plain.{isAscii}
 use Rattle.res_string_pool.specs.Pool.{countOf, numbered, endOf, poolFrom, behindGarbage, poolOf, offsetOf}
 use Rattle.res_string_pool.specs.Content.{split8, split16}
 use Rattle.resource_map.specs.Map.{idsIn, idsBy, mapOf, idOf}
-use Rattle.system_types.specs.Names.{Lent, lends, isGood, namesFrom, nameOf}
+use Rattle.system_types.specs.Names.{Lent, lends, isGood, namesFrom, nameById}
 use Rattle.errors.specs.declared.ValueAnswer.{ValueAnswer}
 use Rattle.text.specs.declared.Head.{Head}
 use Rattle.text.specs.Content.{systemOf, stringAt, stringOf, contentOf, textIn}
@@ -32,7 +32,7 @@ use Rattle.items.specs.Items.{itemAt, itemsFrom, itemsOf, isName, isNew, isGood
 use Rattle.items.specs.Values.{attrText, uncoveredOf}
 use Rattle.items.specs.declared.Item.{Item}
 use Rattle.value_text.specs.declared.Attribute.{Attribute}
-use Rattle.value_text.specs.Value.{namedValue, valueOf, valueOpen, valueBuffer, ValueReads}
+use Rattle.value_text.specs.Value.{namedValue, attributeValue, valueOpen, valueBuffer, ValueReads}
 use Rattle.value_text.proofs.Cases.{head, area, enums, asking}
 
 pub record Version : Type 0 where
@@ -43,14 +43,14 @@ pub record Version : Type 0 where
 
 -- what the promise leaves of the buffer for that question
 sample-buffer : valueBuffer head (lends [] []) enums area 3 (asking 0 0 16 6) ≡ 121 ∷ 0 ∷ 0 ∷ []
-unfolding head area enums u16le u32le headerOf valueTypeOf matched isWhole longest anyWhole spelt encode step8 stepsAfter bytesOf allSound textOf
-    eqBytes isAscii countOf numbered endOf poolFrom behindGarbage poolOf offsetOf split8 split16 idsIn idsBy mapOf idOf isGood namesFrom nameOf
+unfolding head area enums u16le u32le headerOf valueTypeOf matched isWholeForm longest anyWhole spelt encode step8 stepsAfter bytesOf allSound textOf
+    eqBytes isAscii countOf numbered endOf poolFrom behindGarbage poolOf offsetOf split8 split16 idsIn idsBy mapOf idOf isGood namesFrom nameById
     systemOf stringAt stringOf contentOf tablesOf openedOf lengthCheck digits fitted itemAt itemsFrom isName isNew isGoodItem ruleFrom tableOf
-    namedIn enumOf attrText uncoveredOf namedValue valueOf valueOpen valueBuffer
+    namedIn enumOf attrText uncoveredOf namedValue attributeValue valueOpen valueBuffer
 sample-buffer = refl
 
 sample-open : valueOpen head (lends [] []) enums area ≡ Open (openedOf head .head)
-unfolding head area enums u16le u32le headerOf matched isWhole longest anyWhole spelt encode step8 eqBytes isAscii countOf numbered endOf poolFrom
+unfolding head area enums u16le u32le headerOf matched isWholeForm longest anyWhole spelt encode step8 eqBytes isAscii countOf numbered endOf poolFrom
     behindGarbage poolOf offsetOf idsIn idsBy mapOf idOf isGood namesFrom tablesOf openedOf lengthCheck itemAt itemsFrom isName isNew isGoodItem
     ruleFrom tableOf valueOpen
 sample-open = refl
@@ -79,8 +79,8 @@ module _ (v : Version) where
       namedIn items-area (textIn (contentOf h (tablesIn f h) lent (a .name .0))) (itemsOf items) ≡ i ∷ is →
       v .after f lent items items-area before a ≡ fitted (itemNameOf items-area i) (length before)) →
       ⊥
-  unfolding head area enums u16le u32le headerOf matched isWhole longest anyWhole spelt encode step8 stepsAfter bytesOf allSound textOf eqBytes
-      countOf numbered endOf poolFrom behindGarbage poolOf offsetOf split8 split16 idsIn idsBy mapOf idOf nameOf systemOf stringAt stringOf contentOf
+  unfolding head area enums u16le u32le headerOf matched isWholeForm longest anyWhole spelt encode step8 stepsAfter bytesOf allSound textOf eqBytes
+      countOf numbered endOf poolFrom behindGarbage poolOf offsetOf split8 split16 idsIn idsBy mapOf idOf nameById systemOf stringAt stringOf contentOf
       tablesOf openedOf itemAt itemsFrom namedIn fitted
   first-broken always =
       let e =

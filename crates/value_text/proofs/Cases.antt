@@ -10,13 +10,13 @@ use lib.ListN.{take, replicate}
 use Rattle.field.specs.Le.{u16le, u32le}
 use Rattle.common.specs.Header.{headerOf}
 use Rattle.common.specs.ValueType.{valueTypeOf}
-use Rattle.utf.specs.Utf8.{matched, isWhole, longest, anyWhole, spelt, encode, step8}
+use Rattle.utf.specs.Utf8.{matched, isWholeForm, longest, anyWhole, spelt, encode, step8}
 use Rattle.utf.specs.Text.{stepsAfter, bytesOf, allSound, textOf, damageOf, eqBytes}
 use Rattle.utf.specs.Plain.{isAscii}
 use Rattle.res_string_pool.specs.Pool.{countOf, numbered, endOf, poolFrom, behindGarbage, poolOf, offsetOf}
 use Rattle.res_string_pool.specs.Content.{split8, split16}
 use Rattle.resource_map.specs.Map.{idsIn, idsBy, mapOf, idOf}
-use Rattle.system_types.specs.Names.{lends, isGood, namesFrom, nameOf}
+use Rattle.system_types.specs.Names.{lends, isGood, namesFrom, nameById}
 use Rattle.errors.specs.declared.Refusal.the-variants.{NothingFound, TextShort, ItemsError, NoPlainText}
 use Rattle.errors.specs.declared.TextState.the-variants.{Whole, Cut}
 use Rattle.errors.specs.declared.ValueAnswer.{ValueAnswer}
@@ -30,7 +30,7 @@ use Rattle.items.specs.Items.{itemAt, itemsFrom, isName, isNew, isGood as isGoo
 use Rattle.items.specs.Flags.{taken, leftOf, bitSum, joinedFrom}
 use Rattle.items.specs.Values.{attrText, uncoveredOf}
 use Rattle.value_text.specs.declared.Attribute.{Attribute}
-use Rattle.value_text.specs.Value.{plainBy, plainState, namedValue, valueOf, valueOpen, valueAnswer, valueBuffer}
+use Rattle.value_text.specs.Value.{plainBy, plainState, namedValue, attributeValue, valueOpen, valueAnswer, valueBuffer}
 
 unfoldable pub head : List ℕ
 head =
@@ -95,9 +95,9 @@ results [] = []
 results (asked f items a n r after ∷ cs) = got r after ∷ results cs
 
 pub cases-right : answers cases ≡ results cases
-unfolding cases head area enums flags u16le u32le headerOf valueTypeOf matched isWhole longest anyWhole spelt encode step8 stepsAfter bytesOf
+unfolding cases head area enums flags u16le u32le headerOf valueTypeOf matched isWholeForm longest anyWhole spelt encode step8 stepsAfter bytesOf
     allSound textOf eqBytes isAscii countOf numbered endOf poolFrom behindGarbage poolOf offsetOf split8 split16 idsIn idsBy mapOf idOf isGood
-    namesFrom nameOf systemOf stringAt stringOf contentOf tablesOf openedOf lengthCheck digits signedText hexDigits fitted itemAt itemsFrom
-    isName isNew isGoodItem ruleFrom tableOf namedIn enumOf taken leftOf bitSum joinedFrom attrText uncoveredOf plainBy plainState damageOf namedValue valueOf
+    namesFrom nameById systemOf stringAt stringOf contentOf tablesOf openedOf lengthCheck digits signedText hexDigits fitted itemAt itemsFrom
+    isName isNew isGoodItem ruleFrom tableOf namedIn enumOf taken leftOf bitSum joinedFrom attrText uncoveredOf plainBy plainState damageOf namedValue attributeValue
     valueOpen valueAnswer valueBuffer
 cases-right = refl

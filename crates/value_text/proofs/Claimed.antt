@@ -23,7 +23,7 @@ use Rattle.head.specs.Head.{tablesIn}
 use Rattle.head.specs.declared.OpenRead.{OpenRead}
 use Rattle.head.specs.declared.OpenRead.the-variants.{Open, Closed}
 use Rattle.value_text.specs.declared.Attribute.{Attribute}
-use Rattle.value_text.specs.Value.{Value, noName, noText, shows, valueOf, valueOpen, answerBy, bufferBy, answerIn, bufferIn}
+use Rattle.value_text.specs.Value.{Value, noName, noText, shows, attributeValue, valueOpen, answerBy, bufferBy, answerIn, bufferIn}
 use Rattle.value_text.specs.Value.{valueAnswer, valueBuffer, ValueReads}
 
 -- ---- one answer
@@ -76,7 +76,7 @@ module _ (f : List ℕ) (lent : Lent) (items area before after : List ℕ) (a : 
           answerIn f lent items area (length before) a o ≡ Refused why →
           bufferIn f lent items area (length before) a o ≡ replicate (length before) 0
       go (Closed r) e = refl
-      go (Open h) e = zeros-of (length before) (a .kind) (valueOf h (tablesIn f h) lent items area a) why e
+      go (Open h) e = zeros-of (length before) (a .kind) (attributeValue h (tablesIn f h) lent items area a) why e
 
   pub value-done-zeros :
       (k u : ℕ) (d : TextState) → ValueReads f lent items area before a (Answered k u d) after → drop k after ≡ replicate (length before - k) 0
@@ -90,4 +90,4 @@ module _ (f : List ℕ) (lent : Lent) (items area before after : List ℕ) (a : 
           answerIn f lent items area (length before) a o ≡ Answered k u d →
           drop k (bufferIn f lent items area (length before) a o) ≡ replicate (length before - k) 0
       go (Closed r) e = let z : _≡_ {A = ℕ} 0 1 = cc in absurd (let y : ⊥ = omega arith in y)
-      go (Open h) e = behind-of (length before) (a .kind) (valueOf h (tablesIn f h) lent items area a) k u d e
+      go (Open h) e = behind-of (length before) (a .kind) (attributeValue h (tablesIn f h) lent items area a) k u d e

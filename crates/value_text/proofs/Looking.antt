@@ -15,7 +15,7 @@ use Rattle.utf.proofs.Equal.{eqBytes-refl, eqBytes-true, eqBytes-false, eqBytes
 use Rattle.utf.proofs.Laws.{textOf-ascii}
 use Rattle.utf.proofs.Ascii.{isAscii-at}
 use Rattle.utf.proofs.Filled.{putText-whole}
-use Rattle.system_types.specs.Names.{Lent, lends, topByte, systemName, nameOf, namesFrom, namesOf}
+use Rattle.system_types.specs.Names.{Lent, lends, topByte, systemName, nameById, namesFrom, namesOf}
 use Rattle.system_types.specs.declared.Lookup.the-variants.{Missing}
 use Rattle.system_types.specs.declared.NamesRead.the-variants.{Good}
 use Rattle.resource_map.specs.Map.{idOf}
@@ -34,7 +34,7 @@ use Rattle.value_text.specs.declared.Attribute.{Attribute}
 use Rattle.value_text.specs.declared.Told.{Told}
 use Rattle.value_text.specs.declared.Told.the-variants.{NoName}
 use Rattle.errors.specs.declared.TextState.the-variants.{Whole}
-use Rattle.value_text.specs.Value.{shows, noName, namedValue, valueBy, valueOf}
+use Rattle.value_text.specs.Value.{shows, noName, namedValue, valueBy, attributeValue}
 use Rattle.value_text.specs.Inner.Leads.{Tells}
 
 -- ---- an item against a text
@@ -98,10 +98,10 @@ module _ (h : Head) (t : List ℕ) (lent : Lent) where
   pool-asks a = record { fits = a .fits; good = refl }
 
   no-name : (id : ℕ) → systemName id [] ≡ Missing
-  unfolding nameOf
+  unfolding nameById
   no-name id = go (eqb (topByte id) 1)
     where
-      go : (b : Bool) → cond b (nameOf id []) Missing ≡ Missing
+      go : (b : Bool) → cond b (nameById id []) Missing ≡ Missing
       go true = refl
       go false = refl
 
@@ -116,8 +116,8 @@ module _ (h : Head) (t : List ℕ) (lent : Lent) where
 -- ---- the value
 
 module _ (h : Head) (t : List ℕ) (lent : Lent) (items area : List ℕ) (a : Attribute) {l k : List ℕ} {r : Told} where
-  pub value-uri : a .prefix ≡ 2 → Tells (shows androidUri 0 Whole) l r k → Tells (valueOf h t lent items area a) l r k
-  unfolding valueOf
+  pub value-uri : a .prefix ≡ 2 → Tells (shows androidUri 0 Whole) l r k → Tells (attributeValue h t lent items area a) l r k
+  unfolding attributeValue
   value-uri e g = rw (eq-eqb (a .prefix) 2 e) g
 
   value-by :
@@ -125,18 +125,18 @@ module _ (h : Head) (t : List ℕ) (lent : Lent) (items area : List ℕ) (a : At
       (a .prefix ≡ 2 → ⊥) →
       c ≡ contentOf h t lent (a .name .0) →
       Tells (valueBy h t lent items area c (a .kind) (a .«data»)) l r k →
-      Tells (valueOf h t lent items area a) l r k
-  unfolding valueOf
+      Tells (attributeValue h t lent items area a) l r k
+  unfolding attributeValue
   value-by p e g = rw (ne-eqb (a .prefix) 2 p, ← e) g
 
   pub value-none :
       (f : Found) →
       (a .prefix ≡ 2 → ⊥) →
-      partOf (h .wide) t (lent .area) f ≡ contentOf h t lent (a .name .0) →
+      partOf (h .utf16) t (lent .area) f ≡ contentOf h t lent (a .name .0) →
       isFound f ≡ false →
       r ≡ NoName →
       k ≡ l →
-      Tells (valueOf h t lent items area a) l r k
+      Tells (attributeValue h t lent items area a) l r k
   value-none Nothing p e q n m = value-by p e (record { told = n; long = ap length m; front = λ z. refl })
   value-none Cut p e q n m = let z : _≡_ {A = ℕ} 0 1 = cc in absurd (let y : ⊥ = omega arith in y)
   value-none (System at i) p e q n m = let z : _≡_ {A = ℕ} 0 1 = cc in absurd (let y : ⊥ = omega arith in y)
@@ -145,10 +145,10 @@ module _ (h : Head) (t : List ℕ) (lent : Lent) (items area : List ℕ) (a : At
   pub value-named :
       (f : Found) →
       (a .prefix ≡ 2 → ⊥) →
-      partOf (h .wide) t (lent .area) f ≡ contentOf h t lent (a .name .0) →
+      partOf (h .utf16) t (lent .area) f ≡ contentOf h t lent (a .name .0) →
       isFound f ≡ true →
-      Tells (namedValue h t lent items area (textIn (partOf (h .wide) t (lent .area) f)) (a .kind) (a .«data»)) l r k →
-      Tells (valueOf h t lent items area a) l r k
+      Tells (namedValue h t lent items area (textIn (partOf (h .utf16) t (lent .area) f)) (a .kind) (a .«data»)) l r k →
+      Tells (attributeValue h t lent items area a) l r k
   value-named Nothing p e q g = let z : _≡_ {A = ℕ} 0 1 = cc in absurd (let y : ⊥ = omega arith in y)
   value-named Cut p e q g = value-by p e g
   value-named (System at i) p e q g = value-by p e g
@@ -156,14 +156,14 @@ module _ (h : Head) (t : List ℕ) (lent : Lent) (items area : List ℕ) (a : At
 
   -- by what the name's index stands for
   pub value-no-name :
-      (a .prefix ≡ 2 → ⊥) → contentOf h t lent (a .name .0) ≡ none → r ≡ NoName → k ≡ l → Tells (valueOf h t lent items area a) l r k
+      (a .prefix ≡ 2 → ⊥) → contentOf h t lent (a .name .0) ≡ none → r ≡ NoName → k ≡ l → Tells (attributeValue h t lent items area a) l r k
   value-no-name p e n m = value-by p (sym e) (record { told = n; long = ap length m; front = λ z. refl })
 
   pub value-run :
       (a .prefix ≡ 2 → ⊥) →
       hasText (contentOf h t lent (a .name .0)) ≡ true →
       Tells (namedValue h t lent items area (textIn (contentOf h t lent (a .name .0))) (a .kind) (a .«data»)) l r k →
-      Tells (valueOf h t lent items area a) l r k
+      Tells (attributeValue h t lent items area a) l r k
   value-run p e g = go (contentOf h t lent (a .name .0)) refl e g
     where
       go :
@@ -171,7 +171,7 @@ module _ (h : Head) (t : List ℕ) (lent : Lent) (items area : List ℕ) (a : At
           c ≡ contentOf h t lent (a .name .0) →
           hasText c ≡ true →
           Tells (namedValue h t lent items area (textIn c) (a .kind) (a .«data»)) l r k →
-          Tells (valueOf h t lent items area a) l r k
+          Tells (attributeValue h t lent items area a) l r k
       go none q e′ g′ = let z : _≡_ {A = ℕ} 0 1 = cc in absurd (let y : ⊥ = omega arith in y)
       go cut q e′ g′ = value-by p q g′
       go (some w s) q e′ g′ = value-by p q g′

@@ -29,7 +29,7 @@ use Rattle.items.specs.Items.{tableOf}
 use Rattle.items.specs.declared.ItemsRead.{ItemsRead}
 use Rattle.items.specs.declared.ItemsRead.the-variants.{Good, Bad}
 use Rattle.value_text.specs.declared.Attribute.{Attribute}
-use Rattle.value_text.specs.Value.{valueOpen, valueOf, valueAnswer, valueBuffer, ValueReads}
+use Rattle.value_text.specs.Value.{valueOpen, attributeValue, valueAnswer, valueBuffer, ValueReads}
 use Rattle.value_text.specs.Inner.Leads.{Gives, behindItems}
 
 -- ---- the checks
@@ -116,7 +116,7 @@ module _ (f : List ℕ) (lent : Lent) (items area before after : List ℕ) (a : 
       {h : Head} {t : List ℕ} →
       valueOpen f lent items area ≡ Open h →
       t ≡ tablesIn f h →
-      Gives (length before) (a .kind) (valueOf h t lent items area a) r after →
+      Gives (length before) (a .kind) (attributeValue h t lent items area a) r after →
       ValueReads f lent items area before a r after
   unfolding valueAnswer valueBuffer
   reads-open e q g = let g′ = rw q at g in record { answer = rw e (ap valueNumbersOf (g′ .same)); out = rw e (g′ .out) }

@@ -2,7 +2,7 @@
 --
 --   plainBy       the text of a value by its type alone, or nothing: that of a string of the pool, of the name of a resource, of a number
 --   plainState    what became of the text by the type alone: of a string what its damage is told as, and `Cut` past the pool, where no text stood
---   valueOf       the text of an attribute's value: what the items of its name say, else the plain text; how many set bits no name covers; and what
+--   attributeValue  the text of an attribute's value: what the items of its name say, else the plain text; how many set bits no name covers; and what
 --                 became of the text, which is whole but for a string's
 --   shown         the text of a value, empty where it has none
 --   valueOpen     the head of the file, or the first refusal: the entry checks, the items' 14 among them, then the head's own
@@ -146,8 +146,8 @@ module _ (h : Head) (t : List ℕ) (lent : Lent) (items area : List ℕ) where
   valueBy cut kind v = namedValue (textIn cut) kind v
   valueBy (some w s) kind v = namedValue (textIn (some w s)) kind v
 
-  unfoldable pub valueOf : Attribute → Value
-  valueOf a = cond (eqb (a .prefix) 2) (shows androidUri 0 stateIs.Whole) (valueBy (contentOf h t lent (a .name .0)) (a .kind) (a .«data»))
+  unfoldable pub attributeValue : Attribute → Value
+  attributeValue a = cond (eqb (a .prefix) 2) (shows androidUri 0 stateIs.Whole) (valueBy (contentOf h t lent (a .name .0)) (a .kind) (a .«data»))
 
 -- ---- the checks
 
@@ -170,11 +170,11 @@ bufferBy n (shows s u d) = fitted s n
 
 abbrev pub answerIn : List ℕ → Lent → List ℕ → List ℕ → ℕ → Attribute → OpenRead → ValueAnswer
 answerIn f lent items area n a (Closed r) = Refused r
-answerIn f lent items area n a (Open h) = answerBy n (a .kind) (valueOf h (tablesIn f h) lent items area a)
+answerIn f lent items area n a (Open h) = answerBy n (a .kind) (attributeValue h (tablesIn f h) lent items area a)
 
 abbrev pub bufferIn : List ℕ → Lent → List ℕ → List ℕ → ℕ → Attribute → OpenRead → List ℕ
 bufferIn f lent items area n a (Closed r) = replicate n 0
-bufferIn f lent items area n a (Open h) = bufferBy n (valueOf h (tablesIn f h) lent items area a)
+bufferIn f lent items area n a (Open h) = bufferBy n (attributeValue h (tablesIn f h) lent items area a)
 
 unfoldable pub valueAnswer : List ℕ → Lent → List ℕ → List ℕ → ℕ → Attribute → ValueAnswer
 valueAnswer f lent items area n a = answerIn f lent items area n a (valueOpen f lent items area)

@@ -30,7 +30,7 @@ ghost use Rattle.errors.specs.declared.TextState.the-variants.{Whole};
 ghost use Rattle.errors.specs.declared.ValueAnswer.the-variants.{Refused};
 ghost use Rattle.head.specs.Ask.{headRead};
 ghost use Rattle.items.specs.Values.{nothing};
-ghost use Rattle.value_text.specs.Value.{shows, stringState, orPlain, plainBy, plainState, namedValue, valueOf, valueOpen, ValueReads};
+ghost use Rattle.value_text.specs.Value.{shows, stringState, orPlain, plainBy, plainState, namedValue, attributeValue, valueOpen, ValueReads};
 ghost use Rattle.value_text.specs.Inner.Leads.{Leads, Tells, Gives, behindItems};
 use common::StringIndex;
 use digits::put_bytes;
@@ -89,7 +89,7 @@ pub enum Told {
 fn is_item(
     t: &[u8],
     area: &[u8],
-    wide: bool,
+    utf16: bool,
     f: Found,
     items: &[u32],
     item_area: &[u8],
@@ -97,13 +97,13 @@ fn is_item(
 ) -> bool
     requires { ⌜ Inside (now t) (now area) f × (isFound f ≡ true) × (tableOf (now «item_area») (now items) ≡ Good) × (k < length (now items) / itemWidth) ⌝ }
     ensures { λ r. ⌜ r ≡ eqBytes (attributeOf (now («item_area» .entry)) (itemAt (now (items .entry)) k))
-        (textIn (partOf wide (now (t .entry)) (now (area .entry)) f)) ⌝ }
+        (textIn (partOf utf16 (now (t .entry)) (now (area .entry)) f)) ⌝ }
 {
     let i = item_at(items, k);
     same_part(
         t,
         area,
-        wide,
+        utf16,
         true,
         false,
         part_of(item_area, i.attribute, i.attribute_len),
@@ -115,18 +115,18 @@ fn is_item(
 pub fn find_item(
     t: &[u8],
     area: &[u8],
-    wide: bool,
+    utf16: bool,
     f: Found,
     items: &[u32],
     item_area: &[u8],
 ) -> usize
     requires { ⌜ Inside (now t) (now area) f × (isFound f ≡ true) × (tableOf (now «item_area») (now items) ≡ Good) ⌝ }
-    ensures { λ r. ⌜ FirstNamed (now («item_area» .entry)) (textIn (partOf wide (now (t .entry)) (now (area .entry)) f)) (now (items .entry)) r ⌝ }
+    ensures { λ r. ⌜ FirstNamed (now («item_area» .entry)) (textIn (partOf utf16 (now (t .entry)) (now (area .entry)) f)) (now (items .entry)) r ⌝ }
 {
     let whole = items.len() / ITEM_WORDS;
     let mut k = 0;
     while k < whole {
-        if is_item(t, area, wide, f, items, item_area, k) {
+        if is_item(t, area, utf16, f, items, item_area, k) {
             return k;
         }
         k += 1;
@@ -139,7 +139,7 @@ pub fn find_item(
 fn find_known(
     t: &[u8],
     area: &[u8],
-    wide: bool,
+    utf16: bool,
     f: Found,
     items: &[u32],
     item_area: &[u8],
@@ -147,12 +147,12 @@ fn find_known(
 ) -> usize
     requires { ⌜ Inside (now t) (now area) f × (isFound f ≡ true) × (tableOf (now «item_area») (now items) ≡ Good)
         × (length (now t) ≤ fileLimit) × Firsts (now «item_area») (now items) (now firsts) ⌝ }
-    ensures { λ r. ⌜ FirstNamed (now («item_area» .entry)) (textIn (partOf wide (now (t .entry)) (now (area .entry)) f)) (now (items .entry)) r ⌝ }
+    ensures { λ r. ⌜ FirstNamed (now («item_area» .entry)) (textIn (partOf utf16 (now (t .entry)) (now (area .entry)) f)) (now (items .entry)) r ⌝ }
 {
     let mut name = [0u8; 64];
-    let n = found_into(t, area, wide, f, &mut name);
+    let n = found_into(t, area, utf16, f, &mut name);
     if 64 < n {
-        return find_item(t, area, wide, f, items, item_area);
+        return find_item(t, area, utf16, f, items, item_area);
     }
     find_first(items, item_area, firsts, &name[0..n])
 }
@@ -162,7 +162,7 @@ fn find_known(
 pub fn known_run(
     t: &[u8],
     area: &[u8],
-    wide: bool,
+    utf16: bool,
     f: Found,
     items: &[u32],
     item_area: &[u8],
@@ -170,9 +170,9 @@ pub fn known_run(
 ) -> Run
     requires { ⌜ Inside (now t) (now area) f × (isFound f ≡ true) × (tableOf (now «item_area») (now items) ≡ Good)
         × (length (now t) ≤ fileLimit) × Firsts (now «item_area») (now items) (now firsts) ⌝ }
-    ensures { λ r. ⌜ RunOf (now («item_area» .entry)) (textIn (partOf wide (now (t .entry)) (now (area .entry)) f)) (now (items .entry)) r ⌝ }
+    ensures { λ r. ⌜ RunOf (now («item_area» .entry)) (textIn (partOf utf16 (now (t .entry)) (now (area .entry)) f)) (now (items .entry)) r ⌝ }
 {
-    let first = find_known(t, area, wide, f, items, item_area, firsts);
+    let first = find_known(t, area, utf16, f, items, item_area, firsts);
     run_of(items, item_area, first)
 }
 
@@ -194,12 +194,12 @@ fn string_told(
         (now (out .entry)) r (now (out .exit)) ⌝ }
 {
     let f = find(t, &names[0..0], area, h, StringIndex(v));
-    if found_ascii(t, area, h.wide, f) {
-        let n = found_ascii_into(t, area, h.wide, f, out);
+    if found_ascii(t, area, h.utf16, f) {
+        let n = found_ascii_into(t, area, h.utf16, f, out);
         return Told::Shown(n, uncovered, TextState::Whole);
     }
-    let n = found_into(t, area, h.wide, f, out);
-    let state = string_state(t, area, h.wide, f);
+    let n = found_into(t, area, h.utf16, f, out);
+    let state = string_state(t, area, h.utf16, f);
     Told::Shown(n, uncovered, state)
 }
 
@@ -278,7 +278,7 @@ pub fn value_into(
     a: Attribute,
 ) -> Told
     requires { ⌜ Asks (now t) (lends (now names) (now area)) h × (tableOf (now «item_area») (now items) ≡ Good) ⌝ }
-    ensures { λ r. ⌜ Tells (valueOf h (now (t .entry)) (lends (now (names .entry)) (now (area .entry))) (now (items .entry)) (now («item_area» .entry)) a)
+    ensures { λ r. ⌜ Tells (attributeValue h (now (t .entry)) (lends (now (names .entry)) (now (area .entry))) (now (items .entry)) (now («item_area» .entry)) a)
         (now (out .entry)) r (now (out .exit)) ⌝ }
 {
     if a.prefix == 2 {
@@ -288,7 +288,7 @@ pub fn value_into(
     if !is_found(f) {
         return Told::NoName;
     }
-    let first = find_item(t, area, h.wide, f, items, item_area);
+    let first = find_item(t, area, h.utf16, f, items, item_area);
     let run = run_of(items, item_area, first);
     named_into(
         t,
@@ -399,7 +399,7 @@ fn value_in(
 ) -> ValueAnswer
     requires { ⌜ Asks (now t) (lends (now names) (now area)) h × (tableOf (now «item_area») (now items) ≡ Good) ⌝ }
     ensures { λ r. ⌜ Gives (length (now (out .entry))) (a .kind)
-        (valueOf h (now (t .entry)) (lends (now (names .entry)) (now (area .entry))) (now (items .entry)) (now («item_area» .entry)) a)
+        (attributeValue h (now (t .entry)) (lends (now (names .entry)) (now (area .entry))) (now (items .entry)) (now («item_area» .entry)) a)
         r (now (out .exit)) ⌝ }
 {
     let told = value_into(t, names, area, h, items, item_area, out, a);

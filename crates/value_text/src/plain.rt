@@ -121,19 +121,19 @@ fn put_string(t: &[u8], names: &[u32], area: &[u8], h: Head, out: &mut [u8], v: 
     ensures { λ r. ⌜ Leads (textIn (stringOf h (now (t .entry)) v)) (now (out .entry)) r (now (out .exit)) ⌝ }
 {
     let f = find(t, &names[0..0], area, h, StringIndex(v));
-    found_into(t, area, h.wide, f, out)
+    found_into(t, area, h.utf16, f, out)
 }
 
 // What became of the string that was found; past the pool no text stood.
 // Ruled out: `Whole` for a string past the pool.
-pub fn string_state(t: &[u8], area: &[u8], wide: bool, f: Found) -> TextState
+pub fn string_state(t: &[u8], area: &[u8], utf16: bool, f: Found) -> TextState
     requires { ⌜ Inside (now t) (now area) f × (length (now t) ≤ fileLimit) ⌝ }
-    ensures { λ r. ⌜ r ≡ stringState (partOf wide (now (t .entry)) (now (area .entry)) f) ⌝ }
+    ensures { λ r. ⌜ r ≡ stringState (partOf utf16 (now (t .entry)) (now (area .entry)) f) ⌝ }
 {
     if !is_found(f) {
         return TextState::Cut;
     }
-    found_told(t, area, wide, f)
+    found_told(t, area, utf16, f)
 }
 
 // How a value of a type is written.

@@ -32,7 +32,7 @@ use Rattle.walk.specs.Settle.{Room, Tables, Out, going, refused, push, s
 use Rattle.walk.specs.Reading.{finalOf}
 use Rattle.walk.specs.Inner.Tree.{tablesOf}
 use Rattle.walk.specs.Inner.Run.{Running, onFrom, RanBy, Ran, RanIn}
-use Rattle.walk.specs.Inner.Outcome.{notedBy, Refuses, Noted, roomOf, outcome, Good, left, Advanced}
+use Rattle.walk.specs.Inner.Outcome.{notedBy, Refuses, Noted, roomOf, outcome, StateOk, stepsLeft, Advanced}
 use Rattle.walk.proofs.Settle.{settle-cons, settle-refused}
 use Rattle.walk.proofs.Clearing.{clears, false-true}
 
@@ -48,7 +48,7 @@ module _ (f : List ℕ) (lent : Lent) (st : State) where
   abbrev pub N : Names
   N = namesIn (st .mode) (st .opened .head) tables lent
 
-pub record ReadHead (f : List ℕ) (lent : Lent) (ns₀ ats₀ : List ℕ) (st : State) (g : Good f lent ns₀ ats₀ st) (ns ats : List ℕ) (c : Cursor) (tree : Tree)
+pub record ReadHead (f : List ℕ) (lent : Lent) (ns₀ ats₀ : List ℕ) (st : State) (g : StateOk f lent ns₀ ats₀ st) (ns ats : List ℕ) (c : Cursor) (tree : Tree)
     : Type 0 where
   pub now : Running (tables f lent st) lent (body f lent st) (st .opened) ns ats c tree
   pub ln : length ns ≡ length ns₀
@@ -56,14 +56,14 @@ pub record ReadHead (f : List ℕ) (lent : Lent) (ns₀ ats₀ : List ℕ) (st :
   pub low : steps (body f lent st) c ≤ steps (body f lent st) (st .cur)
   pub stored : st .notes .used ≤ st .room
   pub few : st .notes .used + steps (body f lent st) (st .cur) ≤ 400000000
-  pub much : left f lent st ≡ steps (body f lent st) (st .cur) + st .room + 1
+  pub much : stepsLeft f lent st ≡ steps (body f lent st) (st .cur) + st .room + 1
   pub same : (os : List NoteOf) → length os ≡ st .room
       → outcome f lent ns₀ ats₀ os st (g .stack)
       ≡ finalOf (roomOf ns₀ ats₀ st)
       (onFrom (roomOf ns₀ ats₀ st) (N f lent st) (st .opened) (tables f lent st) (body f lent st) ns ats c tree (now .stack)
       (take (st .notes .used) os) (st .notes .counts))
 
-pub read-first : (f : List ℕ) (lent : Lent) (ns ats : List ℕ) (st : State) (g : Good f lent ns ats st) → st .stage ≡ InBody
+pub read-first : (f : List ℕ) (lent : Lent) (ns ats : List ℕ) (st : State) (g : StateOk f lent ns ats st) → st .stage ≡ InBody
     → ReadHead f lent ns ats st g ns ats (st .cur) (st .tree)
 read-first f lent ns ats st g e =
     let r = g .onWay e in
@@ -80,7 +80,7 @@ read-first f lent ns ats st g e =
 
 -- ---- a turn: where `run` stopped
 
-module _ (f : List ℕ) (lent : Lent) (ns₀ ats₀ : List ℕ) (st : State) (g : Good f lent ns₀ ats₀ st) (ns ats : List ℕ) (c : Cursor) (tree : Tree)
+module _ (f : List ℕ) (lent : Lent) (ns₀ ats₀ : List ℕ) (st : State) (g : StateOk f lent ns₀ ats₀ st) (ns ats : List ℕ) (c : Cursor) (tree : Tree)
     (hd : ReadHead f lent ns₀ ats₀ st g ns ats c tree) (h : Halt) (ns′ ats′ : List ℕ) (ln : length ns′ ≡ length ns) (la : length ats′ ≡ length ats)
     (ran : RanIn (st .mode) f lent (st .opened) ns ats c tree h ns′ ats′) where
   abbrev R : Room

@@ -17,7 +17,7 @@ use Rattle.events.specs.declared.Event.the-variants.{Attribute}
 use Rattle.tables.specs.Inner.Keys.{Key}
 use Rattle.walk.specs.declared.tree.Tree.{Tree}
 use Rattle.walk.specs.declared.tree.Put.{Put}
-use Rattle.walk.specs.declared.tree.Put.the-variants.{Same, Full as NoPlace, Stored}
+use Rattle.walk.specs.declared.tree.Put.the-variants.{NotStored, Full as NoPlace, Stored}
 use Rattle.walk.specs.declared.placing.Placed.the-variants.{Done, Full}
 use Rattle.walk.specs.Inner.Tree.{keptTree, ownWords, newWords, Tied, Chained, PlacesBy, Keeps}
 use Rattle.walk.proofs.Trees.{take-put, linked-set}
@@ -75,11 +75,11 @@ module _ (rule : Rule) (key : Key) (ns ats : List ℕ) (t : Tree) (o : List ℕ)
       };
       linked = rw words (linked-set (take (nodeWidth * t .nodes) ns) (nodeWidth * (t .nodes - 1) + nodeCount) (t .attributes + 1 - t .first) (t .nodes - 1) o refl (h .linked));
       top = h .top;
-      second = h .second;
-      upto = λ q.
+      «above_root» = h .«above_root»;
+      «attributes_before_it» = λ q.
           rw words
-          (getD-set-other (take (nodeWidth * t .nodes) ns) (nodeWidth * (t .nodes - 1) + nodeCount) (nodeWidth * t .second + nodeFirst) (t .attributes + 1 - t .first) 0 (λ y. omega arith)
-          ∙ h .upto q);
+          (getD-set-other (take (nodeWidth * t .nodes) ns) (nodeWidth * (t .nodes - 1) + nodeCount) (nodeWidth * t .«above_root» + nodeFirst) (t .attributes + 1 - t .first) 0 (λ y. omega arith)
+          ∙ h .«attributes_before_it» q);
       below = omega (arith, h .below);
     };
     few = omega arith;
@@ -105,7 +105,7 @@ pub own-repeat : (same : ℕ → ℕ → Bool) (p : ℕ) (a : XmlAttributeElemen
 own-repeat same p a ats t f u r b ef eu e q = sym (rw (ef, eu) at (e (t .nodes - 1) (a .«data_type») (a .«data»))) ∙ q
 
 module _ (rule : Rule) (key : Key) (ns ats ns′ ats′ : List ℕ) (t : Tree) (o : List ℕ) (h : Tied ns ats t o) (l : Chained key ns ats t) (p : ℕ) (a : XmlAttributeElement) where
-  pub keep-same : {r : Put} → r ≡ Same → Keeps rule key r t p a ns ats ns′ ats′ → PlacesBy rule key (Done t) ns ats t o (Attribute p a) ns′ ats′
+  pub keep-same : {r : Put} → r ≡ NotStored → Keeps rule key r t p a ns ats ns′ ats′ → PlacesBy rule key (Done t) ns ats t o (Attribute p a) ns′ ats′
   keep-same e q₀ = let q = rw e at q₀ in rw (q .nodes, q .attributes) (go (eqb (t .nodes) 0) refl (q .there))
     where
       go : (b : Bool) → eqb (t .nodes) 0 ≡ b → ((t .nodes ≡ 0 → ⊥) → isRepeat rule (newWords t p a) (ownWords t ats) ≡ true)

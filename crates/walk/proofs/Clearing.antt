@@ -17,7 +17,7 @@ use Rattle.walk.specs.declared.Stage.{Stage}
 use Rattle.walk.specs.declared.Stage.the-variants.{Fresh, Reading as InBody, Clearing}
 use Rattle.walk.specs.declared.State.{State}
 use Rattle.walk.specs.Reading.{Reading, zeroNote}
-use Rattle.walk.specs.Inner.Outcome.{clearingAt, clearNext, cleared, outcome, Good, left, Advanced}
+use Rattle.walk.specs.Inner.Outcome.{clearingAt, clearNext, cleared, outcome, StateOk, stepsLeft, Advanced}
 
 pub true-false : true ≡ false → ⊥
 true-false e = let z : _≡_ {A = ℕ} 0 1 = cc in omega arith
@@ -59,17 +59,17 @@ clear-end os c room l h = let e : room - c ≡ 0 = omega arith in rw (e, take-al
 
 -- ---- a call
 
-module _ (f : List ℕ) (lent : Lent) (ns ats : List ℕ) (st : State) (g : Good f lent ns ats st) where
+module _ (f : List ℕ) (lent : Lent) (ns ats : List ℕ) (st : State) (g : StateOk f lent ns ats st) where
   abbrev gives : ReadAnswer → List ℕ → List ℕ → List NoteOf → Reading
   gives a ns′ ats′ os = record { answer = a; nodes = ns′; attributes = ats′; notes = os }
 
   -- the answer is a, and zeros come from the place c on
-  pub clears : (ns′ ats′ : List ℕ) (c : ℕ) (a : ReadAnswer) → (c < st .room → st .room - c < left f lent st)
+  pub clears : (ns′ ats′ : List ℕ) (c : ℕ) (a : ReadAnswer) → (c < st .room → st .room - c < stepsLeft f lent st)
       → ((os : List NoteOf) → length os ≡ st .room → outcome f lent ns ats os st (g .stack) ≡ gives a ns′ ats′ (cleared os c (st .room)))
       → Advanced f lent ns ats st g (clearingAt st c a) ns′ ats′
   clears ns′ ats′ c a less out = go (ltb c (st .room)) refl
     where
-      good : (d : Bool) → Good f lent ns′ ats′ (record {
+      good : (d : Bool) → StateOk f lent ns′ ats′ (record {
         done = d;
         slot = c;
         note = zeroNote;
@@ -120,7 +120,7 @@ module _ (f : List ℕ) (lent : Lent) (ns ats : List ℕ) (st : State) (g : Good
       here : (os : List NoteOf) → outcome f lent ns ats os st (g .stack) ≡ gives a ns ats (cleared os (st .slot + 1) (st .room))
       here os = rw t
 
-      much : left f lent st ≡ st .room - st .slot
+      much : stepsLeft f lent st ≡ st .room - st .slot
       much = rw t
 
       go : (b : Bool) → ltb (st .slot) (st .room) ≡ b

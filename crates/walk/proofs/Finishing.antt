@@ -22,7 +22,7 @@ use Rattle.walk.specs.Settle.{Room, Tables, going}
 use Rattle.walk.specs.Reading.{Reading, zeroNote, finalOf, nodesKept, attributesKept, secondOf}
 use Rattle.walk.specs.Inner.Tree.{Tied, tablesOf, keptNodes, keptAttributes}
 use Rattle.walk.specs.Inner.Run.{RanBy, RanIn}
-use Rattle.walk.specs.Inner.Outcome.{doneAnswer, Keepable, Finishes, roomOf, cleared, outcome, Good, Advanced}
+use Rattle.walk.specs.Inner.Outcome.{doneAnswer, Keepable, Finishes, roomOf, cleared, outcome, StateOk, Advanced}
 use Rattle.walk.proofs.Trees.{second-in}
 use Rattle.walk.proofs.Clearing.{clears}
 use Rattle.walk.proofs.Advancing.{tables, body, ReadHead}
@@ -30,25 +30,25 @@ use Rattle.walk.proofs.Advancing.{tables, body, ReadHead}
 -- ---- what is kept is there
 
 pub kept-nodes-le : (ns ats : List ℕ) (t : Tree) (o : List ℕ) → Tied ns ats t o → keptNodes t ≤ t .nodes
-kept-nodes-le ns ats t o h = go (eqb (t .second) 0) refl
+kept-nodes-le ns ats t o h = go (eqb (t .«above_root») 0) refl
   where
     lw : length (take (nodeWidth * t .nodes) ns) ≡ nodeWidth * t .nodes
     lw = length-take-le (nodeWidth * t .nodes) ns (h .sized .nodes)
 
-    go : (b : Bool) → eqb (t .second) 0 ≡ b → cond b (t .nodes) (t .second) ≤ t .nodes
+    go : (b : Bool) → eqb (t .«above_root») 0 ≡ b → cond b (t .nodes) (t .«above_root») ≤ t .nodes
     go true e = omega arith
     go false e =
-        let n : (secondOf o ≡ 0 → ⊥) = λ z. eqb-false _ _ e (sym (h .second) ∙ z) in
-        omega (arith, second-in (take (nodeWidth * t .nodes) ns) o (h .linked) n, h .second, lw)
+        let n : (secondOf o ≡ 0 → ⊥) = λ z. eqb-false _ _ e (sym (h .«above_root») ∙ z) in
+        omega (arith, second-in (take (nodeWidth * t .nodes) ns) o (h .linked) n, h .«above_root», lw)
 
 pub kept-attributes-le : (ns ats : List ℕ) (t : Tree) (o : List ℕ) → Tied ns ats t o → keptAttributes t ≤ t .attributes
-kept-attributes-le ns ats t o h = go (eqb (t .second) 0)
+kept-attributes-le ns ats t o h = go (eqb (t .«above_root») 0)
   where
-    go : (b : Bool) → cond b (t .attributes) (t .upto) ≤ t .attributes
+    go : (b : Bool) → cond b (t .attributes) (t .«attributes_before_it») ≤ t .attributes
     go true = omega arith
     go false = h .below
 
-module _ (f : List ℕ) (lent : Lent) (ns₀ ats₀ : List ℕ) (st : State) (g : Good f lent ns₀ ats₀ st) (ns ats : List ℕ) (c : Cursor) (tree : Tree)
+module _ (f : List ℕ) (lent : Lent) (ns₀ ats₀ : List ℕ) (st : State) (g : StateOk f lent ns₀ ats₀ st) (ns ats : List ℕ) (c : Cursor) (tree : Tree)
     (hd : ReadHead f lent ns₀ ats₀ st g ns ats c tree) (h : Halt) (ns′ ats′ : List ℕ) (ln : length ns′ ≡ length ns) (la : length ats′ ≡ length ats)
     (ran : RanIn (st .mode) f lent (st .opened) ns ats c tree h ns′ ats′) (e : h .stop ≡ Finished) where
   abbrev R : Room
@@ -90,18 +90,19 @@ module _ (f : List ℕ) (lent : Lent) (ns₀ ats₀ : List ℕ) (st : State) (g 
   lv = length-take-le (attributeWidth * h .tree .attributes) ats′ (fin .tied .sized .attributes)
 
   nodes-kept : (os : List NoteOf) → nodesKept (F os) ≡ keptNodes (h .tree)
-  nodes-kept os = let d : nodeWidth * h .tree .nodes / nodeWidth ≡ h .tree .nodes = omega arith in rw (lw, d, fin .tied .second)
+  nodes-kept os = let d : nodeWidth * h .tree .nodes / nodeWidth ≡ h .tree .nodes = omega arith in rw (lw, d, fin .tied .«above_root»)
 
   attributes-kept : (os : List NoteOf) → attributesKept (F os) ≡ keptAttributes (h .tree)
-  attributes-kept os = rw (lv, d, fin .tied .second) (go (eqb (h .tree .second) 0) refl)
+  attributes-kept os = rw (lv, d, fin .tied .«above_root») (go (eqb (h .tree .«above_root») 0) refl)
     where
       d : attributeWidth * h .tree .attributes / attributeWidth ≡ h .tree .attributes
       d = omega arith
 
-      go : (b : Bool) → eqb (h .tree .second) 0 ≡ b
-          → cond b (h .tree .attributes) (getD (take (nodeWidth * h .tree .nodes) ns′) (nodeWidth * h .tree .second + nodeFirst) 0) ≡ cond b (h .tree .attributes) (h .tree .upto)
+      go : (b : Bool) → eqb (h .tree .«above_root») 0 ≡ b
+          → cond b (h .tree .attributes) (getD (take (nodeWidth * h .tree .nodes) ns′) (nodeWidth * h .tree .«above_root» + nodeFirst) 0) ≡ cond b
+          (h .tree .attributes) (h .tree .«attributes_before_it»)
       go true q = refl
-      go false q = fin .tied .upto (eqb-false _ _ q)
+      go false q = fin .tied .«attributes_before_it» (eqb-false _ _ q)
 
   unfoldable shape : List NoteOf → ℕ → ℕ → ℕ → ℕ → Reading
   shape os n k a m = record {

@@ -3,11 +3,11 @@ pub mod Tests
 pub mod Settle
 pub mod Trees
 pub mod Attributes
-pub mod Asking
+pub mod EventCases
 pub mod Running
 pub mod Chains
 pub mod Clearing
 pub mod Advancing
-pub mod Quiet
+pub mod PastCap
 pub mod Finishing
 pub mod Opening

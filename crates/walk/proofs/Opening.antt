@@ -28,12 +28,12 @@ use Rattle.walk.specs.declared.Stage.the-variants.{Fresh, Reading as InB
 use Rattle.walk.specs.declared.State.{State}
 use Rattle.walk.specs.Settle.{Room}
 use Rattle.walk.specs.Reading.{Reading, settledIn, readingBy, reading, roomIn, Reads}
-use Rattle.walk.specs.Inner.Outcome.{first, startedBy, Refuses, roomOf, outcome, Good, left, Advanced, Leaves}
+use Rattle.walk.specs.Inner.Outcome.{first, startedBy, Refuses, roomOf, outcome, StateOk, stepsLeft, Advanced, Leaves}
 use Rattle.walk.proofs.Clearing.{fresh-not, clears}
 
 -- ---- the first state
 
-abbrev pub first-good : (f : List ℕ) (lent : Lent) (ns ats : List ℕ) (room cap mode : ℕ) → Good f lent ns ats (first room cap mode)
+abbrev pub first-good : (f : List ℕ) (lent : Lent) (ns ats : List ℕ) (room cap mode : ℕ) → StateOk f lent ns ats (first room cap mode)
 first-good f lent ns ats room cap mode = record { stack = []; onWay = λ e. absurd (fresh-not e) }
 
 pub first-same : (f : List ℕ) (lent : Lent) (ns ats : List ℕ) (os : List NoteOf) (cap mode : ℕ)
@@ -57,11 +57,11 @@ reading-by : (r : Room) (f : List ℕ) (lent : Lent) (c : Check) → firstOf (en
 unfolding reading
 reading-by r f lent c e = ap (readingBy r (settledIn r f lent (openedOf f))) e
 
-module _ (f : List ℕ) (lent : Lent) (ns ats : List ℕ) (st : State) (g : Good f lent ns ats st) (fresh : st .stage ≡ Fresh) where
+module _ (f : List ℕ) (lent : Lent) (ns ats : List ℕ) (st : State) (g : StateOk f lent ns ats st) (fresh : st .stage ≡ Fresh) where
   abbrev R : Room
   R = roomOf ns ats st
 
-  much : left f lent st ≡ 20 * length f + 15 + st .room + 1
+  much : stepsLeft f lent st ≡ 20 * length f + 15 + st .room + 1
   much = rw fresh
 
   refuses-first : (x : Refusal) → firstOf (entryChecks f lent (readingAt (st .cap) (st .mode))) ≡ fails x → (r : State) (ns′ ats′ : List ℕ)
@@ -94,7 +94,7 @@ module _ (f : List ℕ) (lent : Lent) (ns ats : List ℕ) (st : State) (g : Good
     body-le : length B ≤ length f
     body-le = rw length-drop (omega arith)
 
-    abbrev started-good : Good f lent ns ats started
+    abbrev started-good : StateOk f lent ns ats started
     started-good = record {
       stack = [];
       onWay = λ _. record {
@@ -104,8 +104,8 @@ module _ (f : List ℕ) (lent : Lent) (ns ats : List ℕ) (st : State) (g : Good
           sized = record { nodes = omega arith; attributes = omega arith; first = omega arith; inside = λ n. absurd (n refl) };
           linked = refl;
           top = refl;
-          second = refl;
-          upto = λ n. absurd (n refl);
+          «above_root» = refl;
+          «attributes_before_it» = λ n. absurd (n refl);
           below = omega arith;
         };
         chained = λ _. hung-none (keysOf (keyBy (openedOf f .head) (tablesIn f (openedOf f .head)) lent) (drop (attributeWidth * 0 + frontWords) ats)) (drop (nodeWidth * 0) ns) 0 refl;
@@ -119,14 +119,14 @@ module _ (f : List ℕ) (lent : Lent) (ns ats : List ℕ) (st : State) (g : Good
     as-started s e = e ∙ ap (startedBy st) (entered-in f lent (readingAt (st .cap) (st .mode)) entered .1)
 
     -- what `read_on` asks
-    pub started-asks : (s : State) → s ≡ startedBy st o → Good f lent ns ats s × (s .stage ≡ InBody)
+    pub started-asks : (s : State) → s ≡ startedBy st o → StateOk f lent ns ats s × (s .stage ≡ InBody)
     started-asks s e = rw (as-started s e) (started-good, refl)
 
     started-same : (os : List NoteOf) → outcome f lent ns ats os st (g .stack) ≡ outcome f lent ns ats os started []
     started-same os = rw (fresh, reading-by R f lent passes passes-in, pending-first)
 
     pub advanced-started : (s : State) → s ≡ startedBy st o → (r : State) (ns′ ats′ : List ℕ)
-        → ((x : Good f lent ns ats s) → Advanced f lent ns ats s x r ns′ ats′) → Advanced f lent ns ats st g r ns′ ats′
+        → ((x : StateOk f lent ns ats s) → Advanced f lent ns ats s x r ns′ ats′) → Advanced f lent ns ats st g r ns′ ats′
     advanced-started s e r ns′ ats′ a₀ =
         let a = (rw (as-started s e) at a₀) started-good in
         record {

@@ -16,7 +16,7 @@ use Rattle.events.specs.declared.Event.{Event}
 use Rattle.events.specs.declared.Event.the-variants.{Note}
 use Rattle.events.specs.Events.{Names, namesIn}
 use Rattle.events.specs.Inner.Steps.{stepOf}
-use Rattle.events.specs.Inner.Pending.{pending, steps, the, Stepped}
+use Rattle.events.specs.Inner.Pending.{pending, steps, eventList, Stepped}
 use Rattle.events.proofs.Steps.{stepped}
 use Rattle.tables.specs.Inner.Keys.{keyBy}
 use Rattle.walk.specs.declared.tree.Tree.{Tree}
@@ -27,7 +27,7 @@ use Rattle.walk.specs.Settle.{Room, Out, going, push, settle}
 use Rattle.walk.specs.Inner.Tree.{Fit, tablesOf, PlacesBy, Places, NotEnd}
 use Rattle.walk.specs.Inner.Run.{Running, onFrom, RanBy}
 use Rattle.walk.proofs.Settle.{settle-the, settle-refused, settle-nil}
-use Rattle.walk.proofs.Asking.{not-other}
+use Rattle.walk.proofs.EventCases.{not-other}
 
 -- ---- the loop's head
 
@@ -101,7 +101,7 @@ module _ (mode : ℕ) (t : List ℕ) (lent : Lent) (b : List ℕ) (o : Opened) w
     run-due x e =
         let q = rw e at put in
         let less : steps b (s .cur) < steps b c = st .less (not-other (s .event) (Note x) (q .event) tt) in
-        let first-is : pending N o t b c ≡ Note x ∷ pending N o t b (s .cur) = st .same ∙ ap (λ (y : Event). the y ++ pending N o t b (s .cur)) (q .event) in
+        let first-is : pending N o t b c ≡ Note x ∷ pending N o t b (s .cur) = st .same ∙ ap (λ (y : Event). eventList y ++ pending N o t b (s .cur)) (q .event) in
         rw (q .nodes, q .attributes)
         (record {
           now = record { stack = h .now .stack; ready = h .now .ready; within = st .within; tied = h .now .tied; chained = h .now .chained; budget = omega (arith, h .now .budget) };

@@ -8,11 +8,11 @@ use Rattle.errors.specs.declared.Refusal.{Refusal}
 use Rattle.records.specs.Repeats.{Rule}
 use Rattle.events.specs.declared.Event.{Event}
 use Rattle.events.specs.declared.Event.the-variants.{Nothing, Open, Attribute, LeftOut, Close, Note, Refuse, Finish}
-use Rattle.events.specs.Inner.Pending.{the}
+use Rattle.events.specs.Inner.Pending.{eventList}
 use Rattle.walk.specs.Settle.{Room, Tables, Out, going, refused, push, settle}
 
 module _ (rule : Rule) (r : Room) where
-  pub settle-the : (t : Tables) (e : Event) (es : List Event) → settle rule r (going t) (the e ++ es) ≡ settle rule r (push rule r (going t) e) es
+  pub settle-the : (t : Tables) (e : Event) (es : List Event) → settle rule r (going t) (eventList e ++ es) ≡ settle rule r (push rule r (going t) e) es
   unfolding settle
   settle-the t Nothing es = refl
   settle-the t Finish es = refl

@@ -96,8 +96,8 @@ module _ (rule : Rule) (key : Key) (ns ats ns′ : List ℕ) (t : Tree) (name : 
       )
 
   module _ (o : List ℕ) (h : Tied ns ats t o) (u : Tree) (un : u .nodes ≡ t .nodes + 1) (ua : u .attributes ≡ t .attributes)
-      (uf : u .first ≡ t .attributes) (ui : u .inner ≡ t .nodes) (us : secondOf (t .nodes ∷ o) ≡ u .second)
-      (uu : (u .second ≡ 0 → ⊥) → getD (w ++ opening) (nodeWidth * u .second + nodeFirst) 0 ≡ u .upto) (ub : u .upto ≤ t .attributes) where
+      (uf : u .first ≡ t .attributes) (ui : u .inner ≡ t .nodes) (us : secondOf (t .nodes ∷ o) ≡ u .«above_root»)
+      (uu : (u .«above_root» ≡ 0 → ⊥) → getD (w ++ opening) (nodeWidth * u .«above_root» + nodeFirst) 0 ≡ u .«attributes_before_it») (ub : u .«attributes_before_it» ≤ t .attributes) where
     pushed : (r : Room) (os : List NoteOf) (cs : List ℕ) → r .nodes ≡ length ns → r .attributes ≡ length ats
         → push rule r (going (tablesOf ns ats t o os cs)) (Open name fixed line) ≡ going (tablesOf ns′ ats u (t .nodes ∷ o) os cs)
     pushed r os cs rn ra =
@@ -117,8 +117,8 @@ module _ (rule : Rule) (key : Key) (ns ats ns′ : List ℕ) (t : Tree) (name : 
       };
       linked = rw (un, words) (linked o h);
       top = sym ui;
-      second = us;
-      upto = rw (un, words) uu;
+      «above_root» = us;
+      «attributes_before_it» = rw (un, words) uu;
       below = rw ua ub;
     }
 
@@ -132,24 +132,24 @@ module _ (rule : Rule) (key : Key) (ns ats ns′ : List ℕ) (t : Tree) (name : 
   node-opens [] h =
       let z : t .nodes ≡ 0 = omega (arith, h .linked, lw) in
       rw (eq-eqb (t .nodes) 0 z)
-      (done [] h (record { nodes = 1; attributes = t .attributes; first = t .attributes; inner = 0; second = 0; upto = 0 }) (omega arith) refl refl (sym z)
+      (done [] h (record { nodes = 1; attributes = t .attributes; first = t .attributes; inner = 0; «above_root» = 0; «attributes_before_it» = 0 }) (omega arith) refl refl (sym z)
       refl (λ n. absurd (n refl)) (omega arith))
   node-opens (k ∷ []) h =
       let q = linked-some w k [] (h .linked) in
       let e : t .inner ≡ 0 = sym (h .top) ∙ h .linked .0 in
       rw (ne-eqb (t .nodes) 0 (λ z. omega (arith, lw)), eq-eqb (t .inner) 0 e)
       (done (k ∷ []) h
-      (record { nodes = t .nodes + 1; attributes = t .attributes; first = t .attributes; inner = t .nodes; second = t .nodes; upto = t .attributes })
+      (record { nodes = t .nodes + 1; attributes = t .attributes; first = t .attributes; inner = t .nodes; «above_root» = t .nodes; «attributes_before_it» = t .attributes })
       refl refl refl refl refl (λ _. getD-behind w opening (nodeWidth * t .nodes) nodeFirst lw) (omega arith))
   node-opens (k ∷ j ∷ r) h =
       let q = linked-some w k (j ∷ r) (h .linked) in
       let e : (t .inner ≡ 0 → ⊥) = λ z. omega (arith, h .top, h .linked .0) in
-      let b : (t .second ≡ 0 → ⊥) → nodeWidth * t .second + nodeWidth ≤ length w =
-      λ n. rw (h .second) at (second-in w (k ∷ j ∷ r) (h .linked) (rw (h .second) n)) in
+      let b : (t .«above_root» ≡ 0 → ⊥) → nodeWidth * t .«above_root» + nodeWidth ≤ length w =
+      λ n. rw (h .«above_root») at (second-in w (k ∷ j ∷ r) (h .linked) (rw (h .«above_root») n)) in
       rw (ne-eqb (t .nodes) 0 (λ z. omega (arith, lw)), ne-eqb (t .inner) 0 e)
       (done (k ∷ j ∷ r) h
-      (record { nodes = t .nodes + 1; attributes = t .attributes; first = t .attributes; inner = t .nodes; second = t .second; upto = t .upto })
-      refl refl refl refl (h .second) (λ n. List·getD-append w opening 0 (nodeWidth * t .second + nodeFirst) (omega (arith, b n)) ∙ h .upto n) (h .below))
+      (record { nodes = t .nodes + 1; attributes = t .attributes; first = t .attributes; inner = t .nodes; «above_root» = t .«above_root»; «attributes_before_it» = t .«attributes_before_it» })
+      refl refl refl refl (h .«above_root») (λ n. List·getD-append w opening 0 (nodeWidth * t .«above_root» + nodeFirst) (omega (arith, b n)) ∙ h .«attributes_before_it» n) (h .below))
 
 -- no place for it
 pub node-full : (rule : Rule) (key : Key) (ns ats ns′ : List ℕ) (t : Tree) (name : StringIndex) (fixed line : ℕ) (o : List ℕ) → Tied ns ats t o
@@ -187,8 +187,8 @@ module _ (rule : Rule) (key : Key) (ns ats : List ℕ) (t : Tree) where
           sized = record { nodes = h .sized .nodes; attributes = h .sized .attributes; first = h .sized .first; inside = λ n. absurd (n refl) };
           linked = h .linked .3;
           top = h .linked .3 .0;
-          second = refl;
-          upto = λ n. absurd (n refl);
+          «above_root» = refl;
+          «attributes_before_it» = λ n. absurd (n refl);
           below = omega arith;
         };
         few = omega arith;
@@ -207,8 +207,8 @@ module _ (rule : Rule) (key : Key) (ns ats : List ℕ) (t : Tree) where
           sized = record { nodes = h .sized .nodes; attributes = h .sized .attributes; first = h .sized .first; inside = λ n. in-tree };
           linked = h .linked .3;
           top = refl;
-          second = h .second;
-          upto = h .upto;
+          «above_root» = h .«above_root»;
+          «attributes_before_it» = h .«attributes_before_it»;
           below = h .below;
         };
         few = omega arith;

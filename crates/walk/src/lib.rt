@@ -12,7 +12,7 @@ pub mod tree;
 ghost use mathlib.Core.Path.{_≡_};
 ghost use Rattle.system_types.specs.Names.{lends};
 ghost use Rattle.walk.specs.declared.Stage.the-variants.{Fresh, Reading as InBody};
-ghost use Rattle.walk.specs.Inner.Outcome.{noTree, first, startedBy, Good, Adv, Answers};
+ghost use Rattle.walk.specs.Inner.Outcome.{noTree, first, startedBy, StateOk, AdvanceKeeps, Answers};
 use anomaly::Note;
 use anomaly::Notes;
 use anomaly::kind_index;
@@ -72,8 +72,8 @@ fn no_tree() -> Tree
         attributes: 0,
         first: 0,
         inner: 0,
-        second: 0,
-        upto: 0,
+        above_root: 0,
+        attributes_before_it: 0,
     }
 }
 
@@ -94,7 +94,7 @@ pub fn begin(room: usize, cap: u32, mode: u32) -> State
         declared: 0,
         end: HeadEnd::Whole,
         head: Head {
-            wide: false,
+            utf16: false,
             count: 0,
             offsets: 0,
             strings: 0,
@@ -158,8 +158,8 @@ fn read_on(
     attributes: &mut [u32],
     st: State,
 ) -> State
-    requires { ⌜ Good (now file) (lends (now names) (now area)) (now nodes) (now attributes) st × (st .stage ≡ InBody) ⌝ }
-    ensures { λ r. ⌜ Adv (now (file .entry)) (lends (now (names .entry)) (now (area .entry))) (now (nodes .entry)) (now (attributes .entry)) st r
+    requires { ⌜ StateOk (now file) (lends (now names) (now area)) (now nodes) (now attributes) st × (st .stage ≡ InBody) ⌝ }
+    ensures { λ r. ⌜ AdvanceKeeps (now (file .entry)) (lends (now (names .entry)) (now (area .entry))) (now (nodes .entry)) (now (attributes .entry)) st r
         (now (nodes .exit)) (now (attributes .exit)) ⌝ }
 {
     let opened = st.opened;
@@ -211,8 +211,8 @@ fn start(
     attributes: &mut [u32],
     st: State,
 ) -> State
-    requires { ⌜ Good (now file) (lends (now names) (now area)) (now nodes) (now attributes) st × (st .stage ≡ Fresh) ⌝ }
-    ensures { λ r. ⌜ Adv (now (file .entry)) (lends (now (names .entry)) (now (area .entry))) (now (nodes .entry)) (now (attributes .entry)) st r
+    requires { ⌜ StateOk (now file) (lends (now names) (now area)) (now nodes) (now attributes) st × (st .stage ≡ Fresh) ⌝ }
+    ensures { λ r. ⌜ AdvanceKeeps (now (file .entry)) (lends (now (names .entry)) (now (area .entry))) (now (nodes .entry)) (now (attributes .entry)) st r
         (now (nodes .exit)) (now (attributes .exit)) ⌝ }
 {
     let entered = enter(file, names, area, Asker::Reading(st.cap, st.mode));
@@ -245,8 +245,8 @@ pub fn advance(
     attributes: &mut [u32],
     st: State,
 ) -> State
-    requires { ⌜ Good (now file) (lends (now names) (now area)) (now nodes) (now attributes) st ⌝ }
-    ensures { λ r. ⌜ Adv (now (file .entry)) (lends (now (names .entry)) (now (area .entry))) (now (nodes .entry)) (now (attributes .entry)) st r
+    requires { ⌜ StateOk (now file) (lends (now names) (now area)) (now nodes) (now attributes) st ⌝ }
+    ensures { λ r. ⌜ AdvanceKeeps (now (file .entry)) (lends (now (names .entry)) (now (area .entry))) (now (nodes .entry)) (now (attributes .entry)) st r
         (now (nodes .exit)) (now (attributes .exit)) ⌝ }
 {
     let stage = st.stage;

@@ -114,7 +114,7 @@ fn keep_place(
         numbers,
     );
     match p {
-        Put::Same => Placed::Done(tree),
+        Put::NotStored => Placed::Done(tree),
         Put::Full => Placed::Full(Refusal::AttributesFull(attributes.len() / ATTRIBUTE_WORDS)),
         Put::Stored(u) => Placed::Done(u),
     }

@@ -46,14 +46,14 @@ pub struct Tree {
     pub attributes: u32,
     pub first: u32,
     pub inner: u32,
-    pub second: u32,
-    pub upto: u32,
+    pub above_root: u32,
+    pub attributes_before_it: u32,
 }
 
 // What became of an attribute.
 pub enum Put {
     // it repeats one of its element, or there is no element
-    Same,
+    NotStored,
     // no place
     Full,
     Stored(Tree),
@@ -71,8 +71,8 @@ impl Tree {
                 attributes: self.attributes,
                 first: self.attributes,
                 inner: 0,
-                second: 0,
-                upto: 0,
+                above_root: 0,
+                attributes_before_it: 0,
             };
         }
         let open = self.inner;
@@ -82,8 +82,8 @@ impl Tree {
                 attributes: self.attributes,
                 first: self.attributes,
                 inner: n,
-                second: n,
-                upto: self.attributes,
+                above_root: n,
+                attributes_before_it: self.attributes,
             };
         }
         Tree {
@@ -91,8 +91,8 @@ impl Tree {
             attributes: self.attributes,
             first: self.attributes,
             inner: n,
-            second: self.second,
-            upto: self.upto,
+            above_root: self.above_root,
+            attributes_before_it: self.attributes_before_it,
         }
     }
 
@@ -105,8 +105,8 @@ impl Tree {
                 attributes: self.attributes,
                 first: self.first,
                 inner: 0,
-                second: 0,
-                upto: 0,
+                above_root: 0,
+                attributes_before_it: 0,
             };
         }
         Tree {
@@ -114,8 +114,8 @@ impl Tree {
             attributes: self.attributes,
             first: self.first,
             inner: parent,
-            second: self.second,
-            upto: self.upto,
+            above_root: self.above_root,
+            attributes_before_it: self.attributes_before_it,
         }
     }
 
@@ -128,8 +128,8 @@ impl Tree {
             attributes: self.attributes + 1,
             first: self.first,
             inner: self.inner,
-            second: self.second,
-            upto: self.upto,
+            above_root: self.above_root,
+            attributes_before_it: self.attributes_before_it,
         }
     }
 }
@@ -253,7 +253,7 @@ fn keep_far(
         numbers,
     );
     if e.found {
-        return Put::Same;
+        return Put::NotStored;
     }
     if attributes.len() - used < ATTRIBUTE_WORDS {
         return Put::Full;
@@ -292,7 +292,7 @@ pub fn keep(
 {
     let n = tree.nodes;
     if n == 0 {
-        return Put::Same;
+        return Put::NotStored;
     }
     let from = attribute_place(tree.first);
     let used = attribute_place(tree.attributes);
@@ -311,7 +311,7 @@ pub fn keep(
         ns,
         numbers,
     ) {
-        return Put::Same;
+        return Put::NotStored;
     }
     if far {
         return keep_far(
@@ -338,18 +338,18 @@ pub fn keep(
 pub fn kept_nodes(tree: Tree) -> u32
     ensures { λ r. ⌜ r ≡ keptNodes tree ⌝ }
 {
-    if tree.second == 0 {
+    if tree.above_root == 0 {
         return tree.nodes;
     }
-    tree.second
+    tree.above_root
 }
 
 // How many attributes are kept: those of the kept nodes. Ruled out: an attribute of a dropped node counted, and one of a kept node not.
 pub fn kept_attributes(tree: Tree) -> u32
     ensures { λ r. ⌜ r ≡ keptAttributes tree ⌝ }
 {
-    if tree.second == 0 {
+    if tree.above_root == 0 {
         return tree.attributes;
     }
-    tree.upto
+    tree.attributes_before_it
 }

@@ -7,7 +7,7 @@ use lib.ListN.{getD}
 use Rattle.utf.specs.Text.{stepsAfter, stepsOf}
 use Rattle.utf.proofs.Tables.{below-at}
 use Rattle.utf.proofs.Leads.{step8-ascii}
-use Rattle.xml.specs.NCName.{inRanges, isStart, isChar, allChar, nameOf, validName}
+use Rattle.xml.specs.NCName.{inRanges, isStart, isChar, allChar, isNCName, validName}
 use Rattle.xml.specs.Inner.Rust.{rustStart, rustChar, rustRest, rustName}
 
 beq-true : (x y : Bool) → Bool·beq x y ≡ true → x ≡ y
@@ -36,6 +36,6 @@ allChar-ascii [] a = refl
 allChar-ascii (b ∷ s) a = rw (step8-ascii b s (a 0), isChar-ascii b (a 0), allChar-ascii s (λ i. a (suc i)))
 
 pub validName-ascii : (s : List ℕ) → ((i : ℕ) → getD s i 0 < 128) → validName false s ≡ rustName s
-unfolding validName nameOf stepsAfter rustName
+unfolding validName isNCName stepsAfter rustName
 validName-ascii [] a = refl
 validName-ascii (b ∷ s) a = rw (step8-ascii b s (a 0), isStart-ascii b (a 0), allChar-ascii s (λ i. a (suc i)))

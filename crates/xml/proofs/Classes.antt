@@ -8,8 +8,8 @@ use borrow.Author.Tests.{eqb-true}
 use lib.Dec.{eqb}
 use lib.ListN.{getD}
 use Rattle.utf.proofs.Tables.{below-at}
-use Rattle.xml.specs.NCName.{inRanges, isStart, isChar, sortOf, classOf}
-use Rattle.xml.specs.Inner.Told.{IsTable}
+use Rattle.xml.specs.NCName.{inRanges, isStart, isChar, charSort, classOf}
+use Rattle.xml.specs.Inner.NameRun.{IsTable}
 
 abbrev pub classes : List ℕ
 classes =
@@ -35,5 +35,5 @@ unfolding classOf
 right b = eqb (getD classes b 0) (classOf b)
 
 pub classes-right : IsTable classes
-unfolding right classOf sortOf isStart isChar inRanges
+unfolding right classOf charSort isStart isChar inRanges
 classes-right = record { size = refl; right = λ b h. eqb-true (getD classes b 0) (classOf b) (below-at right 256 b refl h) }

@@ -7,21 +7,21 @@ use native.Mathlib.Omega.{arith}
 use borrow.Author.Tests.{eq-eqb, ne-eqb, eqb-true}
 use lib.Dec.{eqb}
 use lib.ListN.{length, getD, drop}
-use Rattle.utf.specs.Text.{stepOf, valueOf, widthOf, soundOf, stepsOf, allSound, isSound}
-use Rattle.utf.specs.Inner.Told.{Took}
+use Rattle.utf.specs.Text.{stepOf, stepValue, widthOf, soundOf, stepsOf, allSound, isSound}
+use Rattle.utf.specs.Inner.StepRuns.{Took}
 use Rattle.utf.proofs.Steps.{stepOf-is, stepsOf-next, stepsOf-end}
 use Rattle.utf.proofs.Turns.{took-ascii, turn-sound, end-sound, stops, goes}
 use Rattle.utf.proofs.Units.{took-unit}
-use Rattle.xml.specs.NCName.{isStart, isChar, sortOf, classOf, allChar, nameOf, validName}
-use Rattle.xml.specs.Inner.Told.{sortBy, sortAt, begins, charsIn, Told, Passed, Sound, Reached}
-use Rattle.xml.proofs.Ranges.{sortOf-start, sortOf-char, classOf-ascii, ascii-of-class}
+use Rattle.xml.specs.NCName.{isStart, isChar, charSort, classOf, allChar, isNCName, validName}
+use Rattle.xml.specs.Inner.NameRun.{sortBy, sortAt, begins, charsIn, Told, Passed, Sound, Reached}
+use Rattle.xml.proofs.Ranges.{charSort-start, charSort-char, classOf-ascii, ascii-of-class}
 
 -- ---- what is told of a step
 
-pub told : (wide : Bool) (s : List ℕ) (at value width sort : ℕ) (sound : Bool) → Took wide s at value width sound → sort ≡ sortBy wide sound value
-    → Told wide s at sort width
-told wide s at value width sort sound t e = record {
-  sort-is = e ∙ ap (λ (v : ℕ). sortBy wide sound v) (t .value-is) ∙ ap (λ (b : Bool). sortBy wide b (valueOf (stepOf wide (drop at s)))) (t .sound-is);
+pub told : (utf16 : Bool) (s : List ℕ) (at value width sort : ℕ) (sound : Bool) → Took utf16 s at value width sound → sort ≡ sortBy utf16 sound value
+    → Told utf16 s at sort width
+told utf16 s at value width sort sound t e = record {
+  sort-is = e ∙ ap (λ (v : ℕ). sortBy utf16 sound v) (t .value-is) ∙ ap (λ (b : Bool). sortBy utf16 b (stepValue (stepOf utf16 (drop at s)))) (t .sound-is);
   width-is = t .width-is;
   least = t .least;
   most = t .most;
@@ -49,29 +49,29 @@ turn-by true true false true d k f z e = ap (λ (b : Bool). b && false) (sym e)
 turn-by true true false false d k f z e = ap (λ (b : Bool). b && false) (sym e)
 turn-by true false y c d k f z e = ap (λ (b : Bool). b && cond (not y) false d) (sym z)
 
-module _ (wide : Bool) (s : List ℕ) (at sort width : ℕ) (h : at < length s) (t : Told wide s at sort width) where
-  pub turn-char : charsIn wide (drop at s) ≡ (not (eqb sort 0) && charsIn wide (drop (at + width) s))
+module _ (utf16 : Bool) (s : List ℕ) (at sort width : ℕ) (h : at < length s) (t : Told utf16 s at sort width) where
+  pub turn-char : charsIn utf16 (drop at s) ≡ (not (eqb sort 0) && charsIn utf16 (drop (at + width) s))
   unfolding allChar allSound
   turn-char =
-      let here = stepOf wide (drop at s) in
-      let rest = stepsOf wide (drop (at + width) s) in
-      rw (stepsOf-next wide s at width h (t .width-is) (t .least), t .sort-is)
-      (turn-by wide (soundOf here) (allSound rest) (isChar (valueOf here)) (allChar rest) (sortOf (valueOf here)) (λ k. not (eqb k 0)) refl
-      (sortOf-char (valueOf here)))
+      let here = stepOf utf16 (drop at s) in
+      let rest = stepsOf utf16 (drop (at + width) s) in
+      rw (stepsOf-next utf16 s at width h (t .width-is) (t .least), t .sort-is)
+      (turn-by utf16 (soundOf here) (allSound rest) (isChar (stepValue here)) (allChar rest) (charSort (stepValue here)) (λ k. not (eqb k 0)) refl
+      (charSort-char (stepValue here)))
 
-  pub turn-name : validName wide (drop at s) ≡ (eqb sort 1 && charsIn wide (drop (at + width) s))
-  unfolding validName nameOf allSound
+  pub turn-name : validName utf16 (drop at s) ≡ (eqb sort 1 && charsIn utf16 (drop (at + width) s))
+  unfolding validName isNCName allSound
   turn-name =
-      let here = stepOf wide (drop at s) in
-      let rest = stepsOf wide (drop (at + width) s) in
-      rw (stepsOf-next wide s at width h (t .width-is) (t .least), t .sort-is)
-      (turn-by wide (soundOf here) (allSound rest) (isStart (valueOf here)) (allChar rest) (sortOf (valueOf here)) (λ k. eqb k 1) refl
-      (sortOf-start (valueOf here)))
+      let here = stepOf utf16 (drop at s) in
+      let rest = stepsOf utf16 (drop (at + width) s) in
+      rw (stepsOf-next utf16 s at width h (t .width-is) (t .least), t .sort-is)
+      (turn-by utf16 (soundOf here) (allSound rest) (isStart (stepValue here)) (allChar rest) (charSort (stepValue here)) (λ k. eqb k 1) refl
+      (charSort-start (stepValue here)))
 
 -- ---- the first char
 
-pub told-begins : (wide : Bool) (s : List ℕ) (sort width : ℕ) → Told wide s 0 sort width → eqb sort 1 ≡ begins wide s
-told-begins wide s sort width t = ap (λ (k : ℕ). eqb k 1) (t .sort-is)
+pub told-begins : (utf16 : Bool) (s : List ℕ) (sort width : ℕ) → Told utf16 s 0 sort width → eqb sort 1 ≡ begins utf16 s
+told-begins utf16 s sort width t = ap (λ (k : ℕ). eqb k 1) (t .sort-is)
 
 begins-by : (k : ℕ) (x : Bool) → (eqb k 1 && x) ≡ (eqb k 1 && (not (eqb k 0) && x))
 begins-by k x = go (eqb k 1) refl
@@ -81,29 +81,29 @@ begins-by k x = go (eqb k 1) refl
     go true e = let z = eqb-true k 1 e in rw (ne-eqb k 0 (λ f. omega arith))
 
 -- a text is a name where it begins with a start and holds chars alone
-pub validName-begins : (wide : Bool) (s : List ℕ) → 0 < length s → ((i : ℕ) → getD s i 0 < 256) → validName wide s ≡ (begins wide s && charsIn wide s)
-validName-begins wide s h b =
-    let is = stepOf-is wide s h b in
-    let n = widthOf (stepOf wide s) in
-    let k = sortAt wide (stepOf wide s) in
-    let t : Told wide s 0 k n = record { sort-is = refl; width-is = refl; least = is .least; most = is .most } in
-    turn-name wide s 0 k n h t
-    ∙ begins-by k (charsIn wide (drop (0 + n) s))
-    ∙ ap (λ (x : Bool). eqb k 1 && x) (sym (turn-char wide s 0 k n h t))
+pub validName-begins : (utf16 : Bool) (s : List ℕ) → 0 < length s → ((i : ℕ) → getD s i 0 < 256) → validName utf16 s ≡ (begins utf16 s && charsIn utf16 s)
+validName-begins utf16 s h b =
+    let is = stepOf-is utf16 s h b in
+    let n = widthOf (stepOf utf16 s) in
+    let k = sortAt utf16 (stepOf utf16 s) in
+    let t : Told utf16 s 0 k n = record { sort-is = refl; width-is = refl; least = is .least; most = is .most } in
+    turn-name utf16 s 0 k n h t
+    ∙ begins-by k (charsIn utf16 (drop (0 + n) s))
+    ∙ ap (λ (x : Bool). eqb k 1 && x) (sym (turn-char utf16 s 0 k n h t))
 
 -- ---- a run of chars
 
-pub passed-none : (wide : Bool) (s : List ℕ) (at : ℕ) → Passed wide s at at
-passed-none wide s at = record { later = omega arith; rest = refl }
+pub passed-none : (utf16 : Bool) (s : List ℕ) (at : ℕ) → Passed utf16 s at at
+passed-none utf16 s at = record { later = omega arith; rest = refl }
 
-pub passed-on : (wide : Bool) (s : List ℕ) (at i to : ℕ) → Passed wide s at i → Passed wide s i to → Passed wide s at to
-passed-on wide s at i to p q = record { later = omega (arith, p .later, q .later); rest = q .rest ∙ p .rest }
+pub passed-on : (utf16 : Bool) (s : List ℕ) (at i to : ℕ) → Passed utf16 s at i → Passed utf16 s i to → Passed utf16 s at to
+passed-on utf16 s at i to p q = record { later = omega (arith, p .later, q .later); rest = q .rest ∙ p .rest }
 
-pub passed-more : (wide : Bool) (s : List ℕ) (at i sort width : ℕ) → Passed wide s at i → i < length s → Told wide s i sort width → (sort ≡ 0 → ⊥)
-    → Passed wide s at (i + width)
-passed-more wide s at i sort width p h t n = record {
+pub passed-more : (utf16 : Bool) (s : List ℕ) (at i sort width : ℕ) → Passed utf16 s at i → i < length s → Told utf16 s i sort width → (sort ≡ 0 → ⊥)
+    → Passed utf16 s at (i + width)
+passed-more utf16 s at i sort width p h t n = record {
   later = omega (arith, p .later);
-  rest = sym (goes _ _ (not (eqb sort 0)) (turn-char wide s i sort width h t) (ap not (ne-eqb sort 0 n))) ∙ p .rest;
+  rest = sym (goes _ _ (not (eqb sort 0)) (turn-char utf16 s i sort width h t) (ap not (ne-eqb sort 0 n))) ∙ p .rest;
 }
 
 pub passed-ascii : (s : List ℕ) (at i sort : ℕ) → Passed false s at i → i < length s → sort ≡ classOf (getD s i 0) → (sort ≡ 0 → ⊥) → (sort ≡ 3 → ⊥)
@@ -121,10 +121,10 @@ sound-ascii s at i sort p h e m =
 
 -- a unit that is no surrogate, and a char of a name
 pub passed-char : (s : List ℕ) (at i : ℕ) → Passed true s at i → i + 1 < length s → ((k : ℕ) → getD s k 0 < 256) → (getD s (i + 1) 0 / 8 ≡ 27 → ⊥)
-    → (sortOf (getD s i 0 + getD s (i + 1) 0 * 256) ≡ 0 → ⊥) → Passed true s at (i + 2)
+    → (charSort (getD s i 0 + getD s (i + 1) 0 * 256) ≡ 0 → ⊥) → Passed true s at (i + 2)
 passed-char s at i p h b n c =
     let u = getD s i 0 + getD s (i + 1) 0 * 256 in
-    passed-more true s at i (sortOf u) 2 p (omega arith) (told true s i u 2 (sortOf u) true (took-unit s i h b n) refl) c
+    passed-more true s at i (charSort u) 2 p (omega arith) (told true s i u 2 (charSort u) true (took-unit s i h b n) refl) c
 
 pub passed-unit : (s : List ℕ) (at i sort : ℕ) → Passed true s at i → i + 1 < length s → ((k : ℕ) → getD s k 0 < 256)
     → getD s i 0 + getD s (i + 1) 0 * 256 < 128 → sort ≡ classOf (getD s i 0 + getD s (i + 1) 0 * 256) → (sort ≡ 0 → ⊥) → Passed true s at (i + 2)
@@ -132,14 +132,14 @@ passed-unit s at i sort p h b a e n = passed-more true s at i sort 2 p (omega ar
 
 -- ---- as far as a place: no char stands before it, or it is reached
 
-module _ (wide : Bool) (s : List ℕ) (at i to : ℕ) (p : Passed wide s at i) where
-  pub reached-to : to ≤ i → Reached wide s at to i
+module _ (utf16 : Bool) (s : List ℕ) (at i to : ℕ) (p : Passed utf16 s at i) where
+  pub reached-to : to ≤ i → Reached utf16 s at to i
   reached-to h = record { passed = p; stuck = λ k. absurd (let z : ⊥ = omega arith in z) }
 
-  pub reached-none : (sort width : ℕ) → i < length s → Told wide s i sort width → sort ≡ 0 → Reached wide s at to i
+  pub reached-none : (sort width : ℕ) → i < length s → Told utf16 s i sort width → sort ≡ 0 → Reached utf16 s at to i
   reached-none sort width h t e = record {
     passed = p;
-    stuck = λ k. stops _ _ (not (eqb sort 0)) (turn-char wide s i sort width h t) (ap not (eq-eqb sort 0 e));
+    stuck = λ k. stops _ _ (not (eqb sort 0)) (turn-char utf16 s i sort width h t) (ap not (eq-eqb sort 0 e));
   }
 
 -- ---- the ends
@@ -152,13 +152,13 @@ none-by : (w : Bool) → cond (w && not true) false false ≡ false
 none-by true = refl
 none-by false = refl
 
-pub end-char : (wide : Bool) (s : List ℕ) (at : ℕ) → length s ≤ at → charsIn wide (drop at s) ≡ true
+pub end-char : (utf16 : Bool) (s : List ℕ) (at : ℕ) → length s ≤ at → charsIn utf16 (drop at s) ≡ true
 unfolding allChar allSound
-end-char wide s at h = rw (stepsOf-end wide s at h) (end-by wide)
+end-char utf16 s at h = rw (stepsOf-end utf16 s at h) (end-by utf16)
 
-pub validName-none : (wide : Bool) (s : List ℕ) → length s ≡ 0 → validName wide s ≡ false
-unfolding validName nameOf allSound
-validName-none wide s e = rw (stepsOf-end wide s 0 (omega arith)) (none-by wide)
+pub validName-none : (utf16 : Bool) (s : List ℕ) → length s ≡ 0 → validName utf16 s ≡ false
+unfolding validName isNCName allSound
+validName-none utf16 s e = rw (stepsOf-end utf16 s 0 (omega arith)) (none-by utf16)
 
 -- ---- a name that is whole
 
@@ -169,24 +169,24 @@ whole-passed s to h b e p q f =
     let chars : charsIn false s ≡ true = sym (p .rest) ∙ end-char false s to f in
     (goes _ _ (begins false s) (validName-begins false s h b) e ∙ chars, sym (q .kept) ∙ end-sound false s to f)
 
-wide-by : (x n : Bool) → cond (true && not x) false n ≡ (cond (true && not x) false n && x)
-wide-by true true = refl
-wide-by true false = refl
-wide-by false n = refl
+utf16-by : (x n : Bool) → cond (true && not x) false n ≡ (cond (true && not x) false n && x)
+utf16-by true true = refl
+utf16-by true false = refl
+utf16-by false n = refl
 
 -- a name in UTF-16 is sound, since the text is else refused
-pub valid-wide : (s : List ℕ) → validName true s ≡ (validName true s && isSound true s)
+pub valid-utf16 : (s : List ℕ) → validName true s ≡ (validName true s && isSound true s)
 unfolding validName
-valid-wide s = wide-by (isSound true s) (nameOf (stepsOf true s))
+valid-utf16 s = utf16-by (isSound true s) (isNCName (stepsOf true s))
 
 -- what was told of either encoding
-pub whole-wide : (wide : Bool) (s : List ℕ) (r : Bool) → wide ≡ true → r ≡ validName true s → r ≡ (validName wide s && isSound wide s)
-whole-wide true s r w e = e ∙ valid-wide s
-whole-wide false s r w e = absurd (true≢false (sym w))
+pub whole-utf16 : (utf16 : Bool) (s : List ℕ) (r : Bool) → utf16 ≡ true → r ≡ validName true s → r ≡ (validName utf16 s && isSound utf16 s)
+whole-utf16 true s r w e = e ∙ valid-utf16 s
+whole-utf16 false s r w e = absurd (true≢false (sym w))
 
-pub whole-narrow : (wide : Bool) (s : List ℕ) (r : Bool) → wide ≡ false → r ≡ (validName false s && isSound false s) → r ≡ (validName wide s && isSound wide s)
-whole-narrow true s r w e = absurd (true≢false w)
-whole-narrow false s r w e = e
+pub whole-utf8 : (utf16 : Bool) (s : List ℕ) (r : Bool) → utf16 ≡ false → r ≡ (validName false s && isSound false s) → r ≡ (validName utf16 s && isSound utf16 s)
+whole-utf8 true s r w e = absurd (true≢false w)
+whole-utf8 false s r w e = e
 
 pub both : (x y : Bool) → x ≡ true → y ≡ true → true ≡ (x && y)
 both x y e f = rw (e, f)

@@ -12,10 +12,10 @@ use Rattle.utf.specs.Utf8.{inside}
 use Rattle.utf.proofs.Scalars.{inside-ends}
 use Rattle.utf.proofs.Tables.{both-true, below-at}
 use Rattle.utf.proofs.PlainLaws.{beq-true}
-use Rattle.xml.specs.NCName.{inRanges, nameStart, isStart, isChar, sortOf}
+use Rattle.xml.specs.NCName.{inRanges, nameStart, isStart, isChar, charSort}
 use Rattle.xml.specs.Inner.Blocks.{isOdd, asciiLow, farHigh, fitsAt, allFit}
-use Rattle.xml.specs.Inner.Told.{Passed}
-use Rattle.xml.proofs.Ranges.{sortOf-start, sortOf-char}
+use Rattle.xml.specs.Inner.NameRun.{Passed}
+use Rattle.xml.proofs.Ranges.{charSort-start, charSort-char}
 use Rattle.xml.proofs.Names.{passed-none, passed-char}
 
 -- ---- a low byte of ASCII, by ranges: one test, computed once at all 256 bytes
@@ -104,32 +104,32 @@ start-far : (u : ℕ) → 0x3100 ≤ u → u ≤ 0xd7ff → isStart u ≡ true
 unfolding isStart inRanges
 start-far u h k = inRanges-behind 11 nameStart u (rw (le-leb 0x3001 u (omega arith), le-leb u 0xd7ff k))
 
-sortOf-far : (b c : ℕ) → b < 256 → farHigh c ≡ true → (c / 8 ≡ 27 → ⊥) × (sortOf (b + c * 256) ≡ 0 → ⊥)
-unfolding farHigh sortOf
-sortOf-far b c h e = go (inside 0x04 0x1f c) refl (inside 0x31 0xd7 c) refl e
+charSort-far : (b c : ℕ) → b < 256 → farHigh c ≡ true → (c / 8 ≡ 27 → ⊥) × (charSort (b + c * 256) ≡ 0 → ⊥)
+unfolding farHigh charSort
+charSort-far b c h e = go (inside 0x04 0x1f c) refl (inside 0x31 0xd7 c) refl e
   where
-    by : isStart (b + c * 256) ≡ true → sortOf (b + c * 256) ≡ 0 → ⊥
-    by s z = true≢false (sym s ∙ sym (sortOf-start (b + c * 256)) ∙ ap (λ (k : ℕ). eqb k 1) z)
+    by : isStart (b + c * 256) ≡ true → charSort (b + c * 256) ≡ 0 → ⊥
+    by s z = true≢false (sym s ∙ sym (charSort-start (b + c * 256)) ∙ ap (λ (k : ℕ). eqb k 1) z)
 
     go : (x : Bool) → inside 0x04 0x1f c ≡ x → (y : Bool) → inside 0x31 0xd7 c ≡ y → (x || y) ≡ true
-        → (c / 8 ≡ 27 → ⊥) × (sortOf (b + c * 256) ≡ 0 → ⊥)
+        → (c / 8 ≡ 27 → ⊥) × (charSort (b + c * 256) ≡ 0 → ⊥)
     go true f y g i = let p = inside-ends 0x04 0x1f c f in (λ k. omega arith, by (start-near (b + c * 256) (omega arith) (omega arith)))
     go false f true g i = let p = inside-ends 0x31 0xd7 c g in (λ k. omega arith, by (start-far (b + c * 256) (omega arith) (omega arith)))
     go false f false g i = absurd (true≢false (sym i))
 
 pub passed-far : (s : List ℕ) (at i : ℕ) → Passed true s at i → i + 1 < length s → ((k : ℕ) → getD s k 0 < 256) → farHigh (getD s (i + 1) 0) ≡ true
     → Passed true s at (i + 2)
-passed-far s at i p h b e = let u = sortOf-far (getD s i 0) (getD s (i + 1) 0) (b i) e in passed-char s at i p h b (u .0) (u .1)
+passed-far s at i p h b e = let u = charSort-far (getD s i 0) (getD s (i + 1) 0) (b i) e in passed-char s at i p h b (u .0) (u .1)
 
 -- ---- the sort of a unit of ASCII
 
-sortOf-low : (b c : ℕ) → asciiLow b ≡ true → eqb c 0 ≡ true → (c / 8 ≡ 27 → ⊥) × (sortOf (b + c * 256) ≡ 0 → ⊥)
+charSort-low : (b c : ℕ) → asciiLow b ≡ true → eqb c 0 ≡ true → (c / 8 ≡ 27 → ⊥) × (charSort (b + c * 256) ≡ 0 → ⊥)
 unfolding asciiLow
-sortOf-low b c e f =
+charSort-low b c e f =
     let z = eqb-true c 0 f in
     let u : b + c * 256 ≡ b = omega arith in
     let is = both-true (ltb b 128) (isChar b) e .1 in
-    (λ k. omega arith, λ k. true≢false (sym is ∙ sym (sortOf-char b) ∙ ap (λ (k : ℕ). not (eqb k 0)) (sym (ap sortOf u) ∙ k)))
+    (λ k. omega arith, λ k. true≢false (sym is ∙ sym (charSort-char b) ∙ ap (λ (k : ℕ). not (eqb k 0)) (sym (ap charSort u) ∙ k)))
 
 -- ---- a unit of a block, and all of them
 
@@ -146,16 +146,16 @@ allFit-at far s at (suc n) k t h = go (allFit-at far s at n k (p .1)) (eqb k n) 
     go r false e = r (let d = eqb-false k n e in omega arith)
 
 -- two bytes side by side, at an even place and at an odd one
-sortOf-fits : (far : Bool) (k b c : ℕ) → b < 256 → fitsAt far (k * 2) b ≡ true → fitsAt far (k * 2 + 1) c ≡ true
-    → (c / 8 ≡ 27 → ⊥) × (sortOf (b + c * 256) ≡ 0 → ⊥)
+charSort-fits : (far : Bool) (k b c : ℕ) → b < 256 → fitsAt far (k * 2) b ≡ true → fitsAt far (k * 2 + 1) c ≡ true
+    → (c / 8 ≡ 27 → ⊥) × (charSort (b + c * 256) ≡ 0 → ⊥)
 unfolding fitsAt
-sortOf-fits true k b c h e f =
+charSort-fits true k b c h e f =
     let odd : isOdd (k * 2 + 1) ≡ true = eq-eqb ((k * 2 + 1) % 2) 1 (omega arith) in
-    sortOf-far b c h (rw odd at f)
-sortOf-fits false k b c h e f =
+    charSort-far b c h (rw odd at f)
+charSort-fits false k b c h e f =
     let odd : isOdd (k * 2 + 1) ≡ true = eq-eqb ((k * 2 + 1) % 2) 1 (omega arith) in
     let even : isOdd (k * 2) ≡ false = ne-eqb ((k * 2) % 2) 1 (λ z. omega arith) in
-    sortOf-low b c (rw even at e) (rw odd at f)
+    charSort-low b c (rw even at e) (rw odd at f)
 
 module _ (far : Bool) (s : List ℕ) (at : ℕ) (h : at + 64 ≤ length s) (b : (k : ℕ) → getD s k 0 < 256) (e : allFit far s at 64 ≡ true) where
   passed-units : (n : ℕ) → n ≤ 32 → Passed true s at (at + n * 2)
@@ -165,7 +165,7 @@ module _ (far : Bool) (s : List ℕ) (at : ℕ) (h : at + 64 ≤ length s) (b : 
       let next : at + (n * 2 + 1) ≡ i + 1 = omega arith in
       let high : fitsAt far (n * 2 + 1) (getD s (i + 1) 0) ≡ true =
       ap (λ (j : ℕ). fitsAt far (n * 2 + 1) (getD s j 0)) (sym next) ∙ allFit-at far s at 64 (n * 2 + 1) e (omega arith) in
-      let u = sortOf-fits far n (getD s i 0) (getD s (i + 1) 0) (b i) (allFit-at far s at 64 (n * 2) e (omega arith)) high in
+      let u = charSort-fits far n (getD s i 0) (getD s (i + 1) 0) (b i) (allFit-at far s at 64 (n * 2) e (omega arith)) high in
       let to : i + 2 ≡ at + suc n * 2 = omega arith in
       subst (λ (j : ℕ). Passed true s at j) to (passed-char s at i (passed-units n (omega arith)) (omega arith) b (u .0) (u .1))
 

@@ -10,7 +10,7 @@ use lib.ListN.{length, drop, getD}
 use lib.Seq.{drop-cons}
 use Rattle.utf.specs.Utf8.{inside}
 use Rattle.utf.proofs.Scalars.{add-two}
-use Rattle.xml.specs.NCName.{inRanges, nameStart, nameMore, isStart, isChar, sortOf, classOf}
+use Rattle.xml.specs.NCName.{inRanges, nameStart, nameMore, isStart, isChar, charSort, classOf}
 
 -- ---- a list of ranges
 
@@ -40,18 +40,18 @@ misses x y b e h = e ∙ ap (λ (c : Bool). c || y) h
 
 -- ---- the sort of a value
 
-pub sortOf-start : (v : ℕ) → eqb (sortOf v) 1 ≡ isStart v
-unfolding sortOf
-sortOf-start v = go (isStart v) (isChar v)
+pub charSort-start : (v : ℕ) → eqb (charSort v) 1 ≡ isStart v
+unfolding charSort
+charSort-start v = go (isStart v) (isChar v)
   where
     go : (a b : Bool) → eqb (cond a 1 (cond b 2 0)) 1 ≡ a
     go true b = refl
     go false true = refl
     go false false = refl
 
-pub sortOf-char : (v : ℕ) → not (eqb (sortOf v) 0) ≡ isChar v
-unfolding sortOf isStart isChar
-sortOf-char v = go (inRanges nameStart v) (inRanges nameMore v)
+pub charSort-char : (v : ℕ) → not (eqb (charSort v) 0) ≡ isChar v
+unfolding charSort isStart isChar
+charSort-char v = go (inRanges nameStart v) (inRanges nameMore v)
   where
     go : (a b : Bool) → not (eqb (cond a 1 (cond (a || b) 2 0)) 0) ≡ (a || b)
     go true b = refl
@@ -60,7 +60,7 @@ sortOf-char v = go (inRanges nameStart v) (inRanges nameMore v)
 
 -- ---- a byte of ASCII, and one beyond
 
-pub classOf-ascii : (b : ℕ) → b < 128 → classOf b ≡ sortOf b
+pub classOf-ascii : (b : ℕ) → b < 128 → classOf b ≡ charSort b
 unfolding classOf
 classOf-ascii b h = rw (lt-leb 128 b h)
 
@@ -102,14 +102,14 @@ more-beyond v h =
     )
 
 module _ (v : ℕ) (h : 128 ≤ v) where
-  pub sortOf-one : inRanges (drop 6 nameStart) v ≡ true → sortOf v ≡ 1
-  unfolding sortOf isStart
-  sortOf-one e = rw (start-beyond v h ∙ e)
+  pub charSort-one : inRanges (drop 6 nameStart) v ≡ true → charSort v ≡ 1
+  unfolding charSort isStart
+  charSort-one e = rw (start-beyond v h ∙ e)
 
-  pub sortOf-two : inRanges (drop 6 nameStart) v ≡ false → inRanges (drop 6 nameMore) v ≡ true → sortOf v ≡ 2
-  unfolding sortOf isStart isChar
-  sortOf-two e f = rw (start-beyond v h ∙ e, more-beyond v h ∙ f)
+  pub charSort-two : inRanges (drop 6 nameStart) v ≡ false → inRanges (drop 6 nameMore) v ≡ true → charSort v ≡ 2
+  unfolding charSort isStart isChar
+  charSort-two e f = rw (start-beyond v h ∙ e, more-beyond v h ∙ f)
 
-  pub sortOf-none : inRanges (drop 6 nameStart) v ≡ false → inRanges (drop 6 nameMore) v ≡ false → sortOf v ≡ 0
-  unfolding sortOf isStart isChar
-  sortOf-none e f = rw (start-beyond v h ∙ e, more-beyond v h ∙ f)
+  pub charSort-none : inRanges (drop 6 nameStart) v ≡ false → inRanges (drop 6 nameMore) v ≡ false → charSort v ≡ 0
+  unfolding charSort isStart isChar
+  charSort-none e f = rw (start-beyond v h ∙ e, more-beyond v h ∙ f)

@@ -1,4 +1,4 @@
 -- How the code goes: no public promise and no claim reaches these definitions, so they need not be believed.
 pub mod Blocks
 pub mod Rust
-pub mod Told
+pub mod NameRun

@@ -4,7 +4,7 @@
 --   nameStart  the ranges of NameStartChar, a first and a last number each, in the standard's order
 --   nameMore   the ranges that NameChar has besides
 --   isStart    the value is in one of the first; isChar: in one of either
---   sortOf     1 first or later in a name, 2 later only, 0 in none
+--   charSort   1 first or later in a name, 2 later only, 0 in none
 --   classOf    the same of a byte that is ASCII, and 3 of a byte beyond it
 --   validName  the text is an NCName: not empty, its first value a start, each other one a char. U+FFFD, which stands for damaged UTF-8, is a
 --              start; UTF-16 with an unpaired surrogate is the empty text, and so is no name
@@ -14,7 +14,7 @@ use mathlib.Core.List.{List, [], _∷_}
 use lib.Dec.{leb}
 use Rattle.utf.specs.declared.Step.{Step}
 use Rattle.utf.specs.Utf8.{inside}
-use Rattle.utf.specs.Text.{valueOf, stepsOf, refused}
+use Rattle.utf.specs.Text.{stepValue, stepsOf, refused}
 
 -- ---- the ranges
 
@@ -41,26 +41,26 @@ unfoldable pub isChar : ℕ → Bool
 unfolding inRanges
 isChar v = inRanges nameStart v || inRanges nameMore v
 
-unfoldable pub sortOf : ℕ → ℕ
+unfoldable pub charSort : ℕ → ℕ
 unfolding isStart isChar
-sortOf v = cond (isStart v) 1 (cond (isChar v) 2 0)
+charSort v = cond (isStart v) 1 (cond (isChar v) 2 0)
 
 unfoldable pub classOf : ℕ → ℕ
-unfolding sortOf
-classOf b = cond (leb 128 b) 3 (sortOf b)
+unfolding charSort
+classOf b = cond (leb 128 b) 3 (charSort b)
 
 -- ---- a text
 
 unfoldable pub allChar : List Step → Bool
 unfolding isChar
 allChar [] = true
-allChar (t ∷ ts) = isChar (valueOf t) && allChar ts
+allChar (t ∷ ts) = isChar (stepValue t) && allChar ts
 
-unfoldable pub nameOf : List Step → Bool
+unfoldable pub isNCName : List Step → Bool
 unfolding isStart allChar
-nameOf [] = false
-nameOf (t ∷ ts) = isStart (valueOf t) && allChar ts
+isNCName [] = false
+isNCName (t ∷ ts) = isStart (stepValue t) && allChar ts
 
 unfoldable pub validName : Bool → List ℕ → Bool
-unfolding nameOf
-validName wide s = cond (refused wide s) false (nameOf (stepsOf wide s))
+unfolding isNCName
+validName utf16 s = cond (refused utf16 s) false (isNCName (stepsOf utf16 s))

@@ -9,7 +9,7 @@ ghost use lib.Dec.{eqb};
 ghost use lib.ListN.{length};
 ghost use Rattle.utf.specs.Utf8.{inside};
 ghost use Rattle.xml.specs.Inner.Blocks.{asciiLow, farHigh, fitsAt, allFit};
-ghost use Rattle.xml.specs.Inner.Told.{Passed, Ahead};
+ghost use Rattle.xml.specs.Inner.NameRun.{Passed, Ahead};
 
 // Both tests are made, as everywhere here: a branch would hold the loop over a block to one byte at a time.
 fn between(first: u8, last: u8, b: u8) -> bool
@@ -80,7 +80,7 @@ fn is_block(far: bool, s: &[u8], at: usize) -> bool
 
 // The first place from `at` on, in steps of 64, where no block begins: fewer bytes are left, or they are of neither sort. The high byte of
 // the first unit tells which sort the block can be.
-fn wide_blocks(s: &[u8], at: usize) -> usize
+fn utf16_blocks(s: &[u8], at: usize) -> usize
     requires { ⌜ at ≤ length (now s) ⌝ }
     ensures { λ r. ⌜ Passed true (now (s .entry)) at r × (r ≤ length (now (s .entry))) ⌝ }
 {
@@ -101,11 +101,11 @@ pub struct Stretch {
 }
 
 // Where no block begins, the next is tried 256 bytes on, so that a text of which each block fails loses little.
-fn wide_stretch(s: &[u8], at: usize) -> Stretch
+fn utf16_stretch(s: &[u8], at: usize) -> Stretch
     requires { ⌜ at < length (now s) ⌝ }
     ensures { λ r. ⌜ Ahead true (now (s .entry)) at (r .from) (r .to) ⌝ }
 {
-    let from = wide_blocks(s, at);
+    let from = utf16_blocks(s, at);
     if 256 <= s.len() - from {
         return Stretch {
             from: from,
@@ -120,13 +120,13 @@ fn wide_stretch(s: &[u8], at: usize) -> Stretch
 
 // The stretch at a place inside. A text in UTF-8, and one in which fewer than 64 bytes are left, is one stretch.
 // Ruled out: a stretch of no bytes, and one that ends behind the text.
-pub fn stretch_at(wide: bool, s: &[u8], at: usize) -> Stretch
+pub fn stretch_at(utf16: bool, s: &[u8], at: usize) -> Stretch
     requires { ⌜ at < length (now s) ⌝ }
-    ensures { λ r. ⌜ Ahead wide (now (s .entry)) at (r .from) (r .to) ⌝ }
+    ensures { λ r. ⌜ Ahead utf16 (now (s .entry)) at (r .from) (r .to) ⌝ }
 {
-    if wide {
+    if utf16 {
         if 64 <= s.len() - at {
-            return wide_stretch(s, at);
+            return utf16_stretch(s, at);
         }
     }
     Stretch {

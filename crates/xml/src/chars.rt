@@ -1,6 +1,6 @@
 // What stands at a place of a text, as a part of a name, and how far its chars go.
 //
-// Mirrors the loop of `is_valid_name` in xml/src/lib.rs (apk-info 13770539b8), over bytes or units in place of chars. Definitions: specs/Inner/Told.antt.
+// Mirrors the loop of `is_valid_name` in xml/src/lib.rs (apk-info 13770539b8), over bytes or units in place of chars. Definitions: specs/Inner/NameRun.antt.
 // A byte of ASCII in UTF-8, and a unit of ASCII in UTF-16, is its own value and is looked up; a unit whose high byte says that it is a start
 // is passed; anything else is decoded first.
 use super::blocks::far_high;
@@ -12,7 +12,7 @@ ghost use Prim.Native.Nat.{_≤_, _<_};
 ghost use lib.ListN.{length};
 ghost use Rattle.utf.specs.Text.{isSound};
 ghost use Rattle.xml.specs.NCName.{validName};
-ghost use Rattle.xml.specs.Inner.Told.{IsTable, begins, Told, Passed, Sound, Reached};
+ghost use Rattle.xml.specs.Inner.NameRun.{IsTable, begins, Told, Passed, Sound, Reached};
 
 // The sort of what stands there, and how many bytes it takes.
 pub struct Char {
@@ -21,7 +21,7 @@ pub struct Char {
 }
 
 // What is damaged is U+FFFD, which is a start.
-fn narrow_decoded(classes: &[u8], s: &[u8], at: usize) -> Char
+fn utf8_decoded(classes: &[u8], s: &[u8], at: usize) -> Char
     requires { ⌜ IsTable (now classes) × (at < length (now s)) ⌝ }
     ensures { λ r. ⌜ Told false (now (s .entry)) at (r .sort) (r .width) ⌝ }
 {
@@ -33,7 +33,7 @@ fn narrow_decoded(classes: &[u8], s: &[u8], at: usize) -> Char
 }
 
 // A unit that is no surrogate is its own value. An unpaired surrogate is in no name.
-fn wide_decoded(classes: &[u8], s: &[u8], at: usize) -> Char
+fn utf16_decoded(classes: &[u8], s: &[u8], at: usize) -> Char
     requires { ⌜ IsTable (now classes) × (at < length (now s)) ⌝ }
     ensures { λ r. ⌜ Told true (now (s .entry)) at (r .sort) (r .width) ⌝ }
 {
@@ -61,20 +61,20 @@ fn wide_decoded(classes: &[u8], s: &[u8], at: usize) -> Char
 }
 
 // The char at a place inside, decoded.
-fn decoded(classes: &[u8], wide: bool, s: &[u8], at: usize) -> Char
+fn decoded(classes: &[u8], utf16: bool, s: &[u8], at: usize) -> Char
     requires { ⌜ IsTable (now classes) × (at < length (now s)) ⌝ }
-    ensures { λ r. ⌜ Told wide (now (s .entry)) at (r .sort) (r .width) ⌝ }
+    ensures { λ r. ⌜ Told utf16 (now (s .entry)) at (r .sort) (r .width) ⌝ }
 {
-    if wide {
-        return wide_decoded(classes, s, at);
+    if utf16 {
+        return utf16_decoded(classes, s, at);
     }
-    narrow_decoded(classes, s, at)
+    utf8_decoded(classes, s, at)
 }
 
 // ---- the first char
 
 // UTF-8: a byte of class 3 is decoded.
-fn narrow_begins(classes: &[u8], s: &[u8]) -> bool
+fn utf8_begins(classes: &[u8], s: &[u8]) -> bool
     requires { ⌜ IsTable (now classes) × (0 < length (now s)) ⌝ }
     ensures { λ r. ⌜ r ≡ begins false (now (s .entry)) ⌝ }
 {
@@ -83,12 +83,12 @@ fn narrow_begins(classes: &[u8], s: &[u8]) -> bool
     if k != 3 {
         return k == 1;
     }
-    let t = narrow_decoded(classes, s, 0);
+    let t = utf8_decoded(classes, s, 0);
     t.sort == 1
 }
 
 // UTF-16: a unit beyond ASCII, and a byte alone, is decoded.
-fn wide_begins(classes: &[u8], s: &[u8]) -> bool
+fn utf16_begins(classes: &[u8], s: &[u8]) -> bool
     requires { ⌜ IsTable (now classes) × (0 < length (now s)) ⌝ }
     ensures { λ r. ⌜ r ≡ begins true (now (s .entry)) ⌝ }
 {
@@ -98,26 +98,26 @@ fn wide_begins(classes: &[u8], s: &[u8]) -> bool
             return classes[u] == 1;
         }
     }
-    let t = wide_decoded(classes, s, 0);
+    let t = utf16_decoded(classes, s, 0);
     t.sort == 1
 }
 
 // Whether a text that is not empty begins with a start. `classes` is the table, which the caller makes once.
 // Ruled out: true of a digit, and true of an unpaired surrogate of UTF-16.
-pub fn begins_well(classes: &[u8], wide: bool, s: &[u8]) -> bool
+pub fn begins_well(classes: &[u8], utf16: bool, s: &[u8]) -> bool
     requires { ⌜ IsTable (now classes) × (0 < length (now s)) ⌝ }
-    ensures { λ r. ⌜ r ≡ begins wide (now (s .entry)) ⌝ }
+    ensures { λ r. ⌜ r ≡ begins utf16 (now (s .entry)) ⌝ }
 {
-    if wide {
-        return wide_begins(classes, s);
+    if utf16 {
+        return utf16_begins(classes, s);
     }
-    narrow_begins(classes, s)
+    utf8_begins(classes, s)
 }
 
 // ---- a run of chars that need no decoding
 
 // Bytes of ASCII in UTF-8, which are sound.
-fn narrow_run(classes: &[u8], s: &[u8], at: usize, to: usize) -> usize
+fn utf8_run(classes: &[u8], s: &[u8], at: usize, to: usize) -> usize
     requires { ⌜ IsTable (now classes) × (to ≤ length (now s)) ⌝ }
     ensures { λ r. ⌜ Passed false (now (s .entry)) at r × Sound false (now (s .entry)) at r ⌝ }
 {
@@ -137,7 +137,7 @@ fn narrow_run(classes: &[u8], s: &[u8], at: usize, to: usize) -> usize
 }
 
 // Units of ASCII in UTF-16.
-fn wide_run(classes: &[u8], s: &[u8], at: usize, to: usize) -> usize
+fn utf16_run(classes: &[u8], s: &[u8], at: usize, to: usize) -> usize
     requires { ⌜ IsTable (now classes) × (to ≤ length (now s)) × (0 < to) ⌝ }
     ensures { λ r. ⌜ Passed true (now (s .entry)) at r ⌝ }
 {
@@ -174,31 +174,31 @@ fn far_run(s: &[u8], at: usize, to: usize) -> usize
 }
 
 // A place from `at` on, `to` or before it, up to which chars stand that need no decoding: those of ASCII, and in UTF-16 far units behind them.
-fn seen_run(classes: &[u8], wide: bool, s: &[u8], at: usize, to: usize) -> usize
+fn seen_run(classes: &[u8], utf16: bool, s: &[u8], at: usize, to: usize) -> usize
     requires { ⌜ IsTable (now classes) × (to ≤ length (now s)) × (0 < to) ⌝ }
-    ensures { λ r. ⌜ Passed wide (now (s .entry)) at r ⌝ }
+    ensures { λ r. ⌜ Passed utf16 (now (s .entry)) at r ⌝ }
 {
-    if wide {
-        let i = wide_run(classes, s, at, to);
+    if utf16 {
+        let i = utf16_run(classes, s, at, to);
         return far_run(s, i, to);
     }
-    narrow_run(classes, s, at, to)
+    utf8_run(classes, s, at, to)
 }
 
 // The first place from `at` on where no char of a name stands, and `to` or one soon behind it where that comes first: what a run
 // leaves is decoded, one step and then the next run.
 // Ruled out: a place before `to` where a char stands, and one behind a value that is no char.
-pub fn chars_run(classes: &[u8], wide: bool, s: &[u8], at: usize, to: usize) -> usize
+pub fn chars_run(classes: &[u8], utf16: bool, s: &[u8], at: usize, to: usize) -> usize
     requires { ⌜ IsTable (now classes) × (to ≤ length (now s)) × (0 < to) ⌝ }
-    ensures { λ r. ⌜ Reached wide (now (s .entry)) at to r ⌝ }
+    ensures { λ r. ⌜ Reached utf16 (now (s .entry)) at to r ⌝ }
 {
-    let mut i = seen_run(classes, wide, s, at, to);
+    let mut i = seen_run(classes, utf16, s, at, to);
     while i < to {
-        let u = decoded(classes, wide, s, i);
+        let u = decoded(classes, utf16, s, i);
         if u.sort == 0 {
             return i;
         }
-        i = seen_run(classes, wide, s, i + u.width, to);
+        i = seen_run(classes, utf16, s, i + u.width, to);
     }
     i
 }
@@ -212,10 +212,10 @@ pub fn is_ascii_name(classes: &[u8], s: &[u8]) -> bool
     requires { ⌜ IsTable (now classes) × (0 < length (now s)) ⌝ }
     ensures { λ r. ⌜ (r ≡ true → (validName false (now (s .entry)) ≡ true) × (isSound false (now (s .entry)) ≡ true)) ⌝ }
 {
-    if !narrow_begins(classes, s) {
+    if !utf8_begins(classes, s) {
         return false;
     }
-    let end = narrow_run(classes, s, 0, s.len());
+    let end = utf8_run(classes, s, 0, s.len());
     if end < s.len() {
         return false;
     }

@@ -16,8 +16,8 @@ ghost use mathlib.Core.Path.{_≡_};
 ghost use mathlib.Core.Bool.{false, _&&_};
 ghost use Rattle.utf.specs.Utf8.{inside};
 ghost use Rattle.utf.specs.Text.{isSound};
-ghost use Rattle.xml.specs.NCName.{inRanges, sortOf, validName};
-ghost use Rattle.xml.specs.Inner.Told.{IsTable};
+ghost use Rattle.xml.specs.NCName.{inRanges, charSort, validName};
+ghost use Rattle.xml.specs.Inner.NameRun.{IsTable};
 
 // The class of each byte: 0 in no name, 1 first or later, 2 later only, 3 beyond ASCII.
 const CLASSES: [u8; 256] = *b"\
@@ -92,7 +92,7 @@ fn in_ranges(rs: &[u32], v: u32) -> bool
 // What a value is in a name: 0 in none, 1 first or later, 2 later only. `classes` is the table, which the caller makes once.
 fn sort_in(classes: &[u8], v: u32) -> u8
     requires { ⌜ IsTable (now classes) ⌝ }
-    ensures { λ r. ⌜ r ≡ sortOf v ⌝ }
+    ensures { λ r. ⌜ r ≡ charSort v ⌝ }
 {
     if v < 128 {
         return classes[v as usize];
@@ -106,22 +106,22 @@ fn sort_in(classes: &[u8], v: u32) -> u8
     0
 }
 
-// Whether the text, in UTF-16 where it is wide, is an NCName: blocks are passed whole, and what they leave is looked at char by char.
+// Whether the text, in UTF-16 or UTF-8, is an NCName: blocks are passed whole, and what they leave is looked at char by char.
 // Ruled out: true of the empty text; false of FF in UTF-8, since U+FFFD is a start.
-pub fn valid_name(wide: bool, s: &[u8]) -> bool
-    ensures { λ r. ⌜ r ≡ validName wide (now (s .entry)) ⌝ }
+pub fn valid_name(utf16: bool, s: &[u8]) -> bool
+    ensures { λ r. ⌜ r ≡ validName utf16 (now (s .entry)) ⌝ }
 {
     if s.len() == 0 {
         return false;
     }
     let classes = CLASSES;
-    if !begins_well(&classes, wide, s) {
+    if !begins_well(&classes, utf16, s) {
         return false;
     }
     let mut at = 0;
     while at < s.len() {
-        let p = stretch_at(wide, s, at);
-        at = chars_run(&classes, wide, s, p.from, p.to);
+        let p = stretch_at(utf16, s, at);
+        at = chars_run(&classes, utf16, s, p.from, p.to);
         if at < p.to {
             return false;
         }
@@ -132,10 +132,10 @@ pub fn valid_name(wide: bool, s: &[u8]) -> bool
 // Whether the text is an NCName in which nothing was replaced. A name of ASCII is seen to be sound as it is passed, and a name in UTF-16 is sound,
 // so that only a name in UTF-8 with a char beyond ASCII is passed over again.
 // Ruled out: true of FF in UTF-8, whose U+FFFD is a start; false of EF BF BD, a U+FFFD of the text's own.
-pub fn whole_name(wide: bool, s: &[u8]) -> bool
-    ensures { λ r. ⌜ r ≡ (validName wide (now (s .entry)) && isSound wide (now (s .entry))) ⌝ }
+pub fn whole_name(utf16: bool, s: &[u8]) -> bool
+    ensures { λ r. ⌜ r ≡ (validName utf16 (now (s .entry)) && isSound utf16 (now (s .entry))) ⌝ }
 {
-    if wide {
+    if utf16 {
         return valid_name(true, s);
     }
     if s.len() == 0 {

@@ -15,7 +15,7 @@ use Rattle.common.specs.declared.ResChunkHeader.{ResChunkHeader}
 use Rattle.common.specs.declared.HeaderRead.{HeaderRead}
 use Rattle.common.specs.declared.HeaderRead.the-variants.{Whole, Short}
 use Rattle.common.proofs.Laws.{headerHere, headerOf-short, headerOf-whole, headerOf-long, headerOf-short-lt}
-use Rattle.chunk.specs.Sort.{isXml, sortOf, contentOf, foreignLen}
+use Rattle.chunk.specs.Sort.{isXml, chunkSort, contentSize, foreignLen}
 use Rattle.chunk.specs.Inner.Run.{runUsed}
 use Rattle.chunk.proofs.Laws.{foreignLen-le, foreignLen-lt, runUsed-short, runUsed-same, runUsed-other}
 use Rattle.xml_elements.specs.declared.XmlStartElement.{XmlStartElement}
@@ -25,7 +25,7 @@ use Rattle.xml_elements.specs.declared.CutChunk.{CutChunk}
 use Rattle.xml_elements.specs.declared.CutChunk.the-variants.{CutLine, CutHead, CutGap, CutAttributes, CutTrailing, CutEnd, CutOther}
 use Rattle.xml_elements.specs.declared.Turn.{Turn}
 use Rattle.xml_elements.specs.declared.Turn.the-variants.{Stop, Foreign, Met, Cut}
-use Rattle.xml_elements.specs.Chunk.{startOf, attributesAt, attributesEnd, startLen, startTurn, xmlTurn, numberOf, turnOf, lenOf, usedOf}
+use Rattle.xml_elements.specs.Chunk.{startOf, attributesAt, attributesEnd, startLen, startTurn, xmlTurn, foreignNumber, turnOf, lenOf, usedOf}
 
 -- what holds of both ways holds of a choice
 pub cond-by : {A : Type 0} (P : A → Type 0) (b : Bool) {x y : A} → (b ≡ true → P x) → (b ≡ false → P y) → P (cond b x y)
@@ -44,12 +44,12 @@ pub turnOf-stop : (l : List ℕ) → headerOf l ≡ Short → turnOf l ≡ Stop
 unfolding turnOf
 turnOf-stop l w = rw w
 
-pub turnOf-xml : (l : List ℕ) {h : ResChunkHeader} → headerOf l ≡ Whole h → sortOf h ≡ 2 → turnOf l ≡ xmlTurn l (h .kind)
+pub turnOf-xml : (l : List ℕ) {h : ResChunkHeader} → headerOf l ≡ Whole h → chunkSort h ≡ 2 → turnOf l ≡ xmlTurn l (h .kind)
 unfolding turnOf
 turnOf-xml l w e = rw (w, eq-eqb _ _ e)
 
-pub turnOf-foreign : (l : List ℕ) {h : ResChunkHeader} → headerOf l ≡ Whole h → (sortOf h ≡ 2 → ⊥)
-    → turnOf l ≡ Foreign (sortOf h) (numberOf h) (foreignLen (length l) h)
+pub turnOf-foreign : (l : List ℕ) {h : ResChunkHeader} → headerOf l ≡ Whole h → (chunkSort h ≡ 2 → ⊥)
+    → turnOf l ≡ Foreign (chunkSort h) (foreignNumber h) (foreignLen (length l) h)
 unfolding turnOf
 turnOf-foreign l w e = rw (w, ne-eqb _ _ e)
 
@@ -95,21 +95,21 @@ module _ (l : List ℕ) (s : XmlStartElement) (e : s ≡ startOf l) (h : 36 ≤ 
       )
 
 -- the two foreign turns as `look` makes them
-pub turnOf-foreign-0 : (l : List ℕ) (r : ℕ) {h : ResChunkHeader} → headerOf l ≡ Whole h → sortOf h ≡ 0
-    → r ≡ 8 + contentOf (length l - 8) (h .size) → Foreign 0 (h .kind) r ≡ turnOf l
-unfolding numberOf foreignLen
+pub turnOf-foreign-0 : (l : List ℕ) (r : ℕ) {h : ResChunkHeader} → headerOf l ≡ Whole h → chunkSort h ≡ 0
+    → r ≡ 8 + contentSize (length l - 8) (h .size) → Foreign 0 (h .kind) r ≡ turnOf l
+unfolding foreignNumber foreignLen
 turnOf-foreign-0 l r {h} w e q =
-    let n : sortOf h ≡ 2 → ⊥ = λ z. omega arith in
+    let n : chunkSort h ≡ 2 → ⊥ = λ z. omega arith in
     sym (turnOf-foreign l w n ∙ rw (e, ← q))
 
-pub turnOf-foreign-1 : (l : List ℕ) (r : ℕ) {h : ResChunkHeader} → headerOf l ≡ Whole h → (sortOf h ≡ 2 → ⊥) → (sortOf h ≡ 0 → ⊥)
-    → r ≡ 8 + contentOf (length l - 8) (h .size) → Foreign (sortOf h) (h .«header_size») r ≡ turnOf l
-unfolding numberOf foreignLen
+pub turnOf-foreign-1 : (l : List ℕ) (r : ℕ) {h : ResChunkHeader} → headerOf l ≡ Whole h → (chunkSort h ≡ 2 → ⊥) → (chunkSort h ≡ 0 → ⊥)
+    → r ≡ 8 + contentSize (length l - 8) (h .size) → Foreign (chunkSort h) (h .«header_size») r ≡ turnOf l
+unfolding foreignNumber foreignLen
 turnOf-foreign-1 l r {h} w e n q = sym (turnOf-foreign l w e ∙ rw (ne-eqb _ _ n, ← q))
 
 -- a foreign chunk has the sort 0 or 1
-pub sortOf-lt : (h : ResChunkHeader) → (sortOf h ≡ 2 → ⊥) → sortOf h < 2
-unfolding sortOf
+pub sortOf-lt : (h : ResChunkHeader) → (chunkSort h ≡ 2 → ⊥) → chunkSort h < 2
+unfolding chunkSort
 sortOf-lt h =
     cond-by (λ (k : ℕ). (k ≡ 2 → ⊥) → k < 2) (isXml (h .kind))
     (λ _. cond-by (λ (k : ℕ). (k ≡ 2 → ⊥) → k < 2) (eqb (h .«header_size») 16) (λ _ n. absurd (n refl)) (λ _ n. omega arith)) (λ _ n. omega arith)
@@ -152,20 +152,20 @@ xmlTurn-told l kind h =
     (λ _. cond-by (Told l) (eqb kind 0x104) (λ _. cond-by (Told l) (ltb (length l) 28) (λ _. (omega arith, w)) (λ q. (omega arith, ltb-false _ _ q)))
     (λ _. cond-by (Told l) (ltb (length l) 24) (λ _. (omega arith, w)) (λ q. (omega arith, ltb-false _ _ q)))))))
 
-foreign-told : (l : List ℕ) (h : ResChunkHeader) → headerOf l ≡ Whole h → (sortOf h ≡ 2 → ⊥)
-    → Told l (Foreign (sortOf h) (numberOf h) (foreignLen (length l) h))
+foreign-told : (l : List ℕ) (h : ResChunkHeader) → headerOf l ≡ Whole h → (chunkSort h ≡ 2 → ⊥)
+    → Told l (Foreign (chunkSort h) (foreignNumber h) (foreignLen (length l) h))
 foreign-told l h w n = (sortOf-lt h n, omega (arith, foreignLen-lt (length l) h), foreignLen-le (length l) h (headerOf-long l w))
 
 pub turnOf-told : (l : List ℕ) → Told l (turnOf l)
 turnOf-told l = go (headerOf l) refl
   where
-    sorted : (h : ResChunkHeader) → headerOf l ≡ Whole h → (b : Bool) → eqb (sortOf h) 2 ≡ b → Told l (turnOf l)
+    sorted : (h : ResChunkHeader) → headerOf l ≡ Whole h → (b : Bool) → eqb (chunkSort h) 2 ≡ b → Told l (turnOf l)
     sorted h w true e = rw (turnOf-xml l w (eqb-true _ _ e)) (xmlTurn-told l (h .kind) (headerOf-long l w))
     sorted h w false e = rw (turnOf-foreign l w (eqb-false _ _ e)) (foreign-told l h w (eqb-false _ _ e))
 
     go : (r : HeaderRead) → headerOf l ≡ r → Told l (turnOf l)
     go Short w = rw (turnOf-stop l w) (headerOf-short-lt l w)
-    go (Whole h) w = sorted h w (eqb (sortOf h) 2) refl
+    go (Whole h) w = sorted h w (eqb (chunkSort h) 2) refl
 
 pub told : (l : List ℕ) {T : Turn} → turnOf l ≡ T → Told l T
 told l e = rw e at (turnOf-told l)
@@ -200,16 +200,16 @@ cut-there s at x e h =
 -- ---- a chunk of a run
 
 -- where a chunk of the foreign sort k stands, the turn is that chunk
-pub turnOf-run : (k : ℕ) (l : List ℕ) → k < 2 → 0 < runUsed k l → turnOf l ≡ Foreign k (numberOf (headerHere l)) (runUsed k l)
+pub turnOf-run : (k : ℕ) (l : List ℕ) → k < 2 → 0 < runUsed k l → turnOf l ≡ Foreign k (foreignNumber (headerHere l)) (runUsed k l)
 turnOf-run k l p q = go (ltb (length l) 8) refl
   where
-    sorted : headerOf l ≡ Whole (headerHere l) → (b : Bool) → eqb (sortOf (headerHere l)) k ≡ b → turnOf l ≡ Foreign k (numberOf (headerHere l)) (runUsed k l)
+    sorted : headerOf l ≡ Whole (headerHere l) → (b : Bool) → eqb (chunkSort (headerHere l)) k ≡ b → turnOf l ≡ Foreign k (foreignNumber (headerHere l)) (runUsed k l)
     sorted w true e =
-        let s : sortOf (headerHere l) ≡ k = eqb-true _ _ e in
-        let n : sortOf (headerHere l) ≡ 2 → ⊥ = λ z. omega arith in
+        let s : chunkSort (headerHere l) ≡ k = eqb-true _ _ e in
+        let n : chunkSort (headerHere l) ≡ 2 → ⊥ = λ z. omega arith in
         turnOf-foreign l w n ∙ rw (runUsed-same k l w s, s)
     sorted w false e = let z : runUsed k l ≡ 0 = runUsed-other k l w (eqb-false _ _ e) in absurd (let y : ⊥ = omega arith in y)
 
-    go : (b : Bool) → ltb (length l) 8 ≡ b → turnOf l ≡ Foreign k (numberOf (headerHere l)) (runUsed k l)
+    go : (b : Bool) → ltb (length l) 8 ≡ b → turnOf l ≡ Foreign k (foreignNumber (headerHere l)) (runUsed k l)
     go true e = let z : runUsed k l ≡ 0 = runUsed-short k l (headerOf-short l (ltb-true _ _ e)) in absurd (let y : ⊥ = omega arith in y)
-    go false e = sorted (headerOf-whole l (ltb-false _ _ e)) (eqb (sortOf (headerHere l)) k) refl
+    go false e = sorted (headerOf-whole l (ltb-false _ _ e)) (eqb (chunkSort (headerHere l)) k) refl

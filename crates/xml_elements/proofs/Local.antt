@@ -15,15 +15,15 @@ use Rattle.common.specs.declared.ResChunkHeader.{ResChunkHeader}
 use Rattle.common.specs.declared.HeaderRead.{HeaderRead}
 use Rattle.common.specs.declared.HeaderRead.the-variants.{Whole, Short}
 use Rattle.common.proofs.Laws.{headerOf-long, headerOf-append}
-use Rattle.chunk.specs.Sort.{sortOf, foreignLen}
-use Rattle.chunk.proofs.Laws.{contentOf-whole}
+use Rattle.chunk.specs.Sort.{chunkSort, foreignLen}
+use Rattle.chunk.proofs.Laws.{contentSize-whole}
 use Rattle.xml_elements.specs.declared.Chunk.{Chunk}
 use Rattle.xml_elements.specs.declared.Chunk.the-variants.{Start, End, Other, Last}
 use Rattle.xml_elements.specs.declared.CutChunk.{CutChunk}
 use Rattle.xml_elements.specs.declared.CutChunk.the-variants.{CutHead, CutGap, CutAttributes, CutTrailing, CutEnd, CutOther}
 use Rattle.xml_elements.specs.declared.Turn.{Turn}
 use Rattle.xml_elements.specs.declared.Turn.the-variants.{Stop, Foreign, Met, Cut}
-use Rattle.xml_elements.specs.Chunk.{startOf, attributesAt, attributesEnd, startLen, attributeAt, startTurn, xmlTurn, numberOf, turnOf, lenOf, usedOf}
+use Rattle.xml_elements.specs.Chunk.{startOf, attributesAt, attributesEnd, startLen, attributeAt, startTurn, xmlTurn, foreignNumber, turnOf, lenOf, usedOf}
 use Rattle.xml_elements.proofs.Laws.{turnOf-stop, turnOf-xml, turnOf-foreign, told}
 
 abbrev IsMet : Turn → Type 0
@@ -132,15 +132,15 @@ module _ (c m m′ : List ℕ) where
         k : 16 ≤ length c
         k = omega (arith, told (c ++ m) e .0)
 
-        sorted : (r : ResChunkHeader) → headerOf (c ++ m) ≡ Whole r → (b : Bool) → eqb (sortOf r) 2 ≡ b → turnOf (c ++ m′) ≡ Met x
+        sorted : (r : ResChunkHeader) → headerOf (c ++ m) ≡ Whole r → (b : Bool) → eqb (chunkSort r) 2 ≡ b → turnOf (c ++ m′) ≡ Met x
         sorted r q true p =
-            let s : sortOf r ≡ 2 = eqb-true _ _ p in
+            let s : chunkSort r ≡ 2 = eqb-true _ _ p in
             turnOf-xml (c ++ m′) (headerOf-same q (omega (arith, k))) s ∙ xmlTurn-same (r .kind) k (sym (turnOf-xml (c ++ m) q s) ∙ e)
         sorted r q false p = not-met (sym (turnOf-foreign (c ++ m) q (eqb-false _ _ p)) ∙ e) (λ z. z)
 
         go : (r : HeaderRead) → headerOf (c ++ m) ≡ r → turnOf (c ++ m′) ≡ Met x
         go Short q = not-met (sym (turnOf-stop (c ++ m) q) ∙ e) (λ z. z)
-        go (Whole r) q = sorted r q (eqb (sortOf r) 2) refl
+        go (Whole r) q = sorted r q (eqb (chunkSort r) 2) refl
 
 -- an attribute within c
 pub attributeAt-append : (c m : List ℕ) → 20 ≤ length c → attributeAt (c ++ m) ≡ attributeAt c
@@ -151,12 +151,12 @@ attributeAt-append c m h =
 -- ---- foreign chunks that are complete
 
 -- the bytes c of a foreign chunk with its own size, whatever follows them
-pub turnOf-foreign-append : (c m : List ℕ) {h : ResChunkHeader} → headerOf c ≡ Whole h → (sortOf h ≡ 2 → ⊥) → h .size ≡ length c
-    → turnOf (c ++ m) ≡ Foreign (sortOf h) (numberOf h) (length c)
+pub turnOf-foreign-append : (c m : List ℕ) {h : ResChunkHeader} → headerOf c ≡ Whole h → (chunkSort h ≡ 2 → ⊥) → h .size ≡ length c
+    → turnOf (c ++ m) ≡ Foreign (chunkSort h) (foreignNumber h) (length c)
 unfolding foreignLen
 turnOf-foreign-append c m {h} w n q =
     let long : 8 ≤ length c = headerOf-long c w in
     let e = turnOf-foreign (c ++ m) (headerOf-append c m w) n in
     let u : foreignLen (length (c ++ m)) h ≡ length c =
-    rw (contentOf-whole (length (c ++ m) - 8) (h .size) (rw (length-append, q) (omega arith)), q) (omega arith) in
+    rw (contentSize-whole (length (c ++ m) - 8) (h .size) (rw (length-append, q) (omega arith)), q) (omega arith) in
     rw u at e

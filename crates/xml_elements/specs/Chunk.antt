@@ -17,7 +17,7 @@ use Rattle.common.specs.declared.ResChunkHeader.{ResChunkHeader}
 use Rattle.common.specs.declared.HeaderRead.{HeaderRead}
 use Rattle.common.specs.declared.HeaderRead.the-variants.{Whole, Short}
 use Rattle.common.specs.declared.StringIndex.{StringIndex}
-use Rattle.chunk.specs.Sort.{sortOf, foreignLen}
+use Rattle.chunk.specs.Sort.{chunkSort, foreignLen}
 use Rattle.xml_elements.specs.declared.XmlStartElement.{XmlStartElement}
 use Rattle.xml_elements.specs.declared.XmlAttributeElement.{XmlAttributeElement}
 use Rattle.xml_elements.specs.declared.Chunk.{Chunk}
@@ -89,12 +89,12 @@ xmlTurn l kind =
     (cond (ltb (length l) 24) (Cut CutOther) (Met (Other 24)))))))
 
 -- the number of a foreign chunk's note: its type, or the header size of one that is XML
-unfoldable pub numberOf : ResChunkHeader → ℕ
-numberOf h = cond (eqb (sortOf h) 0) (h .kind) (h .«header_size»)
+unfoldable pub foreignNumber : ResChunkHeader → ℕ
+foreignNumber h = cond (eqb (chunkSort h) 0) (h .kind) (h .«header_size»)
 
 abbrev pub turnBy : List ℕ → HeaderRead → Turn
 turnBy l Short = Stop
-turnBy l (Whole h) = cond (eqb (sortOf h) 2) (xmlTurn l (h .kind)) (Foreign (sortOf h) (numberOf h) (foreignLen (length l) h))
+turnBy l (Whole h) = cond (eqb (chunkSort h) 2) (xmlTurn l (h .kind)) (Foreign (chunkSort h) (foreignNumber h) (foreignLen (length l) h))
 
 unfoldable pub turnOf : List ℕ → Turn
 turnOf l = turnBy l (headerOf l)

@@ -4,7 +4,7 @@
 -- The borrow of the note table is opened once, before the loop, and shut after it. In a turn the word tables are passed
 -- on to `advance`, each for a lifetime that is made for the call, and are taken back; then one note is stored.
 -- All that the walk knows of `begin` and of `advance` is their contracts. What the turns come to is Points.antt's.
-mod Points
+mod LoopInvariant
 use mathlib.Core.Path.{_≡_, refl, sym, _∙_, ap, subst}
 use Prim.Native.Nat.{ℕ, _<_, _*_, _^_}
 use mathlib.Core.Bool.{true, false}
@@ -52,12 +52,12 @@ use denote.Signature.{plain}
 use Rattle.anomaly.specs.declared.Note.{Note}
 use Rattle.errors.specs.declared.ReadAnswer.{ReadAnswer as Answer}
 use Rattle.walk.specs.declared.State.{State}
-use Rattle.walk.specs.Inner.Outcome.{Adv, Good, first, Answers}
+use Rattle.walk.specs.Inner.Outcome.{AdvanceKeeps, StateOk, first, Answers}
 use Rattle.system_types.specs.Names.{lends}
 use Rattle.walk.specs.Reading.{Reads}
 use Rattle.axml.proofs.Fields.{gets}
 use Rattle.axml.proofs.Lending.{slice, Opened, opens, shuts, passes-on, takes-back, holds, fails}
-use Rattle.axml.proofs.read.Proof.Points.{Point, start, onward, fewer, in-table, leaves, Less, less-wf}
+use Rattle.axml.proofs.read.Proof.LoopInvariant.{Point, start, onward, fewer, in-table, leaves, Less, less-wf}
 use denote.Struct.Laws as LL
 use denote.Enum.Laws as EL
 use Rattle.anomaly.proofs.Note as N
@@ -313,7 +313,7 @@ module _ {M : Type 1} (𝓤 : URA M) (H : Heap 𝓤) (A : Atoms 𝓤) (W : Given
       ‵ (MutSlice (named 4) (ν-attributes ∷ []) u32 .own (x-attributes δ-attributes ws-attributes) (v-attributes ∷ [])) ∷ []
 
   goes-advance : (ν-nodes ν-attributes : ℕ) (δ-nodes δ-attributes : GName) (st : State) (ws-nodes ws-attributes : List ℕ)
-      → Is S.the-row st (S′.lowered st ∷ []) → Good xs-file (lends xs-names xs-area) ws-nodes ws-attributes st
+      → Is S.the-row st (S′.lowered st ∷ []) → StateOk xs-file (lends xs-names xs-area) ws-nodes ws-attributes st
       → ent 𝓤 (⋆ 𝓤 H A (Asked ν-nodes ν-attributes δ-nodes δ-attributes ws-nodes ws-attributes))
       (Advance 𝓤 H A at-mem run .pre (to-advance ν-nodes ν-attributes δ-nodes δ-attributes st ws-nodes ws-attributes))
   goes-advance ν-nodes ν-attributes δ-nodes δ-attributes st ws-nodes ws-attributes is good =
@@ -361,7 +361,7 @@ module _ {M : Type 1} (𝓤 : URA M) (H : Heap 𝓤) (A : Atoms 𝓤) (W : Given
       Left = afterBlock 𝓤 H (afterSeq 𝓤 H (Wp 𝓤 H (𝓣 .C) (𝓣 .Λ) En mir.t-4 (atReturn 𝓤 H En Post)) (atReturn 𝓤 H En Post))
 
       module _ (p : Point xs-file (lends xs-names xs-area) xs-nodes xs-attributes xs-notes cap mode) (r : State) (zs-nodes zs-attributes : List ℕ)
-          (e : Adv xs-file (lends xs-names xs-area) (p .now-nodes) (p .now-attributes) (p .st) r zs-nodes zs-attributes)
+          (e : AdvanceKeeps xs-file (lends xs-names xs-area) (p .now-nodes) (p .now-attributes) (p .st) r zs-nodes zs-attributes)
           (is : Is S.the-row r (S′.lowered r ∷ []))
           (lz-nodes : length zs-nodes ≡ length (p .now-nodes)) (lz-attributes : length zs-attributes ≡ length (p .now-attributes)) where
         -- what is known of the state's fields
@@ -501,10 +501,10 @@ module _ {M : Type 1} (𝓤 : URA M) (H : Heap 𝓤) (A : Atoms 𝓤) (W : Given
           use1 W (some (λ (zs : Unit {0} × (Unit {0} × (Unit {0} × (List ℕ × (List ℕ × (Unit {0} × Unit {0})))))).
           ‵ (lasts advance.ended (κ-file, (κ-names, (κ-area, (ν-nodes ∷ [], (ν-attributes ∷ [], tt)))))
           (x-file, (x-names, (x-area, (x-nodes δ-nodes (p .now-nodes), (x-attributes δ-attributes (p .now-attributes), (p .st, tt)))))) zs) ⊛ raw
-          (fact 𝓤 (Adv xs-file (lends xs-names xs-area) (p .now-nodes) (p .now-attributes) (p .st) r (zs .1 .1 .1 .0) (zs .1 .1 .1 .1 .0)))))
+          (fact 𝓤 (AdvanceKeeps xs-file (lends xs-names xs-area) (p .now-nodes) (p .now-attributes) (p .st) r (zs .1 .1 .1 .0) (zs .1 .1 .1 .1 .0)))))
           (id⊢ 𝓤 _) $
           pick ! (λ zs. split ! $ move ! (1 ∷ []) $
-          heard ! (Adv xs-file (lends xs-names xs-area) (p .now-nodes) (p .now-attributes) (p .st) r (zs .1 .1 .1 .0) (zs .1 .1 .1 .1 .0)) (λ e.
+          heard ! (AdvanceKeeps xs-file (lends xs-names xs-area) (p .now-nodes) (p .now-attributes) (p .st) r (zs .1 .1 .1 .0) (zs .1 .1 .1 .1 .0)) (λ e.
           fsplit ! $ drop ! $ fsplit ! $ drop ! $ fsplit ! $ drop ! $ fsplit ! $ fsplit ! $ move ! (1 ∷ []) $ feqL ! (λ lz-nodes. move ! (1 ∷ []) $
           fsplit ! $ fsplit ! $ move ! (1 ∷ []) $ feqL ! (λ lz-attributes. move ! (3 ∷ []) $ split ! $ move ! (1 ∷ []) $
           facts ! S.the-row (Is S.the-row) (shows 𝓤 H A S.the-row) r (w ∷ []) (λ is.

@@ -1,7 +1,7 @@
--- `c_api::axml_read` meets its contract: the reading over words, and its answer in numbers (proofs/Points.antt).
+-- `c_api::axml_read` meets its contract: the reading over words, and its answer in numbers (proofs/LoopInvariant.antt).
 use borrow.Author.Needs.{needs}
 use Rattle.system_types.specs.Names.{lends}
-use Rattle.c_api.proofs.Points.{reads-by}
+use Rattle.c_api.proofs.LoopInvariant.{reads-by}
 use Rattle.c_api.proofs.axml_read.Statement.{statement}
 use Rattle.c_api.proofs.axml_read.Tie as tie
 

@@ -1,11 +1,11 @@
 -- `c_api::read_words` meets its contract: the loop of `axml::read` over words.
--- Invariant: the outcome from here, with the words' notes, is the promise. Measure: what `advance` lowers. The mathematics: proofs/Points.antt.
+-- Invariant: the outcome from here, with the words' notes, is the promise. Measure: what `advance` lowers. The mathematics: proofs/LoopInvariant.antt.
 use borrow.Author.Needs.{needs}
 use native.Mathlib.Omega.{arith}
 use mathlib.Core.Path.{sym, _∙_}
 use Rattle.system_types.specs.Names.{lends}
-use Rattle.walk.specs.Inner.Outcome.{left}
-use Rattle.c_api.proofs.Points.{Point, point-first, point-fits, point-slot, point-less, point-next, point-cleared, point-last}
+use Rattle.walk.specs.Inner.Outcome.{stepsLeft}
+use Rattle.c_api.proofs.LoopInvariant.{Point, point-first, point-fits, point-slot, point-less, point-next, point-cleared, point-last}
 use Rattle.c_api.proofs.read_words.Statement.{statement}
 use Rattle.c_api.proofs.read_words.Tie as tie
 
@@ -14,7 +14,7 @@ Inv-loop file names area nodes₀ attributes₀ notes₀ cap mode st₀ nodes at
     Point file (lends names area) nodes₀ attributes₀ notes₀ cap mode nodes attributes notes st
 
 abbrev μ-loop : tie.MeasureT-loop
-μ-loop file names area nodes₀ attributes₀ notes₀ cap mode st₀ nodes attributes notes st = left file (lends names area) st
+μ-loop file names area nodes₀ attributes₀ notes₀ cap mode st₀ nodes attributes notes st = stepsLeft file (lends names area) st
 
 begin-requires : tie.Need-begin-requires Inv-loop μ-loop
 begin-requires c κs = search needs

@@ -7,8 +7,8 @@ use mathlib.Core.Bool.{_&&_}
 use borrow.Author.Needs.{needs}
 use lib.ListN.{drop}
 use lib.Dec.{eqb}
-use Rattle.chunk.specs.Inner.Bare.{isBare, allBare}
-use Rattle.chunk.proofs.Bare.{allBare-step, allBare-stop, doubt-le}
+use Rattle.chunk.specs.Inner.HeaderOnly.{isBare, allBare}
+use Rattle.chunk.proofs.HeaderOnly.{allBare-step, allBare-stop, doubt-le}
 use Rattle.chunk.proofs.bare_block.Statement.{statement}
 use Rattle.chunk.proofs.bare_block.Tie as tie
 

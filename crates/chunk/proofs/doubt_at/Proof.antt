@@ -3,7 +3,7 @@ use Prim.Native.Nat.{_<_}
 use native.Mathlib.Omega.{arith}
 use borrow.Author.Needs.{needs}
 use lib.ListN.{getD}
-use Rattle.chunk.proofs.Bare.{doubt-here}
+use Rattle.chunk.proofs.HeaderOnly.{doubt-here}
 use Rattle.chunk.proofs.doubt_at.Statement.{statement}
 use Rattle.chunk.proofs.doubt_at.Tie as tie
 

@@ -6,7 +6,7 @@ use borrow.Author.Needs.{needs}
 use borrow.Author.Tests.{not-false}
 use lib.ListN.{length}
 use Rattle.chunk.specs.Inner.Run.{skipRun}
-use Rattle.chunk.proofs.Bare.{skipRun-bare}
+use Rattle.chunk.proofs.HeaderOnly.{skipRun-bare}
 use Rattle.chunk.proofs.skip_bare.Statement.{statement}
 use Rattle.chunk.proofs.skip_bare.Tie as tie
 

@@ -8,7 +8,7 @@ use lib.ListN.{length}
 use lib.Dec.{leb, eqb}
 use Rattle.chunk.specs.Inner.Run.{skipRun}
 use Rattle.chunk.proofs.Laws.{skipRun-stop, skipRun-step}
-use Rattle.chunk.proofs.Bare.{skipRun-tested}
+use Rattle.chunk.proofs.HeaderOnly.{skipRun-tested}
 use Rattle.chunk.proofs.skip_run.Statement.{statement}
 use Rattle.chunk.proofs.skip_run.Tie as tie
 

@@ -10,12 +10,12 @@ use lib.Dec.{eqb}
 use Rattle.common.specs.Header.{headerOf}
 use Rattle.common.specs.declared.HeaderRead.{HeaderRead}
 use Rattle.common.specs.declared.HeaderRead.the-variants.{Whole, Short}
-use Rattle.chunk.specs.Sort.{sortOf, foreignLen}
+use Rattle.chunk.specs.Sort.{chunkSort, foreignLen}
 use Rattle.chunk.specs.Walk.{walk}
 
 abbrev pub runUsedBy : ℕ → ℕ → HeaderRead → ℕ
 runUsedBy k n Short = 0
-runUsedBy k n (Whole h) = cond (eqb (sortOf h) k) (foreignLen n h) 0
+runUsedBy k n (Whole h) = cond (eqb (chunkSort h) k) (foreignLen n h) 0
 
 unfoldable pub runUsed : ℕ → List ℕ → ℕ
 runUsed k l = runUsedBy k (length l) (headerOf l)

@@ -20,7 +20,7 @@ use lib.ListN.{length, take, getD, replicate, length-replicate}
 use Rattle.anomaly.specs.Note.{noteOf}
 use Rattle.anomaly.specs.Kept.{keptNotes}
 use Rattle.anomaly.specs.declared.Note.{Note}
-use Rattle.errors.specs.Refusal.{numbersOf, numberOf}
+use Rattle.errors.specs.Refusal.{numbersOf, refusalNumber}
 use Rattle.errors.specs.declared.Numbers.{Numbers}
 use Rattle.errors.specs.declared.Refusal.the-variants.{TooLargeError, NotesOff, ModeError}
 use Rattle.errors.specs.declared.ReadAnswer.{ReadAnswer}
@@ -37,10 +37,10 @@ use Rattle.head.specs.Entry.{passes, fails, firstOf, lengthCheck, keepsNone, na
 use Rattle.events.specs.Events.{fileEvents}
 use Rattle.walk.specs.Settle.{Room, Out, settle}
 use Rattle.walk.specs.Reading.{Reading, refuses, reading, readingBy, settledIn, zeroNote, roomIn, Reads}
-use Rattle.claims.specs.Insertion.{left}
+use Rattle.claims.specs.Insertion.{readingLeft}
 use Rattle.claims.specs.Readers.{allBelow, Call, Reader, Meets, eventsOf, kindsOf, RefusesAll, Constant, ConstantOnRead, StopsAtStart}
 use Rattle.claims.specs.Readers.{LeavesNodes, LeavesAttributes, LeavesNotes, ClearsNodes, ClearsAttributes, ClearsNotes}
-use Rattle.claims.specs.Counts.{opensIn, notesIn}
+use Rattle.claims.specs.Counts.{opensIn, eventNotes}
 use Rattle.claims.proofs.Cases.Table.{fileS, headS, startS, endS, noNodes, noAttributes, none, note, oneNode, room}
 use Rattle.claims.proofs.Calls.Readings.{left-reading}
 use Rattle.claims.proofs.Structure.Theorem.{starts-right, notes-many, notes-kept}
@@ -58,11 +58,11 @@ zeros-below (suc n) = zeros-below n
 
 -- a file past the limit, and the empty one, have different answers, whatever is lent
 long-number : (r : Room) (f : List ℕ) (lent : Lent) → fileLimit < length f → _≡_ {A = ℕ} (numbersOf (reading r f lent .answer) .refusal) 2
-unfolding reading lengthCheck numbersOf numberOf
+unfolding reading lengthCheck numbersOf refusalNumber
 long-number r f lent h = rw (lt-ltb fileLimit (length f) h)
 
 empty-number : (r : Room) (lent : Lent) → _≡_ {A = ℕ} (numbersOf (reading r [] lent .answer) .refusal) 2 → ⊥
-unfolding reading lengthCheck numbersOf numberOf openedOf fileEvents settle
+unfolding reading lengthCheck numbersOf refusalNumber openedOf fileEvents settle
 empty-number r lent = go (keepsNone (Asking (r .cap) (r .mode))) (namesOf lent) (isMode (r .mode))
   where
     out : Out
@@ -87,7 +87,7 @@ module _ (f : List ℕ) (lent : Lent) (ns ats : List ℕ) (os : List Note) (cap 
   starts-le (Done c) ns′ ats′ os′ m = omega (arith, starts-right f lent ns ats os cap mode c ns′ ats′ os′ m)
 
   notes-le : (a : ReadAnswer) (ns′ ats′ : List ℕ) (os′ : List Note) → Reads f lent ns ats os cap mode a ns′ ats′ os′
-      → numbersOf a .notes ≤ length (keptNotes cap (notesIn (eventsOf mode f lent)))
+      → numbersOf a .notes ≤ length (keptNotes cap (eventNotes (eventsOf mode f lent)))
   unfolding numbersOf
   notes-le (Refused x) ns′ ats′ os′ m = omega arith
   notes-le (Done c) ns′ ats′ os′ m = omega (arith, notes-many f lent ns ats os cap mode c ns′ ats′ os′ m)
@@ -187,11 +187,11 @@ module _ (R : Reader) (meets : Meets R) where
     pub invents-starts-broken : opensIn (eventsOf mode f lent) < numbersOf (R f lent ns ats os cap mode .answer) .starts → ⊥
     invents-starts-broken h = omega (arith, starts-le f lent ns ats os cap mode _ _ _ _ (meets f lent ns ats os cap mode call))
 
-    pub invents-notes-broken : length (keptNotes cap (notesIn (eventsOf mode f lent))) < numbersOf (R f lent ns ats os cap mode .answer) .notes → ⊥
+    pub invents-notes-broken : length (keptNotes cap (eventNotes (eventsOf mode f lent))) < numbersOf (R f lent ns ats os cap mode .answer) .notes → ⊥
     invents-notes-broken h = omega (arith, notes-le f lent ns ats os cap mode _ _ _ _ (meets f lent ns ats os cap mode call))
 
     pub wrong-kinds-broken : (c : ReadCounts) → R f lent ns ats os cap mode .answer ≡ Done c
-        → (kindsOf (take (c .notes) (R f lent ns ats os cap mode .notes)) ≡ kindsOf (map noteOf (keptNotes cap (notesIn (eventsOf mode f lent)))) → ⊥) → ⊥
+        → (kindsOf (take (c .notes) (R f lent ns ats os cap mode .notes)) ≡ kindsOf (map noteOf (keptNotes cap (eventNotes (eventsOf mode f lent)))) → ⊥) → ⊥
     wrong-kinds-broken c e h =
         h (ap kindsOf (notes-kept f lent ns ats os cap mode c _ _ _ (rw e at (meets f lent ns ats os cap mode call))))
 
@@ -203,7 +203,7 @@ refuser f lent ns ats os cap mode = refuses (roomIn ns ats os cap mode) TooLarge
 
 pub refuser-sorts : RefusesAll refuser × Constant refuser (lends [] []) [] [] [] 0 0 × ConstantOnRead refuser × StopsAtStart refuser
     × ClearsNodes refuser × ClearsAttributes refuser × ClearsNotes refuser
-unfolding numbersOf numberOf
+unfolding numbersOf refusalNumber
 refuser-sorts = (
   λ f lent ns ats os cap mode call e. (let z : _≡_ {A = ℕ} 2 0 = e in omega arith),
   λ f f′ call call′. refl,
@@ -218,12 +218,12 @@ refuser-sorts = (
 abbrev inventor : Reader
 inventor f lent ns ats os cap mode =
     let es = eventsOf mode f lent in
-    left (Done (record { starts = suc (opensIn es); nodes = 0; attributes = 0; notes = suc (length (keptNotes cap (notesIn es))) })) ns ats os
+    readingLeft (Done (record { starts = suc (opensIn es); nodes = 0; attributes = 0; notes = suc (length (keptNotes cap (eventNotes es))) })) ns ats os
 
 module _ (f : List ℕ) (lent : Lent) (ns ats : List ℕ) (os : List Note) (cap mode : ℕ) where
   pub inventor-sorts : LeavesNodes inventor × LeavesAttributes inventor × LeavesNotes inventor
       × (opensIn (eventsOf mode f lent) < numbersOf (inventor f lent ns ats os cap mode .answer) .starts)
-      × (length (keptNotes cap (notesIn (eventsOf mode f lent))) < numbersOf (inventor f lent ns ats os cap mode .answer) .notes)
+      × (length (keptNotes cap (eventNotes (eventsOf mode f lent))) < numbersOf (inventor f lent ns ats os cap mode .answer) .notes)
   unfolding numbersOf
   inventor-sorts = (
     λ f lent ns ats os cap mode call. refl,
@@ -237,7 +237,7 @@ module _ (f : List ℕ) (lent : Lent) (ns ats : List ℕ) (os : List Note) (cap 
 abbrev blurred : Reader
 blurred f lent ns ats os cap mode =
     let r = reading (roomIn ns ats os cap mode) f lent in
-    left (r .answer) (r .nodes) (r .attributes) (map (λ (x : Note). record { kind = 0; a = x .a; b = x .b }) (r .notes))
+    readingLeft (r .answer) (r .nodes) (r .attributes) (map (λ (x : Note). record { kind = 0; a = x .a; b = x .b }) (r .notes))
 
 pub blurred-kinds : kindsOf (take 1 (blurred (take 88 fileS) (lends [] []) (noNodes 3) (noAttributes 3) none 8 merged .notes)) ≡ 0 ∷ []
 blurred-kinds = ap (λ (x : Reading). kindsOf (take 1 (map (λ (x : Note). record { kind = 0; a = x .a; b = x .b }) (x .notes)))) read-88

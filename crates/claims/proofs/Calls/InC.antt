@@ -16,11 +16,11 @@ use Rattle.anomaly.specs.Note.{noteOf}
 use Rattle.anomaly.specs.Kept.{keptNotes}
 use Rattle.anomaly.specs.declared.Note.{Note}
 use Rattle.anomaly.specs.declared.ResAnomaly.{ResAnomaly}
-use Rattle.errors.proofs.Laws.{numberOf-some}
-use Rattle.errors.specs.Refusal.{numberOf, numbersOf, textNumbersOf, firstNumbersOf}
+use Rattle.errors.proofs.Laws.{refusalNumber-some}
+use Rattle.errors.specs.Refusal.{refusalNumber, numbersOf, textNumbersOf, firstNumbersOf}
 use Rattle.errors.specs.declared.Refusal.{Refusal}
 use Rattle.errors.specs.declared.ReadAnswer.{ReadAnswer}
-use Rattle.errors.proofs.Laws.{numberOf-some}
+use Rattle.errors.proofs.Laws.{refusalNumber-some}
 use Rattle.errors.specs.declared.ReadAnswer.the-variants.{Done, Refused}
 use Rattle.errors.specs.declared.ReadCounts.{ReadCounts}
 use Rattle.errors.specs.declared.TextAnswer.{TextAnswer}
@@ -63,8 +63,8 @@ zeros-behind os m n k e = sym (words-behind os m n) ∙ ap (λ (j : ℕ). wordsO
 
 -- ---- an answer by its numbers
 
-some-number : (x : Refusal) → _≡_ {A = ℕ} (numberOf x) 0 → ⊥
-some-number x e = true≢false (sym (eq-eqb (numberOf x) 0 e) ∙ numberOf-some x)
+some-number : (x : Refusal) → _≡_ {A = ℕ} (refusalNumber x) 0 → ⊥
+some-number x e = true≢false (sym (eq-eqb (refusalNumber x) 0 e) ∙ refusalNumber-some x)
 
 pub done-of : (a : ReadAnswer) → _≡_ {A = ℕ} (numbersOf a .refusal) 0 → (c : ReadCounts) × (a ≡ Done c)
 unfolding numbersOf

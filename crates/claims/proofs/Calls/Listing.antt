@@ -13,7 +13,7 @@ use borrow.Author.Tests.{leb-true, ltb-false}
 use lib.ListN.{length, replicate}
 use lib.Dec.{ltb, leb}
 use Rattle.digits.specs.Written.{fitted}
-use Rattle.errors.specs.Refusal.{numberOf, numbersOf}
+use Rattle.errors.specs.Refusal.{refusalNumber, numbersOf}
 use Rattle.errors.specs.declared.Refusal.{Refusal}
 use Rattle.errors.specs.declared.Refusal.the-variants.{TooLargeError, TextShort}
 use Rattle.errors.specs.declared.ReadAnswer.the-variants.{Done, Refused}
@@ -103,7 +103,7 @@ module _ (f ns ats : List ℕ) where
 -- ---- its room suffices
 
 pub list-suffices : (f : List ℕ) (n m room : ℕ) → Roomy n m room → HasRoom (listed f n m .answer)
-unfolding numberOf
+unfolding refusalNumber
 list-suffices f n m room h = go (ltb listedFile (length f)) refl
   where
     go : (b : Bool) → ltb listedFile (length f) ≡ b → HasRoom (listed f n m .answer)

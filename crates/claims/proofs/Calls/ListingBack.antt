@@ -13,7 +13,7 @@ use borrow.Author.Tests.{le-ltb, ltb-true, ltb-false}
 use lib.ListN.{length, replicate, length-replicate}
 use lib.Dec.{ltb, eqb}
 use Rattle.anomaly.specs.declared.Note.{Note}
-use Rattle.errors.specs.Refusal.{numberOf, valueOf, numbersOf}
+use Rattle.errors.specs.Refusal.{refusalNumber, refusalValue, numbersOf}
 use Rattle.errors.specs.declared.Refusal.{Refusal}
 use Rattle.errors.specs.declared.Refusal.the-variants.{TooSmallError, TooLargeError, HeaderSizeError, MissingRoot, SystemNamesError, NodesFull, AttributesFull}
 use Rattle.errors.specs.declared.Refusal.the-variants.{NotesFull, TextShort, NothingFound, TablesError, ItemsError, NoPlainText, ModeError, PairsError, AnswersFull}
@@ -65,8 +65,8 @@ listing-words most n ns ats os =
 
 -- ---- what a listing can say
 
-value-plain : (x : Refusal) → zeroWhere (isPlain (numberOf x)) (valueOf x) ≡ true
-unfolding numberOf valueOf
+value-plain : (x : Refusal) → zeroWhere (isPlain (refusalNumber x)) (refusalValue x) ≡ true
+unfolding refusalNumber refusalValue
 value-plain (TooSmallError v) = refl
 value-plain TooLargeError = refl
 value-plain (HeaderSizeError v) = refl
@@ -121,10 +121,10 @@ unfolding numbersOf
 done-tested c o = record { listed = refl; value = refl; starts = refl; nodes = refl; attributes = refl; notes = refl; small = o }
 
 refused-tested :
-    (x : Refusal) → isListed (numberOf x) ≡ true → anyOver (headList listedCap (numbersOf (Refused x))) ≡ false → Tested (headList listedCap (numbersOf (Refused x)))
+    (x : Refusal) → isListed (refusalNumber x) ≡ true → anyOver (headList listedCap (numbersOf (Refused x))) ≡ false → Tested (headList listedCap (numbersOf (Refused x)))
 unfolding numbersOf
 refused-tested x l o =
-    let z = zero-where (not (eqb (numberOf x) 0)) in
+    let z = zero-where (not (eqb (refusalNumber x) 0)) in
     record { listed = l; value = value-plain x; starts = z; nodes = z; attributes = z; notes = rw z; small = o }
 
 none-leading : (width places : ℕ) (w : List ℕ) → Leading width 0 places w
@@ -175,7 +175,7 @@ module _ (f ns ats : List ℕ) where
   -- in the room of a listing its refusal is one that a listing can say
   module _ (room₁ : length ns ≡ nodeWidth * listedNodes) (room₂ : length ats ≡ attributeWidth * listedAttributes) where
     listed-said : SaidBy (all .answer)
-    unfolding numberOf
+    unfolding refusalNumber
     listed-said = go (ltb listedFile (length f)) refl where
       go : (b : Bool) → ltb listedFile (length f) ≡ b → SaidBy (all .answer)
       go true q = subst SaidBy (sym (ap (λ (y : Reading). y .answer) (listed-long f (length ns) (length ats) q))) refl

@@ -27,12 +27,12 @@ use Rattle.round_up.specs.History.{File, after, NoneFull, total}
 use Rattle.round_up.specs.History as history
 use Rattle.round_up.proofs.Tallies.{total-tally}
 use Rattle.round_up.proofs.Sums.{grid-sum}
-use Rattle.round_up.proofs.Told.{none-added}
+use Rattle.round_up.proofs.AnswerLaws.{none-added}
 use Rattle.c_api.specs.Words.{wordsOf, answerOf, ReadsWords}
 use Rattle.c_api.specs.declared.AxmlAnswer.{AxmlAnswer}
 use Rattle.claims.specs.Month.{Called, Told, AllTold, keptBy, keptOf, keptIn}
 use Rattle.claims.specs.Readers.{eventsOf}
-use Rattle.claims.specs.Counts.{notesIn}
+use Rattle.claims.specs.Counts.{eventNotes}
 use Rattle.claims.proofs.Calls.InC.{room, places, as-reads, done-of, done-zeros}
 use Rattle.claims.proofs.Calls.Zeros as zeros
 use Rattle.claims.proofs.Structure.Theorem as tree
@@ -49,7 +49,7 @@ map-noteOf (x ∷ xs) = ap (λ (l : List ℕ). kindNumber x ∷ l) (map-noteOf x
 
 module _ (f : List ℕ) (lent : Lent) (ns ats ws : List ℕ) (cap mode : ℕ) (a : AxmlAnswer) (ns′ ats′ ws′ : List ℕ) (h : ReadsWords f lent ns ats ws cap mode a ns′ ats′ ws′) where
   abbrev pub ks : List ResAnomaly
-  ks = keptNotes cap (notesIn (eventsOf mode f lent))
+  ks = keptNotes cap (eventNotes (eventsOf mode f lent))
 
   module _ (none : a .refusal ≡ 0) where
     counted : (c : ReadCounts) × (reading (room f lent ns ats ws cap mode) f lent .answer ≡ Done c)
@@ -93,7 +93,7 @@ module _ (f : List ℕ) (lent : Lent) (ns ats ws : List ℕ) (cap mode : ℕ) (a
 
 done-kept : (x : Called) (c : ReadCounts) → ReadsWords (x .file) (x .lent) (x .nodes) (x .attributes) (x .notes) (x .cap) (x .mode) (answerOf (numbersOf (Done c)))
     (x .nodes′) (x .attributes′) (x .notes′)
-    → total (kindsIn (x .notes′) (numbersOf (Done c) .notes)) ≡ inGrid (map kindNumber (keptNotes (x .cap) (notesIn (eventsOf (x .mode) (x .file) (x .lent)))))
+    → total (kindsIn (x .notes′) (numbersOf (Done c) .notes)) ≡ inGrid (map kindNumber (keptNotes (x .cap) (eventNotes (eventsOf (x .mode) (x .file) (x .lent)))))
 unfolding numbersOf
 done-kept x c h =
     month-kept (x .file) (x .lent) (x .nodes) (x .attributes) (x .notes) (x .cap) (x .mode) (answerOf (numbersOf (Done c))) (x .nodes′) (x .attributes′)
@@ -104,7 +104,7 @@ told-kept x f t = rw (t .answer, t .kinds) (go (x .answer) (x .reads))
   where
     go : (b : ReadAnswer) → ReadsWords (x .file) (x .lent) (x .nodes) (x .attributes) (x .notes) (x .cap) (x .mode) (answerOf (numbersOf b)) (x .nodes′)
         (x .attributes′) (x .notes′)
-        → history.keptBy b (kindsIn (x .notes′) (numbersOf b .notes)) ≡ keptBy b (keptNotes (x .cap) (notesIn (eventsOf (x .mode) (x .file) (x .lent))))
+        → history.keptBy b (kindsIn (x .notes′) (numbersOf b .notes)) ≡ keptBy b (keptNotes (x .cap) (eventNotes (eventsOf (x .mode) (x .file) (x .lent))))
     go (Done c) h = done-kept x c h
     go (Refused e) h = refl
 

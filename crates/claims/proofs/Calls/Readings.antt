@@ -20,13 +20,13 @@ use Rattle.records.specs.Limits.{fileLimit}
 use Rattle.records.specs.Words.{nodeWidth, attributeWidth}
 use Rattle.system_types.specs.Names.{Lent}
 use Rattle.walk.specs.Reading.{Reading, reading, roomIn, zeroNote, Reads}
-use Rattle.claims.specs.Insertion.{ForeignChunk, placesIn, insertedFile, placeNotes, withNotes, left}
+use Rattle.claims.specs.Insertion.{ForeignChunk, placesIn, insertedFile, placeNotes, withNotes, readingLeft}
 use Rattle.claims.specs.Room.{HasRoom}
 use Rattle.claims.proofs.Insertion.ForeignChunks.{placeNotes-room}
 use Rattle.claims.proofs.Insertion.Theorem.{insertion, insertion-room, insertion-same}
 
 module _ (f : List ℕ) (lent : Lent) (ns ats : List ℕ) (os : List NoteOf) (cap mode : ℕ) (a : ReadAnswer) (ns′ ats′ : List ℕ) (os′ : List NoteOf) where
-  pub left-reading : Reads f lent ns ats os cap mode a ns′ ats′ os′ → left a ns′ ats′ os′ ≡ reading (roomIn ns ats os cap mode) f lent
+  pub left-reading : Reads f lent ns ats os cap mode a ns′ ats′ os′ → readingLeft a ns′ ats′ os′ ≡ reading (roomIn ns ats os cap mode) f lent
   left-reading p = rw (numbersOf-unique a _ (p .answer), p .nodes, p .attributes, p .notes)
 
 -- with k places for notes
@@ -48,7 +48,7 @@ module _ (f : List ℕ) (lent : Lent) (ns ats : List ℕ) (os : List NoteOf) (ca
   abbrev shorter : Reading
   shorter = reading (roomIn ns ats os cap mode) f lent
 
-  was : left (Done c) ns₁ ats₁ os₁ ≡ shorter
+  was : readingLeft (Done c) ns₁ ats₁ os₁ ≡ shorter
   was = left-reading f lent ns ats os cap mode (Done c) ns₁ ats₁ os₁ first
 
   done₁ : shorter .answer ≡ Done c
@@ -57,12 +57,12 @@ module _ (f : List ℕ) (lent : Lent) (ns ats : List ℕ) (os : List NoteOf) (ca
   module _ (places : List (List ForeignChunk)) (few : length places ≤ placesIn f) (limit : length (insertedFile places f) ≤ fileLimit) (ns′ ats′ : List ℕ)
       (os′ : List NoteOf) (cap′ : ℕ) (one : 1 ≤ cap′) (a : ReadAnswer) (ns₂ ats₂ : List ℕ) (os₂ : List NoteOf)
       (second : Reads (insertedFile places f) lent ns′ ats′ os′ cap′ mode a ns₂ ats₂ os₂) where
-    r₂ : left a ns₂ ats₂ os₂ ≡ reading (roomIn ns′ ats′ os′ cap′ mode) (insertedFile places f) lent
+    r₂ : readingLeft a ns₂ ats₂ os₂ ≡ reading (roomIn ns′ ats′ os′ cap′ mode) (insertedFile places f) lent
     r₂ = left-reading (insertedFile places f) lent ns′ ats′ os′ cap′ mode a ns₂ ats₂ os₂ second
 
     -- THE THEOREM, of two calls
     pub insertion-read : HasRoom a
-        → left a ns₂ ats₂ os₂ ≡ withNotes (roomIn ns′ ats′ os′ cap′ mode) (left (Done c) ns₁ ats₁ os₁) c (keptNotes cap′ (placeNotes places))
+        → readingLeft a ns₂ ats₂ os₂ ≡ withNotes (roomIn ns′ ats′ os′ cap′ mode) (readingLeft (Done c) ns₁ ats₁ os₁) c (keptNotes cap′ (placeNotes places))
     insertion-read room =
         let room′ : HasRoom (reading (roomIn ns′ ats′ os′ cap′ mode) (insertedFile places f) lent .answer) =
         subst (λ (x : Reading). HasRoom (x .answer)) r₂ room in

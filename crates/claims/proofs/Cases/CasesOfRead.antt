@@ -12,13 +12,13 @@ use Rattle.errors.specs.declared.ReadAnswer.{ReadAnswer}
 use Rattle.system_types.specs.Names.{lends}
 use Rattle.walk.specs.Settle.{Room}
 use Rattle.walk.specs.Reading.{Reading, reading, Reads}
-use Rattle.claims.specs.Insertion.{left}
+use Rattle.claims.specs.Insertion.{readingLeft}
 use Rattle.claims.proofs.Calls.Readings.{left-reading}
 use Rattle.claims.proofs.Cases.Table.{Case, room, cases, readings, results, cases-right}
 
 abbrev pub Gives : Case → Type 0
 Gives c = (ns ats : List ℕ) (os : List Note) (a : ReadAnswer) (ns′ ats′ : List ℕ) (os′ : List Note) → length ns ≡ room .nodes → length ats ≡ room .attributes
-    → length os ≡ room .notes → Reads (c .file) (lends [] []) ns ats os (room .cap) (room .mode) a ns′ ats′ os′ → left a ns′ ats′ os′ ≡ c .result
+    → length os ≡ room .notes → Reads (c .file) (lends [] []) ns ats os (room .cap) (room .mode) a ns′ ats′ os′ → readingLeft a ns′ ats′ os′ ≡ c .result
 
 abbrev pub AllGive : List Case → Type 0
 AllGive [] = Unit {0}

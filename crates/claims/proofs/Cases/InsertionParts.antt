@@ -12,8 +12,8 @@ use mathlib.Core.List.{List, [], _∷_, _++_}
 use lib.ListN.{length, take}
 use Rattle.anomaly.specs.declared.ResAnomaly.the-variants.{NonXmlChunk, XmlNodeHeaderSize}
 use Rattle.anomaly.specs.Kept.{keptNotes}
-use Rattle.chunk.specs.Sort.{isXml, sortOf}
-use Rattle.xml_elements.specs.Chunk.{numberOf}
+use Rattle.chunk.specs.Sort.{isXml, chunkSort}
+use Rattle.xml_elements.specs.Chunk.{foreignNumber}
 use Rattle.claims.specs.Insertion.{ForeignChunk, placesIn, insertedFile, placeNotes}
 use Rattle.claims.proofs.Cases.Table.{fileS, headS, startS, endS, foreignChunk}
 use Rattle.claims.proofs.Cases.Computing.{computing}
@@ -64,7 +64,7 @@ s-limit = refl
 -- ---- notes
 
 pub s-notes : placeNotes some ≡ NonXmlChunk 261 ∷ XmlNodeHeaderSize 8 ∷ NonXmlChunk 261 ∷ XmlNodeHeaderSize 8 ∷ NonXmlChunk 261 ∷ []
-unfolding f105 f102 numberOf sortOf isXml
+unfolding f105 f102 foreignNumber chunkSort isXml
 s-notes = refl
 
 pub s-kept : keptNotes 2 (placeNotes some) ≡ NonXmlChunk 261 ∷ XmlNodeHeaderSize 8 ∷ NonXmlChunk 261 ∷ XmlNodeHeaderSize 8 ∷ []

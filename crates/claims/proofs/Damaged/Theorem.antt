@@ -32,10 +32,10 @@ use Rattle.walk.specs.Settle.{Room}
 use Rattle.walk.specs.Reading.{reading}
 use Rattle.claims.specs.Insertion.{ForeignChunk, placesIn, inserted, insertedFile, placeNotes, withNotes}
 use Rattle.claims.specs.Room.{HasRoom}
-use Rattle.claims.specs.Counts.{notesIn}
+use Rattle.claims.specs.Counts.{eventNotes}
 use Rattle.claims.specs.Damaged.{damagePlace, besides, OnlyDamage}
 use Rattle.claims.specs.Readers.{namesFor, eventsOf}
-use Rattle.claims.specs.Shape.{ofKind as ofNumber}
+use Rattle.claims.specs.Shape.{countOfKind as ofNumber}
 use Rattle.claims.proofs.Events.NotesAndOthers.{othersIn, nil-right}
 use Rattle.claims.proofs.Insertion.InsertedFile.{longer-others, longer-notes}
 use Rattle.claims.proofs.Insertion.SameTree as both
@@ -182,14 +182,14 @@ module _ (r : Room) (f : List ℕ) (lent : Lent) (c : ReadCounts) (done : readin
   said : DamageApart N es (fileEvents (withoutDamage N) (openedOf f) t l)
   said = file-apart N (openedOf f) t l
 
-  noted : take (c .notes) (reading r f lent .notes) ≡ map noteOf (keptNotes (r .cap) (notesIn es))
+  noted : take (c .notes) (reading r f lent .notes) ≡ map noteOf (keptNotes (r .cap) (eventNotes es))
   noted = both.noted r f lent c done
 
-  no-other : besides damagePlace (notesIn es) ≡ []
-  no-other = only-damage (r .cap) (success r f lent c done .cap) (notesIn es) (λ k n. ap (ofNumber k) (sym noted) ∙ only k n)
+  no-other : besides damagePlace (eventNotes es) ≡ []
+  no-other = only-damage (r .cap) (success r f lent c done .cap) (eventNotes es) (λ k n. ap (ofNumber k) (sym noted) ∙ only k n)
 
   -- so without damage it makes no note
-  no-notes : notesIn (fileEvents (withoutDamage N) (openedOf f) t l) ≡ []
+  no-notes : eventNotes (fileEvents (withoutDamage N) (openedOf f) t l) ≡ []
   no-notes = sym (said .notes) ∙ no-other
 
   head-whole : openedOf f .end ≡ Whole
@@ -207,7 +207,7 @@ module _ (r : Room) (f : List ℕ) (lent : Lent) (c : ReadCounts) (done : readin
     said′ = file-apart N (openedOf f) t (inserted places l)
 
     abbrev ns : List ResAnomaly
-    ns = keptNotes (r′ .cap) (notesIn (eventsOf (r .mode) (insertedFile places f) lent))
+    ns = keptNotes (r′ .cap) (eventNotes (eventsOf (r .mode) (insertedFile places f) lent))
 
     longer-is : eventsOf (r .mode) (insertedFile places f) lent ≡ es′
     longer-is = both.events-longer r f lent c done places limit r′ one alike
@@ -220,30 +220,30 @@ module _ (r : Room) (f : List ℕ) (lent : Lent) (c : ReadCounts) (done : readin
         → reading r′ (insertedFile places f) lent ≡ withNotes r′ (reading r f lent) c ns
     insertion-damaged room =
         both.same-tree r f lent c done places limit r′ one alike others room
-        ∙ ap (λ (m : List Event). withNotes r′ (reading r f lent) c (keptNotes (r′ .cap) (notesIn m))) (sym longer-is)
+        ∙ ap (λ (m : List Event). withNotes r′ (reading r f lent) c (keptNotes (r′ .cap) (eventNotes m))) (sym longer-is)
 
     -- all other notes are those of the chunks
     pub insertion-damaged-others : besides damagePlace ns ≡ keptNotes (r′ .cap) (placeNotes places)
     insertion-damaged-others =
-        besides-kept (r′ .cap) damagePlace (notesIn (eventsOf (r .mode) (insertedFile places f) lent))
-        ∙ ap (λ (m : List Event). keptNotes (r′ .cap) (besides damagePlace (notesIn m))) longer-is
+        besides-kept (r′ .cap) damagePlace (eventNotes (eventsOf (r .mode) (insertedFile places f) lent))
+        ∙ ap (λ (m : List Event). keptNotes (r′ .cap) (besides damagePlace (eventNotes m))) longer-is
         ∙ ap (keptNotes (r′ .cap)) (said′ .notes ∙ longer-notes (withoutDamage N) (openedOf f) t head-whole l no-notes places few)
 
     -- and the file's own are there, the first as many as the cap says
-    pub insertion-damaged-kept : ofKind damagePlace ns ≡ take (r′ .cap) (notesIn (eventsOf (r .mode) f lent))
+    pub insertion-damaged-kept : ofKind damagePlace ns ≡ take (r′ .cap) (eventNotes (eventsOf (r .mode) f lent))
     insertion-damaged-kept =
-        keptNotes-of-kind (r′ .cap) damagePlace (notesIn (eventsOf (r .mode) (insertedFile places f) lent))
-        ∙ ap (λ (m : List Event). take (r′ .cap) (ofKind damagePlace (notesIn m))) longer-is
+        keptNotes-of-kind (r′ .cap) damagePlace (eventNotes (eventsOf (r .mode) (insertedFile places f) lent))
+        ∙ ap (λ (m : List Event). take (r′ .cap) (ofKind damagePlace (eventNotes m))) longer-is
         ∙ ap (take (r′ .cap))
         (said′ .damages ∙ damages-others N es′ ∙ ap (damagesOf N) others ∙ sym (damages-others N es) ∙ sym (said .damages)
-        ∙ all-of-kind damagePlace (notesIn es) no-other)
+        ∙ all-of-kind damagePlace (eventNotes es) no-other)
 
     -- with the same cap they are the notes of the first reading, word for word
     pub insertion-damaged-same : r′ .cap ≡ r .cap → map noteOf (ofKind damagePlace ns) ≡ take (c .notes) (reading r f lent .notes)
     insertion-damaged-same e =
         ap (map noteOf)
-        (insertion-damaged-kept ∙ ap (λ (n : ℕ). take n (notesIn es)) e ∙ ap (take (r .cap)) (sym (all-of-kind damagePlace (notesIn es) no-other))
-        ∙ sym (keptNotes-of-kind (r .cap) damagePlace (notesIn es))
-        ∙ all-of-kind damagePlace (keptNotes (r .cap) (notesIn es))
-        (besides-kept (r .cap) damagePlace (notesIn es) ∙ ap (keptNotes (r .cap)) no-other ∙ kept-nil (r .cap)))
+        (insertion-damaged-kept ∙ ap (λ (n : ℕ). take n (eventNotes es)) e ∙ ap (take (r .cap)) (sym (all-of-kind damagePlace (eventNotes es) no-other))
+        ∙ sym (keptNotes-of-kind (r .cap) damagePlace (eventNotes es))
+        ∙ all-of-kind damagePlace (keptNotes (r .cap) (eventNotes es))
+        (besides-kept (r .cap) damagePlace (eventNotes es) ∙ ap (keptNotes (r .cap)) no-other ∙ kept-nil (r .cap)))
         ∙ sym noted

@@ -1,7 +1,7 @@
 -- What a file makes, beside what it would make if no text were damaged: the same but for its notes 32, and these are told by the elements that open.
 -- docs/FORMAT.md, W18, B13. For proofs/Damaged/Theorem.antt. No contract cites this file.
 --
---   besides-append, ofKind-append   lists of anomalies by kind
+--   besides-append, countOfKind-append   lists of anomalies by kind
 --   withoutDamage   the names of a file, none of them damaged
 --   damagesOf       the notes 32 of the elements that open among some events; damages-others: notes play no part
 --   Undamaged       events without a note 32 and without an element
@@ -35,14 +35,14 @@ use Rattle.xml_elements.specs.declared.Turn.the-variants.{Stop, Foreign, Met, C
 use Rattle.xml_elements.specs.Chunk.{strideOf, attributesAt, attributeAt, turnOf}
 use Rattle.events.specs.declared.Event.{Event}
 use Rattle.events.specs.declared.Event.the-variants.{Nothing, Open, Attribute, LeftOut, Close, Note, Refuse, Finish}
-use Rattle.events.specs.Events.{Names, when, isValid, hasOne, fixedOf, leading, attributeBy, attributeEvent, attributesOf, cutShort}
-use Rattle.events.specs.Events.{Spot, chunkYield, cutYield, yieldOf, foreignNote}
+use Rattle.events.specs.Events.{Names, eventIf, isValid, hasOne, fixedOf, leading, attributeBy, attributeEvent, attributesOf, cutShort}
+use Rattle.events.specs.Events.{WalkState, chunkYield, cutYield, yieldOf, foreignNote}
 use Rattle.events.specs.Events.{lastOf, fromRoot, out, bodyEvents, fileEvents}
 use Rattle.events.specs.Inner.Starts.{fromLead, fromOpen, fromNamed, fromName}
 use Rattle.events.specs.Inner.Starts.{fromLead, fromOpen, fromNamed, fromName}
-use Rattle.claims.specs.Counts.{noted, notesIn}
+use Rattle.claims.specs.Counts.{eventNote, eventNotes}
 use Rattle.claims.specs.Damaged.{damagePlace, besides}
-use Rattle.claims.proofs.Events.NotesAndOthers.{othersIn, othersIn-append, notesIn-append}
+use Rattle.claims.proofs.Events.NotesAndOthers.{othersIn, othersIn-append, eventNotes-append}
 use Rattle.claims.proofs.Events.EventCases.{StartNote, shifted, sized, trailing, startNote, start-whole, cut-gap, cut-attributes, cut-trailing}
 use Rattle.claims.proofs.Events.EventCases.{body-by, HeadNote, garbage, count, offsets, headNote, file-by}
 
@@ -54,12 +54,12 @@ besides-append k (x ∷ a) b =
     let here = cond (eqb (kindIndex x) k) [] (x ∷ []) in
     ap (λ (l : List ResAnomaly). here ++ l) (besides-append k a b) ∙ sym (append-assoc here (besides k a) (besides k b))
 
-pub ofKind-append : (k : ℕ) (a b : List ResAnomaly) → ofKind k (a ++ b) ≡ ofKind k a ++ ofKind k b
+pub countOfKind-append : (k : ℕ) (a b : List ResAnomaly) → ofKind k (a ++ b) ≡ ofKind k a ++ ofKind k b
 unfolding ofKind
-ofKind-append k [] b = refl
-ofKind-append k (x ∷ a) b =
+countOfKind-append k [] b = refl
+countOfKind-append k (x ∷ a) b =
     let here = cond (eqb (kindIndex x) k) (x ∷ []) [] in
-    ap (λ (l : List ResAnomaly). here ++ l) (ofKind-append k a b) ∙ sym (append-assoc here (ofKind k a) (ofKind k b))
+    ap (λ (l : List ResAnomaly). here ++ l) (countOfKind-append k a b) ∙ sym (append-assoc here (ofKind k a) (ofKind k b))
 
 -- ---- names
 
@@ -106,24 +106,24 @@ module _ (N : Names) where
   -- ---- events without a note 32 and without an element
 
   record Undamaged (es : List Event) : Type 0 where
-    kept : besides damagePlace (notesIn es) ≡ notesIn es
-    none : ofKind damagePlace (notesIn es) ≡ []
+    kept : besides damagePlace (eventNotes es) ≡ eventNotes es
+    none : ofKind damagePlace (eventNotes es) ≡ []
     shut : damagesOf N es ≡ []
 
   undamaged-none : Undamaged []
   unfolding ofKind
   undamaged-none = record { kept = refl; none = refl; shut = refl }
 
-  kept-append : (a b : List Event) → besides damagePlace (notesIn a) ≡ notesIn a → besides damagePlace (notesIn b) ≡ notesIn b
-      → besides damagePlace (notesIn (a ++ b)) ≡ notesIn (a ++ b)
+  kept-append : (a b : List Event) → besides damagePlace (eventNotes a) ≡ eventNotes a → besides damagePlace (eventNotes b) ≡ eventNotes b
+      → besides damagePlace (eventNotes (a ++ b)) ≡ eventNotes (a ++ b)
   kept-append a b p q =
-      ap (besides damagePlace) (notesIn-append a b) ∙ besides-append damagePlace (notesIn a) (notesIn b)
-      ∙ ap (λ (l : List ResAnomaly). l ++ besides damagePlace (notesIn b)) p ∙ ap (λ (l : List ResAnomaly). notesIn a ++ l) q ∙ sym (notesIn-append a b)
+      ap (besides damagePlace) (eventNotes-append a b) ∙ besides-append damagePlace (eventNotes a) (eventNotes b)
+      ∙ ap (λ (l : List ResAnomaly). l ++ besides damagePlace (eventNotes b)) p ∙ ap (λ (l : List ResAnomaly). eventNotes a ++ l) q ∙ sym (eventNotes-append a b)
 
-  none-append : (a b : List Event) → ofKind damagePlace (notesIn a) ≡ [] → ofKind damagePlace (notesIn b) ≡ [] → ofKind damagePlace (notesIn (a ++ b)) ≡ []
+  none-append : (a b : List Event) → ofKind damagePlace (eventNotes a) ≡ [] → ofKind damagePlace (eventNotes b) ≡ [] → ofKind damagePlace (eventNotes (a ++ b)) ≡ []
   none-append a b p q =
-      ap (ofKind damagePlace) (notesIn-append a b) ∙ ofKind-append damagePlace (notesIn a) (notesIn b)
-      ∙ ap (λ (l : List ResAnomaly). l ++ ofKind damagePlace (notesIn b)) p ∙ q
+      ap (ofKind damagePlace) (eventNotes-append a b) ∙ countOfKind-append damagePlace (eventNotes a) (eventNotes b)
+      ∙ ap (λ (l : List ResAnomaly). l ++ ofKind damagePlace (eventNotes b)) p ∙ q
 
   undamaged-append : (a b : List Event) → Undamaged a → Undamaged b → Undamaged (a ++ b)
   undamaged-append a b p q = record {
@@ -137,15 +137,15 @@ module _ (N : Names) where
   unfolding ofKind
   undamaged-note x e = record { kept = rw e; none = rw e; shut = refl }
 
-  undamaged-when : (b : Bool) (x : ResAnomaly) → eqb (kindIndex x) damagePlace ≡ false → Undamaged (when b (Note x))
+  undamaged-when : (b : Bool) (x : ResAnomaly) → eqb (kindIndex x) damagePlace ≡ false → Undamaged (eventIf b (Note x))
   undamaged-when true x e = undamaged-note x e
   undamaged-when false x e = undamaged-none
 
-  undamaged-one : (e : Event) → noted e ≡ [] → opened N e ≡ [] → Undamaged (e ∷ [])
+  undamaged-one : (e : Event) → eventNote e ≡ [] → opened N e ≡ [] → Undamaged (e ∷ [])
   unfolding ofKind
   undamaged-one e n o = record { kept = rw n; none = rw n; shut = rw o }
 
-  undamaged-if : (b : Bool) (e : Event) → noted e ≡ [] → opened N e ≡ [] → Undamaged (when b e)
+  undamaged-if : (b : Bool) (e : Event) → eventNote e ≡ [] → opened N e ≡ [] → Undamaged (eventIf b e)
   undamaged-if true e n o = undamaged-one e n o
   undamaged-if false e n o = undamaged-none
 
@@ -153,8 +153,8 @@ module _ (N : Names) where
 
   pub record DamageApart (es without : List Event) : Type 0 where
     pub others : othersIn es ≡ othersIn without
-    pub notes : besides damagePlace (notesIn es) ≡ notesIn without
-    pub damages : ofKind damagePlace (notesIn es) ≡ damagesOf N es
+    pub notes : besides damagePlace (eventNotes es) ≡ eventNotes without
+    pub damages : ofKind damagePlace (eventNotes es) ≡ damagesOf N es
 
   undamaged-apart : (es : List Event) → Undamaged es → DamageApart es es
   undamaged-apart es s = record { others = refl; notes = s .kept; damages = s .none ∙ sym (s .shut) }
@@ -165,18 +165,18 @@ module _ (N : Names) where
         othersIn-append a b ∙ ap (λ (l : List Event). l ++ othersIn b) (p .others) ∙ ap (λ (l : List Event). othersIn a′ ++ l) (q .others)
         ∙ sym (othersIn-append a′ b′);
     notes =
-        ap (besides damagePlace) (notesIn-append a b) ∙ besides-append damagePlace (notesIn a) (notesIn b)
-        ∙ ap (λ (l : List ResAnomaly). l ++ besides damagePlace (notesIn b)) (p .notes) ∙ ap (λ (l : List ResAnomaly). notesIn a′ ++ l) (q .notes)
-        ∙ sym (notesIn-append a′ b′);
+        ap (besides damagePlace) (eventNotes-append a b) ∙ besides-append damagePlace (eventNotes a) (eventNotes b)
+        ∙ ap (λ (l : List ResAnomaly). l ++ besides damagePlace (eventNotes b)) (p .notes) ∙ ap (λ (l : List ResAnomaly). eventNotes a′ ++ l) (q .notes)
+        ∙ sym (eventNotes-append a′ b′);
     damages =
-        ap (ofKind damagePlace) (notesIn-append a b) ∙ ofKind-append damagePlace (notesIn a) (notesIn b)
-        ∙ ap (λ (l : List ResAnomaly). l ++ ofKind damagePlace (notesIn b)) (p .damages)
+        ap (ofKind damagePlace) (eventNotes-append a b) ∙ countOfKind-append damagePlace (eventNotes a) (eventNotes b)
+        ∙ ap (λ (l : List ResAnomaly). l ++ ofKind damagePlace (eventNotes b)) (p .damages)
         ∙ ap (λ (l : List ResAnomaly). damagesOf N a ++ l) (q .damages) ∙ sym (damages-append a b);
   }
 
   -- a note of another kind before both
   behind-note : (b : Bool) (x : ResAnomaly) (es es′ : List Event) → eqb (kindIndex x) damagePlace ≡ false → DamageApart es es′
-      → DamageApart (when b (Note x) ++ es) (when b (Note x) ++ es′)
+      → DamageApart (eventIf b (Note x) ++ es) (eventIf b (Note x) ++ es′)
   behind-note b x es es′ e q = apart-append _ _ es es′ (undamaged-apart _ (undamaged-when b x e)) q
 
   -- ---- a start
@@ -209,22 +209,22 @@ module _ (N : Names) where
     lead-undamaged : Undamaged (fromLead N s k l)
     unfolding fromLead
     lead-undamaged =
-        undamaged-append (when (eqb k 0) leading) _ (undamaged-if (eqb k 0) leading refl refl)
+        undamaged-append (eventIf (eqb k 0) leading) _ (undamaged-if (eqb k 0) leading refl refl)
         (attributes-undamaged (s .«attribute_count») (strideOf s) (drop (attributesAt s) l))
 
     named-same : fromNamed N s k l ≡ fromNamed (withoutDamage N) s k l
     unfolding fromNamed fromOpen fromLead
     named-same =
-        ap (λ (es : List Event). when (not (isValid (N .state (s .name .0)))) (Note (InvalidElementName (s .name) (hasOne (N .state (s .name .0))))) ++
-        (Open (s .name) (fixedOf (N .state (s .name .0))) (s .line) ∷ (when (eqb k 0) leading ++ es)))
+        ap (λ (es : List Event). eventIf (not (isValid (N .state (s .name .0)))) (Note (InvalidElementName (s .name) (hasOne (N .state (s .name .0))))) ++
+        (Open (s .name) (fixedOf (N .state (s .name .0))) (s .line) ∷ (eventIf (eqb k 0) leading ++ es)))
         (attributes-same (s .«attribute_count») (strideOf s) (drop (attributesAt s) l))
 
     -- the element has no note 32 of its own behind its name
-    open-kept : besides damagePlace (notesIn (fromOpen N s k l)) ≡ notesIn (fromOpen N s k l)
+    open-kept : besides damagePlace (eventNotes (fromOpen N s k l)) ≡ eventNotes (fromOpen N s k l)
     unfolding fromOpen
     open-kept = lead-undamaged .kept
 
-    open-none : ofKind damagePlace (notesIn (fromOpen N s k l)) ≡ []
+    open-none : ofKind damagePlace (eventNotes (fromOpen N s k l)) ≡ []
     unfolding fromOpen
     open-none = lead-undamaged .none
 
@@ -235,41 +235,41 @@ module _ (N : Names) where
     abbrev nine : ResAnomaly
     nine = InvalidElementName (s .name) (hasOne (N .state (s .name .0)))
 
-    nine-undamaged : Undamaged (when (not (isValid (N .state (s .name .0)))) (Note nine))
+    nine-undamaged : Undamaged (eventIf (not (isValid (N .state (s .name .0)))) (Note nine))
     unfolding kindIndex
     nine-undamaged = undamaged-when (not (isValid (N .state (s .name .0)))) nine refl
 
-    named-kept : besides damagePlace (notesIn (fromNamed N s k l)) ≡ notesIn (fromNamed N s k l)
+    named-kept : besides damagePlace (eventNotes (fromNamed N s k l)) ≡ eventNotes (fromNamed N s k l)
     unfolding fromNamed
-    named-kept = kept-append (when (not (isValid (N .state (s .name .0)))) (Note nine)) (fromOpen N s k l) (nine-undamaged .kept) open-kept
+    named-kept = kept-append (eventIf (not (isValid (N .state (s .name .0)))) (Note nine)) (fromOpen N s k l) (nine-undamaged .kept) open-kept
 
-    named-none : ofKind damagePlace (notesIn (fromNamed N s k l)) ≡ []
+    named-none : ofKind damagePlace (eventNotes (fromNamed N s k l)) ≡ []
     unfolding fromNamed
-    named-none = none-append (when (not (isValid (N .state (s .name .0)))) (Note nine)) (fromOpen N s k l) (nine-undamaged .none) open-none
+    named-none = none-append (eventIf (not (isValid (N .state (s .name .0)))) (Note nine)) (fromOpen N s k l) (nine-undamaged .none) open-none
 
     named-damages : damagesOf N (fromNamed N s k l) ≡ damageOf N (s .name) ++ []
     unfolding fromNamed
     named-damages =
-        damages-append (when (not (isValid (N .state (s .name .0)))) (Note nine)) (fromOpen N s k l)
+        damages-append (eventIf (not (isValid (N .state (s .name .0)))) (Note nine)) (fromOpen N s k l)
         ∙ ap (λ (m : List ResAnomaly). m ++ damagesOf N (fromOpen N s k l)) (nine-undamaged .shut) ∙ open-damages
 
     abbrev damage : ResAnomaly
     damage = DamagedElementName (s .name) (N .damage (s .name .0))
 
     abbrev maybe : Bool → List Event
-    maybe whole = when (not whole) (Note damage)
+    maybe whole = eventIf (not whole) (Note damage)
 
     damage-others : (whole : Bool) (es : List Event) → othersIn (maybe whole ++ es) ≡ othersIn es
     damage-others true es = refl
     damage-others false es = refl
 
-    damage-kept : (whole : Bool) (es : List Event) → besides damagePlace (notesIn (maybe whole ++ es)) ≡ besides damagePlace (notesIn es)
+    damage-kept : (whole : Bool) (es : List Event) → besides damagePlace (eventNotes (maybe whole ++ es)) ≡ besides damagePlace (eventNotes es)
     unfolding kindIndex
     damage-kept true es = refl
     damage-kept false es = refl
 
     damage-told : (whole : Bool) → eqb (N .damage (s .name .0)) 0 ≡ whole
-        → ofKind damagePlace (notesIn (maybe whole ++ fromNamed N s k l)) ≡ damagesOf N (maybe whole ++ fromNamed N s k l)
+        → ofKind damagePlace (eventNotes (maybe whole ++ fromNamed N s k l)) ≡ damagesOf N (maybe whole ++ fromNamed N s k l)
     unfolding ofKind kindIndex
     damage-told true e =
         let none : damageOf N (s .name) ++ [] ≡ [] = rw e in
@@ -282,7 +282,7 @@ module _ (N : Names) where
     unfolding fromName
     name-apart = record {
       others = damage-others (eqb (N .damage (s .name .0)) 0) (fromNamed N s k l) ∙ ap othersIn named-same;
-      notes = damage-kept (eqb (N .damage (s .name .0)) 0) (fromNamed N s k l) ∙ named-kept ∙ ap notesIn named-same;
+      notes = damage-kept (eqb (N .damage (s .name .0)) 0) (fromNamed N s k l) ∙ named-kept ∙ ap eventNotes named-same;
       damages = damage-told (eqb (N .damage (s .name .0)) 0) refl;
     }
 
@@ -293,7 +293,7 @@ module _ (N : Names) where
     start-other trailing = refl
 
     behind : (whole b : Bool) (n : StartNote) (ds es : List Event) → DamageApart ds es
-        → DamageApart (when b (Note (startNote s n)) ++ ds) (when b (Note (startNote s n)) ++ es)
+        → DamageApart (eventIf b (Note (startNote s n)) ++ ds) (eventIf b (Note (startNote s n)) ++ es)
     behind whole b n ds es h = behind-note b (startNote s n) ds es (start-other n) h
 
   -- ---- a turn
@@ -308,7 +308,7 @@ module _ (N : Names) where
   close-apart : DamageApart (Close ∷ []) (Close ∷ [])
   close-apart = undamaged-apart (Close ∷ []) (undamaged-one Close refl refl)
 
-  module _ (l : List ℕ) (p : Spot) where
+  module _ (l : List ℕ) (p : WalkState) where
     chunk-apart : (c : Chunk) → DamageApart (chunkYield N l p c) (chunkYield (withoutDamage N) l p c)
     unfolding kindIndex
     chunk-apart (Start s) = start-whole N (withoutDamage N) s (p .starts) l (λ w. DamageApart) (behind s (p .starts) l) (name-apart s (p .starts) l)
@@ -336,7 +336,7 @@ module _ (N : Names) where
     turn-apart (Met c) = chunk-apart c
     turn-apart (Cut c) = cut-apart c
 
-  last-apart : (p : Spot) → DamageApart (lastOf p) (lastOf p)
+  last-apart : (p : WalkState) → DamageApart (lastOf p) (lastOf p)
   unfolding kindIndex
   last-apart p =
       behind-note (not (eqb (p .depth) 0)) (UnclosedElements (p .depth)) (fromRoot p) (fromRoot p) refl

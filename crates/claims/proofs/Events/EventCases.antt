@@ -30,7 +30,7 @@ use Rattle.xml_elements.specs.Chunk.{trailingOf, turnOf, usedOf}
 use Rattle.xml_elements.proofs.Laws.{Told, turnOf-told, usedOf-le}
 use Rattle.events.specs.declared.Event.{Event}
 use Rattle.events.specs.declared.Event.the-variants.{Note, Refuse}
-use Rattle.events.specs.Events.{Names, Spot, when, cutShort, yieldOf, lastOf, used, out, next, isValid}
+use Rattle.events.specs.Events.{Names, WalkState, eventIf, cutShort, yieldOf, lastOf, used, out, next, isValid}
 use Rattle.events.specs.Events.{eventsOn, bodyEvents, notesOf, afterPool, fileEvents, hasOne, startEvents, gapNote, sizeNote, trailingNote}
 use Rattle.events.specs.Inner.Starts.{fromLead, fromOpen, fromNamed, fromName}
 
@@ -49,7 +49,7 @@ startNote s trailing = ElementTrailingBytes (trailingOf s)
 -- R true of a start that is read whole, R false of one that is cut
 module _ (N N′ : Names) (s : XmlStartElement) (k : ℕ) (l : List ℕ) (R : Bool → List Event → List Event → Type 0)
     (behind : (whole b : Bool) (n : StartNote) (ds es : List Event) → R whole ds es
-    → R whole (when b (Note (startNote s n)) ++ ds) (when b (Note (startNote s n)) ++ es)) where
+    → R whole (eventIf b (Note (startNote s n)) ++ ds) (eventIf b (Note (startNote s n)) ++ es)) where
   abbrev afterTrailing : List Event → List Event
   afterTrailing es = trailingNote s ++ es
 
@@ -92,10 +92,10 @@ nameNote N s invalid = InvalidElementName (s .name) (hasOne (N .state (s .name .
 
 -- where both take its name alike
 module _ (N N′ : Names) (s : XmlStartElement) (k : ℕ) (l : List ℕ) (R : List Event → List Event → Type 0)
-    (behind : (b : Bool) (n : NameNote) (ds es : List Event) → R ds es → R (when b (Note (nameNote N s n)) ++ ds) (when b (Note (nameNote N s n)) ++ es))
+    (behind : (b : Bool) (n : NameNote) (ds es : List Event) → R ds es → R (eventIf b (Note (nameNote N s n)) ++ ds) (eventIf b (Note (nameNote N s n)) ++ es))
     (states : N′ .state (s .name .0) ≡ N .state (s .name .0)) (damages : N′ .damage (s .name .0) ≡ N .damage (s .name .0)) where
   abbrev afterInvalid : List Event → List Event
-  afterInvalid es = when (not (isValid (N .state (s .name .0)))) (Note (InvalidElementName (s .name) (hasOne (N .state (s .name .0))))) ++ es
+  afterInvalid es = eventIf (not (isValid (N .state (s .name .0)))) (Note (InvalidElementName (s .name) (hasOne (N .state (s .name .0))))) ++ es
 
   pub name-by : R (fromOpen N s k l) (fromOpen N′ s k l) → R (fromName N s k l) (fromName N′ s k l)
   unfolding fromName fromNamed
@@ -107,25 +107,25 @@ module _ (N N′ : Names) (s : XmlStartElement) (k : ℕ) (l : List ℕ) (R : Li
 -- ---- a body
 
 -- where the walk stops, the turn makes nothing
-stop-none : (N : Names) (l : List ℕ) (p : Spot) (T : Turn) → Told l T → usedOf (length l) T ≡ 0 → yieldOf N l p T ≡ []
+stop-none : (N : Names) (l : List ℕ) (p : WalkState) (T : Turn) → Told l T → usedOf (length l) T ≡ 0 → yieldOf N l p T ≡ []
 stop-none N l p Stop h e = refl
 stop-none N l p (Foreign k a u) h e = absurd (let y : ⊥ = omega (arith, h .1) in y)
 stop-none N l p (Met c) h e = absurd (let y : ⊥ = omega (arith, h .0) in y)
 stop-none N l p (Cut c) h e = absurd (let y : ⊥ = omega (arith, h .0, h .1) in y)
 
-stops : (N : Names) (l : List ℕ) (p : Spot) → used l p ≡ 0 → eventsOn N l p ≡ lastOf p
+stops : (N : Names) (l : List ℕ) (p : WalkState) → used l p ≡ 0 → eventsOn N l p ≡ lastOf p
 unfolding eventsOn
 stops N l p e = trace-stop used (out N) next lastOf l p e ∙ ap (λ (x : List Event). x ++ lastOf p) (stop-none N l p (turnOf l) (turnOf-told l) e)
 
-steps : (N : Names) (l : List ℕ) (p : Spot) (m : ℕ) → used l p ≡ suc m → suc m ≤ length l → eventsOn N l p ≡ out N l p ++ eventsOn N (drop (suc m) l) (next l p)
+steps : (N : Names) (l : List ℕ) (p : WalkState) (m : ℕ) → used l p ≡ suc m → suc m ≤ length l → eventsOn N l p ≡ out N l p ++ eventsOn N (drop (suc m) l) (next l p)
 unfolding eventsOn
 steps N l p m e h = trace-step used (out N) next lastOf l p m e h
 
-module _ (N N′ : Names) (R : List ℕ → Spot → List Event → List Event → Type 0)
-    (end : (l : List ℕ) (p : Spot) → used l p ≡ 0 → R l p (lastOf p) (lastOf p))
-    (turn : (l : List ℕ) (p : Spot) (m : ℕ) → used l p ≡ suc m → suc m ≤ length l → (ds es : List Event) → R (drop (suc m) l) (next l p) ds es
+module _ (N N′ : Names) (R : List ℕ → WalkState → List Event → List Event → Type 0)
+    (end : (l : List ℕ) (p : WalkState) → used l p ≡ 0 → R l p (lastOf p) (lastOf p))
+    (turn : (l : List ℕ) (p : WalkState) (m : ℕ) → used l p ≡ suc m → suc m ≤ length l → (ds es : List Event) → R (drop (suc m) l) (next l p) ds es
     → R l p (out N l p ++ ds) (out N′ l p ++ es)) where
-  pub body-by : (l : List ℕ) (p : Spot) → R l p (eventsOn N l p) (eventsOn N′ l p)
+  pub body-by : (l : List ℕ) (p : WalkState) → R l p (eventsOn N l p) (eventsOn N′ l p)
   body-by =
       walk-ind used next (λ l p. usedOf-le l (turnOf l) (turnOf-told l)) (λ l p. R l p (eventsOn N l p) (eventsOn N′ l p))
       (λ l p e. rw (stops N l p e, stops N′ l p e) (end l p e))
@@ -143,12 +143,12 @@ headNote o t garbage = StringPoolGarbageChunk (o .garbage .kind) (o .garbage .sk
 headNote o t count = StringCountMismatch (o .declared) (o .head .count)
 headNote o t offsets = StringOffsetsOutOfBounds (outsideIn t (o .head))
 
-one-note : (b : Bool) (x : ResAnomaly) → when b (Note x) ≡ notesOf (whenNote b x)
+one-note : (b : Bool) (x : ResAnomaly) → eventIf b (Note x) ≡ notesOf (whenNote b x)
 one-note true x = refl
 one-note false x = refl
 
 module _ (N N′ : Names) (o : Opened) (t b : List ℕ) (R : List Event → List Event → Type 0)
-    (behind : (c : Bool) (n : HeadNote) (ds es : List Event) → R ds es → R (when c (Note (headNote o t n)) ++ ds) (when c (Note (headNote o t n)) ++ es))
+    (behind : (c : Bool) (n : HeadNote) (ds es : List Event) → R ds es → R (eventIf c (Note (headNote o t n)) ++ ds) (eventIf c (Note (headNote o t n)) ++ es))
     (refuses : (e : HeadEnd) → o .end ≡ e → R (Refuse (refusalOf e) ∷ []) (Refuse (refusalOf e) ∷ []))
     (body : o .end ≡ Whole → R (bodyEvents N b) (bodyEvents N′ b)) where
   noted : (c : Bool) (n : HeadNote) (ds es : List Event) → R ds es → R (notesOf (whenNote c (headNote o t n)) ++ ds) (notesOf (whenNote c (headNote o t n)) ++ es)

@@ -16,7 +16,7 @@ use Rattle.anomaly.specs.Kept.{isDue, counted, keptFrom, keptNotes, ofKind as o
 use Rattle.anomaly.specs.declared.ResAnomaly.{ResAnomaly}
 use Rattle.anomaly.proofs.Laws.{keptFrom-due, keptFrom-past, keptNotes-of-kind-le}
 use Rattle.anomaly.proofs.Numbers.{kind-place}
-use Rattle.claims.specs.Shape.{ofKind}
+use Rattle.claims.specs.Shape.{countOfKind}
 
 -- ---- all anomalies, and those that are kept
 
@@ -48,29 +48,29 @@ kept-all E cap l h = keptFrom-all E cap _ l h
 
 -- ---- numbers and places of kinds
 
-pub number-of : (x : ResAnomaly) (l : List ResAnomaly) → ofKind (noteOf x .kind) (map noteOf l) ≡ length (ofPlace (kindIndex x) l)
+pub number-of : (x : ResAnomaly) (l : List ResAnomaly) → countOfKind (noteOf x .kind) (map noteOf l) ≡ length (ofPlace (kindIndex x) l)
 unfolding ofPlace
 number-of x [] = refl
 number-of x (y ∷ l) = rw (kind-place y x) (go (eqb (kindIndex y) (kindIndex x)) (number-of x l))
   where
-    go : (b : Bool) → ofKind (noteOf x .kind) (map noteOf l) ≡ length (ofPlace (kindIndex x) l)
-        → cond b 1 0 + ofKind (noteOf x .kind) (map noteOf l) ≡ length (cond b (y ∷ []) [] ++ ofPlace (kindIndex x) l)
+    go : (b : Bool) → countOfKind (noteOf x .kind) (map noteOf l) ≡ length (ofPlace (kindIndex x) l)
+        → cond b 1 0 + countOfKind (noteOf x .kind) (map noteOf l) ≡ length (cond b (y ∷ []) [] ++ ofPlace (kindIndex x) l)
     go true e = omega arith
     go false e = omega arith
 
 -- the number k is that of some anomaly, or no note has it
-module _ (k n : ℕ) (whole : List ResAnomaly) (some : (x : ResAnomaly) → noteOf x .kind ≡ k → ofKind k (map noteOf whole) ≤ n) where
-  number-le : (l : List ResAnomaly) → (_≡_ {A = ℕ} (ofKind k (map noteOf l)) 0 → ofKind k (map noteOf whole) ≤ n) → ofKind k (map noteOf whole) ≤ n
+module _ (k n : ℕ) (whole : List ResAnomaly) (some : (x : ResAnomaly) → noteOf x .kind ≡ k → countOfKind k (map noteOf whole) ≤ n) where
+  number-le : (l : List ResAnomaly) → (_≡_ {A = ℕ} (countOfKind k (map noteOf l)) 0 → countOfKind k (map noteOf whole) ≤ n) → countOfKind k (map noteOf whole) ≤ n
   number-le [] none = none refl
   number-le (y ∷ l) none = go (eqb (noteOf y .kind) k) refl (number-le l)
     where
       go : (b : Bool) → eqb (noteOf y .kind) k ≡ b
-          → ((_≡_ {A = ℕ} (ofKind k (map noteOf l)) 0 → ofKind k (map noteOf whole) ≤ n) → ofKind k (map noteOf whole) ≤ n)
-          → ofKind k (map noteOf whole) ≤ n
+          → ((_≡_ {A = ℕ} (countOfKind k (map noteOf l)) 0 → countOfKind k (map noteOf whole) ≤ n) → countOfKind k (map noteOf whole) ≤ n)
+          → countOfKind k (map noteOf whole) ≤ n
       go true e rest = some y (eqb-true (noteOf y .kind) k e)
       go false e rest = rest (λ z. none (rw e (omega arith)))
 
-pub kept-number : (cap k : ℕ) (l : List ResAnomaly) → ofKind k (map noteOf (keptNotes cap l)) ≤ cap
+pub kept-number : (cap k : ℕ) (l : List ResAnomaly) → countOfKind k (map noteOf (keptNotes cap l)) ≤ cap
 kept-number cap k l =
     number-le k cap (keptNotes cap l)
     (λ x e. rw (← e) (omega (arith, number-of x (keptNotes cap l), keptNotes-of-kind-le cap (kindIndex x) l)))

@@ -1,8 +1,8 @@
--- Events taken apart: the notes among them (`notesIn`, specs/Counts.antt), and the others. docs/FORMAT.md, B12. No contract cites this file.
+-- Events taken apart: the notes among them (`eventNotes`, specs/Counts.antt), and the others. docs/FORMAT.md, B12. No contract cites this file.
 --
 --   othersIn                         the events that are no notes
---   othersIn-append, notesIn-append  both of lists that are joined
---   othersIn-notes, notesIn-notes    both of a list of notes alone
+--   othersIn-append, eventNotes-append  both of lists that are joined
+--   othersIn-notes, eventNotes-notes    both of a list of notes alone
 --   nil-left, nil-right              lists that join to nothing are nothing
 use mathlib.Core.Path.{_≡_, refl, sym, ap}
 use mathlib.Core.List.{List, [], _∷_, _++_, append-assoc, cons≢nil}
@@ -10,7 +10,7 @@ use Rattle.anomaly.specs.declared.ResAnomaly.{ResAnomaly}
 use Rattle.events.specs.declared.Event.{Event}
 use Rattle.events.specs.declared.Event.the-variants.{Nothing, Open, Attribute, LeftOut, Close, Note, Refuse, Finish}
 use Rattle.events.specs.Events.{notesOf}
-use Rattle.claims.specs.Counts.{noted, notesIn}
+use Rattle.claims.specs.Counts.{eventNote, eventNotes}
 
 abbrev pub other : Event → List Event
 other Nothing = Nothing ∷ []
@@ -30,17 +30,17 @@ pub othersIn-append : (ds es : List Event) → othersIn (ds ++ es) ≡ othersIn 
 othersIn-append [] es = refl
 othersIn-append (d ∷ ds) es = rw (othersIn-append ds es) (sym (append-assoc (other d) (othersIn ds) (othersIn es)))
 
-pub notesIn-append : (ds es : List Event) → notesIn (ds ++ es) ≡ notesIn ds ++ notesIn es
-notesIn-append [] es = refl
-notesIn-append (d ∷ ds) es = rw (notesIn-append ds es) (sym (append-assoc (noted d) (notesIn ds) (notesIn es)))
+pub eventNotes-append : (ds es : List Event) → eventNotes (ds ++ es) ≡ eventNotes ds ++ eventNotes es
+eventNotes-append [] es = refl
+eventNotes-append (d ∷ ds) es = rw (eventNotes-append ds es) (sym (append-assoc (eventNote d) (eventNotes ds) (eventNotes es)))
 
 pub othersIn-notes : (ns : List ResAnomaly) → othersIn (notesOf ns) ≡ []
 othersIn-notes [] = refl
 othersIn-notes (x ∷ ns) = othersIn-notes ns
 
-pub notesIn-notes : (ns : List ResAnomaly) → notesIn (notesOf ns) ≡ ns
-notesIn-notes [] = refl
-notesIn-notes (x ∷ ns) = ap (λ (r : List ResAnomaly). x ∷ r) (notesIn-notes ns)
+pub eventNotes-notes : (ns : List ResAnomaly) → eventNotes (notesOf ns) ≡ ns
+eventNotes-notes [] = refl
+eventNotes-notes (x ∷ ns) = ap (λ (r : List ResAnomaly). x ∷ r) (eventNotes-notes ns)
 
 -- two lists that join to nothing are nothing
 pub nil-left : {A : Type 0} (s t : List A) → s ++ t ≡ [] → s ≡ []

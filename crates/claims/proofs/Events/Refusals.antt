@@ -29,7 +29,7 @@ use Rattle.xml_elements.specs.declared.Turn.the-variants.{Stop, Foreign, Met, C
 use Rattle.xml_elements.specs.Chunk.{turnOf, strideOf, attributesAt, attributeAt}
 use Rattle.events.specs.declared.Event.{Event}
 use Rattle.events.specs.declared.Event.the-variants.{Nothing, Open, Attribute, LeftOut, Close, Note, Refuse, Finish}
-use Rattle.events.specs.Events.{Names, Spot, when, leading, attributeBy, attributeEvent, attributesOf}
+use Rattle.events.specs.Events.{Names, WalkState, eventIf, leading, attributeBy, attributeEvent, attributesOf}
 use Rattle.events.specs.Events.{foreignNote, chunkYield, cutYield, yieldOf, fromRoot, lastOf, out, bodyEvents, fileEvents}
 use Rattle.events.specs.Inner.Starts.{fromLead, fromOpen, fromName}
 use Rattle.claims.proofs.Events.NotesAndOthers.{othersIn}
@@ -61,7 +61,7 @@ module _ (Q : Refusal → Type 0) where
   refuse-right [] b h = h
   refuse-right (e ∷ a) b h = refuse-right a b (h .1)
 
-  behind-note : (b : Bool) (x : ResAnomaly) (es : List Event) → AllRefuse es → AllRefuse (when b (Note x) ++ es)
+  behind-note : (b : Bool) (x : ResAnomaly) (es : List Event) → AllRefuse es → AllRefuse (eventIf b (Note x) ++ es)
   behind-note true x es h = (tt, h)
   behind-note false x es h = h
 
@@ -103,7 +103,7 @@ module _ (Q : Refusal → Type 0) where
     attributes-refuse (suc n) stride l =
         (attribute-by (attributeAt l) (N .state (attributeAt l .name .0)), attributes-refuse n stride (drop stride l))
 
-    behind-lead : (b : Bool) (es : List Event) → AllRefuse es → AllRefuse (when b leading ++ es)
+    behind-lead : (b : Bool) (es : List Event) → AllRefuse es → AllRefuse (eventIf b leading ++ es)
     behind-lead true es h = (tt, h)
     behind-lead false es h = h
 
@@ -117,7 +117,7 @@ module _ (Q : Refusal → Type 0) where
 
     -- ---- a turn
 
-    module _ (l : List ℕ) (p : Spot) where
+    module _ (l : List ℕ) (p : WalkState) where
       chunk-refuse : (c : Chunk) → AllRefuse (chunkYield N l p c)
       chunk-refuse (Start s) =
           start-whole N N s (p .starts) l (λ w ds es. AllRefuse ds) (λ w b n ds es h. behind-note b (startNote s n) ds h) (name-refuse s (p .starts) l)
@@ -138,7 +138,7 @@ module _ (Q : Refusal → Type 0) where
       turn-refuse Stop = tt
       turn-refuse (Foreign k a n) = go (not (eqb k (p .run)))
         where
-          go : (b : Bool) → AllRefuse (when b (Note (foreignNote k a)))
+          go : (b : Bool) → AllRefuse (eventIf b (Note (foreignNote k a)))
           go true = (tt, tt)
           go false = tt
       turn-refuse (Met c) = chunk-refuse c
@@ -147,10 +147,10 @@ module _ (Q : Refusal → Type 0) where
     -- ---- a body
 
     module _ (root : Q MissingRoot) where
-      last-refuse : (p : Spot) → AllRefuse (lastOf p)
+      last-refuse : (p : WalkState) → AllRefuse (lastOf p)
       last-refuse p = behind-note (not (eqb (p .depth) 0)) (UnclosedElements (p .depth)) (fromRoot p) (go (eqb (p .starts) 0))
         where
-          go : (b : Bool) → AllRefuse (when b (Refuse MissingRoot))
+          go : (b : Bool) → AllRefuse (eventIf b (Refuse MissingRoot))
           go true = (root, tt)
           go false = tt
 

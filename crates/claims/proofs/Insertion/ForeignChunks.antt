@@ -18,21 +18,21 @@ use Rattle.common.specs.Header.{headerOf}
 use Rattle.common.specs.declared.ResChunkHeader.{ResChunkHeader}
 use Rattle.common.specs.declared.HeaderRead.the-variants.{Whole}
 use Rattle.common.proofs.Laws.{headerOf-long}
-use Rattle.chunk.specs.Sort.{sortOf}
+use Rattle.chunk.specs.Sort.{chunkSort}
 use Rattle.anomaly.specs.Note.{kindIndex}
 use Rattle.anomaly.specs.Kept.{isDue, counted, none, ofKind, keptFrom, keptNotes}
 use Rattle.anomaly.specs.declared.ResAnomaly.{ResAnomaly}
 use Rattle.anomaly.specs.declared.ResAnomaly.the-variants.{NonXmlChunk, XmlNodeHeaderSize}
 use Rattle.anomaly.proofs.Laws.{keptNotes-of-kind-le}
 use Rattle.xml_elements.specs.declared.Turn.the-variants.{Foreign}
-use Rattle.xml_elements.specs.Chunk.{turnOf, numberOf}
+use Rattle.xml_elements.specs.Chunk.{turnOf, foreignNumber}
 use Rattle.xml_elements.proofs.Laws.{cond-by}
 use Rattle.xml_elements.proofs.Local.{headerOf-same, turnOf-foreign-append}
 use Rattle.claims.specs.Insertion.{ForeignChunk, AllOf, BeginsOther, noteFor, notesBehind, stretchNotes, placeNotes}
 
 -- ---- complete foreign chunks
 
-module _ (l : List ℕ) {h : ResChunkHeader} (w : headerOf l ≡ Whole h) (n : sortOf h ≡ 2 → ⊥) (least : 8 ≤ h .size) (there : h .size ≤ length l) where
+module _ (l : List ℕ) {h : ResChunkHeader} (w : headerOf l ≡ Whole h) (n : chunkSort h ≡ 2 → ⊥) (least : 8 ≤ h .size) (there : h .size ≤ length l) where
   -- a header that is foreign, of a size of at least 8, and all its bytes are there
   pub foreign-of : ForeignChunk
   foreign-of = record {
@@ -55,7 +55,7 @@ pub foreign-least : (f : ForeignChunk) → 8 ≤ f .header .size
 foreign-least f = omega (arith, f .complete, headerOf-long (f .bytes) (f .reads))
 
 -- the walk takes it for foreign, whatever follows it, and takes its bytes
-pub foreign-told : (f : ForeignChunk) (m : List ℕ) → turnOf (f .bytes ++ m) ≡ Foreign (sortOf (f .header)) (numberOf (f .header)) (length (f .bytes))
+pub foreign-told : (f : ForeignChunk) (m : List ℕ) → turnOf (f .bytes ++ m) ≡ Foreign (chunkSort (f .header)) (foreignNumber (f .header)) (length (f .bytes))
 foreign-told f m = turnOf-foreign-append (f .bytes) m (f .reads) (f .foreign) (omega (arith, f .complete))
 
 -- ---- stretches
@@ -66,21 +66,21 @@ behind-same k (f ∷ fs) gs h = rw (h .0, eq-eqb k k refl) (behind-same k fs gs 
 
 behind-other : (k : ℕ) (gs : List ForeignChunk) → BeginsOther k gs → notesBehind k gs ≡ stretchNotes gs
 behind-other k [] h = refl
-behind-other k (g ∷ gs) h = rw (ne-eqb (sortOf (g .header)) k h)
+behind-other k (g ∷ gs) h = rw (ne-eqb (chunkSort (g .header)) k h)
 
 -- the whole of W4: a stretch makes one note, that of its first chunk, and then come the notes of what follows it
-pub stretch-one : (f : ForeignChunk) (fs gs : List ForeignChunk) → AllOf (sortOf (f .header)) fs → BeginsOther (sortOf (f .header)) gs
+pub stretch-one : (f : ForeignChunk) (fs gs : List ForeignChunk) → AllOf (chunkSort (f .header)) fs → BeginsOther (chunkSort (f .header)) gs
     → stretchNotes ((f ∷ fs) ++ gs) ≡ noteFor f ∷ stretchNotes gs
 stretch-one f fs gs h o =
-    ap (λ (r : List ResAnomaly). noteFor f ∷ r) (behind-same (sortOf (f .header)) fs gs h ∙ behind-other (sortOf (f .header)) gs o)
+    ap (λ (r : List ResAnomaly). noteFor f ∷ r) (behind-same (chunkSort (f .header)) fs gs h ∙ behind-other (chunkSort (f .header)) gs o)
 
 -- the number of a note: the type of a chunk that is not XML, the header size of one that is
-pub note-type : (f : ForeignChunk) → sortOf (f .header) ≡ 0 → noteFor f ≡ NonXmlChunk (f .header .kind)
-unfolding numberOf
+pub note-type : (f : ForeignChunk) → chunkSort (f .header) ≡ 0 → noteFor f ≡ NonXmlChunk (f .header .kind)
+unfolding foreignNumber
 note-type f e = rw e
 
-pub note-size : (f : ForeignChunk) → sortOf (f .header) ≡ 1 → noteFor f ≡ XmlNodeHeaderSize (f .header .«header_size»)
-unfolding numberOf
+pub note-size : (f : ForeignChunk) → chunkSort (f .header) ≡ 1 → noteFor f ≡ XmlNodeHeaderSize (f .header .«header_size»)
+unfolding foreignNumber
 note-size f e = rw e
 
 -- ---- twice the cap suffices
@@ -95,7 +95,7 @@ AllTwo (x ∷ l) = IsTwo x × AllTwo l
 
 two-note : (f : ForeignChunk) → IsTwo (noteFor f)
 unfolding kindIndex
-two-note f = cond-by IsTwo (eqb (sortOf (f .header)) 0) (λ _. (omega arith, omega arith)) (λ _. (omega arith, omega arith))
+two-note f = cond-by IsTwo (eqb (chunkSort (f .header)) 0) (λ _. (omega arith, omega arith)) (λ _. (omega arith, omega arith))
 
 two-append : (k l : List ResAnomaly) → AllTwo k → AllTwo l → AllTwo (k ++ l)
 two-append [] l h g = g
@@ -108,12 +108,12 @@ two-either false k l h g = g
 two-behind : (k : ℕ) (fs : List ForeignChunk) → AllTwo (notesBehind k fs)
 two-behind k [] = tt
 two-behind k (f ∷ fs) =
-    two-append (cond (eqb (sortOf (f .header)) k) [] (noteFor f ∷ [])) (notesBehind (sortOf (f .header)) fs)
-    (two-either (eqb (sortOf (f .header)) k) [] (noteFor f ∷ []) tt (two-note f, tt)) (two-behind (sortOf (f .header)) fs)
+    two-append (cond (eqb (chunkSort (f .header)) k) [] (noteFor f ∷ [])) (notesBehind (chunkSort (f .header)) fs)
+    (two-either (eqb (chunkSort (f .header)) k) [] (noteFor f ∷ []) tt (two-note f, tt)) (two-behind (chunkSort (f .header)) fs)
 
 two-stretch : (fs : List ForeignChunk) → AllTwo (stretchNotes fs)
 two-stretch [] = tt
-two-stretch (f ∷ fs) = (two-note f, two-behind (sortOf (f .header)) fs)
+two-stretch (f ∷ fs) = (two-note f, two-behind (chunkSort (f .header)) fs)
 
 two-places : (places : List (List ForeignChunk)) → AllTwo (placeNotes places)
 two-places [] = tt

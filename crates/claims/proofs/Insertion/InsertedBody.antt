@@ -23,16 +23,16 @@ use Rattle.xml_elements.specs.declared.Turn.the-variants.{Stop, Foreign, Met, C
 use Rattle.xml_elements.specs.Chunk.{turnOf, lenOf}
 use Rattle.xml_elements.proofs.Laws.{told}
 use Rattle.xml_elements.proofs.Local.{turnOf-append}
-use Rattle.events.specs.Events.{Names, Spot, chunkYield, chunkNext, used, next, eventsOn, notesOf}
+use Rattle.events.specs.Events.{Names, WalkState, chunkYield, chunkNext, used, next, eventsOn, notesOf}
 use Rattle.events.proofs.Model.{eventsOn-step}
 use Rattle.events.proofs.Local.{chunkYield-append}
-use Rattle.claims.specs.Insertion.{ForeignChunk, bytesOf, stretchNotes, chunksOf, restOf, placesOf, inserted, placeNotes}
+use Rattle.claims.specs.Insertion.{ForeignChunk, chunkBytes, stretchNotes, chunksOf, restOf, placesOf, inserted, placeNotes}
 use Rattle.claims.proofs.Insertion.BodyChunks.{fits, nil-stop, stop-of, chunksOf-stop, restOf-stop, chunksOf-front}
-use Rattle.claims.specs.Counts.{notesIn}
-use Rattle.claims.proofs.Events.NotesAndOthers.{othersIn, othersIn-append, notesIn-append, othersIn-notes, notesIn-notes, nil-left, nil-right}
+use Rattle.claims.specs.Counts.{eventNotes}
+use Rattle.claims.proofs.Events.NotesAndOthers.{othersIn, othersIn-append, eventNotes-append, othersIn-notes, eventNotes-notes, nil-left, nil-right}
 use Rattle.claims.proofs.Insertion.ForeignRow.{Ordinary, eventsOn-front, eventsOn-place}
 
-chunkNext-run : (p : Spot) (x : Chunk) → chunkNext p x .run ≡ 2
+chunkNext-run : (p : WalkState) (x : Chunk) → chunkNext p x .run ≡ 2
 chunkNext-run p (Start s) = refl
 chunkNext-run p End = refl
 chunkNext-run p (Other n) = refl
@@ -40,25 +40,25 @@ chunkNext-run p Last = refl
 
 module _ (N : Names) where
   -- the body l′ makes what l makes, and beside it the notes ns
-  pub record SameWithNotes (p : Spot) (l l′ : List ℕ) (ns : List ResAnomaly) : Type 0 where
+  pub record SameWithNotes (p : WalkState) (l l′ : List ℕ) (ns : List ResAnomaly) : Type 0 where
     pub others : othersIn (eventsOn N l′ p) ≡ othersIn (eventsOn N l p)
-    pub notes : notesIn (eventsOn N l′ p) ≡ ns
+    pub notes : eventNotes (eventsOn N l′ p) ≡ ns
 
   -- ---- a place
 
-  place-inserted : (fs : List ForeignChunk) (p : Spot) (l m : List ℕ) (ns : List ResAnomaly) → p .run ≡ 2 → Ordinary (turnOf m) → SameWithNotes p l m ns
-      → SameWithNotes p l (bytesOf fs ++ m) (stretchNotes fs ++ ns)
+  place-inserted : (fs : List ForeignChunk) (p : WalkState) (l m : List ℕ) (ns : List ResAnomaly) → p .run ≡ 2 → Ordinary (turnOf m) → SameWithNotes p l m ns
+      → SameWithNotes p l (chunkBytes fs ++ m) (stretchNotes fs ++ ns)
   place-inserted fs p l m ns r o w =
       let ms = stretchNotes fs in
       let e = eventsOn-place N fs m p r o in
       record {
         others = ap othersIn e ∙ othersIn-append (notesOf ms) (eventsOn N m p) ∙ rw (othersIn-notes ms) (w .others);
-        notes = ap notesIn e ∙ notesIn-append (notesOf ms) (eventsOn N m p) ∙ rw (notesIn-notes ms, w .notes);
+        notes = ap eventNotes e ∙ eventNotes-append (notesOf ms) (eventsOn N m p) ∙ rw (eventNotes-notes ms, w .notes);
       }
 
   -- ---- a whole chunk c before both
 
-  module _ (p : Spot) (c d d′ : List ℕ) (x : Chunk) (e : turnOf (c ++ d) ≡ Met x) (q : lenOf x ≡ length c) where
+  module _ (p : WalkState) (c d d′ : List ℕ) (x : Chunk) (e : turnOf (c ++ d) ≡ Met x) (q : lenOf x ≡ length c) where
     some : 0 < length c
     some = omega (arith, told (c ++ d) e .0)
 
@@ -71,29 +71,29 @@ module _ (N : Names) where
     long : eventsOn N (c ++ d′) p ≡ chunkYield N (c ++ d) p x ++ eventsOn N d′ (chunkNext p x)
     long = eventsOn-front N c d′ p turn-same q some ∙ rw (chunkYield-append N c d d′ p x (omega arith))
 
-    whole-before : notesIn (eventsOn N (c ++ d) p) ≡ [] → (ns : List ResAnomaly) → SameWithNotes (chunkNext p x) d d′ ns → SameWithNotes p (c ++ d) (c ++ d′) ns
+    whole-before : eventNotes (eventsOn N (c ++ d) p) ≡ [] → (ns : List ResAnomaly) → SameWithNotes (chunkNext p x) d d′ ns → SameWithNotes p (c ++ d) (c ++ d′) ns
     whole-before z ns w =
         let y = chunkYield N (c ++ d) p x in
-        let both : notesIn y ++ notesIn (eventsOn N d (chunkNext p x)) ≡ [] = sym (ap notesIn short ∙ notesIn-append y _) ∙ z in
+        let both : eventNotes y ++ eventNotes (eventsOn N d (chunkNext p x)) ≡ [] = sym (ap eventNotes short ∙ eventNotes-append y _) ∙ z in
         record {
           others =
               ap othersIn long ∙ othersIn-append y _ ∙ rw (w .others) (sym (ap othersIn short ∙ othersIn-append y _));
-          notes = ap notesIn long ∙ notesIn-append y _ ∙ rw (nil-left (notesIn y) (notesIn (eventsOn N d (chunkNext p x))) both, w .notes);
+          notes = ap eventNotes long ∙ eventNotes-append y _ ∙ rw (nil-left (eventNotes y) (eventNotes (eventsOn N d (chunkNext p x))) both, w .notes);
         }
 
   -- ---- all places of a body
 
-  abbrev pub AtAllPlaces : Spot → List ℕ → Type 0
+  abbrev pub AtAllPlaces : WalkState → List ℕ → Type 0
   AtAllPlaces p l = (places : List (List ForeignChunk)) → length places ≤ placesOf l → SameWithNotes p l (inserted places l) (placeNotes places)
 
-  same : (p : Spot) (l : List ℕ) → notesIn (eventsOn N l p) ≡ [] → SameWithNotes p l l []
+  same : (p : WalkState) (l : List ℕ) → eventNotes (eventsOn N l p) ≡ [] → SameWithNotes p l l []
   same p l z = record { others = refl; notes = z }
 
   too-many : {A : Type 0} (n m : ℕ) → suc (suc n) ≤ m → m ≤ 1 → A
   too-many n m h k = absurd (let y : ⊥ = omega arith in y)
 
-  module _ (p : Spot) (r : p .run ≡ 2) where
-    at-stop : (l : List ℕ) → turnOf l ≡ Stop → notesIn (eventsOn N l p) ≡ [] → AtAllPlaces p l
+  module _ (p : WalkState) (r : p .run ≡ 2) where
+    at-stop : (l : List ℕ) → turnOf l ≡ Stop → eventNotes (eventsOn N l p) ≡ [] → AtAllPlaces p l
     unfolding inserted placesOf
     at-stop l e z [] h = rw (chunksOf-stop l e, restOf-stop l e) (same p l z)
     at-stop [] e z (fs ∷ []) h = rw (chunksOf-stop [] e, restOf-stop [] e) (place-inserted fs p [] [] [] r (rw e tt) (same p [] z))
@@ -102,7 +102,7 @@ module _ (N : Names) where
     at-stop [] e z (fs ∷ gs ∷ ps) h = too-many (length ps) _ (rw (chunksOf-stop [] e, restOf-stop [] e) at h) (omega arith)
     at-stop (x ∷ l) e z (fs ∷ gs ∷ ps) h = too-many (length ps) _ (rw (chunksOf-stop (x ∷ l) e, restOf-stop (x ∷ l) e) at h) (omega arith)
 
-    at-whole : (c d : List ℕ) (x : Chunk) → turnOf (c ++ d) ≡ Met x → lenOf x ≡ length c → notesIn (eventsOn N (c ++ d) p) ≡ []
+    at-whole : (c d : List ℕ) (x : Chunk) → turnOf (c ++ d) ≡ Met x → lenOf x ≡ length c → eventNotes (eventsOn N (c ++ d) p) ≡ []
         → AtAllPlaces (chunkNext p x) d → AtAllPlaces p (c ++ d)
     unfolding inserted placesOf
     at-whole c d x e q z rec places h = go places h
@@ -122,7 +122,7 @@ module _ (N : Names) where
             (place-inserted fs p (c ++ d) (c ++ d′) (placeNotes ps) r (rw (turn-same p c d d′ x e q) tt)
             (whole-before p c d d′ x e q z (placeNotes ps) (rec ps few)))
 
-    at-cut : (l : List ℕ) (x : CutChunk) → turnOf l ≡ Cut x → notesIn (eventsOn N l p) ≡ [] → AtAllPlaces p l
+    at-cut : (l : List ℕ) (x : CutChunk) → turnOf l ≡ Cut x → eventNotes (eventsOn N l p) ≡ [] → AtAllPlaces p l
     unfolding inserted placesOf
     at-cut l x e z places h = go places h
       where
@@ -138,7 +138,7 @@ module _ (N : Names) where
         go (fs ∷ gs ∷ ps) h = too-many (length ps) _ (rw (front .0, front .1, e) at h) (omega arith)
 
     -- a body that makes no note has no foreign chunk
-    no-foreign : (l : List ℕ) (k a u : ℕ) → turnOf l ≡ Foreign k a u → notesIn (eventsOn N l p) ≡ [] → ⊥
+    no-foreign : (l : List ℕ) (k a u : ℕ) → turnOf l ≡ Foreign k a u → eventNotes (eventsOn N l p) ≡ [] → ⊥
     no-foreign l k a u e z =
         let t = told l e in
         let f : eqb k (p .run) ≡ false = ne-eqb k (p .run) (λ y. omega (arith, t .0, y, r)) in
@@ -146,13 +146,13 @@ module _ (N : Names) where
         cons≢nil (rw (s, f) at z)
 
   -- THE LAW of a body
-  pub inserted-body : (l : List ℕ) (p : Spot) → p .run ≡ 2 → notesIn (eventsOn N l p) ≡ [] → AtAllPlaces p l
-  inserted-body = walk-ind used next fits (λ l p. p .run ≡ 2 → notesIn (eventsOn N l p) ≡ [] → AtAllPlaces p l)
+  pub inserted-body : (l : List ℕ) (p : WalkState) → p .run ≡ 2 → eventNotes (eventsOn N l p) ≡ [] → AtAllPlaces p l
+  inserted-body = walk-ind used next fits (λ l p. p .run ≡ 2 → eventNotes (eventsOn N l p) ≡ [] → AtAllPlaces p l)
       (λ l p z r n. at-stop p r l (stop-of l z) n) more
     where
-      more : (l : List ℕ) (p : Spot) (m : ℕ) → used l p ≡ suc m → suc m ≤ length l
-          → (next l p .run ≡ 2 → notesIn (eventsOn N (drop (suc m) l) (next l p)) ≡ [] → AtAllPlaces (next l p) (drop (suc m) l))
-          → p .run ≡ 2 → notesIn (eventsOn N l p) ≡ [] → AtAllPlaces p l
+      more : (l : List ℕ) (p : WalkState) (m : ℕ) → used l p ≡ suc m → suc m ≤ length l
+          → (next l p .run ≡ 2 → eventNotes (eventsOn N (drop (suc m) l) (next l p)) ≡ [] → AtAllPlaces (next l p) (drop (suc m) l))
+          → p .run ≡ 2 → eventNotes (eventsOn N l p) ≡ [] → AtAllPlaces p l
       more l p m u f ih r z = go (turnOf l) refl
         where
           c : List ℕ
@@ -172,7 +172,7 @@ module _ (N : Names) where
               let q : lenOf x ≡ suc m = rw e at u in
               let s = eventsOn-step N l p (suc m) e q (omega arith) in
               let y = chunkYield N l p x in
-              let n : notesIn (eventsOn N d (chunkNext p x)) ≡ [] = nil-right (notesIn y) _ (sym (ap notesIn s ∙ notesIn-append y _) ∙ z) in
+              let n : eventNotes (eventsOn N d (chunkNext p x)) ≡ [] = nil-right (eventNotes y) _ (sym (ap eventNotes s ∙ eventNotes-append y _) ∙ z) in
               let ih′ = rw e at ih in
               subst (AtAllPlaces p) both
               (at-whole p r c d x (rw both e) (q ∙ sym (length-take-le (suc m) l f)) (rw both z) (ih′ (chunkNext-run p x) n))

@@ -25,11 +25,11 @@ use Rattle.head.proofs.Cases.{openedOf-small}
 use Rattle.head.proofs.Laws.{openedOf-fits, openedOf-append, tablesIn-append}
 use Rattle.events.specs.declared.Event.{Event}
 use Rattle.events.specs.declared.Event.the-variants.{Refuse}
-use Rattle.events.specs.Events.{Names, Spot, bodyEvents, notesOf, afterPool, fileEvents}
+use Rattle.events.specs.Events.{Names, WalkState, bodyEvents, notesOf, afterPool, fileEvents}
 use Rattle.claims.specs.Insertion.{ForeignChunk, placesOf, inserted, insertedFile, placeNotes}
 use Rattle.claims.proofs.Insertion.BodyChunks.{inserted-none}
-use Rattle.claims.specs.Counts.{notesIn}
-use Rattle.claims.proofs.Events.NotesAndOthers.{othersIn, othersIn-append, notesIn-append, nil-left, nil-right}
+use Rattle.claims.specs.Counts.{eventNotes}
+use Rattle.claims.proofs.Events.NotesAndOthers.{othersIn, othersIn-append, eventNotes-append, nil-left, nil-right}
 use Rattle.claims.proofs.Insertion.InsertedBody.{inserted-body}
 use Rattle.claims.proofs.Events.Refusals.{refuse-right}
 use Rattle.claims.proofs.Settle.StoreCases.{AllStay}
@@ -125,16 +125,16 @@ module _ (N : Names) (o : Opened) (t : List ℕ) where
       go (HeaderSize n) q s = let s′ = rw q at s in absurd (s′ .0)
 
   -- THE LAW of a file's events
-  module _ (w : o .end ≡ Whole) (l : List ℕ) (none : notesIn (fileEvents N o t l) ≡ []) (places : List (List ForeignChunk))
+  module _ (w : o .end ≡ Whole) (l : List ℕ) (none : eventNotes (fileEvents N o t l) ≡ []) (places : List (List ForeignChunk))
       (few : length places ≤ placesOf l) where
-    both-none : notesIn front ++ notesIn (bodyEvents N l) ≡ []
-    both-none = sym (ap notesIn (fileEvents-whole w l) ∙ notesIn-append front (bodyEvents N l)) ∙ none
+    both-none : eventNotes front ++ eventNotes (bodyEvents N l) ≡ []
+    both-none = sym (ap eventNotes (fileEvents-whole w l) ∙ eventNotes-append front (bodyEvents N l)) ∙ none
 
-    both-bodies : (othersIn (bodyEvents N (inserted places l)) ≡ othersIn (bodyEvents N l)) × (notesIn (bodyEvents N (inserted places l)) ≡ placeNotes places)
+    both-bodies : (othersIn (bodyEvents N (inserted places l)) ≡ othersIn (bodyEvents N l)) × (eventNotes (bodyEvents N (inserted places l)) ≡ placeNotes places)
     unfolding bodyEvents
     both-bodies =
-        let p : Spot = record { run = 2; depth = 0; starts = 0 } in
-        let v = inserted-body N l p refl (nil-right (notesIn front) (notesIn (bodyEvents N l)) both-none) places few in
+        let p : WalkState = record { run = 2; depth = 0; starts = 0 } in
+        let v = inserted-body N l p refl (nil-right (eventNotes front) (eventNotes (bodyEvents N l)) both-none) places few in
         (v .others, v .notes)
 
     pub longer-others : othersIn (fileEvents N o t (inserted places l)) ≡ othersIn (fileEvents N o t l)
@@ -147,11 +147,11 @@ module _ (N : Names) (o : Opened) (t : List ℕ) where
           both-bodies .0,
         )
 
-    pub longer-notes : notesIn (fileEvents N o t (inserted places l)) ≡ placeNotes places
+    pub longer-notes : eventNotes (fileEvents N o t (inserted places l)) ≡ placeNotes places
     longer-notes =
         rw (
           fileEvents-whole w (inserted places l),
-          notesIn-append front (bodyEvents N (inserted places l)),
-          nil-left (notesIn front) (notesIn (bodyEvents N l)) both-none,
+          eventNotes-append front (bodyEvents N (inserted places l)),
+          nil-left (eventNotes front) (eventNotes (bodyEvents N l)) both-none,
           both-bodies .1,
         )

@@ -20,7 +20,7 @@ use Rattle.system_types.specs.Names.{Lent}
 use Rattle.head.specs.declared.HeadEnd.the-variants.{Whole}
 use Rattle.head.specs.Head.{openedOf, tablesIn}
 use Rattle.head.specs.Entry.{question, Check, passes, fails, firstOf, lengthCheck, entryChecks}
-use Rattle.head.specs.Ask.{openBy, openOf, askedBy}
+use Rattle.head.specs.Ask.{openBy, openOf, contentAskedBy}
 use Rattle.head.specs.declared.OpenRead.{OpenRead}
 use Rattle.head.specs.Ask.{textAnswer, textBuffer, contentAnswer, TextReads}
 use Rattle.first_value.specs.Question as first
@@ -58,11 +58,11 @@ module _ (r : Room) (f : List ℕ) (lent : Lent) (c : ReadCounts) (done : readin
   unfolding openOf lengthCheck
   open-same = rw (le-ltb fileLimit (length g) limit, le-ltb fileLimit (length f) short, opened-same)
 
-  asked-same : (i : ℕ) → askedBy g lent i (openOf g lent) ≡ askedBy f lent i (openOf f lent)
+  asked-same : (i : ℕ) → contentAskedBy g lent i (openOf g lent) ≡ contentAskedBy f lent i (openOf f lent)
   unfolding openOf
-  asked-same i = ap (askedBy g lent i) open-same ∙ go (firstOf (entryChecks f lent question))
+  asked-same i = ap (contentAskedBy g lent i) open-same ∙ go (firstOf (entryChecks f lent question))
     where
-      go : (x : Check) → askedBy g lent i (openBy (openedOf f) x) ≡ askedBy f lent i (openBy (openedOf f) x)
+      go : (x : Check) → contentAskedBy g lent i (openBy (openedOf f) x) ≡ contentAskedBy f lent i (openBy (openedOf f) x)
       go passes = rw (whole, tables-same)
       go (fails y) = refl
 
@@ -84,20 +84,20 @@ module _ (r : Room) (f : List ℕ) (lent : Lent) (c : ReadCounts) (done : readin
   insertion-content i s s′ p q = q ∙ content-same i ∙ sym p
 
   module _ (ns ats tag name : List ℕ) (nodes attributes : ℕ) where
-    asked-fit : (x : Fit) → first.askedBy g lent ns ats tag name nodes (first.fittedBy (openedOf f .head) x)
-        ≡ first.askedBy f lent ns ats tag name nodes (first.fittedBy (openedOf f .head) x)
+    asked-fit : (x : Fit) → first.firstAskedBy g lent ns ats tag name nodes (first.fittedBy (openedOf f .head) x)
+        ≡ first.firstAskedBy f lent ns ats tag name nodes (first.fittedBy (openedOf f .head) x)
     asked-fit Fitting = rw tables-same
     asked-fit (Unfit k) = refl
 
-    asked-first : (x : Check) → first.askedBy g lent ns ats tag name nodes (first.sharedBy (fitOf ns ats nodes attributes) (openBy (openedOf f) x))
-        ≡ first.askedBy f lent ns ats tag name nodes (first.sharedBy (fitOf ns ats nodes attributes) (openBy (openedOf f) x))
+    asked-first : (x : Check) → first.firstAskedBy g lent ns ats tag name nodes (first.sharedBy (fitOf ns ats nodes attributes) (openBy (openedOf f) x))
+        ≡ first.firstAskedBy f lent ns ats tag name nodes (first.sharedBy (fitOf ns ats nodes attributes) (openBy (openedOf f) x))
     asked-first passes = rw whole (asked-fit (fitOf ns ats nodes attributes))
     asked-first (fails y) = refl
 
     first-same : firstAnswer g lent ns ats tag name nodes attributes ≡ firstAnswer f lent ns ats tag name nodes attributes
     unfolding firstAnswer sharedOf openOf
     first-same =
-        ap (λ (x : OpenRead). first.askedBy g lent ns ats tag name nodes (first.sharedBy (fitOf ns ats nodes attributes) x)) open-same
+        ap (λ (x : OpenRead). first.firstAskedBy g lent ns ats tag name nodes (first.sharedBy (fitOf ns ats nodes attributes) x)) open-same
         ∙ asked-first (firstOf (entryChecks f lent question))
 
     pub insertion-first : (a a′ : FirstAnswer) → FirstReads f lent ns ats tag name nodes attributes a

@@ -31,9 +31,9 @@ use Rattle.walk.specs.Settle.{Room, Out, going, refused, settle, nothingYet}
 use Rattle.walk.specs.Reading.{Reading, secondOf, nodesKept, attributesKept, succeeds, finalOf, settledIn, reading}
 use Rattle.claims.specs.Insertion.{ForeignChunk, inserted, insertedFile, withNotes}
 use Rattle.claims.specs.Room.{HasRoom}
-use Rattle.claims.specs.Counts.{notesIn}
+use Rattle.claims.specs.Counts.{eventNotes}
 use Rattle.claims.specs.Readers.{namesFor, eventsOf}
-use Rattle.claims.specs.Shape.{ofKind}
+use Rattle.claims.specs.Shape.{countOfKind}
 use Rattle.claims.proofs.Events.NotesAndOthers.{othersIn}
 use Rattle.claims.proofs.Settle.StoreAll.{Going, Settles, empty, settled, SameOrFull, settle-same, same-roomy}
 use Rattle.claims.proofs.Settle.Success.{Success, KeptThere, success, reading-of, succeeds-same, keptNodes, keptAttributes, again-nodes, again-attributes}
@@ -70,7 +70,7 @@ module _ (r : Room) (f : List ℕ) (lent : Lent) (c : ReadCounts) (done : readin
       × (take (8 + headLen (openedOf f .head)) (insertedFile places f) ≡ take (8 + headLen (openedOf f .head)) f)
   head-same places = (longer-opened f (s .short) head-whole places, longer-head f (s .short) head-whole places)
 
-  pub noted : take (c .notes) (reading r f lent .notes) ≡ map noteOf (keptNotes (r .cap) (notesIn es))
+  pub noted : take (c .notes) (reading r f lent .notes) ≡ map noteOf (keptNotes (r .cap) (eventNotes es))
   noted =
       ap (λ (n : ℕ). take n (reading r f lent .notes)) (ap (λ (d : ReadCounts). d .notes) (sym (s .counts)))
       ∙ ap (take (length (s .tables .notes))) (ap (λ (x : Reading). x .notes) (s .whole))
@@ -95,12 +95,12 @@ module _ (r : Room) (f : List ℕ) (lent : Lent) (c : ReadCounts) (done : readin
 
   -- ---- without note 12
 
-  module _ (none : _≡_ {A = ℕ} (ofKind 12 (take (c .notes) (reading r f lent .notes))) 0) where
+  module _ (none : _≡_ {A = ℕ} (countOfKind 12 (take (c .notes) (reading r f lent .notes))) 0) where
     -- no second element is open in the end
     no-second : _≡_ {A = ℕ} (secondOf (s .tables .stack)) 0
     no-second =
         second-none (N .repeats) r es (s .tables) (file-ends N (openedOf f) t l) (s .settles) (omega (arith, s .cap))
-        (ap (ofKind 12) (told .notes ∙ sym noted) ∙ none)
+        (ap (countOfKind 12) (told .notes ∙ sym noted) ∙ none)
 
     -- so all starts are kept
     pub all-kept : c .nodes ≡ c .starts
@@ -145,20 +145,20 @@ module _ (r : Room) (f : List ℕ) (lent : Lent) (c : ReadCounts) (done : readin
 
     module _ (others : othersIn es′ ≡ othersIn es) where
       pub same-tree : HasRoom (reading r′ (insertedFile places f) lent .answer)
-          → reading r′ (insertedFile places f) lent ≡ withNotes r′ (reading r f lent) c (keptNotes (r′ .cap) (notesIn es′))
+          → reading r′ (insertedFile places f) lent ≡ withNotes r′ (reading r f lent) c (keptNotes (r′ .cap) (eventNotes es′))
       same-tree room =
           go (settle (N .repeats) r′ nothingYet es′) longer (settle-same (N .repeats) r es (s .tables) (s .settles) r′ es′ others)
         where
           go : (x : Out) → reading r′ (insertedFile places f) lent ≡ finalOf r′ x → SameOrFull (N .repeats) r es (s .tables) (s .settles) r′ es′ others x
-              → reading r′ (insertedFile places f) lent ≡ withNotes r′ (reading r f lent) c (keptNotes (r′ .cap) (notesIn es′))
+              → reading r′ (insertedFile places f) lent ≡ withNotes r′ (reading r f lent) c (keptNotes (r′ .cap) (eventNotes es′))
           go (refused x) e full = absurd (true≢false (sym full ∙ (rw e at room)))
           go (going u) e b =
-              e ∙ succeeds-same r r′ (s .tables) u (keptNotes (r′ .cap) (notesIn es′)) (b .tree) (b .notes) there
-              ∙ ap (λ (d : ReadCounts). withNotes r′ (succeeds r (s .tables)) d (keptNotes (r′ .cap) (notesIn es′))) (s .counts)
-              ∙ ap (λ (x : Reading). withNotes r′ x c (keptNotes (r′ .cap) (notesIn es′))) (sym (s .whole))
+              e ∙ succeeds-same r r′ (s .tables) u (keptNotes (r′ .cap) (eventNotes es′)) (b .tree) (b .notes) there
+              ∙ ap (λ (d : ReadCounts). withNotes r′ (succeeds r (s .tables)) d (keptNotes (r′ .cap) (eventNotes es′))) (s .counts)
+              ∙ ap (λ (x : Reading). withNotes r′ x c (keptNotes (r′ .cap) (eventNotes es′))) (sym (s .whole))
 
-      pub same-room : _≡_ {A = ℕ} (ofKind 12 (take (c .notes) (reading r f lent .notes))) 0 → nodeWidth * c .nodes ≤ r′ .nodes
-          → attributeWidth * c .attributes ≤ r′ .attributes → length (keptNotes (r′ .cap) (notesIn es′)) ≤ r′ .notes
+      pub same-room : _≡_ {A = ℕ} (countOfKind 12 (take (c .notes) (reading r f lent .notes))) 0 → nodeWidth * c .nodes ≤ r′ .nodes
+          → attributeWidth * c .attributes ≤ r′ .attributes → length (keptNotes (r′ .cap) (eventNotes es′)) ≤ r′ .notes
           → HasRoom (reading r′ (insertedFile places f) lent .answer)
       same-room none n a m =
           rw longer

@@ -27,9 +27,9 @@ use Rattle.walk.specs.Settle.{Room}
 use Rattle.walk.specs.Reading.{Reading, reading}
 use Rattle.claims.specs.Insertion.{ForeignChunk, placesIn, inserted, insertedFile, placeNotes, withNotes}
 use Rattle.claims.specs.Room.{HasRoom}
-use Rattle.claims.specs.Counts.{notesIn}
+use Rattle.claims.specs.Counts.{eventNotes}
 use Rattle.claims.specs.Readers.{namesFor, eventsOf}
-use Rattle.claims.specs.Shape.{ofKind}
+use Rattle.claims.specs.Shape.{countOfKind}
 use Rattle.claims.proofs.Events.NotesAndOthers.{othersIn}
 use Rattle.claims.proofs.Settle.Success.{success, none-kept, keptNodes, keptAttributes}
 use Rattle.claims.proofs.Insertion.InsertedFile.{longer-others, longer-notes}
@@ -48,17 +48,17 @@ module _ (r : Room) (f : List ℕ) (lent : Lent) (c : ReadCounts) (done : readin
   abbrev es : List Event
   es = eventsOf (r .mode) f lent
 
-  no-notes : notesIn es ≡ []
+  no-notes : eventNotes es ≡ []
   no-notes =
-      let kept = keptNotes (r .cap) (notesIn es) in
+      let kept = keptNotes (r .cap) (eventNotes es) in
       let few = length-take (c .notes) (reading r f lent .notes) in
-      none-kept (r .cap) (success r f lent c done .cap) (notesIn es)
+      none-kept (r .cap) (success r f lent c done .cap) (eventNotes es)
       (omega (arith, none, few, ap length (both.noted r f lent c done), length-map kept noteOf))
 
-  no-twelve : _≡_ {A = ℕ} (ofKind 12 (take (c .notes) (reading r f lent .notes))) 0
+  no-twelve : _≡_ {A = ℕ} (countOfKind 12 (take (c .notes) (reading r f lent .notes))) 0
   unfolding keptFrom
   no-twelve =
-      ap (ofKind 12) (both.noted r f lent c done) ∙ ap (λ (m : List ResAnomaly). ofKind 12 (map noteOf (keptNotes (r .cap) m))) no-notes
+      ap (countOfKind 12) (both.noted r f lent c done) ∙ ap (λ (m : List ResAnomaly). countOfKind 12 (map noteOf (keptNotes (r .cap) m))) no-notes
 
   pub head-whole : openedOf f .end ≡ Whole
   head-whole = both.head-whole r f lent c done
@@ -78,7 +78,7 @@ module _ (r : Room) (f : List ℕ) (lent : Lent) (c : ReadCounts) (done : readin
     others : othersIn es′ ≡ othersIn es
     others = longer-others N (openedOf f) t head-whole l no-notes places few
 
-    notes : notesIn es′ ≡ placeNotes places
+    notes : eventNotes es′ ≡ placeNotes places
     notes = longer-notes N (openedOf f) t head-whole l no-notes places few
 
     pub insertion : HasRoom (reading r′ (insertedFile places f) lent .answer)

@@ -18,8 +18,8 @@ use Rattle.anomaly.proofs.Laws.{keptFrom-due, keptFrom-past}
 use Rattle.anomaly.proofs.Numbers.{kind-place}
 use Rattle.events.specs.declared.Event.{Event}
 use Rattle.events.specs.declared.Event.the-variants.{Note}
-use Rattle.events.specs.Events.{when}
-use Rattle.claims.specs.Counts.{notesIn, depthFrom}
+use Rattle.events.specs.Events.{eventIf}
+use Rattle.claims.specs.Counts.{eventNotes, depthFrom}
 use Rattle.claims.proofs.Events.KeptNotes.{All, all-of}
 use Rattle.claims.proofs.Structure.StartDepth.{NotTwelve}
 use Rattle.claims.proofs.Structure.WalkDepth.{WalkedFile}
@@ -55,13 +55,13 @@ plain-unlike d y h = eqb-false _ _ (sym (kind-place y (UnclosedElements d)) ∙ 
 
 module _ (es : List Event) (w : WalkedFile es) (cap : ℕ) where
   pub walked-last : 1 ≤ cap → (depthFrom 0 es ≡ 0 → ⊥)
-      → keptNotes cap (notesIn es) ≡ keptNotes cap (notesIn (w .body)) ++ (UnclosedElements (depthFrom 0 es) ∷ [])
+      → keptNotes cap (eventNotes es) ≡ keptNotes cap (eventNotes (w .body)) ++ (UnclosedElements (depthFrom 0 es) ∷ [])
   walked-last one some =
       let d = w .depth in
       let deep : d ≡ depthFrom 0 es = sym (walked-depth es w) in
-      let last : notesIn (lastNote d) ≡ UnclosedElements d ∷ [] =
-      ap (λ (b : Bool). notesIn (when (not b) (Note (UnclosedElements d)))) (ne-eqb d 0 (λ z. some (sym deep ∙ z))) in
-      ap (keptNotes cap) (walked-notes es w ∙ ap (λ (z : List ResAnomaly). notesIn (w .body) ++ z) last)
-      ∙ keptFrom-last cap none (notesIn (w .body)) (UnclosedElements d) (omega (arith, getD-zeros kinds (kindIndex (UnclosedElements d)), one))
-      (all-of NotTwelve (Unlike (UnclosedElements d)) (plain-unlike d) (notesIn (w .body)) (w .plain))
-      ∙ ap (λ (n : ℕ). keptNotes cap (notesIn (w .body)) ++ (UnclosedElements n ∷ [])) deep
+      let last : eventNotes (lastNote d) ≡ UnclosedElements d ∷ [] =
+      ap (λ (b : Bool). eventNotes (eventIf (not b) (Note (UnclosedElements d)))) (ne-eqb d 0 (λ z. some (sym deep ∙ z))) in
+      ap (keptNotes cap) (walked-notes es w ∙ ap (λ (z : List ResAnomaly). eventNotes (w .body) ++ z) last)
+      ∙ keptFrom-last cap none (eventNotes (w .body)) (UnclosedElements d) (omega (arith, getD-zeros kinds (kindIndex (UnclosedElements d)), one))
+      (all-of NotTwelve (Unlike (UnclosedElements d)) (plain-unlike d) (eventNotes (w .body)) (w .plain))
+      ∙ ap (λ (n : ℕ). keptNotes cap (eventNotes (w .body)) ++ (UnclosedElements n ∷ [])) deep

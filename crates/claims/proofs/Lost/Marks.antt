@@ -30,7 +30,7 @@ use Rattle.xml_elements.specs.Chunk.{strideOf, attributesAt, attributeAt, turnO
 use Rattle.xml_elements.proofs.Laws.{turnOf-told, usedOf-le}
 use Rattle.events.specs.declared.Event.{Event}
 use Rattle.events.specs.declared.Event.the-variants.{Nothing, Open, Attribute, LeftOut, Close, Note, Refuse, Finish}
-use Rattle.events.specs.Events.{Names, Spot, when, leading, foreignNote, attributeBy, attributesOf, attributeEvent}
+use Rattle.events.specs.Events.{Names, WalkState, eventIf, leading, foreignNote, attributeBy, attributesOf, attributeEvent}
 use Rattle.events.specs.Events.{chunkYield, cutYield, yieldOf, used, out, next, lastOf, eventsOn, bodyEvents, fileEvents, startEvents, gapNote, sizeNote, trailingNote, cutShort}
 use Rattle.events.specs.Inner.Starts.{fromLead, fromOpen, fromName}
 use Rattle.claims.specs.Counts.{opensIn, openNames, openLines, depthFrom}
@@ -61,7 +61,7 @@ marks-append (d ∷ ds) es = rw (marks-append ds es) (sym (append-assoc (eventMa
 
 -- ---- events that are no marks
 
-noted-marks : (b : Bool) (x : ResAnomaly) (es : List Event) → eventMarks (when b (Note x) ++ es) ≡ eventMarks es
+noted-marks : (b : Bool) (x : ResAnomaly) (es : List Event) → eventMarks (eventIf b (Note x) ++ es) ≡ eventMarks es
 noted-marks true x es = refl
 noted-marks false x es = refl
 
@@ -83,7 +83,7 @@ record HaveMarks (es : List Event) (ms : List Mark) : Type 0 where
   told : eventMarks es ≡ ms
 
 module _ (N : Names) (s : XmlStartElement) (k : ℕ) (l : List ℕ) where
-  lead-marks : (b : Bool) (es : List Event) → eventMarks (when b leading ++ es) ≡ eventMarks es
+  lead-marks : (b : Bool) (es : List Event) → eventMarks (eventIf b leading ++ es) ≡ eventMarks es
   lead-marks true es = refl
   lead-marks false es = refl
 
@@ -106,7 +106,7 @@ module _ (N : Names) (s : XmlStartElement) (k : ℕ) (l : List ℕ) where
   StartMarks whole ds es = HaveMarks ds (cond whole (start (s .name .0) (s .line) ∷ []) [])
 
   behind : (whole b : Bool) (n : StartNote) (ds es : List Event) → StartMarks whole ds es
-      → StartMarks whole (when b (Note (startNote s n)) ++ ds) (when b (Note (startNote s n)) ++ es)
+      → StartMarks whole (eventIf b (Note (startNote s n)) ++ ds) (eventIf b (Note (startNote s n)) ++ es)
   behind whole b n ds es h = record { told = noted-marks b (startNote s n) ds ∙ h .told }
 
   start-told : HaveMarks (startEvents N s k l) (start (s .name .0) (s .line) ∷ [])
@@ -123,7 +123,7 @@ module _ (N : Names) (s : XmlStartElement) (k : ℕ) (l : List ℕ) where
 
 -- ---- a turn
 
-module _ (N : Names) (l : List ℕ) (p : Spot) where
+module _ (N : Names) (l : List ℕ) (p : WalkState) where
   chunk-marks : (c : Chunk) → eventMarks (chunkYield N l p c) ≡ chunkMarks c
   chunk-marks (Start s) = start-told N s (p .starts) l .told
   chunk-marks End = refl
@@ -139,7 +139,7 @@ module _ (N : Names) (l : List ℕ) (p : Spot) where
   cut-marks CutEnd = refl
   cut-marks CutOther = refl
 
-  foreign-marks : (b : Bool) (x : ResAnomaly) → eventMarks (when b (Note x)) ≡ []
+  foreign-marks : (b : Bool) (x : ResAnomaly) → eventMarks (eventIf b (Note x)) ≡ []
   foreign-marks true x = refl
   foreign-marks false x = refl
 
@@ -151,28 +151,28 @@ module _ (N : Names) (l : List ℕ) (p : Spot) where
 
 -- ---- a body
 
-refuse-marks : (b : Bool) (x : Refusal) → eventMarks (when b (Refuse x)) ≡ []
+refuse-marks : (b : Bool) (x : Refusal) → eventMarks (eventIf b (Refuse x)) ≡ []
 refuse-marks true x = refl
 refuse-marks false x = refl
 
-last-marks : (p : Spot) → eventMarks (lastOf p) ≡ []
+last-marks : (p : WalkState) → eventMarks (lastOf p) ≡ []
 last-marks p =
-    noted-marks (not (eqb (p .depth) 0)) (UnclosedElements (p .depth)) (when (eqb (p .starts) 0) (Refuse MissingRoot))
+    noted-marks (not (eqb (p .depth) 0)) (UnclosedElements (p .depth)) (eventIf (eqb (p .starts) 0) (Refuse MissingRoot))
     ∙ refuse-marks (eqb (p .starts) 0) MissingRoot
 
 module _ (N : Names) where
-  on-marks : (l : List ℕ) (p : Spot) → eventMarks (eventsOn N l p) ≡ marksOf l
+  on-marks : (l : List ℕ) (p : WalkState) → eventMarks (eventsOn N l p) ≡ marksOf l
   unfolding eventsOn
   on-marks = walk-ind used next (λ l s. usedOf-le l (turnOf l) (turnOf-told l)) (λ l p. eventMarks (eventsOn N l p) ≡ marksOf l) stop more
     where
-      stop : (l : List ℕ) (p : Spot) → used l p ≡ 0 → eventMarks (eventsOn N l p) ≡ marksOf l
+      stop : (l : List ℕ) (p : WalkState) → used l p ≡ 0 → eventMarks (eventsOn N l p) ≡ marksOf l
       stop l p e =
           ap eventMarks (trace-stop used (out N) next lastOf l p e) ∙ marks-append (out N l p) (lastOf p)
           ∙ ap (λ (x : List Mark). eventMarks (out N l p) ++ x) (last-marks p)
           ∙ ap (λ (x : List Mark). x ++ []) (turn-marks N l p (turnOf l))
           ∙ sym (trace-stop {S = Unit {0}} (λ l s. usedOf (length l) (turnOf l)) (λ l s. turnMarks (turnOf l)) (λ l s. tt) (λ s. []) l tt e)
 
-      more : (l : List ℕ) (p : Spot) (m : ℕ) → used l p ≡ suc m → suc m ≤ length l
+      more : (l : List ℕ) (p : WalkState) (m : ℕ) → used l p ≡ suc m → suc m ≤ length l
           → eventMarks (eventsOn N (drop (suc m) l) (next l p)) ≡ marksOf (drop (suc m) l) → eventMarks (eventsOn N l p) ≡ marksOf l
       more l p m e h w =
           ap eventMarks (trace-step used (out N) next lastOf l p m e h) ∙ marks-append (out N l p) _
@@ -189,7 +189,7 @@ module _ (N : Names) where
   pub file-marks : (o : Opened) (t b : List ℕ) → AllStay (fileEvents N o t b) → eventMarks (fileEvents N o t b) ≡ marksOf b
   file-marks o t b =
       file-by N N o t b (λ ds es. AllStay ds → eventMarks ds ≡ marksOf b)
-      (λ c n ds es h s. noted-marks c (headNote o t n) ds ∙ h (refuse-right (λ x. ⊥) (when c (Note (headNote o t n))) ds s)) (λ e q s. absurd (s .0))
+      (λ c n ds es h s. noted-marks c (headNote o t n) ds ∙ h (refuse-right (λ x. ⊥) (eventIf c (Note (headNote o t n))) ds s)) (λ e q s. absurd (s .0))
       (λ q s. body-marks b)
 
 -- ---- what marks tell of events

@@ -25,9 +25,9 @@ use Rattle.records.specs.Repeats.{Rule}
 use Rattle.system_types.specs.Names.{Lent}
 use Rattle.walk.specs.Settle.{Room, Tables, going, settle, nothingYet}
 use Rattle.walk.specs.Reading.{secondOf, nodesKept, Reads}
-use Rattle.claims.specs.Counts.{notesIn, depthFrom}
+use Rattle.claims.specs.Counts.{eventNotes, depthFrom}
 use Rattle.claims.specs.Readers.{namesFor, eventsOf}
-use Rattle.claims.specs.Shape.{ofKind, Structured}
+use Rattle.claims.specs.Shape.{countOfKind, Structured}
 use Rattle.claims.specs.Lost.{Mark, marksIn, startNames, startLines, stillOpen, keptOf, beforeLost, NothingLost}
 use Rattle.claims.proofs.Settle.StoreAll.{empty}
 use Rattle.claims.proofs.Settle.ByEvent.{Idle, Goes, settle-in}
@@ -142,7 +142,7 @@ module _ (f : List ℕ) (lent : Lent) (ns ats : List ℕ) (os : List Note) (cap 
     lines = λ k l. shape .lines k l ∙ ap (λ (x : List ℕ). getD x k 0) (events-lines es ∙ ap startLines marks);
     parents = shape .parents;
     noted = λ l.
-        let kept = keptNotes cap (notesIn (walk .body)) in
+        let kept = keptNotes cap (eventNotes (walk .body)) in
         record {
           before = map noteOf kept;
           split =
@@ -155,7 +155,7 @@ module _ (f : List ℕ) (lent : Lent) (ns ats : List ℕ) (os : List Note) (cap 
   }
 
   -- where no note is 12
-  pub whole-kept : ofKind 12 (take (c .notes) os′) ≡ 0 → c .nodes ≡ length (startNames ms)
+  pub whole-kept : countOfKind 12 (take (c .notes) os′) ≡ 0 → c .nodes ≡ length (startNames ms)
   whole-kept none = go (depthFrom 0 es) refl
     where
       go : (n : ℕ) → depthFrom 0 es ≡ n → c .nodes ≡ length (startNames ms)

@@ -28,8 +28,8 @@ use Rattle.xml_elements.specs.declared.Turn.the-variants.{Stop, Foreign, Met, C
 use Rattle.xml_elements.specs.Chunk.{strideOf, attributesAt, attributeAt, turnOf}
 use Rattle.events.specs.declared.Event.{Event}
 use Rattle.events.specs.declared.Event.the-variants.{Nothing, Open, Attribute, LeftOut, Close, Note, Refuse, Finish}
-use Rattle.events.specs.Events.{Names, prefixIn, namesIn, when, fixedOf, leading, attributeBy, attributeEvent, attributesOf}
-use Rattle.events.specs.Events.{Spot, chunkYield, cutYield, yieldOf, foreignNote}
+use Rattle.events.specs.Events.{Names, prefixIn, namesIn, eventIf, fixedOf, leading, attributeBy, attributeEvent, attributesOf}
+use Rattle.events.specs.Events.{WalkState, chunkYield, cutYield, yieldOf, foreignNote}
 use Rattle.events.specs.Events.{lastOf, fromRoot, out, bodyEvents, fileEvents}
 use Rattle.events.specs.Inner.Starts.{fromLead, fromOpen, fromName}
 use Rattle.claims.specs.Modes.{mergedPrefix}
@@ -56,7 +56,7 @@ merge-append : (a b : List Event) → mergeAll (a ++ b) ≡ mergeAll a ++ mergeA
 merge-append [] b = refl
 merge-append (e ∷ a) b = ap (λ (l : List Event). mergeEvent e ∷ l) (merge-append a b)
 
-merge-when : (b : Bool) (e : Event) → mergeAll (when b e) ≡ when b (mergeEvent e)
+merge-when : (b : Bool) (e : Event) → mergeAll (eventIf b e) ≡ eventIf b (mergeEvent e)
 merge-when true e = refl
 merge-when false e = refl
 
@@ -65,7 +65,7 @@ merge-parts : (a b : List Event) {a′ b′ : List Event} → mergeAll a ≡ a�
 merge-parts a b {a′} p q = merge-append a b ∙ ap (λ (l : List Event). l ++ mergeAll b) p ∙ ap (λ (l : List Event). a′ ++ l) q
 
 -- behind an event that stays
-behind-when : (b : Bool) (e : Event) (ds es : List Event) → mergeEvent e ≡ e → mergeAll ds ≡ es → mergeAll (when b e ++ ds) ≡ when b e ++ es
+behind-when : (b : Bool) (e : Event) (ds es : List Event) → mergeEvent e ≡ e → mergeAll ds ≡ es → mergeAll (eventIf b e ++ ds) ≡ eventIf b e ++ es
 behind-when true e ds es p q = ap (λ (x : Event). x ∷ mergeAll ds) p ∙ ap (λ (m : List Event). e ∷ m) q
 behind-when false e ds es p q = q
 
@@ -115,12 +115,12 @@ module _ (h : Head) (t : List ℕ) (lent : Lent) where
   Merges ds es = mergeAll ds ≡ es
 
   behind : (s : XmlStartElement) (whole b : Bool) (n : StartNote) (ds es : List Event) → Merges ds es
-      → Merges (when b (Note (startNote s n)) ++ ds) (when b (Note (startNote s n)) ++ es)
+      → Merges (eventIf b (Note (startNote s n)) ++ ds) (eventIf b (Note (startNote s n)) ++ es)
   behind s whole b n ds es h = behind-when b (Note (startNote s n)) ds es refl h
 
   -- ---- a turn
 
-  module _ (l : List ℕ) (p : Spot) where
+  module _ (l : List ℕ) (p : WalkState) where
     chunk-map : (c : Chunk) → mergeAll (chunkYield N₂ l p c) ≡ chunkYield N₁ l p c
     chunk-map (Start s) = start-whole N₂ N₁ s (p .starts) l (λ w. Merges) (behind s) (name-map s (p .starts) l)
     chunk-map End = refl
@@ -142,7 +142,7 @@ module _ (h : Head) (t : List ℕ) (lent : Lent) where
     turn-map (Met c) = chunk-map c
     turn-map (Cut c) = cut-map c
 
-  last-map : (p : Spot) → mergeAll (lastOf p) ≡ lastOf p
+  last-map : (p : WalkState) → mergeAll (lastOf p) ≡ lastOf p
   last-map p =
       behind-when (not (eqb (p .depth) 0)) (Note (UnclosedElements (p .depth))) (fromRoot p) (fromRoot p) refl (merge-when (eqb (p .starts) 0) (Refuse MissingRoot))
 

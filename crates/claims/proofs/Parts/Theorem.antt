@@ -12,7 +12,7 @@ use mathlib.Core.Bool.{Bool, true, false, cond}
 use lib.ListN.{length, take, drop, take-append-drop}
 use lib.Seq.{length-take-le}
 use lib.Dec.{leb}
-use Rattle.errors.specs.Refusal.{numberOf, valueOf}
+use Rattle.errors.specs.Refusal.{refusalNumber, refusalValue}
 use Rattle.errors.specs.declared.Refusal.{Refusal}
 use Rattle.errors.specs.declared.ReadAnswer.{ReadAnswer}
 use Rattle.errors.specs.declared.Refusal.the-variants.{NothingFound, TextShort}
@@ -28,10 +28,10 @@ use Rattle.head.specs.declared.HeadEnd.the-variants.{Whole, TooSmall, HeaderSiz
 use Rattle.head.specs.declared.Opened.{Opened}
 use Rattle.head.specs.declared.OpenRead.{OpenRead}
 use Rattle.head.specs.declared.OpenRead.the-variants.{Open, Closed}
-use Rattle.head.specs.Head.{openedOf, tablesIn, bodyIn, headLen, isWhole, refusalOf, garbageNotes, countNotes}
+use Rattle.head.specs.Head.{openedOf, tablesIn, bodyIn, headLen, headIsWhole, refusalOf, garbageNotes, countNotes}
 use Rattle.head.specs.declared.Asker.{Asker}
 use Rattle.head.specs.declared.Asker.the-variants as askers
-use Rattle.head.specs.Inner.Entered.{askedBy}
+use Rattle.head.specs.Inner.Entered.{termsOf}
 use Rattle.head.specs.Entry.{Check, passes, fails, firstOf, entryChecks}
 use Rattle.head.specs.Ask.{openBy, openOf, stateTold, fitted, textBy, contentAsked, textAnswerBy, textAnswer}
 use Rattle.head.proofs.Entering.{Passed, passed, passes-all}
@@ -58,7 +58,7 @@ OfHead o x = isPart x ≡ true → ShortBy (o .end) x
 
 module _ (o : Opened) where
   head-says : (e : HeadEnd) → o .end ≡ e → OfHead o (refusalOf e)
-  unfolding numberOf
+  unfolding refusalNumber
   head-says Whole q p = absurd (no-part p refl)
   head-says (TooSmall n) q p = absurd (no-part p refl)
   head-says (HeaderSize n) q p = absurd (no-part p refl)
@@ -77,7 +77,7 @@ module _ (o : Opened) where
   }
 
   stops : (r : Room) → Stops r (λ es t. AllRefuse (OfHead o) es) (OfHead o)
-  unfolding numberOf
+  unfolding refusalNumber
   stops r = record {
     refuses = λ t es x h. h .0;
     nodes = λ t es n f l g h p. absurd (no-part p refl);
@@ -86,7 +86,7 @@ module _ (o : Opened) where
   }
 
   root-says : OfHead o (refusalOf Whole)
-  unfolding numberOf
+  unfolding refusalNumber
   root-says p = absurd (no-part p refl)
 
   settled-says : (r : Room) (rule : Rule) (N : Names) (t b : List ℕ) → InOut (λ u. Unit {0}) (OfHead o) (settle rule r nothingYet (fileEvents N o t b))
@@ -100,8 +100,8 @@ module _ (o : Opened) where
       weaker (refused x) h = h
 
 -- the entry checks refuse for no part
-entry-not : (f : List ℕ) (lent : Lent) (a : Asker) → Under (λ x. isPart x ≡ false) (firstOf (entryChecks f lent (askedBy a)))
-unfolding numberOf
+entry-not : (f : List ℕ) (lent : Lent) (a : Asker) → Under (λ x. isPart x ≡ false) (firstOf (entryChecks f lent (termsOf a)))
+unfolding refusalNumber
 entry-not f lent a = entry-under (λ x. isPart x ≡ false) f lent a refl refl (λ k. refl) refl
 
 abbrev IsRefused : Refusal → ReadAnswer → Type 0
@@ -110,16 +110,16 @@ IsRefused x (Refused y) = y ≡ x
 
 -- what refuses for a part passed the checks, and its head is short by it
 pub record PartOf (f : List ℕ) (lent : Lent) (a : Asker) (x : Refusal) : Type 0 where
-  pub passes : firstOf (entryChecks f lent (askedBy a)) ≡ passes
+  pub passes : firstOf (entryChecks f lent (termsOf a)) ≡ passes
   pub short : ShortBy (openedOf f .end) x
 
 module _ (f : List ℕ) (lent : Lent) (x : Refusal) (part : isPart x ≡ true) where
-  no-check : (a : Asker) {y : Refusal} → firstOf (entryChecks f lent (askedBy a)) ≡ fails y → y ≡ x → ⊥
+  no-check : (a : Asker) {y : Refusal} → firstOf (entryChecks f lent (termsOf a)) ≡ fails y → y ≡ x → ⊥
   no-check a {y} p e = no-part (rw e part) (rw p at (entry-not f lent a))
 
   pub reading-part : (r : Room) → reading r f lent .answer ≡ Refused x → PartOf f lent (askers.Reading (r .cap) (r .mode)) x
   unfolding reading
-  reading-part r h = go (firstOf (entryChecks f lent (askedBy (askers.Reading (r .cap) (r .mode))))) refl (subst (IsRefused x) (sym h) refl)
+  reading-part r h = go (firstOf (entryChecks f lent (termsOf (askers.Reading (r .cap) (r .mode))))) refl (subst (IsRefused x) (sym h) refl)
     where
       o : Opened
       o = openedOf f
@@ -137,37 +137,37 @@ module _ (f : List ℕ) (lent : Lent) (x : Refusal) (part : isPart x ≡ true) w
       settled (going u) s q = absurd q
       settled (refused y) s q = rw q at s part
 
-      go : (c : Check) → firstOf (entryChecks f lent (askedBy (askers.Reading (r .cap) (r .mode)))) ≡ c
+      go : (c : Check) → firstOf (entryChecks f lent (termsOf (askers.Reading (r .cap) (r .mode)))) ≡ c
           → IsRefused x (readingBy r (settledIn r f lent o) c .answer) → PartOf f lent (askers.Reading (r .cap) (r .mode)) x
       go (fails y) p q = absurd (no-check (askers.Reading (r .cap) (r .mode)) p q)
       go passes p q = record { passes = p; short = settled (settledIn r f lent o) said q }
 
   pub open-part : openOf f lent ≡ Closed x → PartOf f lent askers.Question x
   unfolding openOf
-  open-part h = go (firstOf (entryChecks f lent (askedBy askers.Question))) refl h
+  open-part h = go (firstOf (entryChecks f lent (termsOf askers.Question))) refl h
     where
       -- a head that is not whole closes the file by its refusal
-      head : (e : HeadEnd) → openedOf f .end ≡ e → cond (isWhole e) (Open (openedOf f .head)) (Closed (refusalOf e)) ≡ Closed x → ShortBy (openedOf f .end) x
+      head : (e : HeadEnd) → openedOf f .end ≡ e → cond (headIsWhole e) (Open (openedOf f .head)) (Closed (refusalOf e)) ≡ Closed x → ShortBy (openedOf f .end) x
       head Whole q z = let y : _≡_ {A = ℕ} 0 1 = cc in absurd (let w : ⊥ = omega arith in w)
       head (TooSmall n) q z = let y : refusalOf (TooSmall n) ≡ x = cc in rw y at (head-says (openedOf f) (TooSmall n) q) part
       head (HeaderSize n) q z = let y : refusalOf (HeaderSize n) ≡ x = cc in rw y at (head-says (openedOf f) (HeaderSize n) q) part
       head (PoolShort e) q z = let y : refusalOf (PoolShort e) ≡ x = cc in rw y at (head-says (openedOf f) (PoolShort e) q) part
       head (MapShort e) q z = let y : refusalOf (MapShort e) ≡ x = cc in rw y at (head-says (openedOf f) (MapShort e) q) part
 
-      go : (c : Check) → firstOf (entryChecks f lent (askedBy askers.Question)) ≡ c → openBy (openedOf f) c ≡ Closed x → PartOf f lent askers.Question x
+      go : (c : Check) → firstOf (entryChecks f lent (termsOf askers.Question)) ≡ c → openBy (openedOf f) c ≡ Closed x → PartOf f lent askers.Question x
       go (fails y) p q = let e : y ≡ x = cc in absurd (no-check askers.Question p e)
       go passes p q = record { passes = p; short = head (openedOf f .end) refl q }
 
   -- a text that is there is refused for no part
   fitted-not : (n : ℕ) (s : List ℕ) (t : TextState) → fitted n s t ≡ textIs.Refused x → ⊥
-  unfolding numberOf
+  unfolding refusalNumber
   fitted-not n s t h =
       cond-by (λ (a : TextAnswer). a ≡ textIs.Refused x → ⊥) (leb (length s) n)
       (λ e q. let z : _≡_ {A = ℕ} 0 1 = cc in omega arith)
       (λ e q. let y : x ≡ TextShort (length s) = cc in no-part part (rw y)) h
 
   text-not : (n : ℕ) (k : Content) → textBy n k ≡ textIs.Refused x → ⊥
-  unfolding numberOf
+  unfolding refusalNumber
   text-not n none h = let y : x ≡ NothingFound = cc in no-part part (rw y)
   text-not n cut h = fitted-not n (textIn cut) (stateTold (damageIn cut)) h
   text-not n (some w s) h = fitted-not n (textIn (some w s)) (stateTold (damageIn (some w s))) h
@@ -196,43 +196,43 @@ short-body N o t b b′ x s = go (o .end) s
     go (MapShort e) s = refl
 
 module _ (f : List ℕ) (lent : Lent) (a : Asker) (x : Refusal) (p : PartOf f lent a x) where
-  told : Passed f lent (askedBy a)
-  told = passed f lent (askedBy a) (p .passes)
+  told : Passed f lent (termsOf a)
+  told = passed f lent (termsOf a) (p .passes)
 
-  here : OpenedCut f (valueOf x)
+  here : OpenedCut f (refusalValue x)
   here = opened-cut f x (p .short)
 
-  pub part-offset : (8 ≤ valueOf x) × (valueOf x ≤ length f)
+  pub part-offset : (8 ≤ refusalValue x) × (refusalValue x ≤ length f)
   part-offset = (omega (arith, here .low), here .high)
 
   abbrev c : List ℕ
-  c = take (valueOf x) f
+  c = take (refusalValue x) f
 
-  still : firstOf (entryChecks c lent (askedBy a)) ≡ passes
+  still : firstOf (entryChecks c lent (termsOf a)) ≡ passes
   still =
-      passes-all c lent (askedBy a) (omega (arith, length-take-le (valueOf x) f (here .high), here .high, told .short)) (told .cap) (told .good) (told .mode) refl
+      passes-all c lent (termsOf a) (omega (arith, length-take-le (refusalValue x) f (here .high), here .high, told .short)) (told .cap) (told .good) (told .mode) refl
 
   tables-same : tablesIn c (openedOf f .head) ≡ tablesIn f (openedOf f .head)
   tables-same =
-      let long : 8 + headLen (openedOf f .head) ≤ length c = omega (arith, length-take-le (valueOf x) f (here .high), here .low) in
-      sym (tablesIn-append c (drop (valueOf x) f) (openedOf f .head) long) ∙ ap (λ (l : List ℕ). tablesIn l (openedOf f .head)) (take-append-drop (valueOf x) f)
+      let long : 8 + headLen (openedOf f .head) ≤ length c = omega (arith, length-take-le (refusalValue x) f (here .high), here .low) in
+      sym (tablesIn-append c (drop (refusalValue x) f) (openedOf f .head) long) ∙ ap (λ (l : List ℕ). tablesIn l (openedOf f .head)) (take-append-drop (refusalValue x) f)
 
 pub part-cut : (f : List ℕ) (lent : Lent) (x : Refusal) (r : Room) → PartOf f lent (askers.Reading (r .cap) (r .mode)) x
-    → reading r (take (valueOf x) f) lent ≡ reading r f lent
+    → reading r (take (refusalValue x) f) lent ≡ reading r f lent
 unfolding reading
 part-cut f lent x r p =
     let a = askers.Reading (r .cap) (r .mode) in
     let o = openedOf f in
     let t = tablesIn f (o .head) in
     let N = namesIn (r .mode) (o .head) t lent in
-    let events = short-body N o t (bodyIn (take (valueOf x) f) (o .head)) (bodyIn f (o .head)) x (p .short) in
+    let events = short-body N o t (bodyIn (take (refusalValue x) f) (o .head)) (bodyIn f (o .head)) x (p .short) in
     rw (still f lent a x p, p .passes, here f lent a x p .same, tables-same f lent a x p, events)
 
 module _ (f : List ℕ) (lent : Lent) (x : Refusal) (p : PartOf f lent askers.Question x) where
-  part-cut-open : openOf (take (valueOf x) f) lent ≡ openOf f lent
+  part-cut-open : openOf (take (refusalValue x) f) lent ≡ openOf f lent
   unfolding openOf
   part-cut-open = rw (still f lent askers.Question x p, p .passes, here f lent askers.Question x p .same)
 
-  pub part-cut-text : (n i : ℕ) → openOf f lent ≡ Closed x → textAnswer (take (valueOf x) f) lent n i ≡ textIs.Refused x
+  pub part-cut-text : (n i : ℕ) → openOf f lent ≡ Closed x → textAnswer (take (refusalValue x) f) lent n i ≡ textIs.Refused x
   unfolding textAnswer
-  part-cut-text n i h = let e : openOf (take (valueOf x) f) lent ≡ Closed x = part-cut-open ∙ h in rw e
+  part-cut-text n i h = let e : openOf (take (refusalValue x) f) lent ≡ Closed x = part-cut-open ∙ h in rw e

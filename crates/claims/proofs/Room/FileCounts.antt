@@ -21,7 +21,7 @@ use Rattle.xml_elements.specs.declared.Turn.the-variants.{Stop, Foreign, Met, C
 use Rattle.xml_elements.specs.Chunk.{turnOf, usedOf, lenOf, startLen}
 use Rattle.events.specs.declared.Event.{Event}
 use Rattle.events.specs.declared.Event.the-variants.{Refuse, Note}
-use Rattle.events.specs.Events.{Names, Spot, when}
+use Rattle.events.specs.Events.{Names, WalkState, eventIf}
 use Rattle.events.specs.Events.{fromRoot, foreignNote, chunkYield, cutYield, yieldOf, used, out, lastOf, eventsOn, bodyEvents}
 use Rattle.events.specs.Events.{fileEvents}
 use Rattle.claims.specs.Counts.{isOpen, isAttribute, opensIn, attributesIn}
@@ -53,7 +53,7 @@ stride-le : (n e : ℕ) → 20 * n ≤ n * (20 + e)
 stride-le zero e = omega arith
 stride-le (suc n) e = omega (arith, stride-le n e)
 
-module _ (N : Names) (l : List ℕ) (p : Spot) where
+module _ (N : Names) (l : List ℕ) (p : WalkState) where
   chunk-paid : (c : Chunk) → Paid (chunkYield N l p c) (lenOf c)
   chunk-paid (Start s) =
       paid-by _ 1 (1 + s .«attribute_count») (startLen s) (few-start N s (p .starts) l) (omega arith)
@@ -79,14 +79,14 @@ module _ (N : Names) (l : List ℕ) (p : Spot) where
 
 -- ---- a body
 
-last-paid : (p : Spot) (n : ℕ) → Paid (lastOf p) n
+last-paid : (p : WalkState) (n : ℕ) → Paid (lastOf p) n
 last-paid p n = paid-none _ n (few-noted (not (eqb (p .depth) 0)) (UnclosedElements (p .depth)) (fromRoot p) 0 0 (root (eqb (p .starts) 0)))
   where
-    root : (b : Bool) → Few (when b (Refuse MissingRoot)) 0 0
+    root : (b : Bool) → Few (eventIf b (Refuse MissingRoot)) 0 0
     root true = record { opens = omega arith; attributes = omega arith }
     root false = few-none
 
-pub body-few : (N : Names) (l : List ℕ) (p : Spot) → Paid (eventsOn N l p) (length l)
+pub body-few : (N : Names) (l : List ℕ) (p : WalkState) → Paid (eventsOn N l p) (length l)
 body-few N =
     body-by N N (λ l p ds es. Paid ds (length l)) (λ l p e. last-paid p (length l))
     (λ l p m e h ds es r. paid-append (out N l p) ds (used l p) (length (drop (suc m) l)) (length l) (turn-paid N l p (turnOf l) (length l)) r
@@ -100,6 +100,6 @@ file-few N o t b =
     file-by N N o t b (λ ds es. Paid ds (length b)) behind (λ e q. paid-none _ (length b) (record { opens = omega arith; attributes = omega arith }))
     (λ q. body-few N b (record { run = 2; depth = 0; starts = 0 }))
   where
-    behind : (c : Bool) (n : HeadNote) (ds es : List Event) → Paid ds (length b) → Paid (when c (Note (headNote o t n)) ++ ds) (length b)
+    behind : (c : Bool) (n : HeadNote) (ds es : List Event) → Paid ds (length b) → Paid (eventIf c (Note (headNote o t n)) ++ ds) (length b)
     behind c n ds es h =
-        paid-append (when c (Note (headNote o t n))) ds 0 (length b) (length b) (paid-none _ 0 (few-when c (headNote o t n))) h (omega arith)
+        paid-append (eventIf c (Note (headNote o t n))) ds 0 (length b) (length b) (paid-none _ 0 (few-when c (headNote o t n))) h (omega arith)

@@ -19,7 +19,7 @@ use Rattle.xml_elements.specs.declared.XmlAttributeElement.{XmlAttributeElement
 use Rattle.xml_elements.specs.Chunk.{strideOf, attributesAt, attributeAt}
 use Rattle.events.specs.declared.Event.{Event}
 use Rattle.events.specs.declared.Event.the-variants.{Note}
-use Rattle.events.specs.Events.{Names, when, leading, attributeBy, attributeEvent, attributesOf, startEvents, gapNote, sizeNote, trailingNote, cutShort}
+use Rattle.events.specs.Events.{Names, eventIf, leading, attributeBy, attributeEvent, attributesOf, startEvents, gapNote, sizeNote, trailingNote, cutShort}
 use Rattle.events.specs.Inner.Starts.{fromLead, fromOpen, fromName}
 use Rattle.claims.specs.Counts.{sumOf, isOpen, isAttribute, opensIn, attributesIn}
 use Rattle.claims.proofs.Events.EventCases.{StartNote, startNote, start-whole, cut-gap, cut-attributes, cut-trailing, nameNote, name-by}
@@ -47,11 +47,11 @@ few-none = record { opens = omega arith; attributes = omega arith }
 pub few-note : (x : ResAnomaly) → Few (Note x ∷ []) 0 0
 few-note x = record { opens = omega arith; attributes = omega arith }
 
-pub few-when : (b : Bool) (x : ResAnomaly) → Few (when b (Note x)) 0 0
+pub few-when : (b : Bool) (x : ResAnomaly) → Few (eventIf b (Note x)) 0 0
 few-when true x = few-note x
 few-when false x = few-none
 
-pub few-noted : (b : Bool) (x : ResAnomaly) (es : List Event) (n m : ℕ) → Few es n m → Few (when b (Note x) ++ es) n m
+pub few-noted : (b : Bool) (x : ResAnomaly) (es : List Event) (n m : ℕ) → Few es n m → Few (eventIf b (Note x) ++ es) n m
 few-noted true x es n m h = record { opens = omega (arith, h .opens); attributes = omega (arith, h .attributes) }
 few-noted false x es n m h = h
 
@@ -72,7 +72,7 @@ few-attributes N (suc n) stride l =
     let one = few-attributeBy N (attributeAt l) (N .state (attributeAt l .name .0)) in
     few-le _ (0 + 0) (1 + n) 0 (suc n) (few-append _ _ 0 1 0 n one (few-attributes N n stride (drop stride l))) (omega arith) (omega arith)
 
-few-leading : (b : Bool) → Few (when b leading) 0 1
+few-leading : (b : Bool) → Few (eventIf b leading) 0 1
 few-leading true = record { opens = omega arith; attributes = omega arith }
 few-leading false = record { opens = omega arith; attributes = omega arith }
 
@@ -97,7 +97,7 @@ module _ (N : Names) (s : XmlStartElement) (k : ℕ) (l : List ℕ) where
   FewStart whole ds es = Few ds (cond whole 1 0) (cond whole (1 + s .«attribute_count») 0)
 
   behind : (whole b : Bool) (n : StartNote) (ds es : List Event) → FewStart whole ds es
-      → FewStart whole (when b (Note (startNote s n)) ++ ds) (when b (Note (startNote s n)) ++ es)
+      → FewStart whole (eventIf b (Note (startNote s n)) ++ ds) (eventIf b (Note (startNote s n)) ++ es)
   behind whole b n ds es h = few-noted b (startNote s n) ds (cond whole 1 0) (cond whole (1 + s .«attribute_count») 0) h
 
   pub few-start : Few (startEvents N s k l) 1 (1 + s .«attribute_count»)

@@ -20,7 +20,7 @@ use Rattle.anomaly.specs.declared.Note.{Note as NoteOf}
 use Rattle.anomaly.specs.declared.ResAnomaly.{ResAnomaly}
 use Rattle.anomaly.proofs.Laws.{keptFrom-due, keptFrom-past, keptNotes-length-le}
 use Rattle.errors.proofs.Laws.{numbersOf-unique}
-use Rattle.errors.specs.Refusal.{numberOf}
+use Rattle.errors.specs.Refusal.{refusalNumber}
 use Rattle.errors.specs.declared.Refusal.{Refusal}
 use Rattle.errors.specs.declared.ReadAnswer.{ReadAnswer}
 use Rattle.errors.specs.declared.ReadAnswer.the-variants.{Done, Refused}
@@ -44,7 +44,7 @@ use Rattle.head.specs.declared.PoolPart.{PoolPart}
 use Rattle.head.specs.declared.PoolPart.the-variants.{Skipped, Header, Offsets, Styles, Data}
 use Rattle.head.specs.declared.MapPart.{MapPart}
 use Rattle.head.specs.declared.MapPart.the-variants.{MapHeader, MapIds}
-use Rattle.claims.specs.Counts.{opensIn, attributesIn, notesIn}
+use Rattle.claims.specs.Counts.{opensIn, attributesIn, eventNotes}
 use Rattle.claims.specs.Room.{isFull, HasRoom, nodesFor, attributesFor, placesFor, listingRoom}
 use Rattle.claims.proofs.Settle.ByEvent.{InOut, idle-still, Goes, Stops, settle-by}
 use Rattle.claims.proofs.Room.FileCounts.{file-few}
@@ -55,19 +55,19 @@ use Rattle.claims.proofs.Settle.EntryChecks.{Under, first-under, length
 
 -- no want of a place, and a listing can say it
 abbrev Fine : Refusal → Type 0
-Fine x = (isFull x ≡ false) × (isListed (numberOf x) ≡ true)
+Fine x = (isFull x ≡ false) × (isListed (refusalNumber x) ≡ true)
 
 -- there is room for all that is to come
 record Enough (r : Room) (es : List Event) (t : Tables) : Type 0 where
   nodes : length (t .nodes) + nodeWidth * opensIn es ≤ r .nodes
   attributes : length (t .attributes) + attributeWidth * attributesIn es ≤ r .attributes
   fine : AllRefuse Fine es
-  notes : length (t .notes) + length (keptFrom (r .cap) (t .counts) (notesIn es)) ≤ r .notes
+  notes : length (t .notes) + length (keptFrom (r .cap) (t .counts) (eventNotes es)) ≤ r .notes
 
 -- a note that is due is one of those to come
 due-length : (r : Room) (t : Tables) (x : ResAnomaly) (es : List Event) → getD (t .counts) (kindIndex x) 0 < r .cap
-    → length (keptFrom (r .cap) (t .counts) (x ∷ notesIn es)) ≡ 1 + length (keptFrom (r .cap) (counted (t .counts) (kindIndex x)) (notesIn es))
-due-length r t x es d = rw (keptFrom-due (r .cap) (t .counts) x (notesIn es) (lt-ltb (getD (t .counts) (kindIndex x) 0) (r .cap) d)) (omega arith)
+    → length (keptFrom (r .cap) (t .counts) (x ∷ eventNotes es)) ≡ 1 + length (keptFrom (r .cap) (counted (t .counts) (kindIndex x)) (eventNotes es))
+due-length r t x es d = rw (keptFrom-due (r .cap) (t .counts) x (eventNotes es) (lt-ltb (getD (t .counts) (kindIndex x) 0) (r .cap) d)) (omega arith)
 
 goes : (r : Room) → Goes r (Enough r)
 goes r = record {
@@ -100,7 +100,7 @@ goes r = record {
     nodes = omega (arith, h .nodes);
     attributes = omega (arith, h .attributes);
     fine = h .fine .1;
-    notes = rw (← keptFrom-past (r .cap) (t .counts) x (notesIn es) d) (h .notes);
+    notes = rw (← keptFrom-past (r .cap) (t .counts) x (eventNotes es) d) (h .notes);
   };
 }
 
@@ -115,7 +115,7 @@ stops r S fine = record {
 -- ---- the refusals of a file are such
 
 pool-fine : (e : PoolPart) → Fine (poolRefusal e)
-unfolding numberOf
+unfolding refusalNumber
 pool-fine (Skipped at) = (refl, refl)
 pool-fine (Header at) = (refl, refl)
 pool-fine (Offsets at) = (refl, refl)
@@ -123,12 +123,12 @@ pool-fine (Styles at) = (refl, refl)
 pool-fine (Data at) = (refl, refl)
 
 map-fine : (e : MapPart) → Fine (mapRefusal e)
-unfolding numberOf
+unfolding refusalNumber
 map-fine (MapHeader at) = (refl, refl)
 map-fine (MapIds at) = (refl, refl)
 
 head-fine : (e : HeadEnd) → Fine (refusalOf e)
-unfolding numberOf
+unfolding refusalNumber
 head-fine Whole = (refl, refl)
 head-fine (MapShort e) = map-fine e
 head-fine (PoolShort e) = pool-fine e
@@ -136,7 +136,7 @@ head-fine (TooSmall n) = (refl, refl)
 head-fine (HeaderSize n) = (refl, refl)
 
 root-fine : Fine MissingRoot
-unfolding numberOf
+unfolding refusalNumber
 root-fine = (refl, refl)
 
 -- ---- a reading
@@ -162,7 +162,7 @@ module _ (S : Refusal → Type 0) (A : ReadAnswer → Type 0) (done : (c : ReadC
           nodes = omega (arith, few .opens);
           attributes = omega (arith, few .attributes);
           fine = file-refuses Fine N root-fine o t b (λ e q. head-fine e);
-          notes = omega (arith, keptNotes-length-le (r .cap) (notesIn (fileEvents N o t b)));
+          notes = omega (arith, keptNotes-length-le (r .cap) (eventNotes (fileEvents N o t b)));
         })
 
     answered : Under S (firstOf (entryChecks f lent (readingAt (r .cap) (r .mode)))) → A (reading r f lent .answer)
@@ -176,7 +176,7 @@ Other x = isFull x ≡ false
 
 pub suffices : (r : Room) (f : List ℕ) (lent : Lent) → nodesFor (length f) ≤ r .nodes → attributesFor (length f) ≤ r .attributes
     → placesFor (r .cap) ≤ r .notes → HasRoom (reading r f lent .answer)
-unfolding numberOf
+unfolding refusalNumber
 suffices r f lent nodes attributes notes =
     answered Other HasRoom (λ c. tt) (λ x h. h) (λ x h. h .0) r f lent nodes attributes notes
     (entry-under Other f lent (askers.Reading (r .cap) (r .mode)) refl refl (λ k. refl) refl)
@@ -184,11 +184,11 @@ suffices r f lent nodes attributes notes =
 -- ---- with no names, a listing can say what it is refused with
 
 abbrev Listed : Refusal → Type 0
-Listed x = isListed (numberOf x) ≡ true
+Listed x = isListed (refusalNumber x) ≡ true
 
 abbrev pub SaidBy : ReadAnswer → Type 0
 SaidBy (Done c) = Unit {0}
-SaidBy (Refused x) = isListed (numberOf x) ≡ true
+SaidBy (Refused x) = isListed (refusalNumber x) ≡ true
 
 cap-listed : (cap mode : ℕ) → eqb cap 0 ≡ false → Under Listed (capCheck (askers.Reading cap mode))
 cap-listed cap mode e = rw e tt
@@ -198,7 +198,7 @@ mode-listed cap mode e = rw e tt
 
 pub said-by : (r : Room) (f : List ℕ) → nodesFor (length f) ≤ r .nodes → attributesFor (length f) ≤ r .attributes → placesFor (r .cap) ≤ r .notes
     → eqb (r .cap) 0 ≡ false → isMode (r .mode) ≡ true → SaidBy (reading r f (lends [] []) .answer)
-unfolding namesFrom numberOf
+unfolding namesFrom refusalNumber
 said-by r f nodes attributes notes some known =
     answered Listed SaidBy (λ c. tt) (λ x h. h) (λ x h. h .1) r f (lends [] []) nodes attributes notes
     (first-under Listed (entryChecks f (lends [] []) (readingAt (r .cap) (r .mode)))

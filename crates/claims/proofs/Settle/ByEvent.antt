@@ -26,7 +26,7 @@ use Rattle.events.specs.declared.Event.the-variants.{Nothing, Open, Attribute, 
 use Rattle.records.specs.Words.{nodeWidth, attributeWidth}
 use Rattle.records.specs.Repeats.{Rule}
 use Rattle.walk.specs.Settle.{Room, Tables, Out, going, refused, push, settle, opened, closed, kept, noted, repeated}
-use Rattle.claims.specs.Counts.{isOpen, stepped, opensAs, notesIn}
+use Rattle.claims.specs.Counts.{isOpen, stepped, opensAs, eventNotes}
 
 abbrev pub InOut : (Tables → Type 0) → (Refusal → Type 0) → Out → Type 0
 InOut P S (going t) = P t
@@ -54,7 +54,7 @@ pub record Still (e : Event) : Type 0 where
   pub opens : isOpen e ≡ 0
   pub depth : (d : ℕ) → stepped d e ≡ d
   pub order : (pick : ℕ → ℕ → ℕ → ℕ) (es : List Event) → opensAs pick (e ∷ es) ≡ opensAs pick es
-  pub notes : (es : List Event) → notesIn (e ∷ es) ≡ notesIn es
+  pub notes : (es : List Event) → eventNotes (e ∷ es) ≡ eventNotes es
 
 pub idle-still : (e : Event) → Idle e → Still e
 idle-still Nothing i = record { opens = refl; depth = λ d. refl; order = λ pick es. refl; notes = λ es. refl }

@@ -15,7 +15,7 @@ use Rattle.system_types.specs.declared.NamesRead.{NamesRead}
 use Rattle.system_types.specs.declared.NamesRead.the-variants.{Good, Bad}
 use Rattle.head.specs.declared.Asker.{Asker}
 use Rattle.head.specs.Entry.{Check, passes, fails, firstOf, lengthCheck, keepsNone, capCheck, namesCheckBy, modeOf, isMode, modeCheck, entryChecks}
-use Rattle.head.specs.Inner.Entered.{askedBy}
+use Rattle.head.specs.Inner.Entered.{termsOf}
 use Rattle.xml_elements.proofs.Laws.{cond-by}
 
 module _ (S : Refusal → Type 0) where
@@ -47,7 +47,7 @@ module _ (S : Refusal → Type 0) where
   names-under (Bad k) s = s k
 
   pub entry-under : (f : List ℕ) (lent : Lent) (a : Asker) → S TooLargeError → S NotesOff → ((k : ℕ) → S (SystemNamesError k)) → S (ModeError (modeOf a))
-      → Under (firstOf (entryChecks f lent (askedBy a)))
+      → Under (firstOf (entryChecks f lent (termsOf a)))
   entry-under f lent a size cap names mode =
-      first-under (entryChecks f lent (askedBy a))
+      first-under (entryChecks f lent (termsOf a))
       (length-under f size, (cap-under a cap, (names-under (namesOf lent) names, (mode-under a mode, (tt, tt)))))

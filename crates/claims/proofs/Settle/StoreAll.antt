@@ -21,7 +21,7 @@ use Rattle.records.specs.Repeats.{Rule}
 use Rattle.events.specs.declared.Event.{Event}
 use Rattle.walk.specs.Settle.{Room, Tables, Out, going, refused, push, settle, nothingYet}
 use Rattle.walk.proofs.Settle.{settle-refused}
-use Rattle.claims.specs.Counts.{noted, notesIn}
+use Rattle.claims.specs.Counts.{eventNote, eventNotes}
 use Rattle.claims.proofs.Events.NotesAndOthers.{othersIn}
 use Rattle.claims.proofs.Events.Refusals.{refuse-others, others-refuse}
 use Rattle.claims.proofs.Settle.TableGrowth.{bare, grow, grown, grown-others, grown-more}
@@ -47,7 +47,7 @@ Going (refused x) = ⊥
 module _ (rule : Rule) (r : Room) where
   pub record Settles (t : Tables) (es : List Event) (u : Tables) : Type 0 where
     pub tree : bare u ≡ grown rule (bare t) es
-    pub notes : u .notes ≡ t .notes ++ map noteOf (keptOf rule r t (notesIn es))
+    pub notes : u .notes ≡ t .notes ++ map noteOf (keptOf rule r t (eventNotes es))
     pub stay : AllStay es
 
   abbrev pub TellsAll : Tables → List Event → Out → Type 0
@@ -63,15 +63,15 @@ module _ (rule : Rule) (r : Room) where
       tree = s .tree ∙ ap (λ (b : Tables). grown rule b es) (p .tree);
       notes =
           s .notes ∙ ap (λ (l : List NoteOf). l ++ map noteOf rest) (p .notes) ∙ append-assoc (t .notes) (map noteOf here) (map noteOf rest)
-          ∙ ap (λ (l : List NoteOf). t .notes ++ l) (sym (ap (map noteOf) (p .counts (notesIn es)) ∙ map-append noteOf here rest));
+          ∙ ap (λ (l : List NoteOf). t .notes ++ l) (sym (ap (map noteOf) (p .counts (eventNotes es)) ∙ map-append noteOf here rest));
       stay = (p .stays, s .stay);
     }
       where
         here : List ResAnomaly
-        here = keptOf rule r t (noted e)
+        here = keptOf rule r t (eventNote e)
 
         rest : List ResAnomaly
-        rest = keptOf rule r t′ (notesIn es)
+        rest = keptOf rule r t′ (eventNotes es)
 
     tells-step : (o : Out) → Tells rule r t e o → ((t′ : Tables) → TellsAll t′ es (settle rule r (going t′) es)) → TellsAll t (e ∷ es) (settle rule r o es)
     tells-step (refused x) p rec = rw (settle-refused rule r x es) (λ h. p (h .0) .0)
@@ -87,7 +87,7 @@ module _ (rule : Rule) (r : Room) where
   pub record Roomy (t : Tables) (es : List Event) : Type 0 where
     pub nodes : length (grown rule (bare t) es .nodes) ≤ r .nodes
     pub attributes : length (grown rule (bare t) es .attributes) ≤ r .attributes
-    pub notes : length (t .notes) + length (keptOf rule r t (notesIn es)) ≤ r .notes
+    pub notes : length (t .notes) + length (keptOf rule r t (eventNotes es)) ≤ r .notes
 
   module _ (t : Tables) (e : Event) (es : List Event) (room : Roomy t (e ∷ es)) where
     roomy-rest : (t′ : Tables) → Stored rule r t e t′ → Roomy t′ es
@@ -95,9 +95,9 @@ module _ (rule : Rule) (r : Room) where
       nodes = rw (p .tree) (room .nodes);
       attributes = rw (p .tree) (room .attributes);
       notes =
-          let here = keptOf rule r t (noted e) in
-          let rest = keptOf rule r t′ (notesIn es) in
-          let all = rw (p .counts (notesIn es), length-append) at (room .notes) in
+          let here = keptOf rule r t (eventNote e) in
+          let rest = keptOf rule r t′ (eventNotes es) in
+          let all = rw (p .counts (eventNotes es), length-append) at (room .notes) in
           rw (p .notes, length-append, length-map) (omega (arith, all));
     }
 
@@ -107,7 +107,7 @@ module _ (rule : Rule) (r : Room) where
         record {
           nodes = le-trans (more .nodes) (room .nodes);
           attributes = le-trans (more .attributes) (room .attributes);
-          notes = omega (arith, kept-front (r .cap) (noted e) (notesIn es) (t .counts), room .notes);
+          notes = omega (arith, kept-front (r .cap) (eventNote e) (eventNotes es) (t .counts), room .notes);
         }
 
     roomy-step : Stays e → (o : Out) → Tells rule r t e o → ((t′ : Tables) → Roomy t′ es → Going (settle rule r (going t′) es)) → Going (settle rule r o es)
@@ -127,7 +127,7 @@ empty = record { nodes = []; attributes = []; first = 0; stack = []; notes = [];
 -- u, settled from es, and u′, settled from es′ in tables of the room r′
 pub record SameButNotes (r′ : Room) (es′ : List Event) (u u′ : Tables) : Type 0 where
   pub tree : bare u′ ≡ bare u
-  pub notes : u′ .notes ≡ map noteOf (keptNotes (r′ .cap) (notesIn es′))
+  pub notes : u′ .notes ≡ map noteOf (keptNotes (r′ .cap) (eventNotes es′))
 
 module _ (rule : Rule) (r : Room) (es : List Event) (u : Tables) (base : settle rule r nothingYet es ≡ going u) where
   pub settled : Settles rule r empty es u
@@ -153,7 +153,7 @@ module _ (rule : Rule) (r : Room) (es : List Event) (u : Tables) (base : settle 
 
     -- tables that are no smaller have room, if that of the notes has
     pub same-roomy : length (u .nodes) ≤ r′ .nodes → length (u .attributes) ≤ r′ .attributes
-        → length (keptNotes (r′ .cap) (notesIn es′)) ≤ r′ .notes → Going (settle rule r′ nothingYet es′)
+        → length (keptNotes (r′ .cap) (eventNotes es′)) ≤ r′ .notes → Going (settle rule r′ nothingYet es′)
     same-roomy n a o =
         let g : grown rule (bare empty) es′ ≡ bare u = same-grown ∙ sym (settled .tree) in
         settle-roomy rule r′ es′ empty same-stay (record { nodes = rw g n; attributes = rw g a; notes = omega (arith, o) })

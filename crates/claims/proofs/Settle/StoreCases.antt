@@ -16,7 +16,7 @@ use Rattle.anomaly.specs.Note.{kindIndex, noteOf}
 use Rattle.anomaly.specs.Kept.{keptFrom}
 use Rattle.anomaly.specs.declared.ResAnomaly.{ResAnomaly}
 use Rattle.anomaly.proofs.Laws.{keptFrom-due, keptFrom-past}
-use Rattle.errors.specs.Refusal.{numberOf}
+use Rattle.errors.specs.Refusal.{refusalNumber}
 use Rattle.errors.specs.declared.Refusal.{Refusal}
 use Rattle.xml_elements.proofs.Laws.{cond-by}
 use Rattle.events.specs.declared.Event.{Event}
@@ -25,7 +25,7 @@ use Rattle.records.specs.Words.{nodeWidth, attributeWidth}
 use Rattle.records.specs.Repeats.{Rule}
 use Rattle.walk.specs.Settle.{Room, Tables, Out, going, refused, opened, kept, push, repeated, closed}
 use Rattle.claims.specs.Room.{isFull}
-use Rattle.claims.specs.Counts.{noted}
+use Rattle.claims.specs.Counts.{eventNote}
 use Rattle.claims.proofs.Events.Refusals.{RefuseOf, AllRefuse}
 use Rattle.claims.proofs.Settle.TableGrowth.{bare, grow}
 
@@ -49,28 +49,28 @@ module _ (rule : Rule) (r : Room) where
 
   pub record Stored (t : Tables) (e : Event) (t′ : Tables) : Type 0 where
     pub tree : bare t′ ≡ grow rule (bare t) e
-    pub notes : t′ .notes ≡ t .notes ++ map noteOf (keptOf t (noted e))
-    pub counts : (ns : List ResAnomaly) → keptOf t (noted e ++ ns) ≡ keptOf t (noted e) ++ keptOf t′ ns
+    pub notes : t′ .notes ≡ t .notes ++ map noteOf (keptOf t (eventNote e))
+    pub counts : (ns : List ResAnomaly) → keptOf t (eventNote e ++ ns) ≡ keptOf t (eventNote e) ++ keptOf t′ ns
     pub stays : Stays e
 
   -- there is room for it
   pub record Fits (t : Tables) (e : Event) : Type 0 where
     pub nodes : length (grow rule (bare t) e .nodes) ≤ r .nodes
     pub attributes : length (grow rule (bare t) e .attributes) ≤ r .attributes
-    pub notes : length (t .notes) + length (keptOf t (noted e)) ≤ r .notes
+    pub notes : length (t .notes) + length (keptOf t (eventNote e)) ≤ r .notes
 
   abbrev pub Tells : Tables → Event → Out → Type 0
   Tells t e (going t′) = Stored t e t′
   Tells t e (refused x) = Stays e → Full x × (Fits t e → ⊥)
 
   -- an event that is no note
-  silent : (t : Tables) (e : Event) (t′ : Tables) → bare t′ ≡ grow rule (bare t) e → t′ .notes ≡ t .notes → t′ .counts ≡ t .counts → noted e ≡ []
+  silent : (t : Tables) (e : Event) (t′ : Tables) → bare t′ ≡ grow rule (bare t) e → t′ .notes ≡ t .notes → t′ .counts ≡ t .counts → eventNote e ≡ []
       → Stays e → Stored t e t′
   unfolding keptFrom
   silent t e t′ g o c n s = record { tree = g; notes = o ∙ rw n (sym (append-nil (t .notes))); counts = λ ns. rw (n, c); stays = s }
 
   pub push-tells : (t : Tables) (e : Event) → Tells t e (push rule r (going t) e)
-  unfolding keptFrom numberOf
+  unfolding keptFrom refusalNumber
   push-tells t Nothing = silent t Nothing t refl refl refl refl tt
   push-tells t Finish = silent t Finish t refl refl refl refl tt
   push-tells t (LeftOut n) = silent t (LeftOut n) t refl refl refl refl tt

@@ -81,7 +81,16 @@ module _ (r : Room) (f : List ℕ) (lent : Lent) where
       out p (refused x) q = no-done x (whole p ∙ ap (finalOf r) q)
       out p (going t) q =
           let w : reading r f lent ≡ succeeds r t = whole p ∙ ap (finalOf r) q in
-          record { short = p .short; cap = cap-some (r .cap) (r .mode) (p .cap); good = p .good; mode = mode-known (r .cap) (r .mode) (p .mode); tables = t; settles = q; whole = w; counts = ap (countsIn c) (sym (ap answer w) ∙ e) }
+          record {
+            short = p .short;
+            cap = cap-some (r .cap) (r .mode) (p .cap);
+            good = p .good;
+            mode = mode-known (r .cap) (r .mode) (p .mode);
+            tables = t;
+            settles = q;
+            whole = w;
+            counts = ap (countsIn c) (sym (ap answer w) ∙ e);
+          }
 
       checked : (k : Check) → firstOf (entryChecks f lent (readingAt (r .cap) (r .mode))) ≡ k → Success r f lent c
       checked passes q = out (passed f lent (readingAt (r .cap) (r .mode)) q) (settledIn r f lent (openedOf f)) refl

@@ -19,7 +19,7 @@ use Rattle.common.specs.Header.{headerOf}
 use Rattle.common.specs.declared.ResChunkHeader.{ResChunkHeader}
 use Rattle.common.specs.declared.HeaderRead.{HeaderRead}
 use Rattle.common.specs.declared.HeaderRead.the-variants.{Whole as WholeHeader, Short}
-use Rattle.chunk.specs.Sort.{sortOf}
+use Rattle.chunk.specs.Sort.{chunkSort}
 use Rattle.xml_elements.specs.declared.XmlStartElement.{XmlStartElement}
 use Rattle.xml_elements.specs.declared.XmlAttributeElement.{XmlAttributeElement}
 use Rattle.xml_elements.specs.declared.Chunk.{Chunk}
@@ -28,7 +28,7 @@ use Rattle.xml_elements.specs.declared.CutChunk.{CutChunk}
 use Rattle.xml_elements.specs.declared.CutChunk.the-variants.{CutLine, CutHead, CutGap, CutAttributes, CutTrailing, CutEnd, CutOther}
 use Rattle.xml_elements.specs.declared.Turn.{Turn}
 use Rattle.xml_elements.specs.declared.Turn.the-variants.{Stop, Foreign, Met, Cut}
-use Rattle.xml_elements.specs.Chunk.{startOf, attributesAt, attributesEnd, startLen, attributeAt, startTurn, xmlTurn, numberOf, turnBy, turnOf}
+use Rattle.xml_elements.specs.Chunk.{startOf, attributesAt, attributesEnd, startLen, attributeAt, startTurn, xmlTurn, foreignNumber, turnBy, turnOf}
 use Rattle.xml_elements.proofs.Laws.{cond-by}
 use Rattle.claims.specs.Readers.{allBelow}
 
@@ -139,13 +139,13 @@ module _ (l : List ℕ) (h : InBytes l) where
       (λ e. cond-by SmallTurn (eqb kind 0x104) (λ e. cond-by SmallTurn (ltb (length l) 28) (λ e. tt) (λ e. tt))
       (λ e. cond-by SmallTurn (ltb (length l) 24) (λ e. tt) (λ e. tt))))))
 
-  number-small : (x : ResChunkHeader) → SmallHeader x → Fits (numberOf x)
-  unfolding numberOf
-  number-small x w = cond-by Fits (eqb (sortOf x) 0) (λ e. w .kind) (λ e. w .own)
+  number-small : (x : ResChunkHeader) → SmallHeader x → Fits (foreignNumber x)
+  unfolding foreignNumber
+  number-small x w = cond-by Fits (eqb (chunkSort x) 0) (λ e. w .kind) (λ e. w .own)
 
   turn-by : (x : HeaderRead) → SmallRead x → SmallTurn (turnBy l x)
   turn-by Short w = tt
-  turn-by (WholeHeader x) w = cond-by SmallTurn (eqb (sortOf x) 2) (λ e. xml-turn (x .kind)) (λ e. number-small x w)
+  turn-by (WholeHeader x) w = cond-by SmallTurn (eqb (chunkSort x) 2) (λ e. xml-turn (x .kind)) (λ e. number-small x w)
 
   pub turn-small : SmallTurn (turnOf l)
   unfolding turnOf

@@ -15,7 +15,7 @@ use Rattle.anomaly.specs.declared.ResAnomaly.{ResAnomaly}
 use Rattle.anomaly.specs.declared.ResAnomaly.the-variants.{NonXmlChunk}
 use Rattle.anomaly.specs.declared.ResAnomaly.the-variants.{XmlNodeHeaderSize, UnknownChunk}
 use Rattle.anomaly.specs.declared.ResAnomaly.the-variants.{TruncatedXml, UnclosedElements}
-use Rattle.errors.specs.Refusal.{valueOf}
+use Rattle.errors.specs.Refusal.{refusalValue}
 use Rattle.errors.specs.declared.Refusal.the-variants.{MissingRoot}
 use Rattle.res_string_pool.specs.Pool.{offsetOf, outsideOf}
 use Rattle.text.specs.declared.NameState.{NameState}
@@ -34,8 +34,8 @@ use Rattle.xml_elements.specs.Chunk.{strideOf, attributesAt, attributeAt, turnO
 use Rattle.xml_elements.proofs.Laws.{cond-by}
 use Rattle.events.specs.declared.Event.{Event}
 use Rattle.events.specs.declared.Event.the-variants.{Nothing, Open, Attribute, LeftOut, Close, Note, Refuse, Finish}
-use Rattle.events.specs.Events.{Names, hasOne, fixedOf, when, leading, attributeBy, attributeEvent, attributesOf, cutShort}
-use Rattle.events.specs.Events.{Spot, foreignNote, chunkYield, cutYield, yieldOf, nextOf, chunkNext, cutNext, fromRoot, lastOf, out}
+use Rattle.events.specs.Events.{Names, hasOne, fixedOf, eventIf, leading, attributeBy, attributeEvent, attributesOf, cutShort}
+use Rattle.events.specs.Events.{WalkState, foreignNote, chunkYield, cutYield, yieldOf, nextOf, chunkNext, cutNext, fromRoot, lastOf, out}
 use Rattle.events.specs.Events.{eventsOn, bodyEvents, fileEvents}
 use Rattle.events.specs.Inner.Starts.{fromLead, fromOpen, fromName}
 use mathlib.Core.Path.{refl}
@@ -60,7 +60,7 @@ SmallOf (Attribute p a) = Fits p × SmallAttribute a
 SmallOf (LeftOut n) = Unit {0}
 SmallOf Close = Unit {0}
 SmallOf (Note x) = SmallNote (noteOf x)
-SmallOf (Refuse x) = Fits (valueOf x)
+SmallOf (Refuse x) = Fits (refusalValue x)
 SmallOf Finish = Unit {0}
 
 abbrev pub Small : List Event → Type 0
@@ -71,11 +71,11 @@ both : (a b : List Event) → Small a → Small b → Small (a ++ b)
 both [] b p q = q
 both (e ∷ a) b p q = (p .0, both a b (p .1) q)
 
-noted : (b : Bool) (x : ResAnomaly) → SmallNote (noteOf x) → Small (when b (Note x))
+noted : (b : Bool) (x : ResAnomaly) → SmallNote (noteOf x) → Small (eventIf b (Note x))
 noted true x h = (h, tt)
 noted false x h = tt
 
-behind-note : (b : Bool) (x : ResAnomaly) (es : List Event) → SmallNote (noteOf x) → Small es → Small (when b (Note x) ++ es)
+behind-note : (b : Bool) (x : ResAnomaly) (es : List Event) → SmallNote (noteOf x) → Small es → Small (eventIf b (Note x) ++ es)
 behind-note true x es p q = (p, q)
 behind-note false x es p q = q
 
@@ -98,7 +98,7 @@ has-small NoText = omega arith
 has-small Invalid = omega arith
 has-small Valid = omega arith
 
-leading-small : (b : Bool) → Small (when b leading)
+leading-small : (b : Bool) → Small (eventIf b leading)
 leading-small true = ((omega arith, record { space = omega arith; name = omega arith; sort = omega arith; value = omega arith }), tt)
 leading-small false = tt
 
@@ -132,7 +132,7 @@ module _ (N : Names) (prefixes : (i : ℕ) → Fits (N .prefixOf i)) (states : (
     lead-small : Small (fromLead N s k l)
     unfolding fromLead
     lead-small =
-        both (when (eqb k 0) leading) (attributesOf N (s .«attribute_count») (strideOf s) (drop (attributesAt s) l)) (leading-small (eqb k 0))
+        both (eventIf (eqb k 0) leading) (attributesOf N (s .«attribute_count») (strideOf s) (drop (attributesAt s) l)) (leading-small (eqb k 0))
         (attributes-small (s .«attribute_count») (strideOf s) (drop (attributesAt s) l) (drop-bytes (attributesAt s) l h))
 
     open-small : Small (fromOpen N s k l)
@@ -142,7 +142,7 @@ module _ (N : Names) (prefixes : (i : ℕ) → Fits (N .prefixOf i)) (states : (
     name-small : Small (fromName N s k l)
     name-small = name-by N N s k l (λ ds es. Small ds) (λ b n ds es r. behind-note b (nameNote N s n) ds (name-note n) r) refl refl open-small
 
-    behind : (whole b : Bool) (n : StartNote) (ds es : List Event) → Small ds → Small (when b (Note (startNote s n)) ++ ds)
+    behind : (whole b : Bool) (n : StartNote) (ds es : List Event) → Small ds → Small (eventIf b (Note (startNote s n)) ++ ds)
     behind whole b n ds es h = behind-note b (startNote s n) ds (start-note n) h
 
 -- ---- a turn
@@ -162,13 +162,13 @@ unfolding noteOf
 depth-note d h = record { kind = omega arith; first = h; second = omega arith }
 
 -- the depth grows by one at most
-chunk-depth : (p : Spot) (c : Chunk) → chunkNext p c .depth ≤ p .depth + 1
+chunk-depth : (p : WalkState) (c : Chunk) → chunkNext p c .depth ≤ p .depth + 1
 chunk-depth p (Start s) = omega arith
 chunk-depth p End = omega arith
 chunk-depth p (Other n) = omega arith
 chunk-depth p Last = omega arith
 
-cut-depth : (p : Spot) (c : CutChunk) → cutNext p c .depth ≤ p .depth + 1
+cut-depth : (p : WalkState) (c : CutChunk) → cutNext p c .depth ≤ p .depth + 1
 cut-depth p CutLine = omega arith
 cut-depth p CutHead = omega arith
 cut-depth p (CutGap s) = omega arith
@@ -177,25 +177,25 @@ cut-depth p (CutTrailing s) = omega arith
 cut-depth p CutEnd = omega arith
 cut-depth p CutOther = omega arith
 
-next-depth : (p : Spot) (T : Turn) → nextOf p T .depth ≤ p .depth + 1
+next-depth : (p : WalkState) (T : Turn) → nextOf p T .depth ≤ p .depth + 1
 next-depth p Stop = omega arith
 next-depth p (Foreign k a n) = omega arith
 next-depth p (Met c) = chunk-depth p c
 next-depth p (Cut c) = cut-depth p c
 
-root-small : (b : Bool) → Small (when b (Refuse MissingRoot))
-unfolding valueOf
+root-small : (b : Bool) → Small (eventIf b (Refuse MissingRoot))
+unfolding refusalValue
 root-small true = (omega arith, tt)
 root-small false = tt
 
-last-small : (p : Spot) → Fits (p .depth) → Small (lastOf p)
+last-small : (p : WalkState) → Fits (p .depth) → Small (lastOf p)
 last-small p d =
     behind-note (not (eqb (p .depth) 0)) (UnclosedElements (p .depth)) (fromRoot p) (depth-note (p .depth) d) (root-small (eqb (p .starts) 0))
 
 -- ---- a body
 
 module _ (N : Names) (prefixes : (i : ℕ) → Fits (N .prefixOf i)) (states : (i : ℕ) → Fits (N .damage i)) where
-  module _ (l : List ℕ) (h : InBytes l) (p : Spot) where
+  module _ (l : List ℕ) (h : InBytes l) (p : WalkState) where
     chunk-events : (c : Chunk) → SmallChunk c → Small (chunkYield N l p c)
     chunk-events (Start s) w = start-whole N N s (p .starts) l (λ w ds es. Small ds) (behind N prefixes states s w (p .starts) l h) (name-small N prefixes states s w (p .starts) l h)
     chunk-events End w = (tt, tt)
@@ -218,7 +218,7 @@ module _ (N : Names) (prefixes : (i : ℕ) → Fits (N .prefixOf i)) (states : (
     turn-events (Cut c) w = cut-events c w
 
   -- of a walk that has come to this depth
-  body-from : (l : List ℕ) (p : Spot) → InBytes l → Fits (p .depth + length l) → Small (eventsOn N l p)
+  body-from : (l : List ℕ) (p : WalkState) → InBytes l → Fits (p .depth + length l) → Small (eventsOn N l p)
   body-from =
       body-by N N (λ l p ds es. InBytes l → Fits (p .depth + length l) → Small ds) (λ l p e h d. last-small p (omega (arith, d)))
       (λ l p m e g ds es rest h d. both (out N l p) ds (turn-events l h p (turnOf l) (turn-small l h))

@@ -9,7 +9,7 @@ use mathlib.Core.Bool.{true}
 use lib.ListN.{length, drop, length-drop}
 use lib.Dec.{ltb, eqb}
 use Rattle.field.specs.Le.{u16le, u32le}
-use Rattle.errors.specs.Refusal.{valueOf}
+use Rattle.errors.specs.Refusal.{refusalValue}
 use Rattle.common.specs.Header.{headerOf, contentSize}
 use Rattle.common.specs.declared.ResChunkHeader.{ResChunkHeader}
 use Rattle.common.specs.declared.HeaderRead.{HeaderRead}
@@ -86,17 +86,17 @@ pub record SmallOpened (o : Opened) : Type 0 where
   pub garbage : SmallGarbage (o .garbage)
   pub declared : Fits (o .declared)
   pub count : Fits (o .head .count)
-  pub end : Fits (valueOf (refusalOf (o .end)))
+  pub end : Fits (refusalValue (refusalOf (o .end)))
 
 module _ (t : List ℕ) (short : Fits (8 + length t)) (g : Garbage) (w : SmallGarbage g) (p : Pool) (q : SmallPool p) where
   mapped-small : (m : MapRead) → SmallOpened (mappedBy t g p m)
-  unfolding valueOf
+  unfolding refusalValue
   mapped-small (Ids n) = record { garbage = w; declared = q .declared; count = q .count; end = omega arith }
   mapped-small (MapHeaderShort left) = record { garbage = w; declared = q .declared; count = q .count; end = omega (arith, short) }
   mapped-small (IdsShort left) = record { garbage = w; declared = q .declared; count = q .count; end = omega (arith, short) }
 
   pooled-small : (e : PoolEnd) → SmallOpened (pooledBy t g p e)
-  unfolding valueOf
+  unfolding refusalValue
   pooled-small Complete = mapped-small (mapOf (drop (p .strings + p .size) t))
   pooled-small (GarbageShort left) = record { garbage = w; declared = q .declared; count = q .count; end = omega (arith, short) }
   pooled-small (HeaderShort left) = record { garbage = w; declared = q .declared; count = q .count; end = omega (arith, short) }
@@ -111,7 +111,7 @@ tables-small t h short =
     pooled-small t short (poolOf t .garbage) (r .garbage) (poolOf t .pool) (r .pool) (poolOf t .end)
 
 pub opened-small : (f : List ℕ) → InBytes f → Fits (8 + length f) → SmallOpened (openedOf f)
-unfolding openedOf valueOf
+unfolding openedOf refusalValue
 opened-small f h short =
     cond-by SmallOpened (ltb (length f) 8)
     (λ e. record { garbage = no-garbage; declared = omega arith; count = omega arith; end = omega (arith, short) })

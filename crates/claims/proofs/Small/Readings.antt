@@ -15,7 +15,7 @@ use lib.ListN.{length, take, drop, getD, set, replicate, length-append, length-s
 use lib.Dec.{ltb, eqb}
 use Rattle.anomaly.specs.Note.{noteOf}
 use Rattle.anomaly.specs.declared.Note.{Note as NoteOf}
-use Rattle.errors.specs.Refusal.{valueOf, numbersOf}
+use Rattle.errors.specs.Refusal.{refusalValue, numbersOf}
 use Rattle.errors.specs.declared.Refusal.{Refusal}
 use Rattle.errors.specs.declared.Refusal.the-variants.{TooLargeError}
 use Rattle.records.specs.Limits.{listedFile}
@@ -111,7 +111,7 @@ record Fitting (r : Room) (es : List Event) (t : Tables) : Type 0 where
   fewNotes : length (t .notes) ≤ r .notes
 
 abbrev Told : Refusal → Type 0
-Told x = Fits (valueOf x)
+Told x = Fits (refusalValue x)
 
 parent-fits : (s : List ℕ) → anyOver s ≡ false → Fits (parentIn s)
 parent-fits [] h = omega arith
@@ -198,7 +198,7 @@ module _ (r : Room) (roomNodes : Fits (r .nodes)) (roomAttributes : Fits (r .att
   }
 
   stops : Stops r (Fitting r) Told
-  unfolding valueOf
+  unfolding refusalValue
   stops = record {
     refuses = λ t es x h. h .small .0;
     nodes = λ t es n f l g h. omega (arith, roomNodes);
@@ -211,7 +211,7 @@ module _ (r : Room) (roomNodes : Fits (r .nodes)) (roomAttributes : Fits (r .att
   refused-in32 : (x : Refusal) → Told x → In32 (refuses r x)
   unfolding numbersOf
   refused-in32 x h = record {
-    value = anyOver-cons (valueOf x) _ h (anyOver-cons 0 [] (omega arith) no-over);
+    value = anyOver-cons (refusalValue x) _ h (anyOver-cons 0 [] (omega arith) no-over);
     counts = anyOver-cons 0 _ (omega arith) (anyOver-cons 0 _ (omega arith) (anyOver-cons 0 [] (omega arith) no-over));
     nodes = over-zeros (r .nodes);
     attributes = over-zeros (r .attributes);
@@ -247,7 +247,7 @@ module _ (r : Room) (roomNodes : Fits (r .nodes)) (roomAttributes : Fits (r .att
   -- the entry checks, with no names lent: what they refuse has the value 0, or the mode
   module _ (mode : Fits (r .mode)) where
     entry-told : (f : List ℕ) → Under Told (firstOf (entryChecks f (lends [] []) (readingAt (r .cap) (r .mode))))
-    unfolding namesFrom valueOf
+    unfolding namesFrom refusalValue
     entry-told f =
         let a = askers.Reading (r .cap) (r .mode) in
         first-under Told (entryChecks f (lends [] []) (readingAt (r .cap) (r .mode)))
@@ -272,7 +272,9 @@ module _ (r : Room) (roomNodes : Fits (r .nodes)) (roomAttributes : Fits (r .att
         let N = namesIn (r .mode) (o .head) t (lends [] []) in
         let n = 8 + headLen (o .head) in
         settle-by (N .repeats) r (Fitting r) Told goes stops nothingYet (fileEvents N o t (bodyIn f (o .head))) (record {
-          small = file-small o (opened-small f h short) t N (λ i. prefix-fits (contentOf (o .head) t (lends [] []) i)) (λ i. state-fits (damageIn (contentOf (o .head) t (lends [] []) i))) (bodyIn f (o .head)) (drop-bytes n f h)
+          small =
+              file-small o (opened-small f h short) t N (λ i. prefix-fits (contentOf (o .head) t (lends [] []) i))
+              (λ i. state-fits (damageIn (contentOf (o .head) t (lends [] []) i))) (bodyIn f (o .head)) (drop-bytes n f h)
               (omega (arith, short, length-drop n f));
           nodes = no-over;
           attributes = no-over;
@@ -291,7 +293,7 @@ module _ (r : Room) (roomNodes : Fits (r .nodes)) (roomAttributes : Fits (r .att
 -- ---- what is listed
 
 pub listed-in32 : (f : List ℕ) (n m : ℕ) → allBelow 256 f ≡ true → Fits n → Fits m → In32 (listed f n m)
-unfolding valueOf
+unfolding refusalValue
 listed-in32 f n m h p q = go (ltb listedFile (length f)) refl
   where
     go : (b : Bool) → ltb listedFile (length f) ≡ b → In32 (listed f n m)

@@ -18,10 +18,10 @@ use Rattle.anomaly.proofs.Laws.{keptNotes-of-kind}
 use Rattle.anomaly.proofs.Numbers.{kind-place}
 use Rattle.events.specs.declared.Event.{Event}
 use Rattle.events.specs.declared.Event.the-variants.{Note}
-use Rattle.events.specs.Events.{when}
-use Rattle.claims.specs.Counts.{depthFrom, notesIn}
-use Rattle.claims.specs.Shape.{ofKind, DepthSaid}
-use Rattle.claims.proofs.Events.NotesAndOthers.{notesIn-append}
+use Rattle.events.specs.Events.{eventIf}
+use Rattle.claims.specs.Counts.{depthFrom, eventNotes}
+use Rattle.claims.specs.Shape.{countOfKind, DepthSaid}
+use Rattle.claims.proofs.Events.NotesAndOthers.{eventNotes-append}
 use Rattle.claims.proofs.Events.KeptNotes.{All, all-append, all-of, kept-all, number-of}
 use Rattle.claims.proofs.Structure.StartDepth.{NotTwelve, depth-append}
 use Rattle.claims.proofs.Structure.WalkDepth.{WalkedFile}
@@ -29,9 +29,9 @@ use Rattle.claims.proofs.Structure.WalkDepth.{WalkedFile}
 -- ---- the end of a walk
 
 abbrev pub lastNote : ℕ → List Event
-lastNote d = when (not (eqb d 0)) (Note (UnclosedElements d))
+lastNote d = eventIf (not (eqb d 0)) (Note (UnclosedElements d))
 
-last-depth : (d n : ℕ) (b : Bool) → depthFrom d (when b (Note (UnclosedElements n))) ≡ d
+last-depth : (d n : ℕ) (b : Bool) → depthFrom d (eventIf b (Note (UnclosedElements n))) ≡ d
 last-depth d n true = refl
 last-depth d n false = refl
 
@@ -40,15 +40,15 @@ walked-depth es w =
     ap (depthFrom 0) (w .split) ∙ depth-append 0 (w .body) (lastNote (w .depth))
     ∙ last-depth (depthFrom 0 (w .body)) (w .depth) (not (eqb (w .depth) 0)) ∙ sym (w .told)
 
-pub walked-notes : (es : List Event) (w : WalkedFile es) → notesIn es ≡ notesIn (w .body) ++ notesIn (lastNote (w .depth))
-walked-notes es w = ap notesIn (w .split) ∙ notesIn-append (w .body) (lastNote (w .depth))
+pub walked-notes : (es : List Event) (w : WalkedFile es) → eventNotes es ≡ eventNotes (w .body) ++ eventNotes (lastNote (w .depth))
+walked-notes es w = ap eventNotes (w .split) ∙ eventNotes-append (w .body) (lastNote (w .depth))
 
 -- ---- a note 12 says the depth
 
 abbrev Says : ℕ → ResAnomaly → Type 0
 Says d x = noteOf x .kind ≡ 12 → noteOf x .a ≡ d
 
-last-says : (d : ℕ) (b : Bool) → All (Says d) (notesIn (when b (Note (UnclosedElements d))))
+last-says : (d : ℕ) (b : Bool) → All (Says d) (eventNotes (eventIf b (Note (UnclosedElements d))))
 unfolding noteOf
 last-says d true = (λ e. refl, tt)
 last-says d false = tt
@@ -58,12 +58,12 @@ said-of d [] h = tt
 said-of d (x ∷ l) h = (h .0, said-of d l (h .1))
 
 module _ (es : List Event) (w : WalkedFile es) (cap : ℕ) where
-  pub walked-said : DepthSaid (depthFrom 0 es) (map noteOf (keptNotes cap (notesIn es)))
+  pub walked-said : DepthSaid (depthFrom 0 es) (map noteOf (keptNotes cap (eventNotes es)))
   walked-said =
       let d = w .depth in
       rw (walked-depth es w)
-      (said-of d (keptNotes cap (notesIn es)) (kept-all (Says d) cap (notesIn es) (rw (walked-notes es w)
-      (all-append (Says d) (notesIn (w .body)) (notesIn (lastNote d)) (all-of NotTwelve (Says d) (λ x h e. absurd (h e)) (notesIn (w .body)) (w .plain))
+      (said-of d (keptNotes cap (eventNotes es)) (kept-all (Says d) cap (eventNotes es) (rw (walked-notes es w)
+      (all-append (Says d) (eventNotes (w .body)) (eventNotes (lastNote d)) (all-of NotTwelve (Says d) (λ x h e. absurd (h e)) (eventNotes (w .body)) (w .plain))
       (last-says d (not (eqb d 0)))))))
 
 -- ---- and there is one
@@ -84,8 +84,8 @@ place-append k (x ∷ a) b e = go (eqb (kindIndex x) k) refl (place-append k a b
     go true q rest = absurd (cons≢nil (rw q at e))
     go false q rest = rw q (rest (rw q at e))
 
-last-place : (d : ℕ) (b : Bool) → ofPlace (kindIndex (UnclosedElements d)) (notesIn (when b (Note (UnclosedElements d))))
-    ≡ notesIn (when b (Note (UnclosedElements d)))
+last-place : (d : ℕ) (b : Bool) → ofPlace (kindIndex (UnclosedElements d)) (eventNotes (eventIf b (Note (UnclosedElements d))))
+    ≡ eventNotes (eventIf b (Note (UnclosedElements d)))
 unfolding ofPlace
 last-place d true = rw (eq-eqb (kindIndex (UnclosedElements d)) (kindIndex (UnclosedElements d)) refl)
 last-place d false = refl
@@ -93,23 +93,23 @@ last-place d false = refl
 module _ (es : List Event) (w : WalkedFile es) (cap : ℕ) where
   -- how many notes 12 a cap keeps
   twelve : (b : Bool) → not (eqb (w .depth) 0) ≡ b
-      → ofKind 12 (map noteOf (keptNotes cap (notesIn es))) ≡ length (take cap (notesIn (when b (Note (UnclosedElements (w .depth))))))
+      → countOfKind 12 (map noteOf (keptNotes cap (eventNotes es))) ≡ length (take cap (eventNotes (eventIf b (Note (UnclosedElements (w .depth))))))
   unfolding noteOf
   twelve b q =
       let d = w .depth in
       let u = UnclosedElements d in
-      number-of u (keptNotes cap (notesIn es)) ∙ ap length (keptNotes-of-kind cap (kindIndex u) (notesIn es))
+      number-of u (keptNotes cap (eventNotes es)) ∙ ap length (keptNotes-of-kind cap (kindIndex u) (eventNotes es))
       ∙ ap (λ (l : List ResAnomaly). length (take cap l))
       (ap (ofPlace (kindIndex u)) (walked-notes es w)
-      ∙ place-append (kindIndex u) (notesIn (w .body)) (notesIn (lastNote d)) (plain-none d (notesIn (w .body)) (w .plain))
-      ∙ last-place d (not (eqb d 0)) ∙ ap (λ (x : Bool). notesIn (when x (Note u))) q)
+      ∙ place-append (kindIndex u) (eventNotes (w .body)) (eventNotes (lastNote d)) (plain-none d (eventNotes (w .body)) (w .plain))
+      ∙ last-place d (not (eqb d 0)) ∙ ap (λ (x : Bool). eventNotes (eventIf x (Note u))) q)
 
-  pub walked-twelve : 0 < cap → (depthFrom 0 es ≡ 0 → ⊥) → ofKind 12 (map noteOf (keptNotes cap (notesIn es))) ≡ 1
+  pub walked-twelve : 0 < cap → (depthFrom 0 es ≡ 0 → ⊥) → countOfKind 12 (map noteOf (keptNotes cap (eventNotes es))) ≡ 1
   walked-twelve c n =
       let q : eqb (w .depth) 0 ≡ false = ne-eqb (w .depth) 0 (λ z. n (walked-depth es w ∙ z)) in
       twelve true (ap not q) ∙ rw length-take (omega arith)
 
-  pub walked-none : depthFrom 0 es ≡ 0 → _≡_ {A = ℕ} (ofKind 12 (map noteOf (keptNotes cap (notesIn es)))) 0
+  pub walked-none : depthFrom 0 es ≡ 0 → _≡_ {A = ℕ} (countOfKind 12 (map noteOf (keptNotes cap (eventNotes es)))) 0
   walked-none z =
       let q : eqb (w .depth) 0 ≡ true = eq-eqb (w .depth) 0 (sym (walked-depth es w) ∙ z) in
       twelve false (ap not q) ∙ rw length-take (omega arith)

@@ -18,7 +18,7 @@ use Rattle.events.specs.declared.Event.the-variants.{Refuse}
 use Rattle.walk.specs.Settle.{Room, Tables, going, settle, nothingYet, closedIn}
 use Rattle.walk.specs.Reading.{secondOf}
 use Rattle.claims.specs.Counts.{depthFrom}
-use Rattle.claims.specs.Shape.{ofKind}
+use Rattle.claims.specs.Shape.{countOfKind}
 use Rattle.claims.proofs.Settle.StoreAll.{empty, settled}
 use Rattle.claims.proofs.Settle.ByEvent.{idle-still, Goes, settle-in}
 use Rattle.claims.proofs.Structure.Shape.{Falls}
@@ -91,12 +91,12 @@ module _ (rule : Rule) (r : Room) where
 -- ---- without note 12
 
 module _ (rule : Rule) (r : Room) (es : List Event) (t : Tables) (ends : Ending es) (out : settle rule r nothingYet es ≡ going t) where
-  pub second-none : 0 < r .cap → _≡_ {A = ℕ} (ofKind 12 (t .notes)) 0 → _≡_ {A = ℕ} (secondOf (t .stack)) 0
+  pub second-none : 0 < r .cap → _≡_ {A = ℕ} (countOfKind 12 (t .notes)) 0 → _≡_ {A = ℕ} (secondOf (t .stack)) 0
   second-none one none = go (eqb (depthFrom 0 es) 0) refl
     where
       go : (b : Bool) → eqb (depthFrom 0 es) 0 ≡ b → _≡_ {A = ℕ} (secondOf (t .stack)) 0
       go true e = near-none (t .stack) (rw (eqb-true (depthFrom 0 es) 0 e) at (settled-near rule r es t out))
       go false e =
-          let kept = ap (ofKind 12) (settled rule r es t out .notes) in
+          let kept = ap (countOfKind 12) (settled rule r es t out .notes) in
           let some = walked-twelve es (settled-walked rule r es t ends out) (r .cap) one (eqb-false (depthFrom 0 es) 0 e) in
           absurd (let y : ⊥ = omega (arith, none, kept, some) in y)

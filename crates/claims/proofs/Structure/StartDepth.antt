@@ -19,11 +19,11 @@ use Rattle.xml_elements.specs.declared.XmlAttributeElement.{XmlAttributeElement
 use Rattle.xml_elements.specs.Chunk.{strideOf, attributesAt, attributeAt}
 use Rattle.events.specs.declared.Event.{Event}
 use Rattle.events.specs.declared.Event.the-variants.{Note}
-use Rattle.events.specs.Events.{Names, when, leading, attributeBy, attributesOf, attributeEvent}
+use Rattle.events.specs.Events.{Names, eventIf, leading, attributeBy, attributesOf, attributeEvent}
 use Rattle.events.specs.Events.{cutShort, startEvents, gapNote, sizeNote, trailingNote}
 use Rattle.events.specs.Inner.Starts.{fromLead, fromOpen, fromName}
-use Rattle.claims.specs.Counts.{opensIn, stepped, depthFrom, notesIn}
-use Rattle.claims.proofs.Events.NotesAndOthers.{notesIn-append}
+use Rattle.claims.specs.Counts.{opensIn, stepped, depthFrom, eventNotes}
+use Rattle.claims.proofs.Events.NotesAndOthers.{eventNotes-append}
 use Rattle.claims.proofs.Events.KeptNotes.{All, all-append}
 use Rattle.claims.proofs.Events.EventCases.{StartNote, shifted, sized, trailing, startNote, start-whole, cut-gap, cut-attributes, cut-trailing}
 use Rattle.claims.proofs.Events.EventCases.{NameNote, damaged, invalid, nameNote, name-by}
@@ -36,10 +36,10 @@ NotTwelve x = noteOf x .kind ≡ 12 → ⊥
 
 -- there is none among these
 abbrev pub NoTwelve : List Event → Type 0
-NoTwelve es = All NotTwelve (notesIn es)
+NoTwelve es = All NotTwelve (eventNotes es)
 
 pub no-twelve-append : (a b : List Event) → NoTwelve a → NoTwelve b → NoTwelve (a ++ b)
-no-twelve-append a b p q = rw (notesIn-append a b) (all-append NotTwelve (notesIn a) (notesIn b) p q)
+no-twelve-append a b p q = rw (eventNotes-append a b) (all-append NotTwelve (eventNotes a) (eventNotes b) p q)
 
 pub opens-append : (a b : List Event) → opensIn (a ++ b) ≡ opensIn a + opensIn b
 opens-append [] b = omega arith
@@ -68,7 +68,7 @@ pub opening-note : (x : ResAnomaly) → (noteOf x .kind ≡ 12 → ⊥) → Open
 opening-note x h = record { opens = omega arith; depth = λ d. omega arith; plain = (h, tt) }
 
 -- behind a note that a test lets pass
-pub noted-opening : (b : Bool) (x : ResAnomaly) (es : List Event) (n : ℕ) → (noteOf x .kind ≡ 12 → ⊥) → Opening es n → Opening (when b (Note x) ++ es) n
+pub noted-opening : (b : Bool) (x : ResAnomaly) (es : List Event) (n : ℕ) → (noteOf x .kind ≡ 12 → ⊥) → Opening es n → Opening (eventIf b (Note x) ++ es) n
 noted-opening true x es n p h = record { opens = omega (arith, h .opens); depth = λ d. h .depth d; plain = (p, h .plain) }
 noted-opening false x es n p h = h
 
@@ -88,7 +88,7 @@ attributes-opening N (suc n) stride l =
     (attribute-opening N (attributeAt l) (N .state (attributeAt l .name .0)))
     (attributes-opening N n stride (drop stride l))
 
-leading-opening : (b : Bool) → Opening (when b leading) 0
+leading-opening : (b : Bool) → Opening (eventIf b leading) 0
 leading-opening true = record { opens = omega arith; depth = λ d. omega arith; plain = tt }
 leading-opening false = opening-none
 
@@ -96,7 +96,7 @@ module _ (N : Names) (s : XmlStartElement) (k : ℕ) (l : List ℕ) where
   lead-opening : Opening (fromLead N s k l) 0
   unfolding fromLead
   lead-opening =
-      opening-append (when (eqb k 0) leading) (attributesOf N (s .«attribute_count») (strideOf s) (drop (attributesAt s) l)) 0 0 (leading-opening (eqb k 0))
+      opening-append (eventIf (eqb k 0) leading) (attributesOf N (s .«attribute_count») (strideOf s) (drop (attributesAt s) l)) 0 0 (leading-opening (eqb k 0))
       (attributes-opening N (s .«attribute_count») (strideOf s) (drop (attributesAt s) l))
 
   open-opening : Opening (fromOpen N s k l) 1
@@ -123,7 +123,7 @@ module _ (N : Names) (s : XmlStartElement) (k : ℕ) (l : List ℕ) where
   note-plain trailing = λ e. omega arith
 
   behind : (whole b : Bool) (n : StartNote) (ds es : List Event) → OpeningStart whole ds es
-      → OpeningStart whole (when b (Note (startNote s n)) ++ ds) (when b (Note (startNote s n)) ++ es)
+      → OpeningStart whole (eventIf b (Note (startNote s n)) ++ ds) (eventIf b (Note (startNote s n)) ++ es)
   behind whole b n ds es h = noted-opening b (startNote s n) ds (cond whole 1 0) (note-plain n) h
 
   cut-opening : Opening cutShort 0

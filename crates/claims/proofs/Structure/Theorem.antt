@@ -27,7 +27,7 @@ use Rattle.records.specs.Repeats.{Rule}
 use Rattle.system_types.specs.Names.{Lent}
 use Rattle.walk.specs.Settle.{Room, Tables, settle, nothingYet}
 use Rattle.walk.specs.Reading.{Reading, reading, secondOf, nodesKept, attributesKept, roomIn, Reads}
-use Rattle.claims.specs.Counts.{opensIn, notesIn, depthFrom}
+use Rattle.claims.specs.Counts.{opensIn, eventNotes, depthFrom}
 use Rattle.claims.specs.Readers.{namesFor, eventsOf}
 use Rattle.claims.specs.Shape.{word, attributeWord, Descends, Runs, Owns, Structured}
 use Rattle.claims.proofs.Structure.Words.{place-lt}
@@ -128,7 +128,7 @@ module _ (f : List ℕ) (lent : Lent) (ns ats : List ℕ) (os : List Note) (cap 
   starts-right = omega (arith, d .starts, settled-starts rule r es t (d .out))
 
   abbrev ks : List ResAnomaly
-  ks = keptNotes cap (notesIn es)
+  ks = keptNotes cap (eventNotes es)
 
   told : t .notes ≡ map noteOf ks
   told = settled rule r es t (d .out) .notes
@@ -175,7 +175,7 @@ module _ (f : List ℕ) (lent : Lent) (ns ats : List ℕ) (os : List Note) (cap 
         owners = owners-in ns′ ats′ (nodesKept t) (attributesKept t) runs owns;
         many = sym (d .notes) ∙ notes-many;
         notes = told;
-        kinds = λ i. rw told (kept-number cap i (notesIn es));
+        kinds = λ i. rw told (kept-number cap i (eventNotes es));
         depth = rw told (walked-said es walk cap);
         twelve = λ x y. rw told (walked-twelve es walk cap x y);
         untold = λ z. rw told (walked-none es walk cap z);

@@ -23,7 +23,7 @@ use Rattle.xml_elements.specs.Chunk.{turnOf}
 use Rattle.xml_elements.proofs.Laws.{cond-by}
 use Rattle.events.specs.declared.Event.{Event}
 use Rattle.events.specs.declared.Event.the-variants.{Close, Note, Refuse}
-use Rattle.events.specs.Events.{Names, Spot, when}
+use Rattle.events.specs.Events.{Names, WalkState, eventIf}
 use Rattle.events.specs.Events.{foreignNote, chunkYield, cutYield, yieldOf, chunkNext, cutNext, nextOf, out, next, lastOf}
 use Rattle.events.specs.Events.{eventsOn}
 use Rattle.claims.specs.Counts.{opensIn, depthFrom}
@@ -41,26 +41,26 @@ use Rattle.claims.proofs.Events.EventCases.{body-by, HeadNote, garbage,
 -- ---- a turn
 
 -- from the spot p to the spot q
-record Turned (es : List Event) (p q : Spot) : Type 0 where
+record Turned (es : List Event) (p q : WalkState) : Type 0 where
   starts : q .starts ≡ p .starts + opensIn es
   depth : q .depth ≡ depthFrom (p .depth) es
   plain : NoTwelve es
 
 -- a turn that opens n elements
-turned-by : (es : List Event) (n : ℕ) (p q : Spot) → Opening es n → q .starts ≡ p .starts + n → q .depth ≡ p .depth + n → Turned es p q
+turned-by : (es : List Event) (n : ℕ) (p q : WalkState) → Opening es n → q .starts ≡ p .starts + n → q .depth ≡ p .depth + n → Turned es p q
 turned-by es n p q h s d = record { starts = omega (arith, h .opens); depth = omega (arith, h .depth (p .depth)); plain = h .plain }
 
-turned-still : (es : List Event) (p : Spot) (k : ℕ) → Opening es 0 → Turned es p (record { run = k; depth = p .depth; starts = p .starts })
+turned-still : (es : List Event) (p : WalkState) (k : ℕ) → Opening es 0 → Turned es p (record { run = k; depth = p .depth; starts = p .starts })
 turned-still es p k h = turned-by es 0 p _ h (omega arith) (omega arith)
 
-closed-turned : (p : Spot) → Turned (Close ∷ []) p (ended p)
+closed-turned : (p : WalkState) → Turned (Close ∷ []) p (ended p)
 closed-turned p = record { starts = omega arith; depth = refl; plain = tt }
 
-when-opening : (b : Bool) (x : ResAnomaly) → NotTwelve x → Opening (when b (Note x)) 0
+when-opening : (b : Bool) (x : ResAnomaly) → NotTwelve x → Opening (eventIf b (Note x)) 0
 when-opening true x h = opening-note x h
 when-opening false x h = opening-none
 
-module _ (N : Names) (l : List ℕ) (p : Spot) where
+module _ (N : Names) (l : List ℕ) (p : WalkState) where
   short-opening : Opening (Note TruncatedXml ∷ []) 0
   unfolding noteOf
   short-opening = opening-note TruncatedXml (λ e. omega arith)
@@ -94,20 +94,20 @@ module _ (N : Names) (l : List ℕ) (p : Spot) where
 -- ---- a body
 
 -- these events, from the spot p on
-pub record Walked (p : Spot) (es : List Event) : Type 0 where
+pub record Walked (p : WalkState) (es : List Event) : Type 0 where
   pub body : List Event
-  pub last : Spot
+  pub last : WalkState
   pub split : es ≡ body ++ lastOf last
   pub starts : last .starts ≡ p .starts + opensIn body
   pub depth : last .depth ≡ depthFrom (p .depth) body
   pub plain : NoTwelve body
 
-pub walked : (N : Names) (l : List ℕ) (p : Spot) → Walked p (eventsOn N l p)
+pub walked : (N : Names) (l : List ℕ) (p : WalkState) → Walked p (eventsOn N l p)
 walked N =
     body-by N N (λ l p ds es. Walked p ds)
     (λ l p e. record { body = []; last = p; split = refl; starts = omega arith; depth = refl; plain = tt }) (λ l p m e h ds es w. more l p ds w)
   where
-    more : (l : List ℕ) (p : Spot) (ds : List Event) → Walked (next l p) ds → Walked p (out N l p ++ ds)
+    more : (l : List ℕ) (p : WalkState) (ds : List Event) → Walked (next l p) ds → Walked p (out N l p ++ ds)
     more l p ds w =
         let t = turn-turned N l p (turnOf l) in
         let a = out N l p in record {
@@ -125,7 +125,7 @@ walked N =
 pub record WalkedFile (es : List Event) : Type 0 where
   pub body : List Event
   pub depth : ℕ
-  pub split : es ≡ body ++ when (not (eqb depth 0)) (Note (UnclosedElements depth))
+  pub split : es ≡ body ++ eventIf (not (eqb depth 0)) (Note (UnclosedElements depth))
   pub told : depth ≡ depthFrom 0 body
   pub some : 0 < opensIn body
   pub plain : NoTwelve body
@@ -137,7 +137,7 @@ pub data Ending (es : List Event) : Type 0 where
 
 pub walked-some : (es : List Event) (w : WalkedFile es) → 0 < opensIn es
 walked-some es w =
-    rw (w .split) (omega (arith, opens-append (w .body) (when (not (eqb (w .depth) 0)) (Note (UnclosedElements (w .depth)))), w .some))
+    rw (w .split) (omega (arith, opens-append (w .body) (eventIf (not (eqb (w .depth) 0)) (Note (UnclosedElements (w .depth)))), w .some))
 
 body-ends : (N : Names) (b : List ℕ) → Ending (bodyEvents N b)
 unfolding bodyEvents
@@ -147,15 +147,15 @@ body-ends N b = go (eqb (w .last .starts) 0) refl
     w = walked N b (record { run = 2; depth = 0; starts = 0 })
 
     noted : List Event
-    noted = when (not (eqb (w .last .depth) 0)) (Note (UnclosedElements (w .last .depth)))
+    noted = eventIf (not (eqb (w .last .depth) 0)) (Note (UnclosedElements (w .last .depth)))
 
     go : (z : Bool) → eqb (w .last .starts) 0 ≡ z → Ending (eventsOn N b (record { run = 2; depth = 0; starts = 0 }))
     go true e = refusedAt (w .body ++ noted) MissingRoot
-        (w .split ∙ ap (λ (z : Bool). w .body ++ (noted ++ when z (Refuse MissingRoot))) e ∙ sym (append-assoc (w .body) noted (Refuse MissingRoot ∷ [])))
+        (w .split ∙ ap (λ (z : Bool). w .body ++ (noted ++ eventIf z (Refuse MissingRoot))) e ∙ sym (append-assoc (w .body) noted (Refuse MissingRoot ∷ [])))
     go false e = walkedTo (record {
       body = w .body;
       depth = w .last .depth;
-      split = w .split ∙ ap (λ (z : Bool). w .body ++ (noted ++ when z (Refuse MissingRoot))) e ∙ ap (λ (x : List Event). w .body ++ x) (append-nil noted);
+      split = w .split ∙ ap (λ (z : Bool). w .body ++ (noted ++ eventIf z (Refuse MissingRoot))) e ∙ ap (λ (x : List Event). w .body ++ x) (append-nil noted);
       told = w .depth;
       some = pos (opensIn (w .body)) (λ z. eqb-false (w .last .starts) 0 e (omega (arith, w .starts)));
       plain = w .plain;
@@ -167,7 +167,7 @@ behind-opening a es m (refusedAt b x e) = refusedAt (a ++ b) x (ap (λ (y : List
 behind-opening a es m (walkedTo w) = walkedTo (record {
   body = a ++ w .body;
   depth = w .depth;
-  split = ap (λ (y : List Event). a ++ y) (w .split) ∙ sym (append-assoc a (w .body) (when (not (eqb (w .depth) 0)) (Note (UnclosedElements (w .depth)))));
+  split = ap (λ (y : List Event). a ++ y) (w .split) ∙ sym (append-assoc a (w .body) (eventIf (not (eqb (w .depth) 0)) (Note (UnclosedElements (w .depth)))));
   told = w .told ∙ ap (λ (d : ℕ). depthFrom d (w .body)) (sym (m .depth 0)) ∙ sym (depth-append 0 a (w .body));
   some = omega (arith, opens-append a (w .body), w .some);
   plain = no-twelve-append a (w .body) (m .plain) (w .plain);
@@ -182,5 +182,5 @@ head-plain o t offsets = λ e. omega arith
 pub file-ends : (N : Names) (o : Opened) (t b : List ℕ) → Ending (fileEvents N o t b)
 file-ends N o t b =
     file-by N N o t b (λ ds es. Ending ds)
-    (λ c n ds es h. behind-opening (when c (Note (headNote o t n))) ds (when-opening c (headNote o t n) (head-plain o t n)) h)
+    (λ c n ds es h. behind-opening (eventIf c (Note (headNote o t n))) ds (when-opening c (headNote o t n) (head-plain o t n)) h)
     (λ e q. refusedAt [] (refusalOf e) refl) (λ q. body-ends N b)

@@ -1,12 +1,12 @@
 -- `errors::refusal_number` meets its contract: each arm knows the refusal.
 -- The needs are answered one behind the other, in the order in which `rt dev` lists them.
-use Rattle.errors.specs.Refusal.{numberOf}
+use Rattle.errors.specs.Refusal.{refusalNumber}
 use borrow.Author.Needs.{needs}
 use Rattle.errors.proofs.refusal_number.Statement.{statement}
 use Rattle.errors.proofs.refusal_number.Tie as tie
 
 pub refusal-number-spec : {M : Type 1} → statement M
-unfolding numberOf
+unfolding refusalNumber
 refusal-number-spec =
     tie.close
     (tie.spec

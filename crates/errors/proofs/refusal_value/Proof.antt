@@ -1,12 +1,12 @@
 -- `errors::refusal_value` meets its contract: each arm knows the refusal and what it holds.
 -- The needs are answered one behind the other, in the order in which `rt dev` lists them.
-use Rattle.errors.specs.Refusal.{valueOf}
+use Rattle.errors.specs.Refusal.{refusalValue}
 use borrow.Author.Needs.{needs}
 use Rattle.errors.proofs.refusal_value.Statement.{statement}
 use Rattle.errors.proofs.refusal_value.Tie as tie
 
 pub refusal-value-spec : {M : Type 1} → statement M
-unfolding valueOf
+unfolding refusalValue
 refusal-value-spec =
     tie.close
     (tie.spec

@@ -2,10 +2,11 @@
 -- reader must believe.
 --
 --   Ready     what a step asks of the head and the names: the names keep their rule, and the head fits where the pool is there
---   Within    what it asks of the cursor; Held by its phase: of a start begun, that its bytes are there if it says so
+--   Within    what a step asks of the cursor: it stands inside the body, and (Held) where it stands within a start that is there whole, the bytes
+--             of that start and its attributes lie before the body's end
 --   pending   what is still to be made from a cursor on; at first it is what the file makes
---   steps     more than the steps that are left; 0 at the earliest once all is made
---   the       an event as a list: none for `Nothing` and `Finish`
+--   steps     a number above the count of steps that are left: each step makes it smaller, and it reaches 0 only when everything is made
+--   eventList  an event as a list: none for `Nothing` and `Finish`
 --   Stepped   the promise of a step: it makes the first of what is pending, stays within, and comes nearer to the end
 use Prim.Native.Nat.{ℕ, _+_, _-_, _*_, _≤_, _<_}
 use mathlib.Core.Path.{_≡_}
@@ -31,7 +32,7 @@ use Rattle.events.specs.declared.Phase.the-variants.{AtShort, AtName, At
 use Rattle.events.specs.declared.Cursor.{Cursor}
 use Rattle.events.specs.declared.Step.{Step}
 use Rattle.events.specs.Events.{Names, attributesOf, cutShort}
-use Rattle.events.specs.Events.{Spot, started, fromRoot, lastOf, eventsOn, bodyEvents, notesOf, afterPool, fileEvents}
+use Rattle.events.specs.Events.{WalkState, started, fromRoot, lastOf, eventsOn, bodyEvents, notesOf, afterPool, fileEvents}
 use Rattle.events.specs.Inner.Starts.{fromGap, fromSize, fromTrailing, fromName, fromNamed, fromLead}
 use Rattle.events.specs.Inner.Steps.{stepOf}
 
@@ -85,7 +86,7 @@ pub record Within (o : Opened) (b : List ℕ) (c : Cursor) : Type 0 where
 
 -- ---- what is pending
 
-abbrev pub spotOf : Cursor → Spot
+abbrev pub spotOf : Cursor → WalkState
 spotOf c = record { run = c .run; depth = c .depth; starts = c .starts }
 
 -- behind the start that was begun: the rest of the walk where it is there, else the walk's end
@@ -149,19 +150,19 @@ abbrev pub steps : List ℕ → Cursor → ℕ
 steps b c = 20 * (length b - c .at) + rank (c .phase)
 
 -- an event that is one
-abbrev pub the : Event → List Event
-the Nothing = []
-the Finish = []
-the (Open n x l) = Open n x l ∷ []
-the (Attribute p a) = Attribute p a ∷ []
-the (LeftOut n) = LeftOut n ∷ []
-the Close = Close ∷ []
-the (Note a) = Note a ∷ []
-the (Refuse r) = Refuse r ∷ []
+abbrev pub eventList : Event → List Event
+eventList Nothing = []
+eventList Finish = []
+eventList (Open n x l) = Open n x l ∷ []
+eventList (Attribute p a) = Attribute p a ∷ []
+eventList (LeftOut n) = LeftOut n ∷ []
+eventList Close = Close ∷ []
+eventList (Note a) = Note a ∷ []
+eventList (Refuse r) = Refuse r ∷ []
 
 -- what a step does: it makes the first of what is pending, and comes nearer to the end
 pub record Stepped (N : Names) (o : Opened) (t b : List ℕ) (c : Cursor) (s : Step) : Type 0 where
-  pub same : pending N o t b c ≡ the (s .event) ++ pending N o t b (s .cur)
+  pub same : pending N o t b c ≡ eventList (s .event) ++ pending N o t b (s .cur)
   pub within : Within o b (s .cur)
   pub less : (s .event ≡ Finish → ⊥) → steps b (s .cur) < steps b c
   pub over : s .event ≡ Finish → pending N o t b c ≡ []

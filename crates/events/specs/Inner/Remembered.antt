@@ -72,4 +72,4 @@ pub record Remembers (h : Head) (t : List ℕ) (lent : Lent) (memory : List ℕ)
   pub room : length memory ≡ words
   pub tells : (i : ℕ) → getD memory (placeOf i) 0 / 16 ≡ i / 1024 + 1 → getD memory (placeOf i) 0 % 16 ≡ lookOf (contentOf h t lent i)
   pub longs : (p at n : ℕ) → p < parts → 1 ≤ n → getD memory (lookPlace p) 0 / 16 ≡ at → getD memory (lengthPlace p) 0 ≡ n
-      → getD memory (lookPlace p) 0 % 16 ≡ lookOf (some (h .wide) (take n (drop at t)))
+      → getD memory (lookPlace p) 0 % 16 ≡ lookOf (some (h .utf16) (take n (drop at t)))

@@ -12,10 +12,10 @@ use lib.Dec.{ltb, eqb}
 use Rattle.xml_elements.specs.declared.XmlStartElement.{XmlStartElement}
 use Rattle.xml_elements.specs.Chunk.{strideOf, attributesAt}
 use Rattle.events.specs.declared.Event.{Event}
-use Rattle.events.specs.Events.{Names, when, leading, attributesOf, cutShort, gapNote, sizeNote, trailingNote, damageNote, nameNote, openEvent}
+use Rattle.events.specs.Events.{Names, eventIf, leading, attributesOf, cutShort, gapNote, sizeNote, trailingNote, damageNote, nameNote, openEvent}
 
 unfoldable pub fromLead : Names → XmlStartElement → ℕ → List ℕ → List Event
-fromLead N s k l = when (eqb k 0) leading ++ attributesOf N (s .«attribute_count») (strideOf s) (drop (attributesAt s) l)
+fromLead N s k l = eventIf (eqb k 0) leading ++ attributesOf N (s .«attribute_count») (strideOf s) (drop (attributesAt s) l)
 
 unfoldable pub fromOpen : Names → XmlStartElement → ℕ → List ℕ → List Event
 fromOpen N s k l = openEvent N s ∷ fromLead N s k l

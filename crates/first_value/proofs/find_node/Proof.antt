@@ -83,7 +83,8 @@ returns c =
     let test = c .before .before .before .before .before .before .before .before .before .loop-test in
     let place = c .before .before .before .before .before .before .before .before .node-place in
     let told = c .before .before .before .before .is-tagged-once in
-    sym (l .inv .1 ∙ findNode-found (a .h) (now (a .t)) (lends (now (a .names)) (now (a .area))) (now (a .tag)) (a .count) (now (a .nodes)) (l .k) (test .taken) (place .ensures) (told .ensures .same) (c .before .before .if1 .taken))
+    sym (l .inv .1 ∙ findNode-found (a .h) (now (a .t)) (lends (now (a .names)) (now (a .area))) (now (a .tag)) (a .count) (now (a .nodes)) (l .k)
+    (test .taken) (place .ensures) (told .ensures .same) (c .before .before .if1 .taken))
 
 add-k : tie.Need-add-k Inv-loop μ-loop
 add-k c = search needs
@@ -98,7 +99,8 @@ loop-again c =
     let test = c .before .before .before .before .before .before .before .loop-test in
     let place = c .before .before .before .before .before .before .node-place in
     let told = c .before .before .is-tagged-once in
-    let e = findNode-next (a .h) (now (a .t)) (lends (now (a .names)) (now (a .area))) (now (a .tag)) (a .count) (now (a .nodes)) (l .k) (test .taken) (place .ensures) (told .ensures .same) (c .if1 .left) in
+    let e = findNode-next (a .h) (now (a .t)) (lends (now (a .names)) (now (a .area))) (now (a .tag)) (a .count) (now (a .nodes)) (l .k) (test .taken)
+    (place .ensures) (told .ensures .same) (c .if1 .left) in
     (search needs, l .inv .1 ∙ e, told .ensures .others, told .kept .1 .1 .1 .1 .1 .0 ∙ l .inv .3)
 
 returns-2 : tie.Need-returns-2 Inv-loop μ-loop

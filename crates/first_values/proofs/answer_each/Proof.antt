@@ -10,7 +10,7 @@ use Rattle.records.specs.Words.{answerWidth}
 use Rattle.system_types.specs.Names.{lends}
 use Rattle.first_value.proofs.Laws.{fitOf-fits}
 use Rattle.first_value.proofs.Search.{run-fits}
-use Rattle.first_values.specs.Pairs.{tagOf, answersFrom}
+use Rattle.first_values.specs.Pairs.{tagAt, answersFrom}
 use Rattle.first_values.specs.Inner.Known.{findsIn, asksIn, NodeOf}
 use Rattle.first_values.proofs.Laws.{answers-long, answers-put, answers-all, answer-words, node-none, node-next}
 use borrow.Author.Needs.{needs}
@@ -47,7 +47,7 @@ value-of-requires : tie.Need-value-of-requires Inv-loop μ-loop
 value-of-requires c κs =
     let s = c .before .before .before .before .before .before .before .before .before .before .before .before in
     let a = s .args in
-    let tag = tagOf (now (a .pairs)) (now (a .pair-area)) (c .before .before .before .loop .k) in
+    let tag = tagAt (now (a .pairs)) (now (a .pair-area)) (c .before .before .before .loop .k) in
     let run =
     run-fits (a .h) (now (a .t)) (lends (now (a .names)) (now (a .area))) tag (now (a .nodes)) (now (a .attributes)) (a .node-count) (a .attribute-count)
     (s .pre .1) (c .before .node-for .ensures) in

@@ -13,7 +13,7 @@ use Rattle.system_types.specs.Names.{Lent}
 use Rattle.text.specs.declared.Head.{Head}
 use Rattle.first_value.specs.declared.NodeFound.{NodeFound}
 use Rattle.first_value.specs.Question.{findNode, valueBy}
-use Rattle.first_values.specs.Pairs.{tagOf, listBy}
+use Rattle.first_values.specs.Pairs.{tagAt, listBy}
 
 module _ (h : Head) (t : List ℕ) (lent : Lent) (ns : List ℕ) (nodes : ℕ) where
   abbrev pub findsIn : List ℕ → NodeFound
@@ -23,12 +23,12 @@ module _ (h : Head) (t : List ℕ) (lent : Lent) (ns : List ℕ) (nodes : ℕ) w
   asksIn ats tag name = valueBy h t lent name ats (findsIn tag)
 
 pub record NodeOf (find : List ℕ → NodeFound) (pairs area : List ℕ) (k : ℕ) (node : NodeFound) : Type 0 where
-  pub known : (j : ℕ) → k ≡ j + 1 → node ≡ find (tagOf pairs area j)
+  pub known : (j : ℕ) → k ≡ j + 1 → node ≡ find (tagAt pairs area j)
 
 pub record Repeats (pairs area : List ℕ) (k : ℕ) : Type 0 where
   pub before : ℕ
   pub next : k ≡ before + 1
-  pub same : tagOf pairs area k ≡ tagOf pairs area before
+  pub same : tagAt pairs area k ≡ tagAt pairs area before
 
 pub record Gives (m : ℕ) (words : List ℕ) (a r : ManyAnswer) (after : List ℕ) : Type 0 where
   pub same : r ≡ a

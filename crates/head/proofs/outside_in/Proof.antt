@@ -8,8 +8,8 @@ use Rattle.head.proofs.Cases.{outsideIn-by}
 use Rattle.head.proofs.outside_in.Statement.{statement}
 use Rattle.head.proofs.outside_in.Tie as tie
 
-wide-requires : tie.Need-wide-requires
-wide-requires c κs = search needs
+to-usize-requires : tie.Need-to-usize-requires
+to-usize-requires c κs = search needs
 
 mul-n : tie.Need-mul-n
 mul-n c = search needs
@@ -33,14 +33,14 @@ returns : tie.Need-returns
 returns c =
     let s = c .before .before .before .before in
     let a = s .args in
-    c .outside-of .ensures ∙ outsideIn-by (now (a .t)) (a .h) (a .h .offsets + 4 * c .before .before .wide .result - a .h .offsets) (s .pre)
+    c .outside-of .ensures ∙ outsideIn-by (now (a .t)) (a .h) (a .h .offsets + 4 * c .before .before .to-usize .result - a .h .offsets) (s .pre)
     (omega arith)
 
 pub outside-in-spec : {M : Type 1} → statement M
 outside-in-spec =
     tie.close
     (tie.spec
-    wide-requires
+    to-usize-requires
     mul-n
     add-outside-of
     sub-outside-of

@@ -71,27 +71,32 @@ returns c =
 returns-2 : tie.Need-returns-2
 returns-2 c =
     let a = c .before .before .before .before .before .before .before .before .before .args in
-    c .pool-short .ensures ∙ tablesOf-cut (now (a .t)) (c .before .before .before .before .before .before .before .pool-of .ensures) _ Skipped (c .before .before .before .end .given .1) (c .before .begins-at .ensures) refl
+    c .pool-short .ensures ∙ tablesOf-cut (now (a .t)) (c .before .before .before .before .before .before .before .pool-of .ensures) _ Skipped
+    (c .before .before .before .end .given .1) (c .before .begins-at .ensures) refl
 
 returns-3 : tie.Need-returns-3
 returns-3 c =
     let a = c .before .before .before .before .before .before .before .before .before .args in
-    c .pool-short2 .ensures ∙ tablesOf-cut (now (a .t)) (c .before .before .before .before .before .before .before .pool-of .ensures) _ Header (c .before .before .before .end2 .given .1) (c .before .begins-at2 .ensures) refl
+    c .pool-short2 .ensures ∙ tablesOf-cut (now (a .t)) (c .before .before .before .before .before .before .before .pool-of .ensures) _ Header
+    (c .before .before .before .end2 .given .1) (c .before .begins-at2 .ensures) refl
 
 returns-4 : tie.Need-returns-4
 returns-4 c =
     let a = c .before .before .before .before .before .before .before .before .before .args in
-    c .pool-short3 .ensures ∙ tablesOf-cut (now (a .t)) (c .before .before .before .before .before .before .before .pool-of .ensures) _ Offsets (c .before .before .before .end3 .given .1) (c .before .begins-at3 .ensures) refl
+    c .pool-short3 .ensures ∙ tablesOf-cut (now (a .t)) (c .before .before .before .before .before .before .before .pool-of .ensures) _ Offsets
+    (c .before .before .before .end3 .given .1) (c .before .begins-at3 .ensures) refl
 
 returns-5 : tie.Need-returns-5
 returns-5 c =
     let a = c .before .before .before .before .before .before .before .before .before .args in
-    c .pool-short4 .ensures ∙ tablesOf-cut (now (a .t)) (c .before .before .before .before .before .before .before .pool-of .ensures) _ Styles (c .before .before .before .end4 .given .1) (c .before .begins-at4 .ensures) refl
+    c .pool-short4 .ensures ∙ tablesOf-cut (now (a .t)) (c .before .before .before .before .before .before .before .pool-of .ensures) _ Styles
+    (c .before .before .before .end4 .given .1) (c .before .begins-at4 .ensures) refl
 
 returns-6 : tie.Need-returns-6
 returns-6 c =
     let a = c .before .before .before .before .before .before .before .before .before .args in
-    c .pool-short5 .ensures ∙ tablesOf-cut (now (a .t)) (c .before .before .before .before .before .before .before .pool-of .ensures) _ Data (c .before .before .before .end5 .given .1) (c .before .begins-at5 .ensures) refl
+    c .pool-short5 .ensures ∙ tablesOf-cut (now (a .t)) (c .before .before .before .before .before .before .before .pool-of .ensures) _ Data
+    (c .before .before .before .end5 .given .1) (c .before .begins-at5 .ensures) refl
 
 pub tables-at-spec : {M : Type 1} → statement M
 tables-at-spec =

@@ -10,8 +10,8 @@ use Rattle.head.specs.declared.Entered.{Entered}
 use Rattle.head.specs.declared.Entered.the-variants.{In, Out}
 
 -- who asks without items
-abbrev pub askedBy : Asker → Terms
-askedBy a = record { asker = a; items = noItems }
+abbrev pub termsOf : Asker → Terms
+termsOf a = record { asker = a; items = noItems }
 
 abbrev pub enteredBy : Opened → Check → Entered
 enteredBy o passes = In o

@@ -65,7 +65,8 @@ returns-2 c =
     let s = c .before .before .before .before .before .before .before .before in
     let a = s .args in
     let l = c .before .loop in
-    sym (l .inv .1 ∙ new-told (now (a .area)) (now (a .items)) (now (a .firsts)) (s .pre .1) (a .i) (l .j) (c .before .before .before .before .part-of .ensures) (c .before .before .before .place-of .ensures)
+    sym (l .inv .1 ∙ new-told (now (a .area)) (now (a .items)) (now (a .firsts)) (s .pre .1) (a .i) (l .j)
+    (c .before .before .before .before .part-of .ensures) (c .before .before .before .place-of .ensures)
     (omega (arith, s .pre .0, l .inv .0)) (c .loop-test .left))
 
 pub is-new-spec : {M : Type 1} → statement M

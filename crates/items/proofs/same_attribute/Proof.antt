@@ -7,7 +7,8 @@ use Rattle.items.proofs.same_attribute.Tie as tie
 
 returns : tie.Need-returns
 returns c =
-    same-parts (now (c .before .before .before .before .before .before .args .area)) (c .before .before .before .before .before .before .args .i) (c .before .before .before .before .before .before .args .j) (c .if1 .taken)
+    same-parts (now (c .before .before .before .before .before .before .args .area)) (c .before .before .before .before .before .before .args .i)
+    (c .before .before .before .before .before .before .args .j) (c .if1 .taken)
 
 part-of-requires : tie.Need-part-of-requires
 part-of-requires c κs = search needs

@@ -15,13 +15,20 @@ node-place-requires : tie.Need-node-place-requires
 node-place-requires c κs = search needs
 
 settle-requires : tie.Need-settle-requires
-settle-requires c κs = λ z. used-fits _ _ _ _ (c .node-place .ensures) (c .before .before .before .before .before .before .before .before .read-tables .ensures .nodes .0 z) (c .before .before .before .before .before .before .before .before .read-tables .ensures .nodes .1)
+settle-requires c κs =
+    λ z. used-fits _ _ _ _ (c .node-place .ensures)
+    (c .before .before .before .before .before .before .before .before .read-tables .ensures .nodes .0 z)
+    (c .before .before .before .before .before .before .before .before .read-tables .ensures .nodes .1)
 
 attribute-place-requires : tie.Need-attribute-place-requires
 attribute-place-requires c κs = search needs
 
 settle-requires-2 : tie.Need-settle-requires-2
-settle-requires-2 c κs = λ z. used-fits _ _ _ _ (c .attribute-place .ensures) (c .before .before .before .before .before .before .before .before .before .before .before .before .before .read-tables .ensures .attributes .0 z) (c .before .before .before .before .before .before .before .before .before .before .before .before .before .read-tables .ensures .attributes .1)
+settle-requires-2 c κs =
+    λ z. used-fits _ _ _ _ (c .attribute-place .ensures)
+    (c .before .before .before .before .before .before .before .before .before .before .before .before .before .read-tables .ensures .attributes
+    .0 z) (c .before .before .before .before .before .before .before .before .before .before .before .before .before .read-tables .ensures
+    .attributes .1)
 
 cast-settle : tie.Need-cast-settle
 cast-settle c = search needs
@@ -30,10 +37,16 @@ mul-settle : tie.Need-mul-settle
 mul-settle c = search needs
 
 settle-requires-3 : tie.Need-settle-requires-3
-settle-requires-3 c κs = λ z. used-fits _ _ _ _ refl (c .before .before .before .before .before .before .before .before .before .before .before .before .before .before .before .before .before .before .read-tables .ensures .notes .0 z) (c .before .before .before .before .before .before .before .before .before .before .before .before .before .before .before .before .before .before .read-tables .ensures .notes .1)
+settle-requires-3 c κs =
+    λ z. used-fits _ _ _ _ refl (c .before .before .before .before .before .before .before .before .before .before .before .before .before .before
+    .before .before .before .before .read-tables .ensures .notes .0 z)
+    (c .before .before .before .before .before .before .before .before .before .before .before .before .before .before .before .before .before
+    .before .read-tables .ensures .notes .1)
 
 refused-requires : tie.Need-refused-requires
-refused-requires c κs = all-own (c .before .before .before .before .before .before .before .before .before .before .before .before .before .before .before .before .before .before .before .before .before .before .read-tables .ensures) (c .if1 .taken)
+refused-requires c κs =
+    all-own (c .before .before .before .before .before .before .before .before .before .before .before .before .before .before .before .before .before
+    .before .before .before .before .before .read-tables .ensures) (c .if1 .taken)
 
 same-length : tie.Need-same-length
 same-length c = search needs
@@ -45,10 +58,17 @@ same-length-3 : tie.Need-same-length-3
 same-length-3 c = search needs
 
 returns : tie.Need-returns
-returns c = relists-refused (c .before .before .before .before .before .before .before .before .before .before .before .before .before .before .before .before .before .before .before .before .before .before .before .read-tables .ensures) _ _ _ _ (c .before .if1 .taken) (c .refused .ensures) (c .before .before .before .before .before .before .before .before .before .before .before .before .before .before .settle .ensures .0 (c .before .if1 .taken)) (c .before .before .before .before .before .before .before .before .before .settle2 .ensures .0 (c .before .if1 .taken)) (c .before .before .before .before .settle3 .ensures .0 (c .before .if1 .taken))
+returns c =
+    relists-refused (c .before .before .before .before .before .before .before .before .before .before .before .before .before .before .before .before
+    .before .before .before .before .before .before .before .read-tables .ensures) _ _ _ _ (c .before .if1 .taken) (c .refused .ensures)
+    (c .before .before .before .before .before .before .before .before .before .before .before .before .before .before .settle .ensures .0
+    (c .before .if1 .taken)) (c .before .before .before .before .before .before .before .before .before .settle2 .ensures .0
+    (c .before .if1 .taken)) (c .before .before .before .before .settle3 .ensures .0 (c .before .if1 .taken))
 
 accepted-requires : tie.Need-accepted-requires
-accepted-requires c κs = all-tested (c .before .before .before .before .before .before .before .before .before .before .before .before .before .before .before .before .before .before .before .before .before .before .read-tables .ensures) (c .if1 .left)
+accepted-requires c κs =
+    all-tested (c .before .before .before .before .before .before .before .before .before .before .before .before .before .before .before .before
+    .before .before .before .before .before .before .read-tables .ensures) (c .if1 .left)
 
 same-length-4 : tie.Need-same-length-4
 same-length-4 c = search needs
@@ -60,7 +80,14 @@ same-length-6 : tie.Need-same-length-6
 same-length-6 c = search needs
 
 returns-2 : tie.Need-returns-2
-returns-2 c = relists-accepted (c .before .before .before .before .before .before .before .before .before .before .before .before .before .before .before .before .before .before .before .before .before .before .before .read-tables .ensures) _ _ _ _ (c .before .if1 .left) (c .accepted .ensures) (c .before .before .before .before .before .before .before .before .before .before .before .before .before .before .before .node-place .ensures) (c .before .before .before .before .before .before .before .before .before .before .attribute-place .ensures) refl (c .before .before .before .before .before .before .before .before .before .before .before .before .before .before .settle .ensures .1 (c .before .if1 .left)) (c .before .before .before .before .before .before .before .before .before .settle2 .ensures .1 (c .before .if1 .left)) (c .before .before .before .before .settle3 .ensures .1 (c .before .if1 .left))
+returns-2 c =
+    relists-accepted (c .before .before .before .before .before .before .before .before .before .before .before .before .before .before .before
+    .before .before .before .before .before .before .before .before .read-tables .ensures) _ _ _ _ (c .before .if1 .left) (c .accepted .ensures)
+    (c .before .before .before .before .before .before .before .before .before .before .before .before .before .before .before .node-place
+    .ensures) (c .before .before .before .before .before .before .before .before .before .before .attribute-place .ensures) refl
+    (c .before .before .before .before .before .before .before .before .before .before .before .before .before .before .settle .ensures .1
+    (c .before .if1 .left)) (c .before .before .before .before .before .before .before .before .before .settle2 .ensures .1
+    (c .before .if1 .left)) (c .before .before .before .before .settle3 .ensures .1 (c .before .if1 .left))
 
 pub read-listing-spec : {M : Type 1} → statement M
 read-listing-spec =

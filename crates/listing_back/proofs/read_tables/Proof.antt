@@ -13,7 +13,17 @@ spot-of-requires c κs = search needs
 
 read-records-requires : tie.Need-read-records-requires
 unfolding equalsIn formAt formsOf formText
-read-records-requires c κs = (spot-inside (c .before .before .before .before .before .before .args .text .now) (c .before .before .before .before .before .before .args .h) _ (c .before .spot-of .ensures) (c .before .before .before .before .before .before .pre .inside), search needs, refl, search needs, search needs, search needs, search needs)
+read-records-requires c κs = (
+  spot-inside (c .before .before .before .before .before .before .args .text .now) (c .before .before .before .before .before .before .args .h) _
+      (c .before .spot-of .ensures) (c .before .before .before .before .before .before .pre .inside),
+  search needs,
+  refl,
+  search needs,
+  search
+      needs,
+  search needs,
+  search needs,
+)
 
 cast-second : tie.Need-cast-second
 cast-second c = search needs
@@ -54,7 +64,14 @@ same-length-3 : tie.Need-same-length-3
 same-length-3 c = c .before .before .before .before .read-records3 .ensures .same
 
 returns : tie.Need-returns
-returns c = all-read _ _ _ _ _ _ _ _ _ _ _ _ _ (c .before .before .before .before .before .before .before .before .before .before .before .before .before .before .before .before .spot-of .ensures) (c .before .before .before .before .before .before .before .before .before .before .before .before .before .before .before .before .before .before .before .before .before .pre) (c .before .before .before .before .before .before .before .before .before .before .before .before .before .before .read-records .ensures) (c .before .before .before .before .before .before .before .before .before .read-records2 .ensures) (c .before .before .before .before .read-records3 .ensures) (c .read-end .ensures)
+returns c =
+    all-read _ _ _ _ _ _ _ _ _ _ _ _ _
+    (c .before .before .before .before .before .before .before .before .before .before .before .before .before .before .before .before .spot-of
+    .ensures) (c .before .before .before .before .before .before .before .before .before .before .before .before .before .before .before .before
+    .before .before .before .before .before .pre)
+    (c .before .before .before .before .before .before .before .before .before .before .before .before .before .before .read-records .ensures)
+    (c .before .before .before .before .before .before .before .before .before .read-records2 .ensures)
+    (c .before .before .before .before .read-records3 .ensures) (c .read-end .ensures)
 
 pub read-tables-spec : {M : Type 1} → statement M
 read-tables-spec =

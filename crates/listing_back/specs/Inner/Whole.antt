@@ -13,7 +13,7 @@ use lib.ListN.{length, take}
 use lib.Dec.{eqb, leb}
 use Rattle.errors.specs.declared.Numbers.{Numbers}
 use Rattle.errors.specs.declared.Refusal.{Refusal}
-use Rattle.errors.specs.Refusal.{numberOf, valueOf}
+use Rattle.errors.specs.Refusal.{refusalNumber, refusalValue}
 use Rattle.records.specs.Words.{nodeWidth, attributeWidth, noteWidth}
 use Rattle.listing_back.specs.Back.{isListed, isPlain, zeroWhere, headOf, Words, Relisting, fault, found, relisting}
 use Rattle.listing_back.specs.Inner.Steps.{stepOf}
@@ -57,8 +57,8 @@ pub record Sayable (n v : ℕ) : Type 0 where
   pub some : n ≡ 0 → ⊥
 
 pub record Says (n v : ℕ) (r : Refusal) : Type 0 where
-  pub number : numberOf r ≡ n
-  pub value : valueOf r ≡ v
+  pub number : refusalNumber r ≡ n
+  pub value : refusalValue r ≡ v
 
 abbrev pub relistingOf : Heading → List ℕ → List ℕ → List ℕ → Relisting
 relistingOf h ns ats os = record {

@@ -34,7 +34,7 @@ index-at-requires : tie.Need-index-at-requires Inv-loop μ-loop
 index-at-requires c κs = c .before .before .before .before .before .before .before .before .before .before .pre .0
 
 put-told-requires : tie.Need-put-told-requires Inv-loop μ-loop
-put-told-requires c κs = omega (arith, c .before .before .before .before .before .before .before .loop .inv .1 .wide)
+put-told-requires c κs = omega (arith, c .before .before .before .before .before .before .before .loop .inv .1 .utf16)
 
 add-k : tie.Need-add-k Inv-loop μ-loop
 add-k c = omega arith
@@ -43,7 +43,12 @@ loop-less : tie.Need-loop-less Inv-loop μ-loop
 loop-less c = omega arith
 
 loop-again : tie.Need-loop-again Inv-loop μ-loop
-loop-again c = (omega arith, done-step (omega arith) (c .before .before .before .before .before .before .before .before .before .before .loop .inv .1) (c .before .before .before .before .before .before .index-at .ensures) (c .before .before .put-told .ensures _ (c .before .before .before .before .before .before .index-at .ensures .told)))
+loop-again c = (
+  omega arith,
+  done-step (omega arith) (c .before .before .before .before .before .before .before .before .before .before .loop .inv .1)
+      (c .before .before .before .before .before .before .index-at .ensures)
+      (c .before .before .put-told .ensures _ (c .before .before .before .before .before .before .index-at .ensures .told)),
+)
 
 same-length : tie.Need-same-length Inv-loop μ-loop
 same-length c = search needs

@@ -1,6 +1,6 @@
 -- `many_texts::put_told` meets its contract: by what was told.
 use mathlib.Core.Path.{refl}
-use Rattle.errors.specs.Refusal.{numberOf}
+use Rattle.errors.specs.Refusal.{refusalNumber}
 use Rattle.value_text.specs.Value.{noName, noText}
 use Rattle.many_texts.proofs.Going.{puts-told, puts-no-name, puts-no-text}
 use borrow.Author.Needs.{needs}
@@ -35,14 +35,14 @@ same-length-2 : tie.Need-same-length-2
 same-length-2 c = search needs
 
 returns-2 : tie.Need-returns-2
-unfolding numberOf
+unfolding refusalNumber
 returns-2 c = puts-no-name (c .before .before .before .before .enum-told .given .1) (c .before .before .put-none .ensures noName refl refl)
 
 same-length-3 : tie.Need-same-length-3
 same-length-3 c = search needs
 
 returns-3 : tie.Need-returns-3
-unfolding numberOf
+unfolding refusalNumber
 returns-3 c = puts-no-text (c .before .before .before .before .enum-told2 .given .1) (c .before .before .put-none2 .ensures noText refl refl)
 
 pub put-told-spec : {M : Type 1} → statement M

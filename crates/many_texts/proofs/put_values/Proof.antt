@@ -40,28 +40,58 @@ slice-aggregate-value-at-2 : tie.Need-slice-aggregate-value-at-2 Inv-loop μ-loo
 slice-aggregate-value-at-2 c = search needs
 
 attribute-at-requires : tie.Need-attribute-at-requires Inv-loop μ-loop
-attribute-at-requires c κs = omega (arith, (c .before .before .before .before .before .before .before .before .before .before .before .before .before .before) .pre .3, c .before .before .before .loop-test .taken)
+attribute-at-requires c κs =
+    omega (
+      arith,
+      (c .before .before .before .before .before .before .before .before .before .before .before .before .before .before) .pre .3,
+      c .before .before .before .loop-test .taken,
+    )
 
 value-at-requires : tie.Need-value-at-requires Inv-loop μ-loop
-value-at-requires c κs = ((c .before .before .before .before .before .before .before .before .before .before .before .before .before .before .before) .pre .0, (c .before .before .before .before .before .before .before .before .before .before .before .before .before .before .before) .pre .1, (c .before .before .before .before .before .before .before .before .before .before .before .before .before .before .before) .pre .2, c .before .before .before .before .before .loop .inv .3)
+value-at-requires c κs = (
+  (c .before .before .before .before .before .before .before .before .before .before .before .before .before .before .before) .pre .0,
+  (c .before .before .before .before .before .before .before .before .before .before .before .before .before .before .before) .pre .1,
+  (c .before .before .before .before .before .before .before .before .before .before .before .before .before .before .before) .pre .2,
+  c .before .before .before .before .before .loop .inv .3,
+)
 
 put-told-requires : tie.Need-put-told-requires Inv-loop μ-loop
-put-told-requires c κs = omega (arith, c .before .before .before .before .before .before .before .before .before .before .before .loop .inv .2 .wide, (c .before .before .before .before .before .before .before .before .before .before .before .before .before .before .before .before .before .before .before .before .before) .pre .4, c .before .before .before .before .before .before .before .before .before .before .loop-test .taken)
+put-told-requires c κs =
+    omega (
+      arith,
+      c .before .before .before .before .before .before .before .before .before .before .before .loop .inv .2 .utf16,
+      (c .before .before .before .before .before .before .before .before .before .before .before .before .before .before .before .before .before
+          .before .before .before .before) .pre .4,
+      c .before .before .before .before .before .before .before .before .before .before .loop-test .taken,
+    )
 
 add-k : tie.Need-add-k Inv-loop μ-loop
-add-k c = omega (arith, c .before .before .before .before .before .before .before .before .before .before .before .before .before .loop-test .taken, c .before .before .before .before .before .before .before .before .before .before .before .before .before .before .loop .inv .0)
+add-k c =
+    omega (
+      arith,
+      c .before .before .before .before .before .before .before .before .before .before .before .before .before .loop-test .taken,
+      c .before .before .before .before .before .before .before .before .before .before .before .before .before .before .loop .inv .0,
+    )
 
 loop-less : tie.Need-loop-less Inv-loop μ-loop
 loop-less c = omega (arith, c .before .before .before .before .before .before .before .before .before .before .before .before .before .loop-test .taken)
 
 loop-again : tie.Need-loop-again Inv-loop μ-loop
 loop-again c =
-    let a = (c .before .before .before .before .before .before .before .before .before .before .before .before .before .before .before .before .before .before .before .before .before .before .before .before) .args in
+    let a = (c .before .before .before .before .before .before .before .before .before .before .before .before .before .before .before .before .before
+    .before .before .before .before .before .before .before) .args in
     let t = value-turn (a .h) (now (a .t)) (lends (now (a .names)) (now (a .area))) (now (a .items)) (now (a .item-area)) (now (a .attributes))
-    (c .before .before .before .before .before .before .before .before .before .before .before .before .before .before .loop .k) (c .before .before .before .before .before .before .before .before .before .attribute-at .ensures) (c .before .before .before .before .before .before .before .before .value-at .ensures .0) in (
-      (omega (arith, c .before .before .before .before .before .before .before .before .before .before .before .before .before .loop-test .taken), c .before .before .before .before .before .before .before .before .before .before .before .before .before .before .loop .inv .0 .1),
+    (c .before .before .before .before .before .before .before .before .before .before .before .before .before .before .loop .k)
+    (c .before .before .before .before .before .before .before .before .before .attribute-at .ensures)
+    (c .before .before .before .before .before .before .before .before .value-at .ensures .0) in (
+      (
+        omega (arith, c .before .before .before .before .before .before .before .before .before .before .before .before .before .loop-test .taken),
+        c .before .before .before .before .before .before .before .before .before .before .before .before .before .before .loop .inv .0 .1,
+      ),
       c .before .before .before .before .before .before .before .before .before .before .before .before .before .before .loop .inv .1,
-      done-step (c .before .before .before .before .before .before .before .before .before .before .before .before .before .before .loop .inv .1) (c .before .before .before .before .before .before .before .before .before .before .before .before .before .before .loop .inv .2) t (c .before .before .put-told .ensures _ (t .told)),
+      done-step (c .before .before .before .before .before .before .before .before .before .before .before .before .before .before .loop .inv .1)
+          (c .before .before .before .before .before .before .before .before .before .before .before .before .before .before .loop .inv .2) t
+          (c .before .before .put-told .ensures _ (t .told)),
       c .before .before .before .before .before .before .before .before .value-at .ensures .1,
     )
 

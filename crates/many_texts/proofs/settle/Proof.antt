@@ -20,7 +20,8 @@ same-length-2 c = search needs
 returns : tie.Need-returns
 returns c = let w = c .before .before .before .before .before .before .before .before .within .ensures in
     let taken = c .before .before .before .before .before .before .before .if1 .taken in
-    λ one d. gives-refused (gives-short d (c .before .before .before .before .before .before .before .before .before .before .before .pre) (omega arith) (omega arith)) (c .before .before .before .before .refuse .ensures)
+    λ one d. gives-refused (gives-short d (c .before .before .before .before .before .before .before .before .before .before .before .pre)
+    (omega arith) (omega arith)) (c .before .before .before .before .refuse .ensures)
 
 zero-behind-requires : tie.Need-zero-behind-requires
 zero-behind-requires c κs = search needs
@@ -40,7 +41,8 @@ same-length-4 c = search needs
 returns-2 : tie.Need-returns-2
 returns-2 c = let w = c .before .before .before .before .before .before .before .before .before .within .ensures in
     let left = c .before .before .before .before .before .before .before .before .if1 .left in
-    λ one d. gives-all d (c .before .before .before .before .before .before .before .before .before .before .before .before .pre) (omega arith) (omega arith) (c .before .before .before .before .before .before .zero-behind .ensures) (c .before .before .zero-from .ensures)
+    λ one d. gives-all d (c .before .before .before .before .before .before .before .before .before .before .before .before .pre) (omega arith)
+    (omega arith) (c .before .before .before .before .before .before .zero-behind .ensures) (c .before .before .zero-from .ensures)
 
 pub settle-spec : {M : Type 1} → statement M
 settle-spec =

@@ -38,8 +38,10 @@ same-length-2 c = search needs
 returns : tie.Need-returns
 returns c = let a = c .before .before .before .before .before .before .before .before .before .before .before .before .before .before .before .before .before .before .args in
     let lent = lends (now (a .names)) (now (a .area)) in
-    let e = sym (c .before .before .before .before .before .before .before .before .before .before .before .open-file .ensures) ∙ c .before .before .before .before .before .before .before .before .before .opened .given .1 in
-    texts-open (now (a .file)) lent (now (a .indices)) (now (a .out)) (now (a .answers)) e (c .before .before .before .before .before .before .before .tables-of .ensures) (c .before .before .before .before .texts-in .ensures)
+    let e = sym (c .before .before .before .before .before .before .before .before .before .before .before .open-file .ensures) ∙
+    c .before .before .before .before .before .before .before .before .before .opened .given .1 in
+    texts-open (now (a .file)) lent (now (a .indices)) (now (a .out)) (now (a .answers)) e
+    (c .before .before .before .before .before .before .before .tables-of .ensures) (c .before .before .before .before .texts-in .ensures)
 
 same-length-3 : tie.Need-same-length-3
 same-length-3 c = search needs
@@ -50,7 +52,8 @@ same-length-4 c = search needs
 returns-2 : tie.Need-returns-2
 returns-2 c = let a = c .before .before .before .before .before .before .before .before .before .before .before .before .before .before .before .before .before .args in
     let lent = lends (now (a .names)) (now (a .area)) in
-    let e = sym (c .before .before .before .before .before .before .before .before .before .before .open-file .ensures) ∙ c .before .before .before .before .before .before .before .before .opened2 .given .1 in
+    let e = sym (c .before .before .before .before .before .before .before .before .before .before .open-file .ensures) ∙
+    c .before .before .before .before .before .before .before .before .opened2 .given .1 in
     texts-closed (now (a .file)) lent (now (a .indices)) (now (a .out)) (now (a .answers)) e (c .before .before .before .before .refuse .ensures)
 
 pub texts-spec : {M : Type 1} → statement M

@@ -31,8 +31,12 @@ same-length-3 c = search needs
 
 returns : tie.Need-returns
 returns c =
-    let a = (c .before .before .before .before .before .before .before .before .before .before .before .before .before .before .before .before .before .before .before .before) .args in
-    (tells-at (a .at) (c .before .before .before .before .before .before .before .before .before .before .within .result) (now (a .out)) _ (c .before .before .before .before .before .before .before .before .before .before .within .ensures) (c .before .before .before .before .before .before .value-by .ensures .0), c .before .before .before .before .before .before .value-by .ensures .1)
+    let a = (c .before .before .before .before .before .before .before .before .before .before .before .before .before .before .before .before .before .before .before .before) .args in (
+      tells-at (a .at) (c .before .before .before .before .before .before .before .before .before .before .within .result) (now (a .out)) _
+          (c .before .before .before .before .before .before .before .before .before .before .within .ensures)
+          (c .before .before .before .before .before .before .value-by .ensures .0),
+      c .before .before .before .before .before .before .value-by .ensures .1,
+    )
 
 pub value-at-spec : {M : Type 1} → statement M
 value-at-spec =

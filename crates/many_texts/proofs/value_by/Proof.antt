@@ -18,11 +18,19 @@ same-length c = search needs
 returns : tie.Need-returns
 returns c =
     let a = (c .before .before .before .before .before .before .before .before .before .before .before .before .before .before .before) .args in
-    let lent = lends (now (a .names)) (now (a .area)) in
-    (value-uri (a .h) (now (a .t)) lent (now (a .items)) (now (a .item-area)) (a .a) (c .before .before .before .before .if1 .taken) (c .before .before .uri-into .ensures), (c .before .before .before .before .before .before .before .before .before .before .before .before .before .before .before) .pre .3)
+    let lent = lends (now (a .names)) (now (a .area)) in (
+      value-uri (a .h) (now (a .t)) lent (now (a .items)) (now (a .item-area)) (a .a) (c .before .before .before .before .if1 .taken)
+          (c .before .before .uri-into .ensures),
+      (c .before .before .before .before .before .before .before .before .before .before .before .before .before .before .before) .pre .3,
+    )
 
 look-up-requires : tie.Need-look-up-requires
-look-up-requires c κs = ((c .before .before .before .before .before .before .before .before .before .before .before .before .before) .pre .0, (c .before .before .before .before .before .before .before .before .before .before .before .before .before) .pre .1, (c .before .before .before .before .before .before .before .before .before .before .before .before .before) .pre .2, (c .before .before .before .before .before .before .before .before .before .before .before .before .before) .pre .3)
+look-up-requires c κs = (
+  (c .before .before .before .before .before .before .before .before .before .before .before .before .before) .pre .0,
+  (c .before .before .before .before .before .before .before .before .before .before .before .before .before) .pre .1,
+  (c .before .before .before .before .before .before .before .before .before .before .before .before .before) .pre .2,
+  (c .before .before .before .before .before .before .before .before .before .before .before .before .before) .pre .3,
+)
 
 enum-told : tie.Need-enum-told
 enum-told c = search needs
@@ -34,8 +42,12 @@ named-into-requires : tie.Need-named-into-requires
 named-into-requires c κs =
     let a = (c .before .before .before .before .before .before .before .before .before .before .before .before .before .before .before .before .before .before .before .before .before .before) .args in
     let lent = lends (now (a .names)) (now (a .area)) in
-    let g = looks-same (a .h) (now (a .t)) lent (now (a .items)) (now (a .item-area)) (a .a .name .0) (c .before .before .looked .given .1) (c .before .before .before .before .before .before .before .before .look-up .ensures .0) in
-    ((c .before .before .before .before .before .before .before .before .before .before .before .before .before .before .before .before .before .before .before .before .before .before) .pre .0, g .run .fits)
+    let g = looks-same (a .h) (now (a .t)) lent (now (a .items)) (now (a .item-area)) (a .a .name .0) (c .before .before .looked .given .1)
+    (c .before .before .before .before .before .before .before .before .look-up .ensures .0) in (
+      (c .before .before .before .before .before .before .before .before .before .before .before .before .before .before .before .before .before
+          .before .before .before .before .before) .pre .0,
+      g .run .fits,
+    )
 
 same-length-2 : tie.Need-same-length-2
 same-length-2 c = search needs
@@ -47,8 +59,12 @@ returns-2 : tie.Need-returns-2
 returns-2 c =
     let a = (c .before .before .before .before .before .before .before .before .before .before .before .before .before .before .before .before .before .before .before .before) .args in
     let lent = lends (now (a .names)) (now (a .area)) in
-    let g = looks-same (a .h) (now (a .t)) lent (now (a .items)) (now (a .item-area)) (a .a .name .0) (c .enum-told .given .1) (c .before .before .before .before .before .before .look-up .ensures .0) in
-    (value-no-name (a .h) (now (a .t)) lent (now (a .items)) (now (a .item-area)) (a .a) (c .before .before .before .before .before .before .before .before .before .if1 .left) g refl refl, c .before .before .before .before .before .before .look-up .ensures .1)
+    let g = looks-same (a .h) (now (a .t)) lent (now (a .items)) (now (a .item-area)) (a .a .name .0) (c .enum-told .given .1)
+    (c .before .before .before .before .before .before .look-up .ensures .0) in (
+      value-no-name (a .h) (now (a .t)) lent (now (a .items)) (now (a .item-area)) (a .a)
+          (c .before .before .before .before .before .before .before .before .before .if1 .left) g refl refl,
+      c .before .before .before .before .before .before .look-up .ensures .1,
+    )
 
 same-length-4 : tie.Need-same-length-4
 same-length-4 c = search needs
@@ -61,11 +77,18 @@ same-length-6 c = search needs
 
 returns-3 : tie.Need-returns-3
 returns-3 c =
-    let a = (c .before .before .before .before .before .before .before .before .before .before .before .before .before .before .before .before .before .before .before .before .before .before .before .before .before) .args in
+    let a = (c .before .before .before .before .before .before .before .before .before .before .before .before .before .before .before .before .before
+    .before .before .before .before .before .before .before .before) .args in
     let lent = lends (now (a .names)) (now (a .area)) in
-    let g = looks-same (a .h) (now (a .t)) lent (now (a .items)) (now (a .item-area)) (a .a .name .0) (c .before .before .before .before .before .looked .given .1) (c .before .before .before .before .before .before .before .before .before .before .before .look-up .ensures .0) in
-    let name = textIn (contentOf (a .h) (now (a .t)) lent (a .a .name .0)) in
-    (value-run (a .h) (now (a .t)) lent (now (a .items)) (now (a .item-area)) (a .a) (c .before .before .before .before .before .before .before .before .before .before .before .before .before .before .if1 .left) (g .named) (c .before .before .named-into .ensures name (g .run)), c .before .before .before .before .before .before .before .before .before .before .before .look-up .ensures .1)
+    let g = looks-same (a .h) (now (a .t)) lent (now (a .items)) (now (a .item-area)) (a .a .name .0)
+    (c .before .before .before .before .before .looked .given .1)
+    (c .before .before .before .before .before .before .before .before .before .before .before .look-up .ensures .0) in
+    let name = textIn (contentOf (a .h) (now (a .t)) lent (a .a .name .0)) in (
+      value-run (a .h) (now (a .t)) lent (now (a .items)) (now (a .item-area)) (a .a)
+          (c .before .before .before .before .before .before .before .before .before .before .before .before .before .before .if1 .left) (g .named)
+          (c .before .before .named-into .ensures name (g .run)),
+      c .before .before .before .before .before .before .before .before .before .before .before .look-up .ensures .1,
+    )
 
 pub value-by-spec : {M : Type 1} → statement M
 value-by-spec =

@@ -52,7 +52,8 @@ same-length-2 c = search needs
 
 returns : tie.Need-returns
 returns c =
-    let a = c .before .before .before .before .before .before .before .before .before .before .before .before .before .before .before .before .before .before .before .before .before .before .before .before .before .args in
+    let a = c .before .before .before .before .before .before .before .before .before .before .before .before .before .before .before .before .before
+    .before .before .before .before .before .before .before .before .args in
     let lent = lends (now (a .names)) (now (a .area)) in
     let p8 = c .before .before .before .before .before .before .before .before in
     let e = sym (p8 .before .before .before .before .open-known .ensures) ∙ p8 .before .before .opened .given .1 in
@@ -67,7 +68,8 @@ same-length-4 c = search needs
 
 returns-2 : tie.Need-returns-2
 returns-2 c =
-    let a = c .before .before .before .before .before .before .before .before .before .before .before .before .before .before .before .before .before .before .before .before .before .before .before .args in
+    let a = c .before .before .before .before .before .before .before .before .before .before .before .before .before .before .before .before .before
+    .before .before .before .before .before .before .args in
     let lent = lends (now (a .names)) (now (a .area)) in
     let p8 = c .before .before .before .before .before .before .before .before in
     let e = sym (p8 .before .before .open-known .ensures) ∙ p8 .opened2 .given .1 in

@@ -56,7 +56,7 @@ put-values-requires c κs =
 
 settle-requires : tie.Need-settle-requires
 settle-requires c κs =
-    omega (arith, c .before .before .before .before .before .before .put-values .ensures .wide, c .before .before .before .before .before .before .before .before .before .if2 .left)
+    omega (arith, c .before .before .before .before .before .before .put-values .ensures .utf16, c .before .before .before .before .before .before .before .before .before .if2 .left)
 
 same-length-5 : tie.Need-same-length-5
 same-length-5 c = search needs
@@ -66,10 +66,17 @@ same-length-6 c = search needs
 
 returns-3 : tie.Need-returns-3
 returns-3 c =
-    let a = c .before .before .before .before .before .before .before .before .before .before .before .before .before .before .before .before .before .before .before .before .before .before .before .before .before .before .args in
+    let a = c .before .before .before .before .before .before .before .before .before .before .before .before .before .before .before .before .before
+    .before .before .before .before .before .before .before .before .before .args in
     gives-same
     (values-fit (now (a .attributes)) (a .attribute-count) _
-    (omega (arith, c .before .before .before .before .before .before .before .before .before .before .before .before .before .before .before .before .attribute-place .ensures, c .before .before .before .before .before .before .before .before .before .before .before .before .before .before .before .if1 .left)))
+    (omega (
+      arith,
+      c .before .before .before .before .before .before .before .before .before .before .before .before .before .before .before .before
+          .attribute-place .ensures,
+      c .before .before .before .before .before .before .before .before .before .before .before .before .before .before
+          .before .if1 .left,
+    )))
     (settled (c .before .before .before .before .before .before .before .before .before .before .before .put-values .ensures) (c .before .before .before .before .settle .ensures))
 
 pub values-in-spec : {M : Type 1} → statement M

@@ -15,7 +15,7 @@ use Rattle.system_types.specs.Names.{Lent}
 use Rattle.text.specs.declared.Head.{Head}
 use Rattle.text.specs.Content.{contentOf}
 use Rattle.value_text.specs.declared.Told.{Told}
-use Rattle.value_text.specs.Value.{Value, shown, valueOf}
+use Rattle.value_text.specs.Value.{Value, shown, attributeValue}
 use Rattle.value_text.specs.Inner.Leads.{toldOf}
 use Rattle.many_texts.specs.Many.{valueIn, attributeAt, wordsAt, textsTo, wordsTo, mostBytes, mostCount, leaves}
 
@@ -32,7 +32,7 @@ pub record Puts (k at : ℕ) (v : Value) (before : List ℕ) (r : ℕ) (after : 
 pub record Done (one : ℕ → Value) (n m k at : ℕ) (out table : List ℕ) : Type 0 where
   pub place : at ≡ min (length (textsTo one k)) mostCount
   pub long : length out ≡ n
-  pub wide : length table ≡ m
+  pub utf16 : length table ≡ m
   pub bytes : length (textsTo one k) ≤ n → take (length (textsTo one k)) out ≡ textsTo one k
   pub words : length (textsTo one k) ≤ mostBytes → take (answerWidth * k) table ≡ wordsTo one k
 
@@ -42,7 +42,7 @@ pub record Gives (n m count : ℕ) (one : ℕ → Value) (a r : ManyTexts) (out 
   pub words : table ≡ leaves m (wordsTo one count) a
 
 abbrev pub recordValue : Head → List ℕ → Lent → List ℕ → List ℕ → List ℕ → ℕ → Value
-recordValue h t lent items area ats k = valueOf h t lent items area (attributeAt ats k)
+recordValue h t lent items area ats k = attributeValue h t lent items area (attributeAt ats k)
 
 abbrev pub indexValue : Head → List ℕ → Lent → List ℕ → ℕ → Value
 indexValue h t lent indices k = valueIn (contentOf h t lent (getD indices k 0))

@@ -28,7 +28,8 @@ same-length-3 c = search needs
 
 returns : tie.Need-returns
 returns c =
-    judges-own (c .before .before .before .before .before .before .before .before .before .before .read-listing .ensures) _ (c .before .before .before .read-numbers .ensures) _ _ (sym (c .before .before .is-own .ensures) ∙ c .before .if1 .taken) (c .told .ensures)
+    judges-own (c .before .before .before .before .before .before .before .before .before .before .read-listing .ensures) _
+    (c .before .before .before .read-numbers .ensures) _ _ (sym (c .before .before .is-own .ensures) ∙ c .before .if1 .taken) (c .told .ensures)
 
 notes-of-requires : tie.Need-notes-of-requires
 notes-of-requires c κs = search needs
@@ -53,9 +54,15 @@ same-length-7 c = search needs
 
 returns-2 : tie.Need-returns-2
 returns-2 c =
-    let start = c .before .before .before .before .before .before .before .before .before .before .before .before .before .before .before .before .before .before .before .before .before .before .before .before .before .before .before in
-    judges-listing (c .before .before .before .before .before .before .before .before .before .before .before .before .before .before .before .before .before .before .read-listing .ensures) _ (c .before .before .before .before .before .before .before .before .before .before .before .read-numbers .ensures) _ _ _ _ _ (start .pre .0) (start .pre .1) (c .before .before .before .before .before .before .before .notes-of .ensures)
-    (c .before .before .before .listing-into .ensures) (c .verdict-of .ensures) (sym (c .before .before .before .before .before .before .before .before .before .before .is-own .ensures) ∙ c .before .before .before .before .before .before .before .before .before .if1 .left)
+    let start = c .before .before .before .before .before .before .before .before .before .before .before .before .before .before .before .before
+    .before .before .before .before .before .before .before .before .before .before .before in
+    judges-listing (c .before .before .before .before .before .before .before .before .before .before .before .before .before .before .before .before
+    .before .before .read-listing .ensures) _
+    (c .before .before .before .before .before .before .before .before .before .before .before .read-numbers .ensures) _ _ _ _ _ (start .pre .0)
+    (start .pre .1) (c .before .before .before .before .before .before .before .notes-of .ensures)
+    (c .before .before .before .listing-into .ensures) (c .verdict-of .ensures)
+    (sym (c .before .before .before .before .before .before .before .before .before .before .is-own .ensures) ∙
+    c .before .before .before .before .before .before .before .before .before .if1 .left)
 
 pub judge-spec : {M : Type 1} → statement M
 judge-spec =

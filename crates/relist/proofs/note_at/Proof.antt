@@ -24,7 +24,9 @@ word-at-requires-3 : tie.Need-word-at-requires-3
 word-at-requires-3 c κs = search needs
 
 returns : tie.Need-returns
-returns c = note-drop (c .before .before .before .before .args .i) (now (c .before .before .before .before .args .words)) (c .before .before .word-at .ensures) (c .before .word-at2 .ensures) (c .word-at3 .ensures)
+returns c =
+    note-drop (c .before .before .before .before .args .i) (now (c .before .before .before .before .args .words))
+    (c .before .before .word-at .ensures) (c .before .word-at2 .ensures) (c .word-at3 .ensures)
 
 pub note-at-spec : {M : Type 1} → statement M
 note-at-spec =

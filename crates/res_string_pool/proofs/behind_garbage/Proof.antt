@@ -15,8 +15,8 @@ use Rattle.res_string_pool.proofs.behind_garbage.Tie as tie
 content-size-requires : tie.Need-content-size-requires
 content-size-requires c κs = search needs
 
-wide-requires : tie.Need-wide-requires
-wide-requires c κs = search needs
+to-usize-requires : tie.Need-to-usize-requires
+to-usize-requires c κs = search needs
 
 sub-if1 : tie.Need-sub-if1
 sub-if1 c = search needs
@@ -56,7 +56,7 @@ returns-2 : tie.Need-returns-2
 returns-2 c =
     let a = c .before .before .before .before .before .before .args in
     let skipped = c .before .before .before .before .content-size in
-    let n = c .before .before .before .wide in
+    let n = c .before .before .before .to-usize in
     let by = behindGarbage-by (a .h) (now (a .s)) (skipped .result) (n .result) (skipped .ensures) (n .ensures) (omega arith) in
     c .second .ensures ∙ by
 
@@ -65,7 +65,7 @@ behind-garbage-spec =
     tie.close
     (tie.spec
     content-size-requires
-    wide-requires
+    to-usize-requires
     sub-if1
     no-garbage-requires
     sub-t13

@@ -4,8 +4,8 @@ use Rattle.res_string_pool.specs.Pool.{countOf}
 use Rattle.res_string_pool.proofs.count_of.Statement.{statement}
 use Rattle.res_string_pool.proofs.count_of.Tie as tie
 
-wide-requires : tie.Need-wide-requires
-wide-requires c κs = search needs
+to-usize-requires : tie.Need-to-usize-requires
+to-usize-requires c κs = search needs
 
 mul-cap-u32 : tie.Need-mul-cap-u32
 mul-cap-u32 c = search needs
@@ -19,8 +19,8 @@ add-cap-u32 c = search needs
 cap-u32-requires-2 : tie.Need-cap-u32-requires-2
 cap-u32-requires-2 c κs = search needs
 
-wide-requires-2 : tie.Need-wide-requires-2
-wide-requires-2 c κs = search needs
+to-usize-requires-2 : tie.Need-to-usize-requires-2
+to-usize-requires-2 c κs = search needs
 
 less-requires : tie.Need-less-requires
 less-requires c κs = search needs
@@ -36,12 +36,12 @@ pub count-of-spec : {M : Type 1} → statement M
 count-of-spec =
     tie.close
     (tie.spec
-    wide-requires
+    to-usize-requires
     mul-cap-u32
     cap-u32-requires
     add-cap-u32
     cap-u32-requires-2
-    wide-requires-2
+    to-usize-requires-2
     less-requires
     cast-result
     returns)

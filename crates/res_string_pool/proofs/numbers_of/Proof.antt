@@ -26,8 +26,8 @@ add-t12 c = search needs
 add-t13 : tie.Need-add-t13
 add-t13 c = search needs
 
-wide-requires : tie.Need-wide-requires
-wide-requires c κs = search needs
+to-usize-requires : tie.Need-to-usize-requires
+to-usize-requires c κs = search needs
 
 mul-t15 : tie.Need-mul-t15
 mul-t15 c = search needs
@@ -35,8 +35,8 @@ mul-t15 c = search needs
 add-t16 : tie.Need-add-t16
 add-t16 c = search needs
 
-wide-requires-2 : tie.Need-wide-requires-2
-wide-requires-2 c κs = search needs
+to-usize-requires-2 : tie.Need-to-usize-requires-2
+to-usize-requires-2 c κs = search needs
 
 mul-t18 : tie.Need-mul-t18
 mul-t18 c = search needs
@@ -44,11 +44,11 @@ mul-t18 c = search needs
 add-t19 : tie.Need-add-t19
 add-t19 c = search needs
 
-wide-requires-3 : tie.Need-wide-requires-3
-wide-requires-3 c κs = search needs
+to-usize-requires-3 : tie.Need-to-usize-requires-3
+to-usize-requires-3 c κs = search needs
 
-wide-requires-4 : tie.Need-wide-requires-4
-wide-requires-4 c κs = search needs
+to-usize-requires-4 : tie.Need-to-usize-requires-4
+to-usize-requires-4 c κs = search needs
 
 less-requires : tie.Need-less-requires
 less-requires c κs = search needs
@@ -65,20 +65,20 @@ returns c =
     (c .before .before .before .before .before .before .before .u32-at3 .result)
     (c .before .before .before .before .before .before .u32-at4 .result)
     (c .before .before .before .before .before .count-of .result)
-    (c .before .before .before .before .wide .result)
-    (c .before .before .before .wide2 .result)
-    (c .before .before .wide3 .result)
-    (c .before .wide4 .result)
+    (c .before .before .before .before .to-usize .result)
+    (c .before .before .before .to-usize2 .result)
+    (c .before .before .to-usize3 .result)
+    (c .before .to-usize4 .result)
     (c .less .result)
     (c .before .before .before .before .before .before .before .before .before .u32-at .ensures)
     (c .before .before .before .before .before .before .before .before .u32-at2 .ensures)
     (c .before .before .before .before .before .before .before .u32-at3 .ensures)
     (c .before .before .before .before .before .before .u32-at4 .ensures)
     (c .before .before .before .before .before .count-of .ensures)
-    (c .before .before .before .before .wide .ensures)
-    (c .before .before .before .wide2 .ensures)
-    (c .before .before .wide3 .ensures)
-    (c .before .wide4 .ensures)
+    (c .before .before .before .before .to-usize .ensures)
+    (c .before .before .before .to-usize2 .ensures)
+    (c .before .before .to-usize3 .ensures)
+    (c .before .to-usize4 .ensures)
     (c .less .ensures)
 
 pub numbers-of-spec : {M : Type 1} → statement M
@@ -92,13 +92,13 @@ numbers-of-spec =
     count-of-requires
     add-t12
     add-t13
-    wide-requires
+    to-usize-requires
     mul-t15
     add-t16
-    wide-requires-2
+    to-usize-requires-2
     mul-t18
     add-t19
-    wide-requires-3
-    wide-requires-4
+    to-usize-requires-3
+    to-usize-requires-4
     less-requires
     returns)

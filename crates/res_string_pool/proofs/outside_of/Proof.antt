@@ -31,8 +31,8 @@ mul-u32-at c = omega arith
 u32-at-requires : tie.Need-u32-at-requires Inv-loop μ-loop
 u32-at-requires c κs = omega arith
 
-wide-requires : tie.Need-wide-requires Inv-loop μ-loop
-wide-requires c κs = search needs
+to-usize-requires : tie.Need-to-usize-requires Inv-loop μ-loop
+to-usize-requires c κs = search needs
 
 add-k : tie.Need-add-k Inv-loop μ-loop
 add-k c =
@@ -74,7 +74,7 @@ outside-of-spec =
     loop-holds
     mul-u32-at
     u32-at-requires
-    wide-requires
+    to-usize-requires
     add-k
     add-i
     loop-less

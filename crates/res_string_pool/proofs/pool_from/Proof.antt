@@ -23,14 +23,14 @@ numbers-of-requires c κs = search needs
 sub-end-of : tie.Need-sub-end-of
 sub-end-of c = search needs
 
-wide-requires : tie.Need-wide-requires
-wide-requires c κs = search needs
+to-usize-requires : tie.Need-to-usize-requires
+to-usize-requires c κs = search needs
 
 u32-at-requires : tie.Need-u32-at-requires
 u32-at-requires c κs = search needs
 
-wide-requires-2 : tie.Need-wide-requires-2
-wide-requires-2 c κs = search needs
+to-usize-requires-2 : tie.Need-to-usize-requires-2
+to-usize-requires-2 c κs = search needs
 
 end-of-requires : tie.Need-end-of-requires
 end-of-requires c κs = search needs
@@ -39,7 +39,7 @@ returns-2 : tie.Need-returns-2
 returns-2 c =
     let a = c .before .before .before .before .before .before .before .args in
     let p = c .before .before .before .before .numbers-of in
-    let styles = c .before .wide2 .ensures ∙ c .before .before .u32-at .ensures in
+    let styles = c .before .to-usize2 .ensures ∙ c .before .before .u32-at .ensures in
     poolFrom-by
     (a .garbage)
     (a .at)
@@ -47,11 +47,11 @@ returns-2 c =
     (now (a .m))
     (p .result)
     (c .end-of .result)
-    (c .before .before .before .wide .result)
-    (c .before .wide2 .result)
+    (c .before .before .before .to-usize .result)
+    (c .before .to-usize2 .result)
     (c .before .before .before .before .before .if1 .left)
     (p .ensures)
-    (c .before .before .before .wide .ensures)
+    (c .before .before .before .to-usize .ensures)
     styles
     (c .end-of .ensures)
 
@@ -64,8 +64,8 @@ pool-from-spec =
     returns
     numbers-of-requires
     sub-end-of
-    wide-requires
+    to-usize-requires
     u32-at-requires
-    wide-requires-2
+    to-usize-requires-2
     end-of-requires
     returns-2)

@@ -21,7 +21,7 @@ use Rattle.tables.proofs.has.Tie as tie
 
 abbrev Inv-loop : tie.InvT-loop
 Inv-loop t names area h words prefix name numbers wanted plain marks i₀ i =
-    (i ≤ length words) × Known plain (plainIn (partOf (h .wide) t area wanted)) × ((n ns owner kind value : ℕ) → Finds t (lends names area) h n wanted
+    (i ≤ length words) × Known plain (plainIn (partOf (h .utf16) t area wanted)) × ((n ns owner kind value : ℕ) → Finds t (lends names area) h n wanted
     → isRepeat (byPrefix (sameName h t (lends names area))) (attributeWords owner prefix n kind value ns) words
     ≡ isRepeat (byPrefix (sameName h t (lends names area))) (attributeWords owner prefix n kind value ns) (drop i words))
 
@@ -87,10 +87,22 @@ shared-slice-read-if3 : tie.Need-shared-slice-read-if3 Inv-loop μ-loop
 shared-slice-read-if3 c = search needs
 
 add-t25 : tie.Need-add-t25 Inv-loop μ-loop
-add-t25 c = omega (arith, c .before .before .before .loop .inv .0, c .before .before .before .before .before .before .before .before .before .before .before .before .before .before .before .good .1 .1 .1 .1 .0)
+add-t25 c =
+    omega (
+      arith,
+      c .before .before .before .loop .inv .0,
+      c .before .before .before .before .before .before .before .before .before .before .before .before .before .before .before .good .1 .1 .1 .1
+          .0,
+    )
 
 mul-t26 : tie.Need-mul-t26 Inv-loop μ-loop
-mul-t26 c = omega (arith, c .before .before .before .loop .inv .0, c .before .before .before .before .before .before .before .before .before .before .before .before .before .before .before .good .1 .1 .1 .1 .0)
+mul-t26 c =
+    omega (
+      arith,
+      c .before .before .before .loop .inv .0,
+      c .before .before .before .before .before .before .before .before .before .before .before .before .before .before .before .good .1 .1 .1 .1
+          .0,
+    )
 
 shared-slice-read-t28 : tie.Need-shared-slice-read-t28 Inv-loop μ-loop
 shared-slice-read-t28 c = search needs
@@ -125,7 +137,13 @@ returns-3 c =
     )
 
 add-i : tie.Need-add-i Inv-loop μ-loop
-add-i c = omega (arith, c .before .before .before .loop .inv .0, c .before .before .before .before .before .before .before .before .before .before .before .before .before .before .before .good .1 .1 .1 .1 .0)
+add-i c =
+    omega (
+      arith,
+      c .before .before .before .loop .inv .0,
+      c .before .before .before .before .before .before .before .before .before .before .before .before .before .before .before .good .1 .1 .1 .1
+          .0,
+    )
 
 loop-less : tie.Need-loop-less Inv-loop μ-loop
 loop-less c = search needs

@@ -12,8 +12,8 @@ returns : tie.Need-returns
 returns c =
     let s = c .before .before .before in
     let a = s .args in
-    let other = eqb-false (a .prefix) 2 (not-true (eqb (a .prefix) 2) (both-right (a .wide) (not (eqb (a .prefix) 2)) (c .if1 .taken))) in
-    name-plain (a .wide) (a .t .now) (a .area .now) (a .f) (both-left (a .wide) (not (eqb (a .prefix) 2)) (c .if1 .taken)) (s .pre .0) (s .pre .1 other)
+    let other = eqb-false (a .prefix) 2 (not-true (eqb (a .prefix) 2) (both-right (a .utf16) (not (eqb (a .prefix) 2)) (c .if1 .taken))) in
+    name-plain (a .utf16) (a .t .now) (a .area .now) (a .f) (both-left (a .utf16) (not (eqb (a .prefix) 2)) (c .if1 .taken)) (s .pre .0) (s .pre .1 other)
 
 is-plain-found-requires : tie.Need-is-plain-found-requires
 is-plain-found-requires c κs = search needs

@@ -14,7 +14,7 @@ use lib.Bits.{bitXor}
 use lib.Dec.{eqb}
 use lib.ListN.{getD}
 use Rattle.utf.specs.declared.Step.{Step}
-use Rattle.utf.specs.Text.{valueOf, stepsOf, refused}
+use Rattle.utf.specs.Text.{stepValue, stepsOf, refused}
 use Rattle.records.specs.Words.{attributeWidth, attributePrefix, attributeName, attributeNamespace, ownPrefix}
 use Rattle.system_types.specs.Names.{Lent}
 use Rattle.text.specs.declared.Head.{Head}
@@ -37,18 +37,18 @@ mixed s v = crossed (upper s v) (lower s v)
 
 unfoldable pub foldOf : ℕ → List Step → ℕ
 foldOf s [] = s
-foldOf s (t ∷ ts) = foldOf (mixed s (valueOf t)) ts
+foldOf s (t ∷ ts) = foldOf (mixed s (stepValue t)) ts
 
 unfoldable pub hashOf : ℕ → Bool → List ℕ → ℕ
 unfolding foldOf
-hashOf s wide b = cond (refused wide b) s (foldOf s (stepsOf wide b))
+hashOf s utf16 b = cond (refused utf16 b) s (foldOf s (stepsOf utf16 b))
 
 -- ---- an attribute
 
 abbrev pub hashIn : ℕ → Content → ℕ
 hashIn s none = s
 hashIn s cut = s
-hashIn s (some wide b) = hashOf s wide b
+hashIn s (some utf16 b) = hashOf s utf16 b
 
 abbrev pub Key : Type 0
 Key = ℕ → ℕ → ℕ → ℕ

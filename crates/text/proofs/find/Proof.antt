@@ -29,28 +29,28 @@ returns : tie.Need-returns
 returns c =
     let s = c .before .before .before .before .before .before .before in
     let a = s .args in
-    contentOf-string (a .h) (now (a .t)) (lends (now (a .names)) (now (a .area))) (a .index .0) (a .h .wide) (c .find-string .result)
+    contentOf-string (a .h) (now (a .t)) (lends (now (a .names)) (now (a .area))) (a .index .0) (a .h .utf16) (c .find-string .result)
     (rw (← c .before .enum-told .given .1) (c .before .before .before .find-system .ensures)) (c .find-string .ensures (now (a .area)))
 
 returns-2 : tie.Need-returns-2
 returns-2 c =
     let s = c .before .before .before .before .before .before in
     let a = s .args in
-    contentOf-system (a .h) (now (a .t)) (lends (now (a .names)) (now (a .area))) (a .index .0) (a .h .wide) _ refl
+    contentOf-system (a .h) (now (a .t)) (lends (now (a .names)) (now (a .area))) (a .index .0) (a .h .utf16) _ refl
     (rw (← c .enum-told2 .given .1) (c .before .before .find-system .ensures))
 
 returns-3 : tie.Need-returns-3
 returns-3 c =
     let s = c .before .before .before .before .before .before .before in
     let a = s .args in
-    contentOf-system (a .h) (now (a .t)) (lends (now (a .names)) (now (a .area))) (a .index .0) (a .h .wide) _ refl
+    contentOf-system (a .h) (now (a .t)) (lends (now (a .names)) (now (a .area))) (a .index .0) (a .h .utf16) _ refl
     (rw (← c .before .named .given .1) (c .before .before .before .find-system .ensures))
 
 returns-4 : tie.Need-returns-4
 returns-4 c =
     let s = c .before .before .before .before .before .before .before in
     let a = s .args in
-    contentOf-system (a .h) (now (a .t)) (lends (now (a .names)) (now (a .area))) (a .index .0) (a .h .wide) _ refl
+    contentOf-system (a .h) (now (a .t)) (lends (now (a .names)) (now (a .area))) (a .index .0) (a .h .utf16) _ refl
     (rw (← c .before .named2 .given .1) (c .before .before .before .find-system .ensures))
 
 pub find-spec : {M : Type 1} → statement M

@@ -70,7 +70,7 @@ returns-3 c =
     let id = map-slice (a .h) (now (a .t)) (a .index .0) (s .pre .fits) (p5 .id-at .ensures) in
     system-name (a .h) (now (a .t)) (lends (now (a .names)) (now (a .area))) (a .index .0) (p7 .if1 .left) id
     (sym (c .before .before .before .before .get-type-name .ensures) ∙ c .before .before .name .given .1)
-    (c .stripped .ensures (a .h .wide) (now (a .t)))
+    (c .stripped .ensures (a .h .utf16) (now (a .t)))
 
 pub find-system-spec : {M : Type 1} → statement M
 find-system-spec =

@@ -25,7 +25,7 @@ returns-2 c =
     let s = c .before .before .before .before .before .before .before .before in
     let a = s .args in
     let r = c .before .find-system .result in
-    c .is-found .ensures ∙ isFound-text (a .h .wide) (now (a .t)) (now (a .area)) r ∙ ap hasText (c .before .find-system .ensures .same)
+    c .is-found .ensures ∙ isFound-text (a .h .utf16) (now (a .t)) (now (a .area)) r ∙ ap hasText (c .before .find-system .ensures .same)
     ∙ sym (hasText-past (a .h) (now (a .t)) (lends (now (a .names)) (now (a .area))) (a .index .0) (c .before .before .if1 .left))
 
 pub has-text-spec : {M : Type 1} → statement M

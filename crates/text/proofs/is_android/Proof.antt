@@ -1,6 +1,6 @@
 -- `text::is_android` meets its contract: the namespace is plain in either encoding, and its own text.
 use borrow.Author.Needs.{needs}
-use Rattle.text.proofs.Plains.{known-android, isText-android, known-android-wide, isText-android-wide}
+use Rattle.text.proofs.Plains.{known-android, isText-android, known-android-utf16, isText-android-utf16}
 use Rattle.text.proofs.is_android.Statement.{statement}
 use Rattle.text.proofs.is_android.Tie as tie
 
@@ -11,10 +11,10 @@ slice-aggregate-same-part : tie.Need-slice-aggregate-same-part
 slice-aggregate-same-part c = search needs
 
 same-part-requires : tie.Need-same-part-requires
-same-part-requires c κs = (c .before .before .find .ensures .inside, known-android-wide)
+same-part-requires c κs = (c .before .before .find .ensures .inside, known-android-utf16)
 
 returns : tie.Need-returns
-returns c = isText-android-wide (c .same-part .ensures) (c .before .before .before .find .ensures .same)
+returns c = isText-android-utf16 (c .same-part .ensures) (c .before .before .before .find .ensures .same)
 
 slice-aggregate-same-part-2 : tie.Need-slice-aggregate-same-part-2
 slice-aggregate-same-part-2 c = search needs

@@ -22,7 +22,7 @@ returns c =
     let p6 = c .before .before .before .before .before .before in
     let a = s .args in
     let e = sym (c .before .is-sound .ensures) ∙ not-true _ (c .if1 .taken) in
-    sym (isText-unsound (a .h .wide) (now (a .t)) (now (a .area)) (c .before .before .find .result) (now (a .bytes))
+    sym (isText-unsound (a .h .utf16) (now (a .t)) (now (a .area)) (c .before .before .find .result) (now (a .bytes))
     (λ i. p6 .shared-slice-known .given i .fits) (λ i. c .before .before .before .before .shared-slice-known3 .given i .fits) e) ∙ ap
     (λ (p : Content). isText p (now (a .bytes))) (c .before .before .find .ensures .same)
 
@@ -35,7 +35,7 @@ returns-2 c =
     let a = s .args in
     let e = sym (c .before .before .is-sound .ensures) ∙ not-false _ (c .before .if1 .left) in
     let f = c .before .before .before .find .result in
-    c .same-part .ensures ∙ isText-sound (partOf (a .h .wide) (now (a .t)) (now (a .area)) f) (now (a .bytes)) e ∙ ap
+    c .same-part .ensures ∙ isText-sound (partOf (a .h .utf16) (now (a .t)) (now (a .area)) f) (now (a .bytes)) e ∙ ap
     (λ (p : Content). isText p (now (a .bytes))) (c .before .before .before .find .ensures .same)
 
 pub is-index-text-spec : {M : Type 1} → statement M

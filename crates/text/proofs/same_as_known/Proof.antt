@@ -17,14 +17,14 @@ returns c =
     let s = c .before .before .before .before .before .before .before in
     let a = s .args in
     let at-index = contentOf (a .h) (now (a .t)) (lends (now (a .names)) (now (a .area))) in
-    c .is-found .ensures ∙ sameText-index (a .h .wide) (now (a .t)) (now (a .area)) (a .g) (at-index (a .index .0))
+    c .is-found .ensures ∙ sameText-index (a .h .utf16) (now (a .t)) (now (a .area)) (a .g) (at-index (a .index .0))
     (s .pre .1 .same ∙ sym (ap at-index (c .before .if1 .taken)))
 
-told-apart-requires : tie.Need-told-apart-requires
-told-apart-requires c κs = search needs
+surely-differs-requires : tie.Need-surely-differs-requires
+surely-differs-requires c κs = search needs
 
 returns-2 : tie.Need-returns-2
-returns-2 c = sym (c .before .told-apart .ensures (c .if2 .taken))
+returns-2 c = sym (c .before .surely-differs .ensures (c .if2 .taken))
 
 find-requires : tie.Need-find-requires
 find-requires c κs = search needs
@@ -37,10 +37,10 @@ same-found-known-requires c κs =
 returns-3 : tie.Need-returns-3
 returns-3 c =
     let a = c .before .before .before .before .before .before .before .before .before .before .args in
-    let g = partOf (a .h .wide) (now (a .t)) (now (a .area)) (a .g) in
+    let g = partOf (a .h .utf16) (now (a .t)) (now (a .area)) (a .g) in
     c .same-found-known .ensures ∙ ap (λ (x : Content). sameText x g) (c .before .find .ensures .same)
 
 pub same-as-known-spec : {M : Type 1} → statement M
 same-as-known-spec =
     tie.close
-    (tie.spec is-found-requires returns told-apart-requires returns-2 find-requires same-found-known-requires returns-3)
+    (tie.spec is-found-requires returns surely-differs-requires returns-2 find-requires same-found-known-requires returns-3)

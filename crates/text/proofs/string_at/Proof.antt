@@ -12,7 +12,7 @@ returns : tie.Need-returns
 returns c =
     let s = c .before .before in
     let a = s .args in
-    λ area. string-outside (a .wide) (now (a .t)) (a .strings) (a .size) (a .o) (s .pre) area (c .if1 .taken)
+    λ area. string-outside (a .utf16) (now (a .t)) (a .strings) (a .size) (a .o) (s .pre) area (c .if1 .taken)
 
 add-split-string : tie.Need-add-split-string
 add-split-string c = search needs
@@ -47,8 +47,8 @@ add-t18 c =
     let p5 = c .before .before .before .before .before in
     let a = s .args in
     let e = sym (c .before .before .before .split-string .ensures) ∙ c .before .split .given .1 in
-    let q = string-pool-le (a .wide) (now (a .t)) (a .strings) (a .size) (a .o) (s .pre) (p5 .if1 .left)
-    (data-slice (a .wide) (now (a .t)) (a .strings) (a .size) (a .o) e) in
+    let q = string-pool-le (a .utf16) (now (a .t)) (a .strings) (a .size) (a .o) (s .pre) (p5 .if1 .left)
+    (data-slice (a .utf16) (now (a .t)) (a .strings) (a .size) (a .o) e) in
     omega arith
 
 returns-2 : tie.Need-returns-2
@@ -56,8 +56,8 @@ returns-2 c =
     let s = c .before .before .before .before .before .before in
     let a = s .args in
     let e = sym (c .before .before .split-string .ensures) ∙ c .enum-told .given .1 in
-    λ area. string-cut (a .wide) (now (a .t)) (a .strings) (a .size) (a .o) (s .pre) area (c .before .before .before .before .if1 .left)
-    (data-slice (a .wide) (now (a .t)) (a .strings) (a .size) (a .o) e)
+    λ area. string-cut (a .utf16) (now (a .t)) (a .strings) (a .size) (a .o) (s .pre) area (c .before .before .before .before .if1 .left)
+    (data-slice (a .utf16) (now (a .t)) (a .strings) (a .size) (a .o) e)
 
 returns-3 : tie.Need-returns-3
 returns-3 c =
@@ -65,8 +65,8 @@ returns-3 c =
     let p5 = c .before .before .before .before .before in
     let a = s .args in
     let e = sym (c .before .before .before .split-string .ensures) ∙ c .before .split .given .1 in
-    λ area. string-pool (a .wide) (now (a .t)) (a .strings) (a .size) (a .o) (s .pre) area _ _ (p5 .if1 .left)
-    (data-slice (a .wide) (now (a .t)) (a .strings) (a .size) (a .o) e)
+    λ area. string-pool (a .utf16) (now (a .t)) (a .strings) (a .size) (a .o) (s .pre) area _ _ (p5 .if1 .left)
+    (data-slice (a .utf16) (now (a .t)) (a .strings) (a .size) (a .o) e)
 
 pub string-at-spec : {M : Type 1} → statement M
 string-at-spec =

@@ -18,7 +18,7 @@ use lib.Dec.{eqb}
 use Rattle.records.specs.Limits.{fileLimit}
 use Rattle.utf.specs.Text.{stateNumber, putText}
 use Rattle.utf.specs.Plain.{isAscii}
-use Rattle.utf.specs.Inner.Told.{isAsciiText}
+use Rattle.utf.specs.Inner.StepRuns.{isAsciiText}
 use Rattle.system_types.specs.Names.{Lent, namesOf}
 use Rattle.system_types.specs.declared.NamesRead.the-variants.{Good}
 use Rattle.text.specs.declared.Head.{Head}
@@ -64,7 +64,7 @@ pub record Stands (w : Bool) (t area : List ℕ) (c : Content) (r : Found) : Typ
   pub inside : Inside t area r
 
 abbrev pub Finds : List ℕ → Lent → Head → ℕ → Found → Type 0
-Finds t lent h i r = Stands (h .wide) t (lent .area) (contentOf h t lent i) r
+Finds t lent h i r = Stands (h .utf16) t (lent .area) (contentOf h t lent i) r
 
 -- whether there is a text
 abbrev pub isFound : Found → Bool

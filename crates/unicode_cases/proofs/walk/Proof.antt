@@ -7,10 +7,10 @@ use Rattle.unicode_cases.proofs.walk.Statement.{statement}
 use Rattle.unicode_cases.proofs.walk.Tie as tie
 
 abbrev Inv-loop : tie.InvT-loop
-Inv-loop file tally₀ wide₀ from₀ to₀ at₀ tally wide from to at = (from ≤ to) × (to ≤ length file)
+Inv-loop file tally₀ utf16₀ from₀ to₀ at₀ tally utf16 from to at = (from ≤ to) × (to ≤ length file)
 
 abbrev μ-loop : tie.MeasureT-loop
-μ-loop file tally₀ wide₀ from₀ to₀ at₀ tally wide from to at = length file - at
+μ-loop file tally₀ utf16₀ from₀ to₀ at₀ tally utf16 from to at = length file - at
 
 none-requires : tie.Need-none-requires Inv-loop μ-loop
 none-requires c κs = search needs

@@ -6,17 +6,17 @@ use lib.ListN.{length, getD}
 use denote.Ref.{now}
 use borrow.Author.Tests.{not-false}
 use borrow.Author.Needs.{needs}
-use Rattle.utf.specs.Inner.Told.{Ran}
+use Rattle.utf.specs.Inner.StepRuns.{Ran}
 use Rattle.utf.proofs.Units.{ran-none}
 use Rattle.utf.proofs.Blocks.{ran-block}
 use Rattle.utf.proofs.block_run.Statement.{statement}
 use Rattle.utf.proofs.block_run.Tie as tie
 
 abbrev Inv-loop : tie.InvT-loop
-Inv-loop wide s at i₀ i = Ran wide s at i × (i ≤ length s)
+Inv-loop utf16 s at i₀ i = Ran utf16 s at i × (i ≤ length s)
 
 abbrev μ-loop : tie.MeasureT-loop
-μ-loop wide s at i₀ i = length s - i
+μ-loop utf16 s at i₀ i = length s - i
 
 loop-holds : tie.Need-loop-holds Inv-loop μ-loop
 loop-holds c = (ran-none _ _ _, c .before .pre)

@@ -8,10 +8,10 @@ use Rattle.utf.proofs.bytes_into.Statement.{statement}
 use Rattle.utf.proofs.bytes_into.Tie as tie
 
 abbrev Inv-loop : tie.InvT-loop
-Inv-loop wide s out₀ at₀ o₀ out at o = Written wide s out₀ out at o
+Inv-loop utf16 s out₀ at₀ o₀ out at o = Written utf16 s out₀ out at o
 
 abbrev μ-loop : tie.MeasureT-loop
-μ-loop wide s out₀ at₀ o₀ out at o = length s - at
+μ-loop utf16 s out₀ at₀ o₀ out at o = length s - at
 
 loop-holds : tie.Need-loop-holds Inv-loop μ-loop
 loop-holds c = none-written _ _ _

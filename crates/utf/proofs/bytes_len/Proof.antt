@@ -8,10 +8,10 @@ use Rattle.utf.proofs.bytes_len.Statement.{statement}
 use Rattle.utf.proofs.bytes_len.Tie as tie
 
 abbrev Inv-loop : tie.InvT-loop
-Inv-loop wide s at₀ n₀ at n = Counted wide s at n
+Inv-loop utf16 s at₀ n₀ at n = Counted utf16 s at n
 
 abbrev μ-loop : tie.MeasureT-loop
-μ-loop wide s at₀ n₀ at n = length s - at
+μ-loop utf16 s at₀ n₀ at n = length s - at
 
 loop-holds : tie.Need-loop-holds Inv-loop μ-loop
 loop-holds c = none-counted _ _

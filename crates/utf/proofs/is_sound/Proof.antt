@@ -3,17 +3,17 @@ use mathlib.Core.Path.{sym, _∙_}
 use Prim.Native.Nat.{_-_}
 use native.Mathlib.Omega.{arith}
 use lib.ListN.{length}
-use Rattle.utf.specs.Inner.Told.{Ran}
+use Rattle.utf.specs.Inner.StepRuns.{Ran}
 use Rattle.utf.proofs.Turns.{end-sound}
 use Rattle.utf.proofs.Units.{ran-none, ran-join}
 use Rattle.utf.proofs.is_sound.Statement.{statement}
 use Rattle.utf.proofs.is_sound.Tie as tie
 
 abbrev Inv-loop : tie.InvT-loop
-Inv-loop wide s at₀ at = Ran wide s 0 at
+Inv-loop utf16 s at₀ at = Ran utf16 s 0 at
 
 abbrev μ-loop : tie.MeasureT-loop
-μ-loop wide s at₀ at = length s - at
+μ-loop utf16 s at₀ at = length s - at
 
 loop-holds : tie.Need-loop-holds Inv-loop μ-loop
 loop-holds c = ran-none _ _ _

@@ -17,7 +17,7 @@ cast-t9 c = search needs
 returns : tie.Need-returns
 returns c =
     let a = c .before .before .before .before .args in
-    took-ascii (a .wide) (now (a .s)) (a .at) (not-true (a .wide) (c .before .before .if1 .taken)) (c .before .before .before .before .pre) (c .if2 .taken)
+    took-ascii (a .utf16) (now (a .s)) (a .at) (not-true (a .utf16) (c .before .before .if1 .taken)) (c .before .before .before .before .pre) (c .if2 .taken)
 
 step-at-requires : tie.Need-step-at-requires
 step-at-requires c κs = search needs
@@ -29,7 +29,7 @@ returns-2 : tie.Need-returns-2
 returns-2 c =
     let a = c .before .before .before .before .args in
     let bytes : (i : ℕ) → getD (now (a .s)) i 0 < 256 = λ i. c .before .before .before .shared-slice-known .given i .fits in
-    took (a .wide) (now (a .s)) (a .at) _ _ _ (c .before .step-at .result) (c .before .before .before .before .pre) bytes
+    took (a .utf16) (now (a .s)) (a .at) _ _ _ (c .before .step-at .result) (c .before .before .before .before .pre) bytes
     (c .before .step-at .ensures) (c .taken-of .ensures)
 
 pub next-of-spec : {M : Type 1} → statement M

@@ -2,16 +2,16 @@
 use Prim.Native.Nat.{_-_}
 use native.Mathlib.Omega.{arith}
 use borrow.Author.Tests.{not-true, not-false}
-use Rattle.utf.specs.Inner.Told.{Ran}
+use Rattle.utf.specs.Inner.StepRuns.{Ran}
 use Rattle.utf.proofs.Units.{ran-join, ran-step, halted-bad, halted-end}
 use Rattle.utf.proofs.step_run.Statement.{statement}
 use Rattle.utf.proofs.step_run.Tie as tie
 
 abbrev Inv-loop : tie.InvT-loop
-Inv-loop wide s at end i₀ i = Ran wide s at i
+Inv-loop utf16 s at end i₀ i = Ran utf16 s at i
 
 abbrev μ-loop : tie.MeasureT-loop
-μ-loop wide s at end i₀ i = end - i
+μ-loop utf16 s at end i₀ i = end - i
 
 sound-run-requires : tie.Need-sound-run-requires Inv-loop μ-loop
 sound-run-requires c κs = (omega arith, omega arith)

@@ -18,7 +18,7 @@ returns c = rw (textOf-refused _ _ (sym (c .before .is-refused .ensures) ∙ c .
 bytes-into-requires : tie.Need-bytes-into-requires
 bytes-into-requires c κs =
     let a = c .before .before .before .before .before .before .args in
-    omega (arith, bytesOf-length-le (a .wide) (now (a .s)), c .before .if2 .taken)
+    omega (arith, bytesOf-length-le (a .utf16) (now (a .s)), c .before .if2 .taken)
 
 same-length : tie.Need-same-length
 same-length c = search needs
@@ -29,7 +29,7 @@ returns-2 c =
     let told = p4 .before .before in
     let a = told .before .before .before .args in
     rw (textOf-kept _ _ (sym (told .is-refused .ensures) ∙ p4 .before .if1 .left))
-    (putText-fits _ (now (a .out)) _ _ (omega (arith, bytesOf-length-le (a .wide) (now (a .s)), p4 .if2 .taken)) (omega arith)
+    (putText-fits _ (now (a .out)) _ _ (omega (arith, bytesOf-length-le (a .utf16) (now (a .s)), p4 .if2 .taken)) (omega arith)
     (c .before .before .bytes-into .ensures))
 
 bytes-len-requires : tie.Need-bytes-len-requires

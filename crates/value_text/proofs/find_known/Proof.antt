@@ -13,7 +13,11 @@ found-into-requires : tie.Need-found-into-requires
 found-into-requires c κs = ((c .before .before .before .before .before .before) .pre .0, (c .before .before .before .before .before .before) .pre .3)
 
 find-item-requires : tie.Need-find-item-requires
-find-item-requires c κs = ((c .before .before .before .before .before .before .before .before .before) .pre .0, (c .before .before .before .before .before .before .before .before .before) .pre .1, (c .before .before .before .before .before .before .before .before .before) .pre .2)
+find-item-requires c κs = (
+  (c .before .before .before .before .before .before .before .before .before) .pre .0,
+  (c .before .before .before .before .before .before .before .before .before) .pre .1,
+  (c .before .before .before .before .before .before .before .before .before) .pre .2,
+)
 
 returns : tie.Need-returns
 returns c = c .find-item .ensures
@@ -33,7 +37,9 @@ find-first-requires c κs = (c .before .before .before .before .before .before .
 returns-2 : tie.Need-returns-2
 returns-2 c =
     let a = (c .before .before .before .before .before .before .before .before .before .before .before .before) .args in
-    first-of (now (a .item-area)) (now (a .items)) (name-held (c .before .before .before .before .before .found-into .ensures) (omega (arith, c .before .before .before .if1 .left))) (c .find-first .ensures)
+    first-of (now (a .item-area)) (now (a .items))
+    (name-held (c .before .before .before .before .before .found-into .ensures) (omega (arith, c .before .before .before .if1 .left)))
+    (c .find-first .ensures)
 
 pub find-known-spec : {M : Type 1} → statement M
 find-known-spec =

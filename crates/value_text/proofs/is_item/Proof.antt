@@ -28,7 +28,7 @@ returns c =
     let a = s .args in
     let e = c .before .part-of .ensures ∙ ap (attributeOf (now (a .item-area))) (c .before .before .item-at .ensures) in
     let p = good-ascii (now (a .item-area)) (now (a .items)) (s .pre .2) (a .k) (s .pre .3) in
-    is-item (a .wide) (now (a .t)) (now (a .area)) (a .f) (s .pre .1) e p (c .same-part .ensures)
+    is-item (a .utf16) (now (a .t)) (now (a .area)) (a .f) (s .pre .1) e p (c .same-part .ensures)
 
 pub is-item-spec : {M : Type 1} → statement M
 is-item-spec = tie.close (tie.spec item-at-requires part-of-requires same-part-requires returns)

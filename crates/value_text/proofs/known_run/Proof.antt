@@ -15,7 +15,7 @@ run-of-requires c κs = (c .before .before .before .before .before .before) .pre
 returns : tie.Need-returns
 returns c =
     let a = (c .before .before .before .before .before .before .before) .args in
-    c .run-of .ensures (textIn (partOf (a .wide) (now (a .t)) (now (a .area)) (a .f))) (c .before .find-known .ensures)
+    c .run-of .ensures (textIn (partOf (a .utf16) (now (a .t)) (now (a .area)) (a .f))) (c .before .find-known .ensures)
 
 pub known-run-spec : {M : Type 1} → statement M
 known-run-spec =

@@ -33,7 +33,8 @@ same-length c = search needs
 returns-2 : tie.Need-returns-2
 returns-2 c =
     let a = c .before .before .before .before .before .before .before .before .before .before .before .before .before .args in
-    let e = ap isPool (sym (c .before .before .before .before .before .before .before .before .form-of .ensures)) ∙ sym (c .before .before .before .before .before .is-pool .ensures) ∙ c .before .before .before .before .if2 .taken in
+    let e = ap isPool (sym (c .before .before .before .before .before .before .before .before .form-of .ensures)) ∙ sym
+    (c .before .before .before .before .before .is-pool .ensures) ∙ c .before .before .before .before .if2 .taken in
     tells-string (a .h) (now (a .t)) (lends (now (a .names)) (now (a .area))) (a .uncovered) (a .v) (valueTypeOf (a .kind)) e (c .before .before .string-told .ensures)
 
 put-plain-requires : tie.Need-put-plain-requires

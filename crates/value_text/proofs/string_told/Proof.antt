@@ -29,8 +29,11 @@ found-ascii-requires : tie.Need-found-ascii-requires
 found-ascii-requires c κs = c .find .ensures .inside
 
 found-ascii-into-requires : tie.Need-found-ascii-into-requires
-found-ascii-into-requires c κs =
-    (c .before .before .before .find .ensures .inside, c .before .before .before .before .before .before .before .before .before .pre .fits .short, sym (c .before .before .found-ascii .ensures) ∙ c .before .if1 .taken)
+found-ascii-into-requires c κs = (
+  c .before .before .before .find .ensures .inside,
+  c .before .before .before .before .before .before .before .before .before .pre .fits .short,
+  sym (c .before .before .found-ascii .ensures) ∙ c .before .if1 .taken,
+)
 
 same-length : tie.Need-same-length
 same-length c = search needs
@@ -41,7 +44,7 @@ returns c =
     let same = c .before .before .before .before .before .before .find .ensures .same ∙ pool-content (a .h) (now (a .t)) (lends (now (a .names)) (now (a .area))) (now (a .area)) (a .v) in
     let is = sym (c .before .before .before .before .before .found-ascii .ensures) ∙ c .before .before .before .before .if1 .taken in
     string-shown (stringOf (a .h) (now (a .t)) (a .v)) (ap textIn same) (c .before .before .found-ascii-into .ensures)
-    (string-ascii (a .h .wide) (now (a .t)) (now (a .area)) (c .before .before .before .before .before .before .find .result) same is)
+    (string-ascii (a .h .utf16) (now (a .t)) (now (a .area)) (c .before .before .before .before .before .before .find .result) same is)
 
 found-into-requires : tie.Need-found-into-requires
 found-into-requires c κs =

@@ -50,8 +50,10 @@ run-of-requires c κs = (c .before .before .before .before .before .before .befo
 named-into-requires : tie.Need-named-into-requires
 named-into-requires c κs =
     let a = (c .before .before .before .before .before .before .before .before .before .before .before .before .before .before) .args in
-    let name = textIn (partOf (a .h .wide) (now (a .t)) (now (a .area)) (c .before .before .before .before .before .find .result)) in
-    ((c .before .before .before .before .before .before .before .before .before .before .before .before .before .before) .pre .0, c .before .run-of .ensures name (c .before .before .find-item .ensures) .fits)
+    let name = textIn (partOf (a .h .utf16) (now (a .t)) (now (a .area)) (c .before .before .before .before .before .find .result)) in (
+      (c .before .before .before .before .before .before .before .before .before .before .before .before .before .before) .pre .0,
+      c .before .run-of .ensures name (c .before .before .find-item .ensures) .fits,
+    )
 
 same-length-2 : tie.Need-same-length-2
 same-length-2 c = search needs
@@ -62,9 +64,11 @@ returns-3 c =
     let lent = lends (now (a .names)) (now (a .area)) in
     let f = c .before .before .before .before .before .before .before .before .find .result in
     let e = sym (c .before .before .before .before .before .before .before .is-found .ensures) ∙ not-false _ (c .before .before .before .before .before .before .if2 .left) in
-    let name = textIn (partOf (a .h .wide) (now (a .t)) (now (a .area)) f) in
+    let name = textIn (partOf (a .h .utf16) (now (a .t)) (now (a .area)) f) in
     let g = c .before .before .named-into .ensures name (c .before .before .before .before .run-of .ensures name (c .before .before .before .before .before .find-item .ensures)) in
-    value-named (a .h) (now (a .t)) lent (now (a .items)) (now (a .item-area)) (a .a) f (c .before .before .before .before .before .before .before .before .before .if1 .left) (c .before .before .before .before .before .before .before .before .find .ensures .same) e g
+    value-named (a .h) (now (a .t)) lent (now (a .items)) (now (a .item-area)) (a .a) f
+    (c .before .before .before .before .before .before .before .before .before .if1 .left)
+    (c .before .before .before .before .before .before .before .before .find .ensures .same) e g
 
 pub value-into-spec : {M : Type 1} → statement M
 value-into-spec =

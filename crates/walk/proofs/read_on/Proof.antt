@@ -14,9 +14,9 @@ use Rattle.tables.proofs.Numbering.{numbered-none}
 use Rattle.events.specs.Inner.Pending.{steps}
 use Rattle.events.specs.Inner.Remembered.{Remembers}
 use Rattle.events.proofs.Remembering.{remembers-none}
-use Rattle.walk.specs.Inner.Outcome.{Good}
+use Rattle.walk.specs.Inner.Outcome.{StateOk}
 use Rattle.walk.proofs.Advancing.{ReadHead, read-first, read-full, due-less, due-within, read-past, read-due}
-use Rattle.walk.proofs.Quiet.{read-passed}
+use Rattle.walk.proofs.PastCap.{read-passed}
 use Rattle.walk.proofs.Finishing.{read-keepable, read-done}
 use Rattle.walk.proofs.read_on.Statement.{statement}
 use Rattle.walk.proofs.read_on.Tie as tie
@@ -24,7 +24,7 @@ use Rattle.walk.proofs.read_on.Tie as tie
 abbrev Inv-loop : tie.InvT-loop
 Inv-loop file names area nodes₀ attributes₀ st opened notes memory₀ numbers₀ cur₀ tree₀ nodes attributes memory numbers cur tree =
     (length nodes ≡ length nodes₀) × (length attributes ≡ length attributes₀) ×
-    ((g : Good file (lends names area) nodes₀ attributes₀ st) → ReadHead file (lends names area) nodes₀ attributes₀ st g nodes attributes cur tree) ×
+    ((g : StateOk file (lends names area) nodes₀ attributes₀ st) → ReadHead file (lends names area) nodes₀ attributes₀ st g nodes attributes cur tree) ×
     Remembers (st .opened .head) (tablesIn file (st .opened .head)) (lends names area) memory ×
     Numbered (st .opened .head) (tablesIn file (st .opened .head)) (lends names area) numbers
 
@@ -66,14 +66,16 @@ same-length : tie.Need-same-length Inv-loop μ-loop
 same-length c =
     let at-refuse = c .before .before .before .before in
     let at-run-in = c .before .before .before .before .before .before .before .before .before .before .before .before .before .before .before .before .before .before in
-    let at-loop = c .before .before .before .before .before .before .before .before .before .before .before .before .before .before .before .before .before .before .before .before .before .before .before in
+    let at-loop = c .before .before .before .before .before .before .before .before .before .before .before .before .before .before .before .before
+    .before .before .before .before .before .before .before in
     at-refuse .refuse .kept .0 ∙ at-run-in .run-in .kept .1 .1 .1 .1 .1 .0 ∙ at-loop .loop .inv .0
 
 same-length-2 : tie.Need-same-length-2 Inv-loop μ-loop
 same-length-2 c =
     let at-refuse = c .before .before .before .before in
     let at-run-in = c .before .before .before .before .before .before .before .before .before .before .before .before .before .before .before .before .before .before in
-    let at-loop = c .before .before .before .before .before .before .before .before .before .before .before .before .before .before .before .before .before .before .before .before .before .before .before in
+    let at-loop = c .before .before .before .before .before .before .before .before .before .before .before .before .before .before .before .before
+    .before .before .before .before .before .before .before in
     at-refuse .refuse .kept .1 .0 ∙ at-run-in .run-in .kept .1 .1 .1 .1 .1 .1 .0 ∙ at-loop .loop .inv .1
 
 returns : tie.Need-returns Inv-loop μ-loop
@@ -81,8 +83,10 @@ returns c =
     let at-refuse = c .before .before .before .before in
     let at-stop = c .before .before .before .before .before .before .before .before in
     let at-run-in = c .before .before .before .before .before .before .before .before .before .before .before .before .before .before .before .before .before .before in
-    let at-loop = c .before .before .before .before .before .before .before .before .before .before .before .before .before .before .before .before .before .before .before .before .before .before .before in
-    let at-start = c .before .before .before .before .before .before .before .before .before .before .before .before .before .before .before .before .before .before .before .before .before .before .before .before .before .before .before .before .before .before .before .before .before in
+    let at-loop = c .before .before .before .before .before .before .before .before .before .before .before .before .before .before .before .before
+    .before .before .before .before .before .before .before in
+    let at-start = c .before .before .before .before .before .before .before .before .before .before .before .before .before .before .before .before
+    .before .before .before .before .before .before .before .before .before .before .before .before .before .before .before .before .before in
     let a = at-start .args in
     let l = at-loop .loop in
     let q = at-run-in .run-in in
@@ -102,7 +106,8 @@ finish-requires c κs =
     let at-enum-told = c .before .before in
     let at-run-in = c .before .before .before .before .before .before .before .before .before .before .before .before in
     let at-loop = c .before .before .before .before .before .before .before .before .before .before .before .before .before .before .before .before .before in
-    let at-start = c .before .before .before .before .before .before .before .before .before .before .before .before .before .before .before .before .before .before .before .before .before .before .before .before .before .before .before in
+    let at-start = c .before .before .before .before .before .before .before .before .before .before .before .before .before .before .before .before
+    .before .before .before .before .before .before .before .before .before .before .before in
     let a = at-start .args in
     let l = at-loop .loop in
     let q = at-run-in .run-in in
@@ -132,7 +137,8 @@ returns-2 c =
     let at-enum-told = c .before .before .before .before .before .before .before in
     let at-run-in = c .before .before .before .before .before .before .before .before .before .before .before .before .before .before .before .before .before in
     let at-loop = c .before .before .before .before .before .before .before .before .before .before .before .before .before .before .before .before .before .before .before .before .before .before in
-    let at-start = c .before .before .before .before .before .before .before .before .before .before .before .before .before .before .before .before .before .before .before .before .before .before .before .before .before .before .before .before .before .before .before .before in
+    let at-start = c .before .before .before .before .before .before .before .before .before .before .before .before .before .before .before .before
+    .before .before .before .before .before .before .before .before .before .before .before .before .before .before .before .before in
     let a = at-start .args in
     let l = at-loop .loop in
     let q = at-run-in .run-in in
@@ -163,14 +169,16 @@ same-length-5 : tie.Need-same-length-5 Inv-loop μ-loop
 same-length-5 c =
     let at-note-due = c .before .before .before .before in
     let at-run-in = c .before .before .before .before .before .before .before .before .before .before .before .before .before .before .before .before .before .before .before .before .before in
-    let at-loop = c .before .before .before .before .before .before .before .before .before .before .before .before .before .before .before .before .before .before .before .before .before .before .before .before .before .before in
+    let at-loop = c .before .before .before .before .before .before .before .before .before .before .before .before .before .before .before .before
+    .before .before .before .before .before .before .before .before .before .before in
     at-note-due .note-due .kept .0 ∙ at-run-in .run-in .kept .1 .1 .1 .1 .1 .0 ∙ at-loop .loop .inv .0
 
 same-length-6 : tie.Need-same-length-6 Inv-loop μ-loop
 same-length-6 c =
     let at-note-due = c .before .before .before .before in
     let at-run-in = c .before .before .before .before .before .before .before .before .before .before .before .before .before .before .before .before .before .before .before .before .before in
-    let at-loop = c .before .before .before .before .before .before .before .before .before .before .before .before .before .before .before .before .before .before .before .before .before .before .before .before .before .before in
+    let at-loop = c .before .before .before .before .before .before .before .before .before .before .before .before .before .before .before .before
+    .before .before .before .before .before .before .before .before .before .before in
     at-note-due .note-due .kept .1 .0 ∙ at-run-in .run-in .kept .1 .1 .1 .1 .1 .1 .0 ∙ at-loop .loop .inv .1
 
 returns-3 : tie.Need-returns-3 Inv-loop μ-loop
@@ -181,8 +189,11 @@ returns-3 c =
     let at-kind-index = c .before .before .before .before .before .before .before .before .before in
     let at-stop2 = c .before .before .before .before .before .before .before .before .before .before .before in
     let at-run-in = c .before .before .before .before .before .before .before .before .before .before .before .before .before .before .before .before .before .before .before .before .before in
-    let at-loop = c .before .before .before .before .before .before .before .before .before .before .before .before .before .before .before .before .before .before .before .before .before .before .before .before .before .before in
-    let at-start = c .before .before .before .before .before .before .before .before .before .before .before .before .before .before .before .before .before .before .before .before .before .before .before .before .before .before .before .before .before .before .before .before .before .before .before .before in
+    let at-loop = c .before .before .before .before .before .before .before .before .before .before .before .before .before .before .before .before
+    .before .before .before .before .before .before .before .before .before .before in
+    let at-start = c .before .before .before .before .before .before .before .before .before .before .before .before .before .before .before .before
+    .before .before .before .before .before .before .before .before .before .before .before .before .before .before .before .before .before
+    .before .before .before in
     let at-if1 = then1 in
     let a = at-start .args in
     let l = at-loop .loop in
@@ -201,7 +212,8 @@ pass-in-requires c κs =
     let at-stop2 = c .before .before .before .before in
     let at-run-in = c .before .before .before .before .before .before .before .before .before .before .before .before .before .before in
     let at-loop = c .before .before .before .before .before .before .before .before .before .before .before .before .before .before .before .before .before .before .before in
-    let at-start = c .before .before .before .before .before .before .before .before .before .before .before .before .before .before .before .before .before .before .before .before .before .before .before .before .before .before .before .before .before in
+    let at-start = c .before .before .before .before .before .before .before .before .before .before .before .before .before .before .before .before
+    .before .before .before .before .before .before .before .before .before .before .before .before .before in
     let a = at-start .args in
     let l = at-loop .loop in
     let q = at-run-in .run-in in
@@ -216,7 +228,8 @@ loop-less c =
     let at-stop2 = c .before .before .before .before .before in
     let at-run-in = c .before .before .before .before .before .before .before .before .before .before .before .before .before .before .before in
     let at-loop = c .before .before .before .before .before .before .before .before .before .before .before .before .before .before .before .before .before .before .before .before in
-    let at-start = c .before .before .before .before .before .before .before .before .before .before .before .before .before .before .before .before .before .before .before .before .before .before .before .before .before .before .before .before .before .before in
+    let at-start = c .before .before .before .before .before .before .before .before .before .before .before .before .before .before .before .before
+    .before .before .before .before .before .before .before .before .before .before .before .before .before .before in
     let a = at-start .args in
     let l = at-loop .loop in
     let q = at-run-in .run-in in
@@ -234,7 +247,8 @@ loop-again c =
     let at-stop2 = c .before .before .before .before .before in
     let at-run-in = c .before .before .before .before .before .before .before .before .before .before .before .before .before .before .before in
     let at-loop = c .before .before .before .before .before .before .before .before .before .before .before .before .before .before .before .before .before .before .before .before in
-    let at-start = c .before .before .before .before .before .before .before .before .before .before .before .before .before .before .before .before .before .before .before .before .before .before .before .before .before .before .before .before .before .before in
+    let at-start = c .before .before .before .before .before .before .before .before .before .before .before .before .before .before .before .before
+    .before .before .before .before .before .before .before .before .before .before .before .before .before .before in
     let a = at-start .args in
     let l = at-loop .loop in
     let q = at-run-in .run-in in

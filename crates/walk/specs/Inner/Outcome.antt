@@ -3,9 +3,10 @@
 --   first       the state before the first call; startedBy behind the head, notedBy with a note to write, clearingAt with zeros to write
 --   Refuses, Finishes, Noted   what the ends of a reading leave in the tables
 --   outcome     what comes back in the end, from a state at the head of the loop: nodes and attributes as they are, notes as written so far
---   Good        a state at the head of the loop, with the list of open elements as a field
---   left        the measure: while it reads, steps and all places of the note table; while it clears, places
---   Advanced    what one call leaves, given how its state was good; Adv the same of every such way
+--   StateOk     what holds of a state between two calls of `advance`; it names the list of open elements, which the state does not hold
+--   stepsLeft   a number that each call of `advance` makes smaller, so that a loop over it ends: while the body is read, the steps that may
+--               come and the places of the note table together; while zeros are written behind the notes, the places that are left
+--   Advanced    what one call leaves, for a state of which `StateOk` is known by the facts g; AdvanceKeeps: for whichever facts show it
 use Prim.Native.Nat.{ℕ, _+_, _-_, _*_, _≤_, _<_}
 use mathlib.Core.Path.{_≡_}
 use mathlib.Core.List.{List, _++_}
@@ -42,7 +43,7 @@ use Rattle.walk.specs.Inner.Run.{onFrom}
 -- ---- states
 
 abbrev pub noTree : Tree
-noTree = record { nodes = 0; attributes = 0; first = 0; inner = 0; second = 0; upto = 0 }
+noTree = record { nodes = 0; attributes = 0; first = 0; inner = 0; «above_root» = 0; «attributes_before_it» = 0 }
 
 -- there is no head yet
 abbrev pub first : ℕ → ℕ → ℕ → State
@@ -183,7 +184,7 @@ pub record OnWay (f : List ℕ) (lent : Lent) (ns ats : List ℕ) (st : State) (
   pub few : st .notes .used + steps (bodyIn f (st .opened .head)) (st .cur) ≤ 400000000
   pub stored : st .notes .used ≤ st .room
 
-pub record Good (f : List ℕ) (lent : Lent) (ns ats : List ℕ) (st : State) : Type 0 where
+pub record StateOk (f : List ℕ) (lent : Lent) (ns ats : List ℕ) (st : State) : Type 0 where
   pub stack : List ℕ
   pub onWay : st .stage ≡ InBody → OnWay f lent ns ats st stack
 
@@ -193,20 +194,20 @@ leftBy Fresh f st = 20 * length f + 15 + st .room + 1
 leftBy InBody f st = steps (bodyIn f (st .opened .head)) (st .cur) + st .room + 1
 leftBy (Clearing a) f st = st .room - st .slot
 
-abbrev pub left : List ℕ → Lent → State → ℕ
-left f lent st = leftBy (st .stage) f st
+abbrev pub stepsLeft : List ℕ → Lent → State → ℕ
+stepsLeft f lent st = leftBy (st .stage) f st
 
-pub record Advanced (f : List ℕ) (lent : Lent) (ns ats : List ℕ) (st : State) (g : Good f lent ns ats st) (r : State) (ns′ ats′ : List ℕ) : Type 0 where
-  pub good : Good f lent ns′ ats′ r
+pub record Advanced (f : List ℕ) (lent : Lent) (ns ats : List ℕ) (st : State) (g : StateOk f lent ns ats st) (r : State) (ns′ ats′ : List ℕ) : Type 0 where
+  pub good : StateOk f lent ns′ ats′ r
   pub room : r .room ≡ st .room
-  pub due : r .done ≡ false → (r .slot < r .room) × (left f lent r < left f lent st)
+  pub due : r .done ≡ false → (r .slot < r .room) × (stepsLeft f lent r < stepsLeft f lent st)
   pub goes : r .done ≡ false → (os : List NoteOf) → length os ≡ st .room
       → outcome f lent ns ats os st (g .stack) ≡ outcome f lent ns′ ats′ (set os (r .slot) (r .note)) r (good .stack)
   pub ends : r .done ≡ true → (a : ReadAnswer) → Answers r a → (os : List NoteOf) → length os ≡ st .room
       → outcome f lent ns ats os st (g .stack) ≡ record { answer = a; nodes = ns′; attributes = ats′; notes = os }
 
-abbrev pub Adv : List ℕ → Lent → List ℕ → List ℕ → State → State → List ℕ → List ℕ → Type 0
-Adv f lent ns ats st r ns′ ats′ = (g : Good f lent ns ats st) → Advanced f lent ns ats st g r ns′ ats′
+abbrev pub AdvanceKeeps : List ℕ → Lent → List ℕ → List ℕ → State → State → List ℕ → List ℕ → Type 0
+AdvanceKeeps f lent ns ats st r ns′ ats′ = (g : StateOk f lent ns ats st) → Advanced f lent ns ats st g r ns′ ats′
 
 -- ---- the whole
 

@@ -12,11 +12,11 @@ use Rattle.anomaly.specs.Note.{kindIndex}
 use Rattle.anomaly.specs.declared.ResAnomaly.the-variants.{NonXmlChunk, XmlNodeHeaderSize}
 use Rattle.head.specs.declared.Opened.{Opened}
 use Rattle.events.specs.declared.Cursor.{Cursor}
-use Rattle.events.specs.Events.{Names, Spot, eventsOn}
+use Rattle.events.specs.Events.{Names, WalkState, eventsOn}
 use Rattle.events.specs.Inner.Pending.{Within, pending, steps}
 use Rattle.walk.specs.Settle.{Room, Tables, going, settle}
 
-abbrev pub spotAt : ℕ → ℕ → ℕ → Spot
+abbrev pub spotAt : ℕ → ℕ → ℕ → WalkState
 spotAt run depth starts = record { run = run; depth = depth; starts = starts }
 
 -- the notes of both sorts of foreign chunks are past their cap

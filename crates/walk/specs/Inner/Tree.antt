@@ -27,7 +27,7 @@ use Rattle.tables.specs.Inner.Keys.{Key, keysOf}
 use Rattle.tables.specs.Inner.Ways.{linkWidth, frontWords, Hung}
 use Rattle.walk.specs.declared.tree.Tree.{Tree}
 use Rattle.walk.specs.declared.tree.Put.{Put}
-use Rattle.walk.specs.declared.tree.Put.the-variants.{Same, Full as NoPlace, Stored}
+use Rattle.walk.specs.declared.tree.Put.the-variants.{NotStored, Full as NoPlace, Stored}
 use Rattle.walk.specs.declared.placing.Placed.{Placed}
 use Rattle.walk.specs.declared.placing.Placed.the-variants.{Done, Full, Due, Finished}
 use Rattle.walk.specs.Settle.{Room, Tables, going, refused, push}
@@ -40,28 +40,28 @@ parentOf t = cond (eqb (t .nodes) 0) noParent (t .inner)
 
 abbrev pub openedTree : Tree → Tree
 openedTree t =
-    cond (eqb (t .nodes) 0) (record { nodes = 1; attributes = t .attributes; first = t .attributes; inner = 0; second = 0; upto = 0 })
+    cond (eqb (t .nodes) 0) (record { nodes = 1; attributes = t .attributes; first = t .attributes; inner = 0; «above_root» = 0; «attributes_before_it» = 0 })
     (cond (eqb (t .inner) 0)
-    (record { nodes = t .nodes + 1; attributes = t .attributes; first = t .attributes; inner = t .nodes; second = t .nodes; upto = t .attributes })
-    (record { nodes = t .nodes + 1; attributes = t .attributes; first = t .attributes; inner = t .nodes; second = t .second; upto = t .upto }))
+    (record { nodes = t .nodes + 1; attributes = t .attributes; first = t .attributes; inner = t .nodes; «above_root» = t .nodes; «attributes_before_it» = t .attributes })
+    (record { nodes = t .nodes + 1; attributes = t .attributes; first = t .attributes; inner = t .nodes; «above_root» = t .«above_root»; «attributes_before_it» = t .«attributes_before_it» }))
 
 abbrev pub closedTree : Tree → ℕ → Tree
 closedTree t p =
-    cond (eqb p 0) (record { nodes = t .nodes; attributes = t .attributes; first = t .first; inner = 0; second = 0; upto = 0 })
-    (record { nodes = t .nodes; attributes = t .attributes; first = t .first; inner = p; second = t .second; upto = t .upto })
+    cond (eqb p 0) (record { nodes = t .nodes; attributes = t .attributes; first = t .first; inner = 0; «above_root» = 0; «attributes_before_it» = 0 })
+    (record { nodes = t .nodes; attributes = t .attributes; first = t .first; inner = p; «above_root» = t .«above_root»; «attributes_before_it» = t .«attributes_before_it» })
 
 abbrev pub keptTree : Tree → Tree
-keptTree t = record { nodes = t .nodes; attributes = t .attributes + 1; first = t .first; inner = t .inner; second = t .second; upto = t .upto }
+keptTree t = record { nodes = t .nodes; attributes = t .attributes + 1; first = t .first; inner = t .inner; «above_root» = t .«above_root»; «attributes_before_it» = t .«attributes_before_it» }
 
 -- the words of the node that opens
 abbrev pub openedWords : Tree → ℕ → ℕ → ℕ → List ℕ
 openedWords t name fixed line = nodeWords name fixed (parentOf t) (t .attributes) 0 line
 
 abbrev pub keptNodes : Tree → ℕ
-keptNodes t = cond (eqb (t .second) 0) (t .nodes) (t .second)
+keptNodes t = cond (eqb (t .«above_root») 0) (t .nodes) (t .«above_root»)
 
 abbrev pub keptAttributes : Tree → ℕ
-keptAttributes t = cond (eqb (t .second) 0) (t .attributes) (t .upto)
+keptAttributes t = cond (eqb (t .«above_root») 0) (t .attributes) (t .«attributes_before_it»)
 
 -- ---- the numbers and the tables
 
@@ -89,9 +89,9 @@ pub record Tied (ns ats : List ℕ) (t : Tree) (o : List ℕ) : Type 0 where
   pub sized : Sized ns ats t
   pub linked : Linked (take (nodeWidth * t .nodes) ns) o
   pub top : topOf o ≡ t .inner
-  pub second : secondOf o ≡ t .second
-  pub upto : (t .second ≡ 0 → ⊥) → getD (take (nodeWidth * t .nodes) ns) (nodeWidth * t .second + nodeFirst) 0 ≡ t .upto
-  pub below : t .upto ≤ t .attributes
+  pub «above_root» : secondOf o ≡ t .«above_root»
+  pub «attributes_before_it» : (t .«above_root» ≡ 0 → ⊥) → getD (take (nodeWidth * t .nodes) ns) (nodeWidth * t .«above_root» + nodeFirst) 0 ≡ t .«attributes_before_it»
+  pub below : t .«attributes_before_it» ≤ t .attributes
 
 -- with the notes os and the counts cs
 abbrev pub tablesOf : List ℕ → List ℕ → Tree → List ℕ → List NoteOf → List ℕ → Tables
@@ -155,7 +155,7 @@ pub record Stores (rule : Rule) (key : Key) (u t : Tree) (p : ℕ) (a : XmlAttri
   pub chained : Chained key ns′ ats′ u
 
 abbrev pub Keeps : Rule → Key → Put → Tree → ℕ → XmlAttributeElement → List ℕ → List ℕ → List ℕ → List ℕ → Type 0
-Keeps rule key Same t p a ns ats ns′ ats′ = Repeats rule t p a ns ats ns′ ats′
+Keeps rule key NotStored t p a ns ats ns′ ats′ = Repeats rule t p a ns ats ns′ ats′
 Keeps rule key NoPlace t p a ns ats ns′ ats′ = Lacks rule t p a ats
 Keeps rule key (Stored u) t p a ns ats ns′ ats′ = Stores rule key u t p a ns ats ns′ ats′
 
@@ -173,7 +173,7 @@ pub record PutAway (rule : Rule) (key : Key) (u : Tree) (ns ats : List ℕ) (t :
   pub pushed : (r : Room) (os : List NoteOf) (cs : List ℕ) → r .nodes ≡ length ns → r .attributes ≡ length ats
       → push rule r (going (tablesOf ns ats t o os cs)) e ≡ going (tablesOf ns′ ats′ u stack os cs)
 
--- it is e′, which is not the tables'
+-- the event e is the e′ that is named (a note, a refusal, the end): it is handled elsewhere, and both tables stay as they are
 pub record Passes (e e′ : Event) (ns ats ns′ ats′ : List ℕ) : Type 0 where
   pub event : e ≡ e′
   pub nodes : ns′ ≡ ns

@@ -1,7 +1,7 @@
 -- `xml::sort_in` meets its contract: ASCII by the table, and beyond it by the ranges that lie there.
 use mathlib.Core.Path.{sym, _∙_}
 use native.Mathlib.Omega.{arith}
-use Rattle.xml.proofs.Ranges.{classOf-ascii, sortOf-one, sortOf-two, sortOf-none}
+use Rattle.xml.proofs.Ranges.{classOf-ascii, charSort-one, charSort-two, charSort-none}
 use borrow.Author.Needs.{needs}
 use Rattle.xml.proofs.sort_in.Statement.{statement}
 use Rattle.xml.proofs.sort_in.Tie as tie
@@ -19,7 +19,7 @@ in-ranges-requires : tie.Need-in-ranges-requires
 in-ranges-requires c κs = search needs
 
 returns-2 : tie.Need-returns-2
-returns-2 c = sym (sortOf-one _ (c .before .before .before .if1 .left) (sym (c .before .in-ranges .ensures) ∙ c .if2 .taken))
+returns-2 c = sym (charSort-one _ (c .before .before .before .if1 .left) (sym (c .before .in-ranges .ensures) ∙ c .if2 .taken))
 
 slice-aggregate-in-ranges-2 : tie.Need-slice-aggregate-in-ranges-2
 slice-aggregate-in-ranges-2 c = search needs
@@ -31,13 +31,13 @@ returns-3 : tie.Need-returns-3
 returns-3 c =
     let q = c .before .before .before in
     let beyond = q .before .before .before .if1 .left in
-    sym (sortOf-two _ beyond (sym (q .before .in-ranges .ensures) ∙ q .if2 .left) (sym (c .before .in-ranges2 .ensures) ∙ c .if3 .taken))
+    sym (charSort-two _ beyond (sym (q .before .in-ranges .ensures) ∙ q .if2 .left) (sym (c .before .in-ranges2 .ensures) ∙ c .if3 .taken))
 
 returns-4 : tie.Need-returns-4
 returns-4 c =
     let q = c .before .before .before in
     let beyond = q .before .before .before .if1 .left in
-    sym (sortOf-none _ beyond (sym (q .before .in-ranges .ensures) ∙ q .if2 .left) (sym (c .before .in-ranges2 .ensures) ∙ c .if3 .left))
+    sym (charSort-none _ beyond (sym (q .before .in-ranges .ensures) ∙ q .if2 .left) (sym (c .before .in-ranges2 .ensures) ∙ c .if3 .left))
 
 pub sort-in-spec : {M : Type 1} → statement M
 sort-in-spec =

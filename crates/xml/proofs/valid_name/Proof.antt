@@ -8,17 +8,17 @@ use borrow.Author.Tests.{not-true, not-false}
 use borrow.Author.Needs.{needs}
 use Rattle.utf.proofs.Turns.{stops, goes}
 use Rattle.xml.specs.NCName.{validName}
-use Rattle.xml.specs.Inner.Told.{charsIn}
+use Rattle.xml.specs.Inner.NameRun.{charsIn}
 use Rattle.xml.proofs.Classes.{classes-right}
 use Rattle.xml.proofs.Names.{validName-begins, end-char, validName-none}
 use Rattle.xml.proofs.valid_name.Statement.{statement}
 use Rattle.xml.proofs.valid_name.Tie as tie
 
 abbrev Inv-loop : tie.InvT-loop
-Inv-loop wide s classes at₀ at = charsIn wide (drop at s) ≡ validName wide s
+Inv-loop utf16 s classes at₀ at = charsIn utf16 (drop at s) ≡ validName utf16 s
 
 abbrev μ-loop : tie.MeasureT-loop
-μ-loop wide s classes at₀ at = length s - at
+μ-loop utf16 s classes at₀ at = length s - at
 
 returns : tie.Need-returns Inv-loop μ-loop
 returns c = sym (validName-none _ _ (c .if1 .taken))
@@ -33,14 +33,14 @@ returns-2 : tie.Need-returns-2 Inv-loop μ-loop
 returns-2 c =
     let a = c .before .before .before .before .before .args in
     let bytes : (k : ℕ) → getD (now (a .s)) k 0 < 256 = λ k. c .before .before .before .before .shared-slice-known .given k .fits in
-    let begun = validName-begins (a .wide) (now (a .s)) (omega arith) bytes in
+    let begun = validName-begins (a .utf16) (now (a .s)) (omega arith) bytes in
     sym (stops _ _ _ begun (sym (c .before .begins-well .ensures) ∙ not-true _ (c .if2 .taken)))
 
 loop-holds : tie.Need-loop-holds Inv-loop μ-loop
 loop-holds c =
     let a = c .before .before .before .before .before .args in
     let bytes : (k : ℕ) → getD (now (a .s)) k 0 < 256 = λ k. c .before .before .before .before .shared-slice-known .given k .fits in
-    let begun = validName-begins (a .wide) (now (a .s)) (omega arith) bytes in
+    let begun = validName-begins (a .utf16) (now (a .s)) (omega arith) bytes in
     sym (goes _ _ _ begun (sym (c .before .begins-well .ensures) ∙ not-false _ (c .if2 .left)))
 
 stretch-at-requires : tie.Need-stretch-at-requires Inv-loop μ-loop
@@ -73,7 +73,7 @@ loop-again c =
 returns-4 : tie.Need-returns-4 Inv-loop μ-loop
 returns-4 c =
     let a = c .before .before .before .before .before .before .before .args in
-    sym (end-char (a .wide) (now (a .s)) _ (c .loop-test .left)) ∙ c .before .loop .inv
+    sym (end-char (a .utf16) (now (a .s)) _ (c .loop-test .left)) ∙ c .before .loop .inv
 
 pub valid-name-spec : {M : Type 1} → statement M
 valid-name-spec =

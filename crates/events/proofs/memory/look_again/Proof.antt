@@ -16,13 +16,13 @@ found-state-requires c κs = search needs
 look-by-requires : tie.Need-look-by-requires
 look-by-requires c κs =
     let a = c .before .before .before .before .args in
-    state-le _ (partOf (a .wide) (now (a .t)) (now (a .area)) (a .f)) (c .before .state-of-found .ensures)
+    state-le _ (partOf (a .utf16) (now (a .t)) (now (a .area)) (a .f)) (c .before .state-of-found .ensures)
 
 returns : tie.Need-returns
 returns c =
     let a = c .before .before .before .before .before .args in
     c .look-by .ensures
-    ∙ look-of _ _ (partOf (a .wide) (now (a .t)) (now (a .area)) (a .f)) (c .before .before .state-of-found .ensures) (c .before .found-state .ensures)
+    ∙ look-of _ _ (partOf (a .utf16) (now (a .t)) (now (a .area)) (a .f)) (c .before .before .state-of-found .ensures) (c .before .found-state .ensures)
 
 pub look-again-spec : {M : Type 1} → statement M
 look-again-spec =

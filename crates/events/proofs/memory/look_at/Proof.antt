@@ -12,7 +12,11 @@ is-long-requires : tie.Need-is-long-requires
 is-long-requires c κs = search needs
 
 look-long-requires : tie.Need-look-long-requires
-look-long-requires c κs = (c .before .before .before .before .before .before .before .before .pre .0 .fits .short, c .before .before .before .find .ensures .inside, c .before .before .before .before .before .before .before .before .pre .1)
+look-long-requires c κs = (
+  c .before .before .before .before .before .before .before .before .pre .0 .fits .short,
+  c .before .before .before .find .ensures .inside,
+  c .before .before .before .before .before .before .before .before .pre .1,
+)
 
 same-length : tie.Need-same-length
 same-length c = search needs

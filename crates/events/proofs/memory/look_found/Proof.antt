@@ -13,7 +13,7 @@ found-whole-requires c κs = search needs
 returns : tie.Need-returns
 returns c =
     let a = c .before .before .before .before .args in
-    sym (look-whole (partOf (a .wide) (now (a .t)) (now (a .area)) (a .f)) (sym (c .before .found-whole .ensures) ∙ c .if1 .taken))
+    sym (look-whole (partOf (a .utf16) (now (a .t)) (now (a .area)) (a .f)) (sym (c .before .found-whole .ensures) ∙ c .if1 .taken))
 
 look-again-requires : tie.Need-look-again-requires
 look-again-requires c κs = search needs

@@ -38,21 +38,21 @@ returns : tie.Need-returns
 returns c =
     let s = c .before .before .before .before .before .before in
     let a = s .args in
-    let same = ap (λ (x : Found). lookOf (partOf (a .h .wide) (now (a .t)) (now (a .area)) x)) (sym (c .enum-told .given .1)) in
+    let same = ap (λ (x : Found). lookOf (partOf (a .h .utf16) (now (a .t)) (now (a .area)) x)) (sym (c .enum-told .given .1)) in
     (same, s .pre .2)
 
 returns-2 : tie.Need-returns-2
 returns-2 c =
     let s = c .before .before .before .before .before .before in
     let a = s .args in
-    let same = ap (λ (x : Found). lookOf (partOf (a .h .wide) (now (a .t)) (now (a .area)) x)) (sym (c .enum-told2 .given .1)) in
+    let same = ap (λ (x : Found). lookOf (partOf (a .h .utf16) (now (a .t)) (now (a .area)) x)) (sym (c .enum-told2 .given .1)) in
     (same, s .pre .2)
 
 returns-3 : tie.Need-returns-3
 returns-3 c =
     let s = c .before .before .before .before .before .before .before .before in
     let a = s .args in
-    let same = ap (λ (x : Found). lookOf (partOf (a .h .wide) (now (a .t)) (now (a .area)) x)) (sym (c .before .before .f .given .1)) in
+    let same = ap (λ (x : Found). lookOf (partOf (a .h .utf16) (now (a .t)) (now (a .area)) x)) (sym (c .before .before .f .given .1)) in
     (c .look-found .ensures ∙ same, s .pre .2)
 
 same-length : tie.Need-same-length
@@ -62,7 +62,7 @@ returns-4 : tie.Need-returns-4
 returns-4 c =
     let s = c .before .before .before .before .before .before .before .before .before .before .before in
     let a = s .args in
-    let same = ap (λ (x : Found). lookOf (partOf (a .h .wide) (now (a .t)) (now (a .area)) x)) (sym (c .before .before .before .before .before .f2 .given .1)) in
+    let same = ap (λ (x : Found). lookOf (partOf (a .h .utf16) (now (a .t)) (now (a .area)) x)) (sym (c .before .before .before .before .before .f2 .given .1)) in
     (c .before .before .look-pool .ensures .0 ∙ same, c .before .before .look-pool .ensures .1)
 
 pub look-long-spec : {M : Type 1} → statement M

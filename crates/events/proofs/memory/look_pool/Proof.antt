@@ -20,7 +20,10 @@ returns : tie.Need-returns
 returns c = (c .look-found .ensures, c .before .before .before .before .before .before .before .pre .2)
 
 part-of-requires : tie.Need-part-of-requires
-part-of-requires c κs = (omega (arith, c .before .before .before .before .before .before .pre .1, c .if1 .left, c .before .long-from .ensures), c .before .before .before .before .before .before .pre .0)
+part-of-requires c κs = (
+  omega (arith, c .before .before .before .before .before .before .pre .1, c .if1 .left, c .before .long-from .ensures),
+  c .before .before .before .before .before .before .pre .0,
+)
 
 add-seen : tie.Need-add-seen
 add-seen c = omega (arith, c .part-of .ensures)
@@ -44,7 +47,12 @@ slice-read-if3 : tie.Need-slice-read-if3
 slice-read-if3 c = omega (arith, c .before .before .before .part-of .ensures, c .before .before .before .before .before .before .before .before .before .before .pre .2 .room)
 
 cast-if3 : tie.Need-cast-if3
-cast-if3 c = omega (arith, c .before .before .before .before .before .before .before .before .before .before .pre .0, c .before .before .before .before .before .before .before .before .before .before .pre .1)
+cast-if3 c =
+    omega (
+      arith,
+      c .before .before .before .before .before .before .before .before .before .before .pre .0,
+      c .before .before .before .before .before .before .before .before .before .before .pre .1,
+    )
 
 returns-2 : tie.Need-returns-2
 returns-2 c =
@@ -57,15 +65,25 @@ look-found-requires-2 : tie.Need-look-found-requires-2
 look-found-requires-2 c κs = c .before .before .before .before .before .before .before .before .before .pre .1
 
 cast-memory : tie.Need-cast-memory
-cast-memory c = omega (arith, c .before .before .before .before .before .before .before .before .before .before .pre .0, c .before .before .before .before .before .before .before .before .before .before .pre .1)
+cast-memory c =
+    omega (
+      arith,
+      c .before .before .before .before .before .before .before .before .before .before .pre .0,
+      c .before .before .before .before .before .before .before .before .before .before .pre .1,
+    )
 
 mul-memory : tie.Need-mul-memory
-mul-memory c = omega (arith, c .before .before .before .before .before .before .before .before .before .before .pre .0, c .before .before .before .before .before .before .before .before .before .before .pre .1)
+mul-memory c =
+    omega (
+      arith,
+      c .before .before .before .before .before .before .before .before .before .before .pre .0,
+      c .before .before .before .before .before .before .before .before .before .before .pre .1,
+    )
 
 add-memory : tie.Need-add-memory
 add-memory c =
     let s = c .before .before .before .before .before .before .before .before .before .before in
-    let b = look-le (c .look-found2 .result) (some (s .args .h .wide) (take (s .args .n) (drop (s .args .at) (now (s .args .t))))) (c .look-found2 .ensures) in
+    let b = look-le (c .look-found2 .result) (some (s .args .h .utf16) (take (s .args .n) (drop (s .args .at) (now (s .args .t))))) (c .look-found2 .ensures) in
     omega (arith, b, s .pre .0, s .pre .1)
 
 add-memory-2 : tie.Need-add-memory-2
@@ -78,7 +96,12 @@ slice-write-memory : tie.Need-slice-write-memory
 slice-write-memory c = omega (arith, c .before .before .before .part-of .ensures, c .before .before .before .before .before .before .before .before .before .before .pre .2 .room)
 
 cast-memory-2 : tie.Need-cast-memory-2
-cast-memory-2 c = omega (arith, c .before .before .before .before .before .before .before .before .before .before .pre .0, c .before .before .before .before .before .before .before .before .before .before .pre .1)
+cast-memory-2 c =
+    omega (
+      arith,
+      c .before .before .before .before .before .before .before .before .before .before .pre .0,
+      c .before .before .before .before .before .before .before .before .before .before .pre .1,
+    )
 
 add-memory-3 : tie.Need-add-memory-3
 add-memory-3 c = omega (arith, c .before .before .before .part-of .ensures)

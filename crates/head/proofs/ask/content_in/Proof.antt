@@ -14,7 +14,7 @@ content-of-requires c κs = search needs
 returns : tie.Need-returns
 returns c =
     let s = c .before .before .before .before .before in
-    c .content-of .ensures (s .args .h .wide) ∙ ap rawOf (c .before .find .ensures .same)
+    c .content-of .ensures (s .args .h .utf16) ∙ ap rawOf (c .before .find .ensures .same)
 
 pub content-in-spec : {M : Type 1} → statement M
 content-in-spec = tie.close (tie.spec find-requires content-of-requires returns)

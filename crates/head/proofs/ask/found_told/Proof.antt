@@ -14,7 +14,7 @@ returns : tie.Need-returns
 returns c =
     let q = c .before in
     let a = q .before .before .before .args in
-    told-whole (damageIn (partOf (a .wide) (now (a .t)) (now (a .area)) (a .f))) (q .state-of-found .ensures) (c .if1 .taken)
+    told-whole (damageIn (partOf (a .utf16) (now (a .t)) (now (a .area)) (a .f))) (q .state-of-found .ensures) (c .if1 .taken)
 
 replaced-of-found-requires : tie.Need-replaced-of-found-requires
 replaced-of-found-requires c κs = search needs
@@ -23,20 +23,20 @@ returns-2 : tie.Need-returns-2
 returns-2 c =
     let q = c .before .before .before in
     let a = q .before .before .before .args in
-    told-replaced (damageIn (partOf (a .wide) (now (a .t)) (now (a .area)) (a .f))) (q .state-of-found .ensures) (c .before .if2 .taken)
+    told-replaced (damageIn (partOf (a .utf16) (now (a .t)) (now (a .area)) (a .f))) (q .state-of-found .ensures) (c .before .if2 .taken)
     (c .replaced-of-found .ensures)
 
 returns-3 : tie.Need-returns-3
 returns-3 c =
     let q = c .before .before .before in
     let a = q .before .before .before .args in
-    told-unpaired (damageIn (partOf (a .wide) (now (a .t)) (now (a .area)) (a .f))) (q .state-of-found .ensures) (c .if3 .taken)
+    told-unpaired (damageIn (partOf (a .utf16) (now (a .t)) (now (a .area)) (a .f))) (q .state-of-found .ensures) (c .if3 .taken)
 
 returns-4 : tie.Need-returns-4
 returns-4 c =
     let q = c .before .before .before in
     let a = q .before .before .before .args in
-    told-cut (damageIn (partOf (a .wide) (now (a .t)) (now (a .area)) (a .f))) (q .state-of-found .ensures) (c .before .before .if1 .left)
+    told-cut (damageIn (partOf (a .utf16) (now (a .t)) (now (a .area)) (a .f))) (q .state-of-found .ensures) (c .before .before .if1 .left)
     (c .before .if2 .left) (c .if3 .left)
 
 pub found-told-spec : {M : Type 1} → statement M

@@ -30,7 +30,7 @@ returns c =
     let a = s .args in
     let p = sym (p5 .is-found .ensures) ∙ not-true _ (c .before .before .before .before .if1 .taken) in
     let text = textIn (contentOf (a .h) (now (a .t)) (lends (now (a .names)) (now (a .area))) (a .index .0)) in
-    gives-none (length (now (a .out))) (a .h .wide) (now (a .t)) (now (a .area)) (p6 .find .result) (p6 .find .ensures .same) p
+    gives-none (length (now (a .out))) (a .h .utf16) (now (a .t)) (now (a .area)) (p6 .find .result) (p6 .find .ensures .same) p
     (c .before .before .refuse .ensures text)
 
 write-found-requires : tie.Need-write-found-requires
@@ -46,7 +46,7 @@ returns-2 c =
     let p5 = c .before .before .before .before .before in
     let a = s .args in
     let p = sym (p5 .is-found .ensures) ∙ not-false _ (c .before .before .before .before .if1 .left) in
-    gives-found (length (now (a .out))) (a .h .wide) (now (a .t)) (now (a .area)) (p6 .find .result) (p6 .find .ensures .same) p
+    gives-found (length (now (a .out))) (a .h .utf16) (now (a .t)) (now (a .area)) (p6 .find .result) (p6 .find .ensures .same) p
     (c .before .before .write-found .ensures)
 
 pub text-in-spec : {M : Type 1} → statement M

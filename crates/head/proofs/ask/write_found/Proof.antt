@@ -22,8 +22,8 @@ returns c =
     let p4 = c .before .before .before .before in
     let p7 = p4 .before .before .before in
     let a = p7 .before .before .before .before .before .args in
-    gives-short (textIn (partOf (a .wide) (now (a .t)) (now (a .area)) (a .f))) (now (a .out)) _ _ (p7 .found-into .result) (p7 .found-into .ensures)
-    (stateTold (damageIn (partOf (a .wide) (now (a .t)) (now (a .area)) (a .f)))) (p4 .if1 .taken) (c .before .before .zero-from .ensures)
+    gives-short (textIn (partOf (a .utf16) (now (a .t)) (now (a .area)) (a .f))) (now (a .out)) _ _ (p7 .found-into .result) (p7 .found-into .ensures)
+    (stateTold (damageIn (partOf (a .utf16) (now (a .t)) (now (a .area)) (a .f)))) (p4 .if1 .taken) (c .before .before .zero-from .ensures)
 
 zero-from-requires-2 : tie.Need-zero-from-requires-2
 zero-from-requires-2 c κs = search needs
@@ -39,8 +39,8 @@ returns-2 c =
     let p4 = c .before .before .before .before .before in
     let p7 = p4 .before .before .before in
     let a = p7 .before .before .before .before .before .args in
-    gives-text (textIn (partOf (a .wide) (now (a .t)) (now (a .area)) (a .f))) (now (a .out)) _ _ (p7 .found-into .result) (p7 .found-into .ensures)
-    (stateTold (damageIn (partOf (a .wide) (now (a .t)) (now (a .area)) (a .f)))) (p4 .if1 .left) (c .before .before .before .zero-from2 .ensures) (c .found-told .ensures)
+    gives-text (textIn (partOf (a .utf16) (now (a .t)) (now (a .area)) (a .f))) (now (a .out)) _ _ (p7 .found-into .result) (p7 .found-into .ensures)
+    (stateTold (damageIn (partOf (a .utf16) (now (a .t)) (now (a .area)) (a .f)))) (p4 .if1 .left) (c .before .before .before .zero-from2 .ensures) (c .found-told .ensures)
 
 pub write-found-spec : {M : Type 1} → statement M
 write-found-spec =

@@ -36,7 +36,8 @@ returns : tie.Need-returns Inv-loop μ-loop
 returns c =
     let a = c .before .before .before .before .before .before .before .before .args in
     let l = c .before .before .before .before .loop in
-    end-here (now (a .area)) (now (a .items)) (a .first) (l .k) (l .inv .1) (c .before .before .before .loop-test .taken) (c .before .before .item-at2 .ensures) (c .before .before .before .before .before .item-at .ensures)
+    end-here (now (a .area)) (now (a .items)) (a .first) (l .k) (l .inv .1) (c .before .before .before .loop-test .taken)
+    (c .before .before .item-at2 .ensures) (c .before .before .before .before .before .item-at .ensures)
     (c .before .same-attribute .ensures) (c .if1 .taken) (l .inv .2)
 
 add-k-2 : tie.Need-add-k-2 Inv-loop μ-loop
@@ -51,7 +52,8 @@ loop-again c =
     let l = c .before .before .before .before .loop in (
       omega arith,
       omega (arith, l .inv .1),
-      same-next (now (a .area)) (now (a .items)) (a .first) (l .k) (c .before .before .item-at2 .ensures) (c .before .before .before .before .before .item-at .ensures) (c .before .same-attribute .ensures)
+      same-next (now (a .area)) (now (a .items)) (a .first) (l .k) (c .before .before .item-at2 .ensures)
+          (c .before .before .before .before .before .item-at .ensures) (c .before .same-attribute .ensures)
           (c .if1 .left) (l .inv .2),
     )
 

@@ -22,7 +22,13 @@ mul-from : tie.Need-mul-from Inv-loop μ-loop
 mul-from c = omega (arith, c .place-of .ensures, place-lt (now (c .before .before .before .before .before .args .name)))
 
 shared-slice-read-from : tie.Need-shared-slice-read-from Inv-loop μ-loop
-shared-slice-read-from c = omega (arith, c .before .place-of .ensures, place-lt (now (c .before .before .before .before .before .before .args .name)), c .before .before .before .before .before .before .pre .long)
+shared-slice-read-from c =
+    omega (
+      arith,
+      c .before .place-of .ensures,
+      place-lt (now (c .before .before .before .before .before .before .args .name)),
+      c .before .before .before .before .before .before .pre .long,
+    )
 
 returns : tie.Need-returns Inv-loop μ-loop
 returns c =

@@ -46,7 +46,8 @@ loop-again c =
     let w = now (a .items) in (
       search needs,
       going-step (now (a .area)) (a .flags) (itemsFrom w (a .first) (a .end - a .first)) (a .p) (now (a .out)) (itemAt w (l .k))
-          (itemsFrom w (l .k + 1) (a .end - (l .k + 1))) (run-step w (l .k) (a .end) (c .before .before .before .before .before .loop-test .taken)) (c .before .before .before .before .item-at .ensures) (l .inv .1)
+          (itemsFrom w (l .k + 1) (a .end - (l .k + 1))) (run-step w (l .k) (a .end) (c .before .before .before .before .before .loop-test .taken))
+          (c .before .before .before .before .item-at .ensures) (l .inv .1)
           (c .before .before .put-turn .ensures),
     )
 

@@ -52,7 +52,15 @@ heading-of-requires : tie.Need-heading-of-requires
 heading-of-requires c κs = search needs
 
 returns : tie.Need-returns
-returns c = head-read _ _ _ _ _ _ _ _ _ _ _ _ _ (c .before .before .before .before .before .before .before .before .before .before .before .gone .ensures) (c .before .before .before .before .before .before .before .before .before .before .number-due .ensures) (c .before .before .before .before .before .before .before .before .number-due2 .ensures) (c .before .before .before .before .before .before .before .before .before .value-kind .ensures) (c .before .before .before .before .before .before .before .number-due3 .ensures) (c .before .before .before .before .before .before .count-kind .ensures) (c .before .before .before .before .before .number-due4 .ensures) (c .before .before .before .before .number-due5 .ensures) (c .before .before .before .number-due6 .ensures) (c .before .before .note-kind .ensures) (c .before .number-due7 .ensures) (c .heading-of .ensures)
+returns c =
+    head-read _ _ _ _ _ _ _ _ _ _ _ _ _ (c .before .before .before .before .before .before .before .before .before .before .before .gone .ensures)
+    (c .before .before .before .before .before .before .before .before .before .before .number-due .ensures)
+    (c .before .before .before .before .before .before .before .before .number-due2 .ensures)
+    (c .before .before .before .before .before .before .before .before .before .value-kind .ensures)
+    (c .before .before .before .before .before .before .before .number-due3 .ensures)
+    (c .before .before .before .before .before .before .count-kind .ensures) (c .before .before .before .before .before .number-due4 .ensures)
+    (c .before .before .before .before .number-due5 .ensures) (c .before .before .before .number-due6 .ensures)
+    (c .before .before .note-kind .ensures) (c .before .number-due7 .ensures) (c .heading-of .ensures)
 
 pub read-head-spec : {M : Type 1} → statement M
 read-head-spec =

@@ -31,7 +31,14 @@ add-record-due : tie.Need-add-record-due Inv-loop μ-loop
 add-record-due c = search needs
 
 record-due-requires : tie.Need-record-due-requires Inv-loop μ-loop
-record-due-requires c κs = let s = c .before .before .before .before .loop .inv .same in let z = c .before .before .before .before .loop .inv .room (c .before .if1 .left) in (c .before .if1 .left, c .before .before .before .before .loop .inv .inside, c .before .before .before .before .before .before .before .pre .1, omega arith)
+record-due-requires c κs =
+    let s = c .before .before .before .before .loop .inv .same in
+    let z = c .before .before .before .before .loop .inv .room (c .before .if1 .left) in (
+      c .before .if1 .left,
+      c .before .before .before .before .loop .inv .inside,
+      c .before .before .before .before .before .before .before .pre .1,
+      omega arith,
+    )
 
 add-i : tie.Need-add-i Inv-loop μ-loop
 add-i c = let s = c .before .before .before .before .before .before .before .loop .inv .room (c .before .before .before .before .if1 .left) in omega arith
@@ -43,7 +50,10 @@ loop-less : tie.Need-loop-less Inv-loop μ-loop
 loop-less c = search needs
 
 loop-again : tie.Need-loop-again Inv-loop μ-loop
-loop-again c = records-more _ _ _ _ _ _ _ _ _ _ _ _ _ _ (c .before .before .before .before .before .before .before .loop .inv) (omega arith) (c .before .before .before .before .if1 .left) (c .before .before .before .before .before .before .before .before .before .before .pre .2) (c .before .before .before .before .before .before .before .before .before .before .pre .6) (c .before .before .record-due .ensures)
+loop-again c =
+    records-more _ _ _ _ _ _ _ _ _ _ _ _ _ _ (c .before .before .before .before .before .before .before .loop .inv) (omega arith)
+    (c .before .before .before .before .if1 .left) (c .before .before .before .before .before .before .before .before .before .before .pre .2)
+    (c .before .before .before .before .before .before .before .before .before .before .pre .6) (c .before .before .record-due .ensures)
 
 same-length-2 : tie.Need-same-length-2 Inv-loop μ-loop
 same-length-2 c = c .before .loop .inv .same

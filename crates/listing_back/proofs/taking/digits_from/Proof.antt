@@ -28,7 +28,9 @@ figure-of-requires : tie.Need-figure-of-requires Inv-loop μ-loop
 figure-of-requires c κs = search needs
 
 returns : tie.Need-returns Inv-loop μ-loop
-returns c = digits-stop (c .before .before .before .before .before .before .before .args .text .now) (c .before .before .before .before .before .loop .inv) _ (c .figure-of .ensures) (omega arith) (sym (c .before .before .is-digit .ensures) ∙ not-true _ (c .before .if1 .taken))
+returns c =
+    digits-stop (c .before .before .before .before .before .before .before .args .text .now) (c .before .before .before .before .before .loop .inv) _
+    (c .figure-of .ensures) (omega arith) (sym (c .before .before .is-digit .ensures) ∙ not-true _ (c .before .if1 .taken))
 
 shared-slice-read-more : tie.Need-shared-slice-read-more Inv-loop μ-loop
 shared-slice-read-more c = search needs
@@ -43,7 +45,10 @@ loop-less : tie.Need-loop-less Inv-loop μ-loop
 loop-less c = search needs
 
 loop-again : tie.Need-loop-again Inv-loop μ-loop
-loop-again c = digits-more (c .before .before .before .before .before .before .before .before .args .text .now) (c .before .before .before .before .before .before .loop .inv) (omega arith) (sym (c .before .before .before .is-digit .ensures) ∙ not-false _ (c .before .before .if1 .left)) (c .more .ensures)
+loop-again c =
+    digits-more (c .before .before .before .before .before .before .before .before .args .text .now)
+    (c .before .before .before .before .before .before .loop .inv) (omega arith)
+    (sym (c .before .before .before .is-digit .ensures) ∙ not-false _ (c .before .before .if1 .left)) (c .more .ensures)
 
 figure-of-requires-2 : tie.Need-figure-of-requires-2 Inv-loop μ-loop
 figure-of-requires-2 c κs = search needs

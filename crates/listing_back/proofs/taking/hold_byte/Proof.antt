@@ -25,7 +25,14 @@ returns-3 : tie.Need-returns-3
 returns-3 c = moves-other _ _ _ _ _ _ (c .before .before .before .if2 .left) (c .before .if3 .taken) (c .nowhere2 .ensures)
 
 number-next-requires : tie.Need-number-next-requires
-number-next-requires c κs = (not-false _ (c .before .before .before .before .before .if1 .left), c .before .before .before .before .if2 .left, c .before .before .if3 .left ∙ c .before .if4 .taken, c .before .before .before .before .before .before .before .before .before .pre .0, c .before .before .before .before .before .before .before .before .before .pre .1)
+number-next-requires c κs = (
+  not-false _ (c .before .before .before .before .before .if1 .left),
+  c .before .before .before .before .if2 .left,
+  c .before .before .if3 .left ∙
+      c .before .if4 .taken,
+  c .before .before .before .before .before .before .before .before .before .pre .0,
+  c .before .before .before .before .before .before .before .before .before .pre .1,
+)
 
 same-length : tie.Need-same-length
 same-length c = search needs
@@ -37,7 +44,9 @@ passed-requires : tie.Need-passed-requires
 passed-requires c κs = search needs
 
 returns-5 : tie.Need-returns-5
-returns-5 c = moves-passed _ _ _ _ _ _ (not-false _ (c .before .before .before .before .before .if1 .left)) (c .before .before .before .before .if2 .left) (c .before .before .if3 .left) (c .before .if4 .left) (c .passed .ensures)
+returns-5 c =
+    moves-passed _ _ _ _ _ _ (not-false _ (c .before .before .before .before .before .if1 .left)) (c .before .before .before .before .if2 .left)
+    (c .before .before .if3 .left) (c .before .if4 .left) (c .passed .ensures)
 
 pub hold-byte-spec : {M : Type 1} → statement M
 hold-byte-spec =

@@ -28,13 +28,19 @@ no-figure-requires-2 : tie.Need-no-figure-requires-2
 no-figure-requires-2 c κs = search needs
 
 returns-3 : tie.Need-returns-3
-returns-3 c = rw (number-none-at (c .before .before .before .before .before .before .before .args .text .now) (c .before .before .before .before .before .before .before .args .p) (c .before .before .before .if2 .left) (sym (c .before .before .is-digit .ensures) ∙ not-true _ (c .before .if3 .taken))) (c .no-figure2 .ensures)
+returns-3 c =
+    rw (number-none-at (c .before .before .before .before .before .before .before .args .text .now)
+    (c .before .before .before .before .before .before .before .args .p) (c .before .before .before .if2 .left)
+    (sym (c .before .before .is-digit .ensures) ∙ not-true _ (c .before .if3 .taken))) (c .no-figure2 .ensures)
 
 digits-from-requires : tie.Need-digits-from-requires
 digits-from-requires c κs = search needs
 
 returns-4 : tie.Need-returns-4
-returns-4 c = rw (number-digits-at (c .before .before .before .before .before .before .before .args .text .now) (c .before .before .before .before .before .before .before .args .p) (c .before .before .before .if2 .left) (sym (c .before .before .is-digit .ensures) ∙ not-false _ (c .before .if3 .left))) (c .digits-from .ensures)
+returns-4 c =
+    rw (number-digits-at (c .before .before .before .before .before .before .before .args .text .now)
+    (c .before .before .before .before .before .before .before .args .p) (c .before .before .before .if2 .left)
+    (sym (c .before .before .is-digit .ensures) ∙ not-false _ (c .before .if3 .left))) (c .digits-from .ensures)
 
 pub number-at-spec : {M : Type 1} → statement M
 number-at-spec =

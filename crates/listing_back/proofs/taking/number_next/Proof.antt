@@ -15,13 +15,20 @@ nowhere-requires : tie.Need-nowhere-requires
 nowhere-requires c κs = search needs
 
 returns : tie.Need-returns
-returns c = moves-none _ _ _ _ _ _ (c .before .before .before .before .before .before .before .pre .0) (c .before .before .before .before .before .before .before .pre .1) (c .before .before .before .before .before .before .before .pre .2) (c .before .before .before .number-at .ensures) (not-true _ (c .before .if1 .taken)) (c .nowhere .ensures)
+returns c =
+    moves-none _ _ _ _ _ _ (c .before .before .before .before .before .before .before .pre .0)
+    (c .before .before .before .before .before .before .before .pre .1) (c .before .before .before .before .before .before .before .pre .2)
+    (c .before .before .before .number-at .ensures) (not-true _ (c .before .if1 .taken)) (c .nowhere .ensures)
 
 first-taken-requires : tie.Need-first-taken-requires
 first-taken-requires c κs = search needs
 
 returns-2 : tie.Need-returns-2
-returns-2 c = moves-first _ _ _ _ _ _ (c .before .before .before .before .before .before .before .before .pre .0) (c .before .before .before .before .before .before .before .before .pre .1) (c .before .before .before .before .before .before .before .before .pre .2) (c .before .before .before .before .number-at .ensures) (not-false _ (c .before .before .if1 .left)) (c .before .if2 .taken) (c .first-taken .ensures)
+returns-2 c =
+    moves-first _ _ _ _ _ _ (c .before .before .before .before .before .before .before .before .pre .0)
+    (c .before .before .before .before .before .before .before .before .pre .1)
+    (c .before .before .before .before .before .before .before .before .pre .2) (c .before .before .before .before .number-at .ensures)
+    (not-false _ (c .before .before .if1 .left)) (c .before .if2 .taken) (c .first-taken .ensures)
 
 sub-store : tie.Need-sub-store
 sub-store c = search needs
@@ -39,7 +46,13 @@ same-length : tie.Need-same-length
 same-length c = search needs
 
 returns-3 : tie.Need-returns-3
-returns-3 c = moves-more _ _ _ _ _ _ (c .before .before .before .before .before .before .before .before .before .before .before .before .pre .0) (c .before .before .before .before .before .before .before .before .before .before .before .before .pre .1) (c .before .before .before .before .before .before .before .before .before .before .before .before .pre .2) (c .before .before .before .before .before .before .before .before .number-at .ensures) _ (c .before .before .before .store .ensures .0) (c .before .before .before .store .ensures .1) (not-false _ (c .before .before .before .before .before .before .if1 .left)) (c .before .before .before .before .before .if2 .left) (c .more-taken .ensures)
+returns-3 c =
+    moves-more _ _ _ _ _ _ (c .before .before .before .before .before .before .before .before .before .before .before .before .pre .0)
+    (c .before .before .before .before .before .before .before .before .before .before .before .before .pre .1)
+    (c .before .before .before .before .before .before .before .before .before .before .before .before .pre .2)
+    (c .before .before .before .before .before .before .before .before .number-at .ensures) _ (c .before .before .before .store .ensures .0)
+    (c .before .before .before .store .ensures .1) (not-false _ (c .before .before .before .before .before .before .if1 .left))
+    (c .before .before .before .before .before .if2 .left) (c .more-taken .ensures)
 
 pub number-next-spec : {M : Type 1} → statement M
 number-next-spec =

@@ -56,7 +56,12 @@ same-length-4 c = search needs
 
 returns-4 : tie.Need-returns-4
 unfolding formAt formsOf formText
-returns-4 c = rw (is-six (c .before .before .before .before .before .before .before .before .before .before .args .n) (c .before .before .before .before .before .before .before .before .before .before .pre .2) (c .before .before .before .before .before .before .before .before .before .before .pre .3) (c .before .before .before .before .before .before .before .if1 .left) (c .before .before .before .before .before .before .if2 .left) (c .before .before .before .before .before .if3 .left)) (c .before .before .take-line4 .ensures)
+returns-4 c =
+    rw (is-six (c .before .before .before .before .before .before .before .before .before .before .args .n)
+    (c .before .before .before .before .before .before .before .before .before .before .pre .2)
+    (c .before .before .before .before .before .before .before .before .before .before .pre .3)
+    (c .before .before .before .before .before .before .before .if1 .left) (c .before .before .before .before .before .before .if2 .left)
+    (c .before .before .before .before .before .if3 .left)) (c .before .before .take-line4 .ensures)
 
 pub take-count-spec : {M : Type 1} → statement M
 take-count-spec =

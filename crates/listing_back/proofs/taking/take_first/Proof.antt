@@ -43,7 +43,11 @@ same-length-3 c = search needs
 
 returns-3 : tie.Need-returns-3
 unfolding formAt formsOf formText
-returns-3 c = rw (is-two (c .before .before .before .before .before .before .before .before .before .args .n) (c .before .before .before .before .before .before .before .before .before .pre .2) (c .before .before .before .before .before .before .if1 .left) (c .before .before .before .before .before .if2 .left)) (c .before .before .take-line3 .ensures)
+returns-3 c =
+    rw (is-two (c .before .before .before .before .before .before .before .before .before .args .n)
+    (c .before .before .before .before .before .before .before .before .before .pre .2)
+    (c .before .before .before .before .before .before .if1 .left) (c .before .before .before .before .before .if2 .left))
+    (c .before .before .take-line3 .ensures)
 
 pub take-first-spec : {M : Type 1} → statement M
 take-first-spec =

@@ -32,7 +32,9 @@ loop-less : tie.Need-loop-less Inv-loop μ-loop
 loop-less c = search needs
 
 loop-again : tie.Need-loop-again Inv-loop μ-loop
-loop-again c = take-more _ _ _ _ _ _ _ _ _ (c .before .before .before .before .before .before .loop .j) (omega arith) (c .before .before .before .before .before .before .loop .inv) (c .before .before .hold-byte .ensures)
+loop-again c =
+    take-more _ _ _ _ _ _ _ _ _ (c .before .before .before .before .before .before .loop .j) (omega arith)
+    (c .before .before .before .before .before .before .loop .inv) (c .before .before .hold-byte .ensures)
 
 same-length : tie.Need-same-length Inv-loop μ-loop
 same-length c = c .before .loop .inv .same

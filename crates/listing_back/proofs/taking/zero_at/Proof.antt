@@ -20,7 +20,10 @@ no-figure-requires : tie.Need-no-figure-requires
 no-figure-requires c κs = search needs
 
 returns : tie.Need-returns
-returns c = zero-padded (c .before .before .before .before .before .args .text .now) (c .before .before .before .before .before .args .p) _ (c .no-figure .ensures) (sym (c .before .before .is-digit .ensures ∙ ap (λ (x : ℕ). isDigit x) (c .before .before .before .byte-at .ensures)) ∙ c .before .if1 .taken)
+returns c =
+    zero-padded (c .before .before .before .before .before .args .text .now) (c .before .before .before .before .before .args .p) _
+    (c .no-figure .ensures) (sym (c .before .before .is-digit .ensures ∙ ap (λ (x : ℕ). isDigit x) (c .before .before .before .byte-at .ensures))
+    ∙ c .before .if1 .taken)
 
 add-figure-of : tie.Need-add-figure-of
 add-figure-of c = search needs
@@ -29,7 +32,10 @@ figure-of-requires : tie.Need-figure-of-requires
 figure-of-requires c κs = search needs
 
 returns-2 : tie.Need-returns-2
-returns-2 c = zero-alone (c .before .before .before .before .before .args .text .now) (c .before .before .before .before .before .args .p) _ (c .figure-of .ensures) (c .before .before .before .before .before .pre) (sym (c .before .before .is-digit .ensures ∙ ap (λ (x : ℕ). isDigit x) (c .before .before .before .byte-at .ensures)) ∙ c .before .if1 .left)
+returns-2 c =
+    zero-alone (c .before .before .before .before .before .args .text .now) (c .before .before .before .before .before .args .p) _
+    (c .figure-of .ensures) (c .before .before .before .before .before .pre)
+    (sym (c .before .before .is-digit .ensures ∙ ap (λ (x : ℕ). isDigit x) (c .before .before .before .byte-at .ensures)) ∙ c .before .if1 .left)
 
 pub zero-at-spec : {M : Type 1} → statement M
 zero-at-spec =

@@ -61,7 +61,7 @@ named-is-requires c κs =
     let s = c .before .before .before .before .before .before .before .before .before .before .before .before .before .before in
     let p = s .pre in
     let a = s .args in
-    let name = textIn (partOf (a .h .wide) (now (a .t)) (now (a .area)) (c .before .before .before .before .before .find .result)) in
+    let name = textIn (partOf (a .h .utf16) (now (a .t)) (now (a .area)) (c .before .before .before .before .before .find .result)) in
     (p .0, record { some = p .2; fits = p .3 }, c .before .run-of .ensures name (c .before .before .find-item .ensures) .fits)
 
 returns-3 : tie.Need-returns-3
@@ -75,7 +75,7 @@ returns-3 c =
     let at-find-item = c .before .before .before .before .find-item in
     let at-run-of = c .before .before .before .run-of in
     let f = at-find .result in
-    let name = textIn (partOf (a .h .wide) (now (a .t)) (now (a .area)) f) in
+    let name = textIn (partOf (a .h .utf16) (now (a .t)) (now (a .area)) f) in
     value-named (a .h) (now (a .t)) (lends (now (a .names)) (now (a .area))) (now (a .items)) (now (a .item-area)) (a .a) (now (a .expected)) f
     (if1 .left) (at-find .ensures .same) (sym (at-is-found .ensures) ∙ not-false _ (if2 .left))
     (at-named-is .ensures name (at-run-of .ensures name (at-find-item .ensures)))

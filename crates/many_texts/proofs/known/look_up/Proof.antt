@@ -12,7 +12,11 @@ cast-place : tie.Need-cast-place
 cast-place c = search needs
 
 look-requires : tie.Need-look-requires
-look-requires c κs = ((c .before .before .before .before .before .before .before .before .before .before) .pre .0, (c .before .before .before .before .before .before .before .before .before .before) .pre .1, (c .before .before .before .before .before .before .before .before .before .before) .pre .2)
+look-requires c κs = (
+  (c .before .before .before .before .before .before .before .before .before .before) .pre .0,
+  (c .before .before .before .before .before .before .before .before .before .before) .pre .1,
+  (c .before .before .before .before .before .before .before .before .before .before) .pre .2,
+)
 
 returns : tie.Need-returns
 returns c = (c .look .ensures, (c .before .before .before .before .before .before .before .before .before .before .before) .pre .3)
@@ -33,16 +37,30 @@ mul-t21 : tie.Need-mul-t21
 mul-t21 c = omega (arith, c .before .before .before .if1 .left)
 
 slice-read-t23 : tie.Need-slice-read-t23
-slice-read-t23 c = omega (arith, c .before .before .before .before .if1 .left, (c .before .before .before .before .before .before .before .before .before .before .before .before .before .before) .pre .3 .last)
+slice-read-t23 c =
+    omega (
+      arith,
+      c .before .before .before .before .if1 .left,
+      (c .before .before .before .before .before .before .before .before .before .before .before .before .before .before) .pre .3 .last,
+    )
 
 sub-t24 : tie.Need-sub-t24
 sub-t24 c = omega (arith, c .before .before .if2 .taken)
 
 returns-2 : tie.Need-returns-2
-returns-2 c = ((c .before .before .before .before .before .before .before .before .before .before .before .before .before .before) .pre .3 .right ((c .before .before .before .before .before .before .before .before .before .before .before .before .before .before) .args .index .0) (c .before .before .if2 .taken), (c .before .before .before .before .before .before .before .before .before .before .before .before .before .before) .pre .3)
+returns-2 c = (
+  (c .before .before .before .before .before .before .before .before .before .before .before .before .before .before) .pre .3 .right
+      ((c .before .before .before .before .before .before .before .before .before .before .before .before .before .before) .args .index .0)
+      (c .before .before .if2 .taken),
+  (c .before .before .before .before .before .before .before .before .before .before .before .before .before .before) .pre .3,
+)
 
 look-requires-2 : tie.Need-look-requires-2
-look-requires-2 c κs = ((c .before .before .before .before .before .before .before .before .before .before .before .before) .pre .0, (c .before .before .before .before .before .before .before .before .before .before .before .before) .pre .1, (c .before .before .before .before .before .before .before .before .before .before .before .before) .pre .2)
+look-requires-2 c κs = (
+  (c .before .before .before .before .before .before .before .before .before .before .before .before) .pre .0,
+  (c .before .before .before .before .before .before .before .before .before .before .before .before) .pre .1,
+  (c .before .before .before .before .before .before .before .before .before .before .before .before) .pre .2,
+)
 
 enum-told : tie.Need-enum-told
 enum-told c = search needs
@@ -54,7 +72,13 @@ mul-starts : tie.Need-mul-starts
 mul-starts c = omega (arith, c .before .before .before .before .before .before .if1 .left)
 
 slice-write-starts : tie.Need-slice-write-starts
-slice-write-starts c = omega (arith, c .before .before .before .before .before .before .if1 .left, (c .before .before .before .before .before .before .before .before .before .before .before .before .before .before .before .before) .pre .3 .first)
+slice-write-starts c =
+    omega (
+      arith,
+      c .before .before .before .before .before .before .if1 .left,
+      (c .before .before .before .before .before .before .before .before .before .before .before .before .before .before .before .before) .pre
+          .3 .first,
+    )
 
 add-ends : tie.Need-add-ends
 add-ends c =
@@ -67,13 +91,22 @@ mul-ends : tie.Need-mul-ends
 mul-ends c = omega (arith, c .before .before .before .before .before .before .before .if1 .left)
 
 slice-write-ends : tie.Need-slice-write-ends
-slice-write-ends c = omega (arith, c .before .before .before .before .before .before .before .if1 .left, (c .before .before .before .before .before .before .before .before .before .before .before .before .before .before .before .before .before) .pre .3 .last)
+slice-write-ends c =
+    omega (
+      arith,
+      c .before .before .before .before .before .before .before .if1 .left,
+      (c .before .before .before .before .before .before .before .before .before .before .before .before .before .before .before .before .before)
+          .pre .3 .last,
+    )
 
 returns-3 : tie.Need-returns-3
 returns-3 c =
     let a = (c .before .before .before .before .before .before .before .before .before .before .before .before .before .before .before) .args in
-    let lent = lends (now (a .names)) (now (a .area)) in
-    (looks-same (a .h) (now (a .t)) lent (now (a .items)) (now (a .item-area)) (a .index .0) (c .enum-told .given .1) (c .before .before .look2 .ensures), (c .before .before .before .before .before .before .before .before .before .before .before .before .before .before .before) .pre .3)
+    let lent = lends (now (a .names)) (now (a .area)) in (
+      looks-same (a .h) (now (a .t)) lent (now (a .items)) (now (a .item-area)) (a .index .0) (c .enum-told .given .1)
+          (c .before .before .look2 .ensures),
+      (c .before .before .before .before .before .before .before .before .before .before .before .before .before .before .before) .pre .3,
+    )
 
 same-length : tie.Need-same-length
 same-length c = search needs
@@ -87,7 +120,8 @@ returns-4 c =
     let lent = lends (now (a .names)) (now (a .area)) in
     let g = looks-same (a .h) (now (a .t)) lent (now (a .items)) (now (a .item-area)) (a .index .0) (c .before .before .looked .given .1) (c .before .before .before .before .look2 .ensures) in (
       g,
-      knows-more (a .h) (now (a .t)) lent (now (a .items)) (now (a .item-area)) (a .starts .now) (a .ends .now) (a .index .0) _ (omega (arith, c .before .before .before .before .before .before .before .if1 .left)) g
+      knows-more (a .h) (now (a .t)) lent (now (a .items)) (now (a .item-area)) (a .starts .now) (a .ends .now) (a .index .0) _
+          (omega (arith, c .before .before .before .before .before .before .before .if1 .left)) g
           ((c .before .before .before .before .before .before .before .before .before .before .before .before .before .before .before .before .before) .pre .3),
     )
 

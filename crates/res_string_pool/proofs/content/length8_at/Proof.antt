@@ -15,22 +15,22 @@ add-byte-at c = search needs
 byte-at-requires-2 : tie.Need-byte-at-requires-2
 byte-at-requires-2 c κs = search needs
 
-mul-wide : tie.Need-mul-wide
-mul-wide c = search needs
+mul-to-usize : tie.Need-mul-to-usize
+mul-to-usize c = search needs
 
-add-wide : tie.Need-add-wide
-add-wide c = search needs
+add-to-usize : tie.Need-add-to-usize
+add-to-usize c = search needs
 
-wide-requires : tie.Need-wide-requires
-wide-requires c κs = search needs
+to-usize-requires : tie.Need-to-usize-requires
+to-usize-requires c κs = search needs
 
 returns : tie.Need-returns
 returns c =
     let a = c .before .before .before .before .before .args in
     omega (arith, length8-two (now (a .s)) (a .at) (omega arith))
 
-wide-requires-2 : tie.Need-wide-requires-2
-wide-requires-2 c κs = search needs
+to-usize-requires-2 : tie.Need-to-usize-requires-2
+to-usize-requires-2 c κs = search needs
 
 returns-2 : tie.Need-returns-2
 returns-2 c =
@@ -44,9 +44,9 @@ length8-at-spec =
     byte-at-requires
     add-byte-at
     byte-at-requires-2
-    mul-wide
-    add-wide
-    wide-requires
+    mul-to-usize
+    add-to-usize
+    to-usize-requires
     returns
-    wide-requires-2
+    to-usize-requires-2
     returns-2)

@@ -11,14 +11,14 @@ use Rattle.res_string_pool.proofs.content.split_utf16.Tie as tie
 unit-at-requires : tie.Need-unit-at-requires
 unit-at-requires c κs = search needs
 
-wide-requires : tie.Need-wide-requires
-wide-requires c κs = search needs
+to-usize-requires : tie.Need-to-usize-requires
+to-usize-requires c κs = search needs
 
 unit-at-requires-2 : tie.Need-unit-at-requires-2
 unit-at-requires-2 c κs = search needs
 
-wide-requires-2 : tie.Need-wide-requires-2
-wide-requires-2 c κs = search needs
+to-usize-requires-2 : tie.Need-to-usize-requires-2
+to-usize-requires-2 c κs = search needs
 
 mul-content-in : tie.Need-mul-content-in
 mul-content-in c = search needs
@@ -34,11 +34,11 @@ content-in-requires c κs = search needs
 
 returns : tie.Need-returns
 returns c =
-    let n = 2 * (c .before .before .before .wide .result * 65536 + c .before .wide2 .result) in
+    let n = 2 * (c .before .before .before .to-usize .result * 65536 + c .before .to-usize2 .result) in
     c .content-in .ensures ∙ split16-by-two (now (c .before .before .before .before .before .before .before .args .s)) n (omega arith) (omega arith)
 
-wide-requires-3 : tie.Need-wide-requires-3
-wide-requires-3 c κs = search needs
+to-usize-requires-3 : tie.Need-to-usize-requires-3
+to-usize-requires-3 c κs = search needs
 
 mul-content-in-3 : tie.Need-mul-content-in-3
 mul-content-in-3 c = search needs
@@ -48,7 +48,7 @@ content-in-requires-2 c κs = search needs
 
 returns-2 : tie.Need-returns-2
 returns-2 c =
-    let n = 2 * c .before .wide3 .result in
+    let n = 2 * c .before .to-usize3 .result in
     c .content-in2 .ensures ∙ split16-by-one (now (c .before .before .before .before .before .args .s)) n (omega arith) (omega arith)
 
 pub split-utf16-spec : {M : Type 1} → statement M
@@ -56,15 +56,15 @@ split-utf16-spec =
     tie.close
     (tie.spec
     unit-at-requires
-    wide-requires
+    to-usize-requires
     unit-at-requires-2
-    wide-requires-2
+    to-usize-requires-2
     mul-content-in
     add-content-in
     mul-content-in-2
     content-in-requires
     returns
-    wide-requires-3
+    to-usize-requires-3
     mul-content-in-3
     content-in-requires-2
     returns-2)

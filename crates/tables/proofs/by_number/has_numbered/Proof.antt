@@ -18,7 +18,7 @@ use Rattle.tables.proofs.by_number.has_numbered.Tie as tie
 
 abbrev Inv-loop : tie.InvT-loop
 Inv-loop t names area h words prefix name ns wanted numbers₀ long plain i₀ numbers i =
-    (i ≤ length words) × Known plain (plainIn (partOf (h .wide) t area wanted)) × Numbered h t (lends names area) numbers × ((owner kind value : ℕ)
+    (i ≤ length words) × Known plain (plainIn (partOf (h .utf16) t area wanted)) × Numbered h t (lends names area) numbers × ((owner kind value : ℕ)
     → isRepeat (byPrefix (sameName h t (lends names area))) (attributeWords owner prefix (name .0) kind value (ns .0)) words
     ≡ isRepeat (byPrefix (sameName h t (lends names area))) (attributeWords owner prefix (name .0) kind value (ns .0)) (drop i words))
 
@@ -40,7 +40,15 @@ sub-loop : tie.Need-sub-loop Inv-loop μ-loop
 sub-loop c = search needs
 
 is-same-requires : tie.Need-is-same-requires Inv-loop μ-loop
-is-same-requires c κs = let v = c .before .before .loop .inv in (c .before .before .before .before .before .before .before .before .before .before .pre .0, c .before .before .before .before .before .before .before .before .before .before .pre .1, v .1, v .2, omega (arith, v .0, c .before .loop-test .taken))
+is-same-requires c κs =
+    let v = c .before .before .loop .inv in (
+      c .before .before .before .before .before .before .before .before .before .before .pre .0,
+      c .before .before .before .before .before .before .before .before .before .before .pre .1,
+      v .1,
+      v .2,
+      omega
+          (arith, v .0, c .before .loop-test .taken),
+    )
 
 same-length : tie.Need-same-length Inv-loop μ-loop
 same-length c =
@@ -62,7 +70,12 @@ returns c =
     )
 
 add-i : tie.Need-add-i Inv-loop μ-loop
-add-i c = omega (arith, c .before .before .before .before .before .before .loop .inv .0, c .before .before .before .before .before .before .before .before .before .before .before .before .before .before .good .1 .1 .1 .1 .0)
+add-i c =
+    omega (
+      arith,
+      c .before .before .before .before .before .before .loop .inv .0,
+      c .before .before .before .before .before .before .before .before .before .before .before .before .before .before .good .1 .1 .1 .1 .0,
+    )
 
 loop-less : tie.Need-loop-less Inv-loop μ-loop
 loop-less c = search needs
@@ -74,7 +87,9 @@ loop-again c =
       omega (arith, c .before .before .before .before .before .before .loop .inv .0, c .before .before .before .before .before .loop-test .taken),
       c .before .before .before .before .before .before .loop .inv .1,
       c .before .before .before .is-same .ensures .1,
-      (λ owner kind value. c .before .before .before .before .before .before .loop .inv .3 owner kind value ∙ repeat-other same (a .prefix) (a .name .0) (a .ns .0) (a .words .now) (c .before .before .before .before .before .before .loop .i) (c .before .before .before .before .before .loop-test .taken)
+      (λ owner kind value. c .before .before .before .before .before .before .loop .inv .3 owner kind value ∙ repeat-other same (a .prefix)
+          (a .name .0) (a .ns .0) (a .words .now) (c .before .before .before .before .before .before .loop .i)
+          (c .before .before .before .before .before .loop-test .taken)
           (c .before .before .before .is-same .ensures .0) (c .if1 .left) owner kind value),
     )
 

@@ -47,8 +47,11 @@ returns-3 : tie.Need-returns-3
 returns-3 c =
     let at-told-if = c .before .before in
     let at-start = c .before .before .before .before .before .before .before .before .before .before .before in
-    let a = at-start .args in let lent = lends (a .names .now) (a .area .now) in
-    (told-yes (sameName (a .h) (a .t .now) lent (a .index .0) (a .name .0)) (at-told-if .told-if .result) (at-told-if .told-if .ensures (a .h) (a .t .now) lent (at-start .pre .3)) (c .enum-told2 .given .1), at-start .pre .3)
+    let a = at-start .args in let lent = lends (a .names .now) (a .area .now) in (
+      told-yes (sameName (a .h) (a .t .now) lent (a .index .0) (a .name .0)) (at-told-if .told-if .result)
+          (at-told-if .told-if .ensures (a .h) (a .t .now) lent (at-start .pre .3)) (c .enum-told2 .given .1),
+      at-start .pre .3,
+    )
 
 same-length-3 : tie.Need-same-length-3
 same-length-3 c = search needs
@@ -57,8 +60,11 @@ returns-4 : tie.Need-returns-4
 returns-4 c =
     let at-told-if = c .before .before in
     let at-start = c .before .before .before .before .before .before .before .before .before .before .before in
-    let a = at-start .args in let lent = lends (a .names .now) (a .area .now) in
-    (told-no (sameName (a .h) (a .t .now) lent (a .index .0) (a .name .0)) (at-told-if .told-if .result) (at-told-if .told-if .ensures (a .h) (a .t .now) lent (at-start .pre .3)) (c .enum-told3 .given .1), at-start .pre .3)
+    let a = at-start .args in let lent = lends (a .names .now) (a .area .now) in (
+      told-no (sameName (a .h) (a .t .now) lent (a .index .0) (a .name .0)) (at-told-if .told-if .result)
+          (at-told-if .told-if .ensures (a .h) (a .t .now) lent (at-start .pre .3)) (c .enum-told3 .given .1),
+      at-start .pre .3,
+    )
 
 pub same-by-spec : {M : Type 1} → statement M
 same-by-spec =

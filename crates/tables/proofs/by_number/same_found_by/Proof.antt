@@ -18,8 +18,11 @@ returns : tie.Need-returns
 returns c =
     let at-find = c .before .before in
     let at-start = c .before .before .before .before .before .before .before in
-    let a = at-start .args in let lent = lends (a .names .now) (a .area .now) in
-    (same-parts (a .h) (a .t .now) lent (a .index .0) (a .name .0) (at-find .find .result) (a .g) (at-find .find .ensures) (at-start .pre .1) (sym (c .before .ends-apart .ensures (c .if1 .taken))), at-start .pre .3)
+    let a = at-start .args in let lent = lends (a .names .now) (a .area .now) in (
+      same-parts (a .h) (a .t .now) lent (a .index .0) (a .name .0) (at-find .find .result) (a .g) (at-find .find .ensures) (at-start .pre .1)
+          (sym (c .before .ends-apart .ensures (c .if1 .taken))),
+      at-start .pre .3,
+    )
 
 same-kept-requires : tie.Need-same-kept-requires
 same-kept-requires c κs =

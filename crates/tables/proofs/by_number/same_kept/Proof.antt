@@ -62,8 +62,11 @@ returns-2 c =
     let at-told-of = c .before .before in
     let at-enter2 = c .before .before .before .before .before .before .before in
     let at-start = c .before .before .before .before .before .before .before .before .before .before .before .before .before .before .before .before .before in
-    let a = at-start .args in let lent = lends (a .names .now) (a .area .now) in
-    (told-yes (sameName (a .h) (a .t .now) lent (a .index .0) (a .name .0)) (at-told-of .told-of .result) (at-told-of .told-of .ensures (a .h) (a .t .now) lent (at-enter2 .enter2 .ensures)) (c .enum-told2 .given .1), at-enter2 .enter2 .ensures)
+    let a = at-start .args in let lent = lends (a .names .now) (a .area .now) in (
+      told-yes (sameName (a .h) (a .t .now) lent (a .index .0) (a .name .0)) (at-told-of .told-of .result)
+          (at-told-of .told-of .ensures (a .h) (a .t .now) lent (at-enter2 .enter2 .ensures)) (c .enum-told2 .given .1),
+      at-enter2 .enter2 .ensures,
+    )
 
 same-length-3 : tie.Need-same-length-3
 same-length-3 c =
@@ -76,8 +79,11 @@ returns-3 c =
     let at-told-of = c .before .before in
     let at-enter2 = c .before .before .before .before .before .before .before in
     let at-start = c .before .before .before .before .before .before .before .before .before .before .before .before .before .before .before .before .before in
-    let a = at-start .args in let lent = lends (a .names .now) (a .area .now) in
-    (told-no (sameName (a .h) (a .t .now) lent (a .index .0) (a .name .0)) (at-told-of .told-of .result) (at-told-of .told-of .ensures (a .h) (a .t .now) lent (at-enter2 .enter2 .ensures)) (c .enum-told3 .given .1), at-enter2 .enter2 .ensures)
+    let a = at-start .args in let lent = lends (a .names .now) (a .area .now) in (
+      told-no (sameName (a .h) (a .t .now) lent (a .index .0) (a .name .0)) (at-told-of .told-of .result)
+          (at-told-of .told-of .ensures (a .h) (a .t .now) lent (at-enter2 .enter2 .ensures)) (c .enum-told3 .given .1),
+      at-enter2 .enter2 .ensures,
+    )
 
 pub same-kept-spec : {M : Type 1} → statement M
 same-kept-spec =

@@ -51,8 +51,11 @@ returns-3 c =
     let at-find2 = c .before .before .before .before in
     let at-find = c .before .before .before .before .before in
     let at-start = c .before .before .before .before .before .before .before .before .before .before .before .before .before in
-    let a = at-start .args in let lent = lends (a .names .now) (a .area .now) in
-    (same-parts (a .h) (a .t .now) lent (a .i .0) (a .j .0) (at-find .find .result) (at-find2 .find2 .result) (at-find .find .ensures) (at-find2 .find2 .ensures) (c .same-found .ensures), at-start .pre .1)
+    let a = at-start .args in let lent = lends (a .names .now) (a .area .now) in (
+      same-parts (a .h) (a .t .now) lent (a .i .0) (a .j .0) (at-find .find .result) (at-find2 .find2 .result) (at-find .find .ensures)
+          (at-find2 .find2 .ensures) (c .same-found .ensures),
+      at-start .pre .1,
+    )
 
 pub same-numbered-spec : {M : Type 1} → statement M
 same-numbered-spec =

@@ -58,10 +58,14 @@ returns-2 : tie.Need-returns-2
 returns-2 c = search needs
 
 returns-3 : tie.Need-returns-3
-returns-3 c = let a = c .before .before .before .before .before .before .before .args in c .hash-of .ensures ∙ sym (ap (hashIn (a .seed)) (partOf-system (a .wide) (now (a .t)) (now (a .area)) (c .before .before .before .f .given .1)))
+returns-3 c =
+    let a = c .before .before .before .before .before .before .before .args in
+    c .hash-of .ensures ∙ sym (ap (hashIn (a .seed)) (partOf-system (a .utf16) (now (a .t)) (now (a .area)) (c .before .before .before .f .given .1)))
 
 returns-4 : tie.Need-returns-4
-returns-4 c = let a = c .before .before .before .before .before .before .before .args in c .hash-of2 .ensures ∙ sym (ap (hashIn (a .seed)) (partOf-pool (a .wide) (now (a .t)) (now (a .area)) (c .before .before .before .f2 .given .1)))
+returns-4 c =
+    let a = c .before .before .before .before .before .before .before .args in
+    c .hash-of2 .ensures ∙ sym (ap (hashIn (a .seed)) (partOf-pool (a .utf16) (now (a .t)) (now (a .area)) (c .before .before .before .f2 .given .1)))
 
 pub hash-found-spec : {M : Type 1} → statement M
 hash-found-spec =

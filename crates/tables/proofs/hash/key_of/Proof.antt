@@ -66,7 +66,8 @@ returns-2 c =
     let at-number-of = c .before .before .before .before .before .before .before .before .before .before .before in
     let at-start = c .before .before .before .before .before .before .before .before .before .before .before .before .before .before .before .before .before in
     let a = at-start .args in let lent = lends (a .names .now) (a .area .now) in (
-      key-own (a .h) (a .t .now) lent (a .prefix) (a .name .0) (a .ns .0) _ _ _ _ _ (else1 .if1 .left) (at-number-of .number-of .ensures .0) (at-number-of2 .number-of2 .ensures .0) (at-mix .mix .ensures) (c .before .mix2 .ensures)
+      key-own (a .h) (a .t .now) lent (a .prefix) (a .name .0) (a .ns .0) _ _ _ _ _ (else1 .if1 .left) (at-number-of .number-of .ensures .0)
+          (at-number-of2 .number-of2 .ensures .0) (at-mix .mix .ensures) (c .before .mix2 .ensures)
           (c .mix3 .ensures),
       at-number-of2 .number-of2 .ensures .1,
     )

@@ -53,7 +53,10 @@ add-result : tie.Need-add-result
 add-result c = search needs
 
 returns : tie.Need-returns
-returns c = let a = c .before .before .before .args in mixed-by (a .s) (a .v) (c .before .before .cross .result) (c .before .cross2 .result) (c .cross3 .result) (c .before .before .cross .ensures) (c .before .cross2 .ensures) (c .cross3 .ensures)
+returns c =
+    let a = c .before .before .before .args in
+    mixed-by (a .s) (a .v) (c .before .before .cross .result) (c .before .cross2 .result) (c .cross3 .result) (c .before .before .cross .ensures)
+    (c .before .cross2 .ensures) (c .cross3 .ensures)
 
 pub mix-spec : {M : Type 1} → statement M
 mix-spec =

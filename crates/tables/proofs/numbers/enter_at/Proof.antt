@@ -26,7 +26,10 @@ same-length c =
     let at-first-same = c .before .before .before .before in
     let at-hash-found = c .before .before .before .before .before .before in
     let at-start = c .before .before .before .before .before .before .before .before .before .before .before in
-    let a = at-start .args in let lent = lends (a .names .now) (a .area .now) in numbered-more (a .h) (a .t .now) lent (a .numbers .now) (at-start .pre .2) (a .p) (a .index .0) (at-first-same .first-same .result) (at-hash-found .hash-found .result) (at-start .pre .4) (at-first-same .first-same .ensures)
+    let a = at-start .args in
+    let lent = lends (a .names .now) (a .area .now) in
+    numbered-more (a .h) (a .t .now) lent (a .numbers .now) (at-start .pre .2) (a .p) (a .index .0) (at-first-same .first-same .result)
+    (at-hash-found .hash-found .result) (at-start .pre .4) (at-first-same .first-same .ensures)
     (at-hash-found .hash-found .ensures ∙ ap (hashIn 0) (at-start .pre .1 .same)) (at-put .put .ensures) .room ∙ sym (at-start .pre .2 .room)
 
 returns : tie.Need-returns
@@ -35,7 +38,10 @@ returns c =
     let at-first-same = c .before .before .before .before in
     let at-hash-found = c .before .before .before .before .before .before in
     let at-start = c .before .before .before .before .before .before .before .before .before .before .before in
-    let a = at-start .args in let lent = lends (a .names .now) (a .area .now) in numbered-more (a .h) (a .t .now) lent (a .numbers .now) (at-start .pre .2) (a .p) (a .index .0) (at-first-same .first-same .result) (at-hash-found .hash-found .result) (at-start .pre .4) (at-first-same .first-same .ensures)
+    let a = at-start .args in
+    let lent = lends (a .names .now) (a .area .now) in
+    numbered-more (a .h) (a .t .now) lent (a .numbers .now) (at-start .pre .2) (a .p) (a .index .0) (at-first-same .first-same .result)
+    (at-hash-found .hash-found .result) (at-start .pre .4) (at-first-same .first-same .ensures)
     (at-hash-found .hash-found .ensures ∙ ap (hashIn 0) (at-start .pre .1 .same)) (at-put .put .ensures)
 
 pub enter-at-spec : {M : Type 1} → statement M

@@ -52,13 +52,18 @@ loop-less c = search needs
 loop-again : tie.Need-loop-again Inv-loop μ-loop
 loop-again c =
     let a = c .before .before .before .before .before .before .before .before .args in let lent = lends (a .names .now) (a .area .now) in
-    let same = sameName (a .h) (a .t .now) lent in
-    (omega (arith, c .before .before .loop-test .taken), more-false (λ k. metAt same (a .numbers .now) (a .own .0) k) (c .before .before .before .loop .q) (c .before .before .before .loop .inv .1) (sym (c .before .is-met .ensures) ∙ c .if1 .left))
+    let same = sameName (a .h) (a .t .now) lent in (
+      omega (arith, c .before .before .loop-test .taken),
+      more-false (λ k. metAt same (a .numbers .now) (a .own .0) k)
+          (c .before .before .before .loop .q) (c .before .before .before .loop .inv .1) (sym (c .before .is-met .ensures) ∙ c .if1 .left),
+    )
 
 returns-2 : tie.Need-returns-2 Inv-loop μ-loop
 returns-2 c =
     let a = c .before .before .before .before .before .before .args in let lent = lends (a .names .now) (a .area .now) in
-    first-own (a .h) (a .t .now) lent (a .numbers .now) (c .before .before .before .before .before .before .pre .3) (a .own .0) (c .before .before .before .before .before .before .pre .5) (c .before .before .before .before .before .before .pre .4) (λ q l. c .before .loop .inv .1 q (omega (arith, l, c .loop-test .left)))
+    first-own (a .h) (a .t .now) lent (a .numbers .now) (c .before .before .before .before .before .before .pre .3) (a .own .0)
+    (c .before .before .before .before .before .before .pre .5) (c .before .before .before .before .before .before .pre .4)
+    (λ q l. c .before .loop .inv .1 q (omega (arith, l, c .loop-test .left)))
 
 pub first-same-spec : {M : Type 1} → statement M
 first-same-spec =

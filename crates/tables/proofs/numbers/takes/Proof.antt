@@ -32,7 +32,7 @@ returns-3 c =
     let else1 = c .before .before .before .before .before .before in
     let at-start = c .before .before .before .before .before .before .before .before .before .before .before in
     let a = at-start .args in
-    λ _. (sym (isFound-text (a .h .wide) (now (a .t)) (now (a .area)) (a .f)) ∙ sym (at-is-found .is-found .ensures) ∙ then3 .if3 .taken, else1 .if1 .left)
+    λ _. (sym (isFound-text (a .h .utf16) (now (a .t)) (now (a .area)) (a .f)) ∙ sym (at-is-found .is-found .ensures) ∙ then3 .if3 .taken, else1 .if1 .left)
 
 returns-4 : tie.Need-returns-4
 returns-4 c = λ e. absurd (true≢false (sym e))

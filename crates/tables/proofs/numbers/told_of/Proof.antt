@@ -48,7 +48,8 @@ returns-3 c =
     let at-place-of = c .before .before .before .before .before .before .before .before in
     let at-start = c .before .before .before .before .before .before .before .before .before .before in
     let a = at-start .args in
-    λ h t lent k. told-same h t lent (a .numbers .now) k (a .i .0) (a .j .0) (at-place-of .place-of .result) (at-place-of2 .place-of2 .result) (at-place-of .place-of .ensures) (at-place-of2 .place-of2 .ensures)
+    λ h t lent k. told-same h t lent (a .numbers .now) k (a .i .0) (a .j .0) (at-place-of .place-of .result) (at-place-of2 .place-of2 .result)
+    (at-place-of .place-of .ensures) (at-place-of2 .place-of2 .ensures)
     (else1 .if1 .left) (c .before .if2 .left) (c .if3 .taken)
 
 returns-4 : tie.Need-returns-4
@@ -58,7 +59,8 @@ returns-4 c =
     let at-place-of = c .before .before .before .before .before .before .before .before in
     let at-start = c .before .before .before .before .before .before .before .before .before .before in
     let a = at-start .args in
-    λ h t lent k. told-other h t lent (a .numbers .now) k (a .i .0) (a .j .0) (at-place-of .place-of .result) (at-place-of2 .place-of2 .result) (at-place-of .place-of .ensures) (at-place-of2 .place-of2 .ensures)
+    λ h t lent k. told-other h t lent (a .numbers .now) k (a .i .0) (a .j .0) (at-place-of .place-of .result) (at-place-of2 .place-of2 .result)
+    (at-place-of .place-of .ensures) (at-place-of2 .place-of2 .ensures)
     (else1 .if1 .left) (c .before .if2 .left) (c .if3 .left)
 
 pub told-of-spec : {M : Type 1} → statement M

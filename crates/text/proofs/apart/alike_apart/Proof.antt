@@ -16,7 +16,7 @@ u16-at-requires : tie.Need-u16-at-requires
 u16-at-requires c κs =
     let s = c .before .before .before in
     let a = s .args in
-    omega (arith, alike-room (a .h .wide) (now (a .t)) (a .h .strings + a .h .size) (a .p) (a .k) (s .pre .1) (c .if1 .left) .0)
+    omega (arith, alike-room (a .h .utf16) (now (a .t)) (a .h .strings + a .h .size) (a .p) (a .k) (s .pre .1) (c .if1 .left) .0)
 
 returns-2 : tie.Need-returns-2
 returns-2 c = λ e. absurd (true≢false (sym e))
@@ -30,7 +30,7 @@ shared-slice-read-if3 c =
     let s = at-if1 .before .before .before in
     let a = s .args in
     let end = a .h .strings + a .h .size in
-    omega (arith, alike-room (a .h .wide) (now (a .t)) end (a .p) (a .k) (s .pre .1) (at-if1 .if1 .left) .1)
+    omega (arith, alike-room (a .h .utf16) (now (a .t)) end (a .p) (a .k) (s .pre .1) (at-if1 .if1 .left) .1)
 
 returns-3 : tie.Need-returns-3
 returns-3 c = λ e. absurd (true≢false (sym e))
@@ -45,7 +45,7 @@ returns-4 c =
     let a = s .args in
     let end = a .h .strings + a .h .size in
     let unit = sym (at-unit .u16-at .ensures .0) ∙ at-if2 .if2 .left in
-    λ _. other-alike (a .h .wide) (now (a .t)) end (a .p) (a .k) (s .pre .0 .strings) (λ i. bytes .shared-slice-known .given i .fits) (s .pre .1)
+    λ _. other-alike (a .h .utf16) (now (a .t)) end (a .p) (a .k) (s .pre .0 .strings) (λ i. bytes .shared-slice-known .given i .fits) (s .pre .1)
     (at-if1 .if1 .left) unit (c .if3 .left)
 
 pub alike-apart-spec : {M : Type 1} → statement M

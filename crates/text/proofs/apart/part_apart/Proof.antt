@@ -24,7 +24,13 @@ enum-known-g : tie.Need-enum-known-g
 enum-known-g c = search needs
 
 bytes-apart-requires : tie.Need-bytes-apart-requires
-bytes-apart-requires c κs = let a = c .before .before .before .before .before .args in (c .before .before .before .before .before .pre .0, inside-pool (now (a .t)) (now (a .area)) (c .before .before .before .before .before .pre .1) (c .before .g .given .1), omega arith)
+bytes-apart-requires c κs =
+    let a = c .before .before .before .before .before .args in (
+      c .before .before .before .before .before .pre .0,
+      inside-pool (now (a .t)) (now (a .area)) (c .before .before .before .before .before .pre .1)
+          (c .before .g .given .1),
+      omega arith,
+    )
 
 returns : tie.Need-returns
 returns c = λ e. absurd (true≢false (sym e))
@@ -38,7 +44,7 @@ returns-3 c = λ e. absurd (true≢false (sym e))
 returns-4 : tie.Need-returns-4
 returns-4 c =
     let a = c .before .before .before .before .before .before .args in
-    λ e. other-text (a .wide) (now (a .t)) (now (a .area)) (some (a .wide) (take (a .m) (drop (a .q) (now (a .t)))))
+    λ e. other-text (a .utf16) (now (a .t)) (now (a .area)) (some (a .utf16) (take (a .m) (drop (a .q) (now (a .t)))))
     (λ j. c .before .before .before .before .before .shared-slice-known .given j .fits) (c .before .before .before .before .before .before .pre .2) (c .before .before .g .given .1)
     (record { from = a .q; count = a .m; here = refl; bytes = c .bytes-apart .ensures e })
 

@@ -20,7 +20,12 @@ enum-known-f : tie.Need-enum-known-f
 enum-known-f c = search needs
 
 part-apart-requires : tie.Need-part-apart-requires
-part-apart-requires c κs = let a = c .before .before .before .before .before .args in (inside-pool (now (a .t)) (now (a .area)) (c .before .before .before .before .before .pre .0) (c .before .f .given .1), c .before .before .before .before .before .pre .1, c .before .before .before .before .before .pre .2)
+part-apart-requires c κs =
+    let a = c .before .before .before .before .before .args in (
+      inside-pool (now (a .t)) (now (a .area)) (c .before .before .before .before .before .pre .0) (c .before .f .given .1),
+      c .before .before .before .before .before .pre .1,
+      c .before .before .before .before .before .pre .2,
+    )
 
 returns : tie.Need-returns
 returns c = λ e. absurd (true≢false (sym e))

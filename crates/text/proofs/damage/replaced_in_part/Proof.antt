@@ -12,7 +12,7 @@ replaced-of-requires c κs = search needs
 cast-result : tie.Need-cast-result
 cast-result c =
     let s = c .before .before in
-    omega (arith, c .replaced-of .ensures, s .pre, replacedCount-le (s .args .wide) (now (s .args .s)))
+    omega (arith, c .replaced-of .ensures, s .pre, replacedCount-le (s .args .utf16) (now (s .args .s)))
 
 returns : tie.Need-returns
 returns c = c .replaced-of .ensures

@@ -57,14 +57,14 @@ returns-3 : tie.Need-returns-3
 returns-3 c =
     let s = c .before .before .before .before in
     let a = s .args in
-    replaced-system (a .wide) (now (a .t)) (now (a .area)) (s .pre .0) (c .enum-told3 .given .1)
+    replaced-system (a .utf16) (now (a .t)) (now (a .area)) (s .pre .0) (c .enum-told3 .given .1)
 
 returns-4 : tie.Need-returns-4
 returns-4 c =
     let s = c .before .before .before .before .before .before .before in
     let a = s .args in
     c .replaced-in-part .ensures
-    ∙ sym (ap (λ (x : Content). replacedCount (damageIn x)) (partOf-pool (a .wide) (now (a .t)) (now (a .area)) (c .before .before .before .f .given .1)))
+    ∙ sym (ap (λ (x : Content). replacedCount (damageIn x)) (partOf-pool (a .utf16) (now (a .t)) (now (a .area)) (c .before .before .before .f .given .1)))
 
 pub replaced-of-found-spec : {M : Type 1} → statement M
 replaced-of-found-spec =

@@ -54,14 +54,14 @@ returns-3 : tie.Need-returns-3
 returns-3 c =
     let s = c .before .before .before .before in
     let a = s .args in
-    state-system (a .wide) (now (a .t)) (now (a .area)) (s .pre) (c .enum-told3 .given .1)
+    state-system (a .utf16) (now (a .t)) (now (a .area)) (s .pre) (c .enum-told3 .given .1)
 
 returns-4 : tie.Need-returns-4
 returns-4 c =
     let s = c .before .before .before .before .before .before .before in
     let a = s .args in
     c .state-of .ensures
-    ∙ sym (ap (λ (x : Content). stateNumber (damageIn x)) (partOf-pool (a .wide) (now (a .t)) (now (a .area)) (c .before .before .before .f .given .1)))
+    ∙ sym (ap (λ (x : Content). stateNumber (damageIn x)) (partOf-pool (a .utf16) (now (a .t)) (now (a .area)) (c .before .before .before .f .given .1)))
 
 pub state-of-found-spec : {M : Type 1} → statement M
 state-of-found-spec =

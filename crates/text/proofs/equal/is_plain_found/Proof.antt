@@ -53,13 +53,13 @@ returns-3 : tie.Need-returns-3
 returns-3 c =
     let s = c .before .before .before .before in
     let a = s .args in
-    plain-system (a .wide) (now (a .t)) (now (a .area)) (s .pre) (c .enum-told3 .given .1)
+    plain-system (a .utf16) (now (a .t)) (now (a .area)) (s .pre) (c .enum-told3 .given .1)
 
 returns-4 : tie.Need-returns-4
 returns-4 c =
     let s = c .before .before .before .before .before .before .before in
     let a = s .args in
-    c .is-plain .ensures ∙ sym (ap plainIn (partOf-pool (a .wide) (now (a .t)) (now (a .area)) (c .before .before .before .f .given .1)))
+    c .is-plain .ensures ∙ sym (ap plainIn (partOf-pool (a .utf16) (now (a .t)) (now (a .area)) (c .before .before .before .f .given .1)))
 
 pub is-plain-found-spec : {M : Type 1} → statement M
 is-plain-found-spec =

@@ -82,37 +82,37 @@ same-part-requires-3 : tie.Need-same-part-requires-3
 same-part-requires-3 c κs =
     let s = c .before .before .before .before .before .before in
     let a = s .args in
-    (s .pre .0, known-pool (a .wide) (now (a .t)) (now (a .area)) (a .plain) (s .pre .2) (c .before .before .g2 .given .1))
+    (s .pre .0, known-pool (a .utf16) (now (a .t)) (now (a .area)) (a .plain) (s .pre .2) (c .before .before .g2 .given .1))
 
 returns : tie.Need-returns
 returns c =
     let s = c .before .before .before .before in
     let a = s .args in
-    sym (ap (sameText (partOf (a .wide) (now (a .t)) (now (a .area)) (a .f)))
-    (partOf-nothing (a .wide) (now (a .t)) (now (a .area)) (c .enum-told .given .1)) ∙ sameText-none
-    (partOf (a .wide) (now (a .t)) (now (a .area)) (a .f)))
+    sym (ap (sameText (partOf (a .utf16) (now (a .t)) (now (a .area)) (a .f)))
+    (partOf-nothing (a .utf16) (now (a .t)) (now (a .area)) (c .enum-told .given .1)) ∙ sameText-none
+    (partOf (a .utf16) (now (a .t)) (now (a .area)) (a .f)))
 
 returns-2 : tie.Need-returns-2
 returns-2 c =
     let s = c .before .before .before .before .before .before in
     let a = s .args in
-    c .same-part .ensures ∙ sameText-cut (partOf (a .wide) (now (a .t)) (now (a .area)) (a .f)) (a .wide) ∙ sym (ap
-    (sameText (partOf (a .wide) (now (a .t)) (now (a .area)) (a .f)))
-    (partOf-cut (a .wide) (now (a .t)) (now (a .area)) (c .before .before .enum-told2 .given .1)))
+    c .same-part .ensures ∙ sameText-cut (partOf (a .utf16) (now (a .t)) (now (a .area)) (a .f)) (a .utf16) ∙ sym (ap
+    (sameText (partOf (a .utf16) (now (a .t)) (now (a .area)) (a .f)))
+    (partOf-cut (a .utf16) (now (a .t)) (now (a .area)) (c .before .before .enum-told2 .given .1)))
 
 returns-3 : tie.Need-returns-3
 returns-3 c =
     let s = c .before .before .before .before .before .before .before in
     let a = s .args in
-    c .same-part2 .ensures ∙ sym (ap (sameText (partOf (a .wide) (now (a .t)) (now (a .area)) (a .f)))
-    (partOf-system (a .wide) (now (a .t)) (now (a .area)) (c .before .before .before .g .given .1)))
+    c .same-part2 .ensures ∙ sym (ap (sameText (partOf (a .utf16) (now (a .t)) (now (a .area)) (a .f)))
+    (partOf-system (a .utf16) (now (a .t)) (now (a .area)) (c .before .before .before .g .given .1)))
 
 returns-4 : tie.Need-returns-4
 returns-4 c =
     let s = c .before .before .before .before .before .before .before in
     let a = s .args in
-    c .same-part3 .ensures ∙ sym (ap (sameText (partOf (a .wide) (now (a .t)) (now (a .area)) (a .f)))
-    (partOf-pool (a .wide) (now (a .t)) (now (a .area)) (c .before .before .before .g2 .given .1)))
+    c .same-part3 .ensures ∙ sym (ap (sameText (partOf (a .utf16) (now (a .t)) (now (a .area)) (a .f)))
+    (partOf-pool (a .utf16) (now (a .t)) (now (a .area)) (c .before .before .before .g2 .given .1)))
 
 pub same-found-known-spec : {M : Type 1} → statement M
 same-found-known-spec =

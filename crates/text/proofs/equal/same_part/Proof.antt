@@ -84,23 +84,23 @@ returns-2 : tie.Need-returns-2
 returns-2 c =
     let s = c .before .before .before .before .before .before .before in
     let a = s .args in
-    c .same-known .ensures ∙ isText-cut (a .wide) (textOf (a .wide-s) (now (a .s))) ∙ sym (ap
-    (λ (p : Content). isText p (textOf (a .wide-s) (now (a .s))))
-    (partOf-cut (a .wide) (now (a .t)) (now (a .area)) (c .before .before .enum-told2 .given .1)))
+    c .same-known .ensures ∙ isText-cut (a .utf16) (textOf (a .utf16-s) (now (a .s))) ∙ sym (ap
+    (λ (p : Content). isText p (textOf (a .utf16-s) (now (a .s))))
+    (partOf-cut (a .utf16) (now (a .t)) (now (a .area)) (c .before .before .enum-told2 .given .1)))
 
 returns-3 : tie.Need-returns-3
 returns-3 c =
     let s = c .before .before .before .before .before .before .before .before in
     let a = s .args in
-    c .same-known2 .ensures ∙ sym (ap (λ (p : Content). isText p (textOf (a .wide-s) (now (a .s))))
-    (partOf-system (a .wide) (now (a .t)) (now (a .area)) (c .before .before .before .f .given .1)))
+    c .same-known2 .ensures ∙ sym (ap (λ (p : Content). isText p (textOf (a .utf16-s) (now (a .s))))
+    (partOf-system (a .utf16) (now (a .t)) (now (a .area)) (c .before .before .before .f .given .1)))
 
 returns-4 : tie.Need-returns-4
 returns-4 c =
     let s = c .before .before .before .before .before .before .before .before in
     let a = s .args in
-    c .same-known3 .ensures ∙ sym (ap (λ (p : Content). isText p (textOf (a .wide-s) (now (a .s))))
-    (partOf-pool (a .wide) (now (a .t)) (now (a .area)) (c .before .before .before .f2 .given .1)))
+    c .same-known3 .ensures ∙ sym (ap (λ (p : Content). isText p (textOf (a .utf16-s) (now (a .s))))
+    (partOf-pool (a .utf16) (now (a .t)) (now (a .area)) (c .before .before .before .f2 .given .1)))
 
 pub same-part-spec : {M : Type 1} → statement M
 same-part-spec =

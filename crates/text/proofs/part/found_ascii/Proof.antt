@@ -52,12 +52,14 @@ returns-3 : tie.Need-returns-3
 returns-3 c =
     let s = c .before .before .before .before in
     let a = s .args in
-    ascii-system (a .wide) (now (a .t)) (now (a .area)) (s .pre) (c .enum-told3 .given .1)
+    ascii-system (a .utf16) (now (a .t)) (now (a .area)) (s .pre) (c .enum-told3 .given .1)
 
 returns-4 : tie.Need-returns-4
 returns-4 c =
     let a = c .before .before .before .before .before .before .before .args in
-    c .is-ascii-text .ensures ∙ sym (ap asciiIn (partOf-pool (a .wide) (now (a .t)) (now (a .area)) (c .before .before .before .f .given .1)))
+    c .is-ascii-text .ensures ∙ sym (ap asciiIn (partOf-pool (a .utf16) (now (a .t)) (now (a .area)) (c .before .before .before .f .given .1)))
 
 pub found-ascii-spec : {M : Type 1} → statement M
-found-ascii-spec = tie.close (tie.spec enum-told enum-told-2 enum-told-3 enum-known-f add-is-ascii-text sub-is-ascii-text part-is-ascii-text-start part-is-ascii-text-end is-ascii-text-requires returns returns-2 returns-3 returns-4)
+found-ascii-spec =
+    tie.close (tie.spec enum-told enum-told-2 enum-told-3 enum-known-f add-is-ascii-text sub-is-ascii-text part-is-ascii-text-start
+    part-is-ascii-text-end is-ascii-text-requires returns returns-2 returns-3 returns-4)

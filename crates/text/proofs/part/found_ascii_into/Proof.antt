@@ -43,7 +43,7 @@ ascii-into-requires : tie.Need-ascii-into-requires
 ascii-into-requires c κs =
     let s = c .before .before .before .before .before .before .before .before in
     let a = s .args in
-    sym (ap asciiIn (partOf-system (a .wide) (now (a .t)) (now (a .area)) (c .before .before .before .f .given .1))) ∙ s .pre .2
+    sym (ap asciiIn (partOf-system (a .utf16) (now (a .t)) (now (a .area)) (c .before .before .before .f .given .1))) ∙ s .pre .2
 
 enum-known-f-2 : tie.Need-enum-known-f-2
 enum-known-f-2 c = search needs
@@ -71,17 +71,17 @@ ascii-into-requires-2 : tie.Need-ascii-into-requires-2
 ascii-into-requires-2 c κs =
     let s = c .before .before .before .before .before .before .before .before in
     let a = s .args in
-    sym (ap asciiIn (partOf-pool (a .wide) (now (a .t)) (now (a .area)) (c .before .before .before .f2 .given .1))) ∙ s .pre .2
+    sym (ap asciiIn (partOf-pool (a .utf16) (now (a .t)) (now (a .area)) (c .before .before .before .f2 .given .1))) ∙ s .pre .2
 
 returns : tie.Need-returns
 returns c =
     let a = c .before .before .before .before .before .args in
-    wrote-none (now (a .out)) (sym (ap (λ (g : Found). textIn (partOf (a .wide) (now (a .t)) (now (a .area)) g)) (c .enum-told .given .1)))
+    wrote-none (now (a .out)) (sym (ap (λ (g : Found). textIn (partOf (a .utf16) (now (a .t)) (now (a .area)) g)) (c .enum-told .given .1)))
 
 returns-2 : tie.Need-returns-2
 returns-2 c =
     let a = c .before .before .before .before .before .args in
-    wrote-none (now (a .out)) (sym (ap (λ (g : Found). textIn (partOf (a .wide) (now (a .t)) (now (a .area)) g)) (c .enum-told2 .given .1)))
+    wrote-none (now (a .out)) (sym (ap (λ (g : Found). textIn (partOf (a .utf16) (now (a .t)) (now (a .area)) g)) (c .enum-told2 .given .1)))
 
 same-length : tie.Need-same-length
 same-length c = search needs
@@ -92,8 +92,8 @@ returns-3 c =
     let a = s .args in
     let e = c .before .before .before .before .before .before .f .given .1 in
     let q = inside-system (now (a .t)) (now (a .area)) (s .pre .0) e in
-    let n = textIn-system (a .wide) (now (a .t)) (now (a .area)) (s .pre .0) e in
-    let same = sym (ap textIn (partOf-system (a .wide) (now (a .t)) (now (a .area)) e)) in
+    let n = textIn-system (a .utf16) (now (a .t)) (now (a .area)) (s .pre .0) e in
+    let same = sym (ap textIn (partOf-system (a .utf16) (now (a .t)) (now (a .area)) e)) in
     wrote-by _ same (omega (arith, n)) (c .before .before .ascii-into .ensures)
 
 same-length-2 : tie.Need-same-length-2
@@ -103,9 +103,12 @@ returns-4 : tie.Need-returns-4
 returns-4 c =
     let s = c .before .before .before .before .before .before .before .before .before .before .before in
     let a = s .args in
-    let same = sym (ap textIn (partOf-pool (a .wide) (now (a .t)) (now (a .area)) (c .before .before .before .before .before .before .f2 .given .1))) in
+    let same = sym (ap textIn (partOf-pool (a .utf16) (now (a .t)) (now (a .area)) (c .before .before .before .before .before .before .f2 .given .1))) in
     let short = s .pre .1 in
-    wrote-by _ same (textOf-held (a .wide) _ same (simp (length-take, length-drop) (omega arith))) (c .before .before .ascii-into2 .ensures)
+    wrote-by _ same (textOf-held (a .utf16) _ same (simp (length-take, length-drop) (omega arith))) (c .before .before .ascii-into2 .ensures)
 
 pub found-ascii-into-spec : {M : Type 1} → statement M
-found-ascii-into-spec = tie.close (tie.spec enum-told enum-told-2 enum-known-f add-ascii-into sub-ascii-into part-ascii-into-start part-ascii-into-end ascii-into-requires enum-known-f-2 add-ascii-into-2 sub-ascii-into-2 part-ascii-into-start-2 part-ascii-into-end-2 ascii-into-requires-2 returns returns-2 same-length returns-3 same-length-2 returns-4)
+found-ascii-into-spec =
+    tie.close (tie.spec enum-told enum-told-2 enum-known-f add-ascii-into sub-ascii-into part-ascii-into-start part-ascii-into-end ascii-into-requires
+    enum-known-f-2 add-ascii-into-2 sub-ascii-into-2 part-ascii-into-start-2 part-ascii-into-end-2 ascii-into-requires-2 returns returns-2
+    same-length returns-3 same-length-2 returns-4)

@@ -71,13 +71,13 @@ returns : tie.Need-returns
 returns c =
     let s = c .before .before .before .before .before in
     let a = s .args in
-    wrote-none (now (a .out)) (sym (ap (λ (g : Found). textIn (partOf (a .wide) (now (a .t)) (now (a .area)) g)) (c .enum-told .given .1)))
+    wrote-none (now (a .out)) (sym (ap (λ (g : Found). textIn (partOf (a .utf16) (now (a .t)) (now (a .area)) g)) (c .enum-told .given .1)))
 
 returns-2 : tie.Need-returns-2
 returns-2 c =
     let s = c .before .before .before .before .before in
     let a = s .args in
-    wrote-none (now (a .out)) (sym (ap (λ (g : Found). textIn (partOf (a .wide) (now (a .t)) (now (a .area)) g)) (c .enum-told2 .given .1)))
+    wrote-none (now (a .out)) (sym (ap (λ (g : Found). textIn (partOf (a .utf16) (now (a .t)) (now (a .area)) g)) (c .enum-told2 .given .1)))
 
 same-length : tie.Need-same-length
 same-length c = search needs
@@ -88,8 +88,8 @@ returns-3 c =
     let p6 = c .before .before .before .before .before .before in
     let a = s .args in
     let q = inside-system (now (a .t)) (now (a .area)) (s .pre .0) (p6 .f .given .1) in
-    let n = textIn-system (a .wide) (now (a .t)) (now (a .area)) (s .pre .0) (p6 .f .given .1) in
-    let same = sym (ap textIn (partOf-system (a .wide) (now (a .t)) (now (a .area)) (p6 .f .given .1))) in
+    let n = textIn-system (a .utf16) (now (a .t)) (now (a .area)) (s .pre .0) (p6 .f .given .1) in
+    let same = sym (ap textIn (partOf-system (a .utf16) (now (a .t)) (now (a .area)) (p6 .f .given .1))) in
     wrote-by _ same (omega (arith, n)) (c .before .before .text-into .ensures)
 
 same-length-2 : tie.Need-same-length-2
@@ -100,9 +100,9 @@ returns-4 c =
     let s = c .before .before .before .before .before .before .before .before .before .before .before in
     let p6 = c .before .before .before .before .before .before in
     let a = s .args in
-    let same = sym (ap textIn (partOf-pool (a .wide) (now (a .t)) (now (a .area)) (p6 .f2 .given .1))) in
+    let same = sym (ap textIn (partOf-pool (a .utf16) (now (a .t)) (now (a .area)) (p6 .f2 .given .1))) in
     let short = s .pre .1 in
-    wrote-by _ same (textOf-held (a .wide) _ same (simp (length-take, length-drop) (omega arith))) (c .before .before .text-into2 .ensures)
+    wrote-by _ same (textOf-held (a .utf16) _ same (simp (length-take, length-drop) (omega arith))) (c .before .before .text-into2 .ensures)
 
 pub found-into-spec : {M : Type 1} → statement M
 found-into-spec =

@@ -81,14 +81,14 @@ returns-3 c =
     let s = c .before .before .before .before .before .before .before .before in
     let a = s .args in
     c .state-of .ensures ∙ ap validBy (c .before .valid-name .ensures) ∙ sym
-    (ap stateIn (partOf-system (a .wide) (now (a .t)) (now (a .area)) (c .before .before .before .before .f .given .1)))
+    (ap stateIn (partOf-system (a .utf16) (now (a .t)) (now (a .area)) (c .before .before .before .before .f .given .1)))
 
 returns-4 : tie.Need-returns-4
 returns-4 c =
     let s = c .before .before .before .before .before .before .before .before in
     let a = s .args in
     c .state-of2 .ensures ∙ ap validBy (c .before .valid-name2 .ensures) ∙ sym
-    (ap stateIn (partOf-pool (a .wide) (now (a .t)) (now (a .area)) (c .before .before .before .before .f2 .given .1)))
+    (ap stateIn (partOf-pool (a .utf16) (now (a .t)) (now (a .area)) (c .before .before .before .before .f2 .given .1)))
 
 pub found-state-spec : {M : Type 1} → statement M
 found-state-spec =

@@ -76,14 +76,14 @@ returns-3 c =
     let s = c .before .before .before .before .before .before .before in
     let a = s .args in
     c .whole-name .ensures ∙ whole-some _ _ ∙ sym
-    (ap wholeName (partOf-system (a .wide) (now (a .t)) (now (a .area)) (c .before .before .before .f .given .1)))
+    (ap wholeName (partOf-system (a .utf16) (now (a .t)) (now (a .area)) (c .before .before .before .f .given .1)))
 
 returns-4 : tie.Need-returns-4
 returns-4 c =
     let s = c .before .before .before .before .before .before .before in
     let a = s .args in
     c .whole-name2 .ensures ∙ whole-some _ _ ∙ sym
-    (ap wholeName (partOf-pool (a .wide) (now (a .t)) (now (a .area)) (c .before .before .before .f2 .given .1)))
+    (ap wholeName (partOf-pool (a .utf16) (now (a .t)) (now (a .area)) (c .before .before .before .f2 .given .1)))
 
 pub found-whole-spec : {M : Type 1} → statement M
 found-whole-spec =

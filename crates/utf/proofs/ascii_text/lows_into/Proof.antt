@@ -3,7 +3,7 @@ use mathlib.Core.Path.{sym, _∙_}
 use native.Mathlib.Omega.{arith}
 use denote.Ref.{now}
 use borrow.Author.Needs.{needs}
-use Rattle.utf.specs.Inner.Told.{lowBytes}
+use Rattle.utf.specs.Inner.StepRuns.{lowBytes}
 use Rattle.utf.proofs.Filled.{putText-whole}
 use Rattle.utf.proofs.AsciiText.{lowBytes-length, put-short}
 use Rattle.utf.proofs.ascii_text.lows_into.Statement.{statement}

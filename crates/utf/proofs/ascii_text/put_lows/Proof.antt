@@ -4,7 +4,7 @@ use Prim.Native.Nat.{_≤_, _-_, _/_}
 use native.Mathlib.Omega.{arith}
 use lib.ListN.{length}
 use denote.Ref.{now}
-use Rattle.utf.specs.Inner.Told.{lowBytes}
+use Rattle.utf.specs.Inner.StepRuns.{lowBytes}
 use Rattle.utf.proofs.AsciiText.{lowBytes-length, Copied, none-copied, copied-low, all-copied}
 use Rattle.utf.proofs.ascii_text.put_lows.Statement.{statement}
 use Rattle.utf.proofs.ascii_text.put_lows.Tie as tie

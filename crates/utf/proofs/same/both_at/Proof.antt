@@ -23,7 +23,7 @@ returns : tie.Need-returns
 returns c =
     let a = c .before .before .before .before .before .before .before .before .args in
     let p = c .before .before .before .before .before .before .before .before .pre in
-    paired (a .wide-a) (now (a .a)) (a .i) _ 1 true (a .wide-b) (now (a .b)) (a .j) _ 1 true (p .0) (p .1)
+    paired (a .utf16-a) (now (a .a)) (a .i) _ 1 true (a .utf16-b) (now (a .b)) (a .j) _ 1 true (p .0) (p .1)
     (took-ascii _ _ _ (not-true _ (c .before .before .before .before .before .if1 .taken)) (p .0) (c .before .if3 .taken))
     (took-ascii _ _ _ (not-true _ (c .before .before .before .before .if2 .taken)) (p .1) (c .if4 .taken))
 

@@ -15,7 +15,7 @@ returns-2 c = λ e. absurd (true≢false (sym e))
 returns-3 : tie.Need-returns-3
 returns-3 c =
     let a = c .before .before .args in
-    λ e w. by-lengths w (a .wide-b) (a .a .now) (a .b .now) (c .before .if1 .left) (c .if2 .left) (ltb-true _ _ e)
+    λ e w. by-lengths w (a .utf16-b) (a .a .now) (a .b .now) (c .before .if1 .left) (c .if2 .left) (ltb-true _ _ e)
 
 pub is-far-longer-spec : {M : Type 1} → statement M
 is-far-longer-spec = tie.close (tie.spec returns returns-2 returns-3)

@@ -44,7 +44,8 @@ loop-again c =
     let a = c .before .before .before .before .before .before .before .before .args in (
       omega arith,
       rw (c .greater .ensures)
-          (seenSame-next (now (a .a)) (now (a .b)) (l .i) (l .most) _ (c .before .before .before .before .loop-test .taken) (c .before .before .before .before .before .before .before .before .pre) (c .before .differ-mark .ensures) ∙ l .inv .1),
+          (seenSame-next (now (a .a)) (now (a .b)) (l .i) (l .most) _ (c .before .before .before .before .loop-test .taken)
+          (c .before .before .before .before .before .before .before .before .pre) (c .before .differ-mark .ensures) ∙ l .inv .1),
     )
 
 returns : tie.Need-returns Inv-loop μ-loop

@@ -6,7 +6,7 @@ use lib.ListN.{length, length-take, length-drop}
 use denote.Ref.{now}
 use borrow.Author.Tests.{not-true, not-false}
 use borrow.Author.Needs.{needs}
-use Rattle.utf.specs.Inner.Told.{Agree}
+use Rattle.utf.specs.Inner.StepRuns.{Agree}
 use Rattle.utf.proofs.Equal.{eqBytes-here}
 use Rattle.utf.proofs.SameBlocks.{agree-none, agree-block, agree-join, agree-all, block-differs}
 use Rattle.utf.proofs.same.same_blocks.Statement.{statement}
@@ -129,8 +129,15 @@ returns-4 c =
     let l = c .before .loop in
     let last = length (now (a .a)) - 64 in
     let e = sym (c .before .before .before .same-block .ensures) ∙ not-false _ (c .before .before .if2 .left) in
-    agree-all (now (a .a)) (now (a .b)) (l .i) last (c .before .before .before .before .before .before .before .before .before .before .before .pre .1) (omega (arith, c .before .before .before .before .before .before .before .before .before .before .before .pre .0)) (omega (arith, c .loop-test .left)) (l .inv .1)
+    agree-all (now (a .a)) (now (a .b)) (l .i) last
+    (c .before .before .before .before .before .before .before .before .before .before .before .pre .1)
+    (omega (arith, c .before .before .before .before .before .before .before .before .before .before .before .pre .0))
+    (omega (arith, c .loop-test .left)) (l .inv .1)
     (agree-block (now (a .a)) (now (a .b)) last (last + 64 - last) (omega arith) e)
 
 pub same-blocks-spec : {M : Type 1} → statement M
-same-blocks-spec = tie.close (tie.spec Inv-loop μ-loop sub-if1 shared-slice-read-if1 sub-if1-2 shared-slice-read-if1-2 returns sub-last add-same-block sub-same-block part-same-block-start part-same-block-end add-same-block-2 sub-same-block-2 part-same-block-start-2 part-same-block-end-2 same-block-requires returns-2 loop-holds add-same-block-3 sub-same-block-3 part-same-block-start-3 part-same-block-end-3 add-same-block-4 sub-same-block-4 part-same-block-start-4 part-same-block-end-4 same-block-requires-2 returns-3 add-i loop-less loop-again returns-4)
+same-blocks-spec =
+    tie.close (tie.spec Inv-loop μ-loop sub-if1 shared-slice-read-if1 sub-if1-2 shared-slice-read-if1-2 returns sub-last add-same-block sub-same-block
+    part-same-block-start part-same-block-end add-same-block-2 sub-same-block-2 part-same-block-start-2 part-same-block-end-2 same-block-requires
+    returns-2 loop-holds add-same-block-3 sub-same-block-3 part-same-block-start-3 part-same-block-end-3 add-same-block-4 sub-same-block-4
+    part-same-block-start-4 part-same-block-end-4 same-block-requires-2 returns-3 add-i loop-less loop-again returns-4)

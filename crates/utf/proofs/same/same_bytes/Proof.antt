@@ -51,8 +51,11 @@ loop-less c = omega arith
 loop-again : tie.Need-loop-again Inv-loop μ-loop
 loop-again c =
     let a = c .before .before .before .before .before .before .before .before .before .args in
-    let l = c .before .before .before .before .loop in
-    (omega (arith, l .inv .0), same-more (now (a .a)) (now (a .b)) (l .i) (c .before .before .before .loop-test .taken) (l .inv .0) (c .before .before .before .before .before .before .if1 .left) (c .if3 .left) (l .inv .1))
+    let l = c .before .before .before .before .loop in (
+      omega (arith, l .inv .0),
+      same-more (now (a .a)) (now (a .b)) (l .i) (c .before .before .before .loop-test .taken) (l .inv .0)
+          (c .before .before .before .before .before .before .if1 .left) (c .if3 .left) (l .inv .1),
+    )
 
 returns-4 : tie.Need-returns-4 Inv-loop μ-loop
 returns-4 c =

@@ -19,9 +19,9 @@ returns c =
     let a = s .args in
     let in-a : (i : ℕ) → getD (now (a .a)) i 0 < 256 = λ i. c .before .before .before .before .shared-slice-known .given i .fits in
     let in-b : (i : ℕ) → getD (now (a .b)) i 0 < 256 = λ i. c .before .before .before .shared-slice-known2 .given i .fits in
-    let same : a .wide-a ≡ a .wide-b = beq-true (a .wide-a) (a .wide-b) (c .before .if2 .taken) in
-    c .same-bytes .ensures ∙ plain-same (a .wide-b) (now (a .a)) (now (a .b)) in-a in-b (s .pre .holds (c .before .before .if1 .taken))
-    ∙ ap (λ (w : Bool). eqBytes (textOf w (now (a .a))) (textOf (a .wide-b) (now (a .b)))) (sym same)
+    let same : a .utf16-a ≡ a .utf16-b = beq-true (a .utf16-a) (a .utf16-b) (c .before .if2 .taken) in
+    c .same-bytes .ensures ∙ plain-same (a .utf16-b) (now (a .a)) (now (a .b)) in-a in-b (s .pre .holds (c .before .before .if1 .taken))
+    ∙ ap (λ (w : Bool). eqBytes (textOf w (now (a .a))) (textOf (a .utf16-b) (now (a .b)))) (sym same)
 
 same-text-requires : tie.Need-same-text-requires
 same-text-requires c κs = search needs

@@ -12,11 +12,11 @@ use Rattle.utf.proofs.same.same_steps.Statement.{statement}
 use Rattle.utf.proofs.same.same_steps.Tie as tie
 
 abbrev Inv-loop : tie.InvT-loop
-Inv-loop wide-a a wide-b b i₀ j₀ i j =
-    eqBytes (bytesOf (stepsOf wide-a (drop i a))) (bytesOf (stepsOf wide-b (drop j b))) ≡ eqBytes (bytesOf (stepsOf wide-a a)) (bytesOf (stepsOf wide-b b))
+Inv-loop utf16-a a utf16-b b i₀ j₀ i j =
+    eqBytes (bytesOf (stepsOf utf16-a (drop i a))) (bytesOf (stepsOf utf16-b (drop j b))) ≡ eqBytes (bytesOf (stepsOf utf16-a a)) (bytesOf (stepsOf utf16-b b))
 
 abbrev μ-loop : tie.MeasureT-loop
-μ-loop wide-a a wide-b b i₀ j₀ i j = length a - i
+μ-loop utf16-a a utf16-b b i₀ j₀ i j = length a - i
 
 loop-holds : tie.Need-loop-holds Inv-loop μ-loop
 loop-holds c = refl
@@ -44,8 +44,8 @@ returns-3 : tie.Need-returns-3 Inv-loop μ-loop
 returns-3 c =
     let a = c .before .before .before .before .args in
     let l = c .before .loop in
-    left-none (a .wide-b) (now (a .b)) (l .j) ∙ ap (λ (x : List ℕ). eqBytes x (bytesOf (stepsOf (a .wide-b) (drop (l .j) (now (a .b))))))
-    (sym (end-bytes (a .wide-a) (now (a .a)) (l .i) (c .loop-test .left))) ∙ l .inv
+    left-none (a .utf16-b) (now (a .b)) (l .j) ∙ ap (λ (x : List ℕ). eqBytes x (bytesOf (stepsOf (a .utf16-b) (drop (l .j) (now (a .b))))))
+    (sym (end-bytes (a .utf16-a) (now (a .a)) (l .i) (c .loop-test .left))) ∙ l .inv
 
 pub same-steps-spec : {M : Type 1} → statement M
 same-steps-spec =

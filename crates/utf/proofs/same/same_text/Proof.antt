@@ -7,23 +7,23 @@ use borrow.Author.Needs.{needs}
 use Rattle.utf.proofs.same.same_text.Statement.{statement}
 use Rattle.utf.proofs.same.same_text.Tie as tie
 
-same-wide-requires : tie.Need-same-wide-requires
-same-wide-requires c κs = search needs
+same-utf16-requires : tie.Need-same-utf16-requires
+same-utf16-requires c κs = search needs
 
 returns : tie.Need-returns
-returns c = rw (c .before .before .if1 .taken, c .before .if2 .taken) (c .same-wide .ensures)
+returns c = rw (c .before .before .if1 .taken, c .before .if2 .taken) (c .same-utf16 .ensures)
 
 is-far-longer-requires : tie.Need-is-far-longer-requires
 is-far-longer-requires c κs = search needs
 
 returns-2 : tie.Need-returns-2
-returns-2 c = sym (c .before .is-far-longer .ensures (c .if3 .taken) (c .before .before .before .before .before .args .wide-a) .0)
+returns-2 c = sym (c .before .is-far-longer .ensures (c .if3 .taken) (c .before .before .before .before .before .args .utf16-a) .0)
 
 is-far-longer-requires-2 : tie.Need-is-far-longer-requires-2
 is-far-longer-requires-2 c κs = search needs
 
 returns-3 : tie.Need-returns-3
-returns-3 c = sym (c .before .is-far-longer2 .ensures (c .if4 .taken) (c .before .before .before .before .before .before .before .args .wide-b) .1)
+returns-3 c = sym (c .before .is-far-longer2 .ensures (c .if4 .taken) (c .before .before .before .before .before .before .before .args .utf16-b) .1)
 
 is-refused-requires : tie.Need-is-refused-requires
 is-refused-requires c κs = search needs
@@ -36,21 +36,21 @@ unfolding eqBytes
 returns-4 c =
     let a = c .before .before .before .before .before .before .before .before .before .before .before .args in
     rw (
-      textOf-refused (a .wide-a) (now (a .a)) (sym (c .before .before .is-refused2 .ensures) ∙ c .before .if5 .taken),
-      textOf-refused (a .wide-b) (now (a .b)) (sym (c .before .before .before .is-refused .ensures) ∙ c .if6 .taken),
+      textOf-refused (a .utf16-a) (now (a .a)) (sym (c .before .before .is-refused2 .ensures) ∙ c .before .if5 .taken),
+      textOf-refused (a .utf16-b) (now (a .b)) (sym (c .before .before .before .is-refused .ensures) ∙ c .if6 .taken),
     ) (c .if6 .taken)
 
 returns-5 : tie.Need-returns-5
 returns-5 c =
     let a = c .before .before .before .before .before .before .before .before .before .before .before .args in
-    rw (textOf-refused (a .wide-a) (now (a .a)) (sym (c .before .before .is-refused2 .ensures) ∙ c .before .if5 .taken))
-    (textOf-empty (a .wide-b) (now (a .b)) (sym (c .before .before .before .is-refused .ensures) ∙ c .if6 .left) .1)
+    rw (textOf-refused (a .utf16-a) (now (a .a)) (sym (c .before .before .is-refused2 .ensures) ∙ c .before .if5 .taken))
+    (textOf-empty (a .utf16-b) (now (a .b)) (sym (c .before .before .before .is-refused .ensures) ∙ c .if6 .left) .1)
 
 returns-6 : tie.Need-returns-6
 returns-6 c =
     let a = c .before .before .before .before .before .before .before .before .before .before .before .args in
-    rw (textOf-refused (a .wide-b) (now (a .b)) (sym (c .before .before .before .is-refused .ensures) ∙ c .if7 .taken))
-    (textOf-empty (a .wide-a) (now (a .a)) (sym (c .before .before .is-refused2 .ensures) ∙ c .before .if5 .left) .0)
+    rw (textOf-refused (a .utf16-b) (now (a .b)) (sym (c .before .before .before .is-refused .ensures) ∙ c .if7 .taken))
+    (textOf-empty (a .utf16-a) (now (a .a)) (sym (c .before .before .is-refused2 .ensures) ∙ c .before .if5 .left) .0)
 
 same-steps-requires : tie.Need-same-steps-requires
 same-steps-requires c κs = search needs
@@ -59,15 +59,15 @@ returns-7 : tie.Need-returns-7
 returns-7 c =
     let a = c .before .before .before .before .before .before .before .before .before .before .before .before .args in
     rw (
-      textOf-kept (a .wide-a) (now (a .a)) (sym (c .before .before .before .is-refused2 .ensures) ∙ c .before .before .if5 .left),
-      textOf-kept (a .wide-b) (now (a .b)) (sym (c .before .before .before .before .is-refused .ensures) ∙ c .before .if7 .left),
+      textOf-kept (a .utf16-a) (now (a .a)) (sym (c .before .before .before .is-refused2 .ensures) ∙ c .before .before .if5 .left),
+      textOf-kept (a .utf16-b) (now (a .b)) (sym (c .before .before .before .before .is-refused .ensures) ∙ c .before .if7 .left),
     ) (c .same-steps .ensures)
 
 pub same-text-spec : {M : Type 1} → statement M
 same-text-spec =
     tie.close
     (tie.spec
-    same-wide-requires
+    same-utf16-requires
     returns
     is-far-longer-requires
     returns-2

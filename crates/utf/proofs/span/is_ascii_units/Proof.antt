@@ -7,7 +7,7 @@ use lib.ListN.{length, drop}
 use denote.Ref.{now}
 use borrow.Author.Tests.{lt-ltb, le-ltb}
 use borrow.Author.Needs.{needs}
-use Rattle.utf.specs.Inner.Told.{asciiUnits}
+use Rattle.utf.specs.Inner.StepRuns.{asciiUnits}
 use Rattle.utf.proofs.AsciiText.{seenUnits, seenUnits-next, seenUnits-end, asciiUnits-odd}
 use Rattle.utf.proofs.span.is_ascii_units.Statement.{statement}
 use Rattle.utf.proofs.span.is_ascii_units.Tie as tie
@@ -70,4 +70,6 @@ returns-3 c =
     sym (rw (le-ltb (l .low) 128 (c .if2 .left)) at (sym (l .inv .1) ∙ seenUnits-end (now (c .before .before .before .before .before .args .s)) (l .i) (l .low) (l .high) (omega arith)))
 
 pub is-ascii-units-spec : {M : Type 1} → statement M
-is-ascii-units-spec = tie.close (tie.spec Inv-loop μ-loop returns loop-holds mul-greater shared-slice-read-greater greater-requires mul-greater-2 add-greater shared-slice-read-greater-2 greater-requires-2 add-i loop-less loop-again returns-2 returns-3)
+is-ascii-units-spec =
+    tie.close (tie.spec Inv-loop μ-loop returns loop-holds mul-greater shared-slice-read-greater greater-requires mul-greater-2 add-greater
+    shared-slice-read-greater-2 greater-requires-2 add-i loop-less loop-again returns-2 returns-3)

@@ -7,7 +7,7 @@ use native.Mathlib.Omega.{arith}
 use lib.ListN.{length}
 use denote.Ref.{now}
 use borrow.Author.Needs.{needs}
-use Rattle.utf.specs.Inner.Told.{isBasic}
+use Rattle.utf.specs.Inner.StepRuns.{isBasic}
 use Rattle.utf.proofs.Blocks.{seenBasic, seenBasic-put, seenBasic-kept, seenBasic-end}
 use Rattle.utf.proofs.span.is_basic.Statement.{statement}
 use Rattle.utf.proofs.span.is_basic.Tie as tie

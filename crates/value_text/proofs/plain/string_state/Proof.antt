@@ -13,7 +13,7 @@ is-found-requires c κs = search needs
 returns : tie.Need-returns
 returns c =
     let a = c .before .before .before .before .args in
-    string-none (a .wide) (now (a .t)) (now (a .area)) (a .f) refl (sym (c .before .is-found .ensures) ∙ not-true _ (c .if1 .taken))
+    string-none (a .utf16) (now (a .t)) (now (a .area)) (a .f) refl (sym (c .before .is-found .ensures) ∙ not-true _ (c .if1 .taken))
 
 found-told-requires : tie.Need-found-told-requires
 found-told-requires c κs = search needs
@@ -21,7 +21,7 @@ found-told-requires c κs = search needs
 returns-2 : tie.Need-returns-2
 returns-2 c =
     let a = c .before .before .before .before .before .args in
-    string-some (a .wide) (now (a .t)) (now (a .area)) (a .f) refl (sym (c .before .before .is-found .ensures) ∙ not-false _ (c .before .if1 .left)) (c .found-told .ensures)
+    string-some (a .utf16) (now (a .t)) (now (a .area)) (a .f) refl (sym (c .before .before .is-found .ensures) ∙ not-false _ (c .before .if1 .left)) (c .found-told .ensures)
 
 pub string-state-spec : {M : Type 1} → statement M
 string-state-spec =

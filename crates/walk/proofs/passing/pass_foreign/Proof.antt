@@ -3,7 +3,7 @@ use Prim.Native.Nat.{_-_}
 use native.Mathlib.Omega.{arith}
 use lib.ListN.{length}
 use Rattle.walk.specs.Inner.Pass.{Reaches}
-use Rattle.walk.proofs.Quiet.{reaches-here, reaches-on}
+use Rattle.walk.proofs.PastCap.{reaches-here, reaches-on}
 use Rattle.walk.proofs.passing.pass_foreign.Statement.{statement}
 use Rattle.walk.proofs.passing.pass_foreign.Tie as tie
 

@@ -1,9 +1,9 @@
--- `walk::passing::pass_in` meets its contract: the cursor stays, or it goes behind the foreign chunks (proofs/Quiet.antt).
+-- `walk::passing::pass_in` meets its contract: the cursor stays, or it goes behind the foreign chunks (proofs/PastCap.antt).
 use borrow.Author.Needs.{needs}
 use Rattle.anomaly.specs.declared.ResAnomaly.the-variants.{NonXmlChunk}
 use Rattle.anomaly.proofs.Laws.{kindIndex-lt}
 use Rattle.head.specs.Head.{bodyIn}
-use Rattle.walk.proofs.Quiet.{past-cap, on-here, on-chunk}
+use Rattle.walk.proofs.PastCap.{past-cap, on-here, on-chunk}
 use Rattle.walk.proofs.passing.pass_in.Statement.{statement}
 use Rattle.walk.proofs.passing.pass_in.Tie as tie
 

@@ -1,6 +1,6 @@
 -- `walk::passing::pass_one` meets its contract: a chunk of the one sort, of the other, or of neither.
 use borrow.Author.Needs.{needs}
-use Rattle.walk.proofs.Quiet.{reaches-here, reaches-0, reaches-1}
+use Rattle.walk.proofs.PastCap.{reaches-here, reaches-0, reaches-1}
 use Rattle.walk.proofs.passing.pass_one.Statement.{statement}
 use Rattle.walk.proofs.passing.pass_one.Tie as tie
 

@@ -41,7 +41,8 @@ returns c =
       (let a = at-start .args in
           let q = at-keep .keep in
           λ o h l.
-          keep-same (byPrefix (sameName (a .h) (a .t .now) (lends (a .names .now) (a .area .now)))) (keyBy (a .h) (a .t .now) (lends (a .names .now) (a .area .now))) (a .nodes .now) (a .attributes .now) (q .last .1 .1 .1 .1 .0)
+          keep-same (byPrefix (sameName (a .h) (a .t .now) (lends (a .names .now) (a .area .now))))
+          (keyBy (a .h) (a .t .now) (lends (a .names .now) (a .area .now))) (a .nodes .now) (a .attributes .now) (q .last .1 .1 .1 .1 .0)
           (q .last .1 .1 .1 .1 .1 .0)
           (a .tree) o h l (a .prefix) (a .a) (c .enum-told .given .1) (q .ensures .0 l)),
       at-keep .keep .ensures .1,
@@ -66,7 +67,8 @@ returns-2 c =
       (let a = at-start .args in
           let q = at-keep .keep in
           λ o h l.
-          keep-full (byPrefix (sameName (a .h) (a .t .now) (lends (a .names .now) (a .area .now)))) (keyBy (a .h) (a .t .now) (lends (a .names .now) (a .area .now))) (a .nodes .now) (a .attributes .now) (q .last .1 .1 .1 .1 .0)
+          keep-full (byPrefix (sameName (a .h) (a .t .now) (lends (a .names .now) (a .area .now))))
+          (keyBy (a .h) (a .t .now) (lends (a .names .now) (a .area .now))) (a .nodes .now) (a .attributes .now) (q .last .1 .1 .1 .1 .0)
           (q .last .1 .1 .1 .1 .1 .0)
           (a .tree) o h l (a .prefix) (a .a) (length (q .last .1 .1 .1 .1 .1 .0)) (c .enum-told2 .given .1) (q .ensures .0 l) (q .kept .1 .1 .1 .1 .1 .0)),
       at-keep .keep .ensures .1,
@@ -91,7 +93,8 @@ returns-3 c =
       (let a = at-start .args in
           let q = at-keep .keep in
           λ o h l.
-          keep-stored (byPrefix (sameName (a .h) (a .t .now) (lends (a .names .now) (a .area .now)))) (keyBy (a .h) (a .t .now) (lends (a .names .now) (a .area .now))) (a .nodes .now) (a .attributes .now) (q .last .1 .1 .1 .1 .0)
+          keep-stored (byPrefix (sameName (a .h) (a .t .now) (lends (a .names .now) (a .area .now))))
+          (keyBy (a .h) (a .t .now) (lends (a .names .now) (a .area .now))) (a .nodes .now) (a .attributes .now) (q .last .1 .1 .1 .1 .0)
           (q .last .1 .1 .1 .1 .1 .0) (a .tree) o h l (a .prefix) (a .a) (c .before .p .given .0 .0) (c .before .p .given .1) (q .ensures .0 l) (q .kept .1 .1 .1 .1 .0)
           (q .kept .1 .1 .1 .1 .1 .0)),
       at-keep .keep .ensures .1,

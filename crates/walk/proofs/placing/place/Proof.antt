@@ -1,9 +1,9 @@
--- `walk::placing::place` meets its contract: one answer for each event (proofs/Asking.antt).
+-- `walk::placing::place` meets its contract: one answer for each event (proofs/EventCases.antt).
 use mathlib.Core.Path.{sym, _∙_}
 use Rattle.records.specs.Repeats.{byPrefix}
 use Rattle.text.specs.Content.{sameName}
 use Rattle.tables.specs.Inner.Keys.{keyBy}
-use Rattle.walk.proofs.Asking.{not-end, not-other, place-as, place-nothing, place-left, place-refused}
+use Rattle.walk.proofs.EventCases.{not-end, not-other, place-as, place-nothing, place-left, place-refused}
 use borrow.Author.Needs.{needs}
 use Rattle.system_types.specs.Names.{lends}
 use Rattle.walk.proofs.placing.place.Statement.{statement}

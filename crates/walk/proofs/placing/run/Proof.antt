@@ -9,7 +9,7 @@ use Rattle.tables.specs.Inner.Numbered.{Numbered}
 use Rattle.events.specs.Inner.Pending.{steps}
 use Rattle.events.specs.Inner.Remembered.{Remembers}
 use Rattle.walk.specs.Inner.Run.{Running}
-use Rattle.walk.proofs.Asking.{asks-for}
+use Rattle.walk.proofs.EventCases.{asks-for}
 use Rattle.walk.proofs.Running.{RunHead, run-first, fit-of, run-less, run-goes, run-full, run-due, run-finished}
 use Rattle.walk.proofs.placing.run.Statement.{statement}
 use Rattle.walk.proofs.placing.run.Tie as tie
@@ -56,7 +56,8 @@ loop-less c =
     let at-place = c .before .before .before .before .before .before .before .before .before in
     let at-step-at = c .before .before .before .before .before .before .before .before .before .before .before .before .before .before .before .before in
     let at-loop = c .before .before .before .before .before .before .before .before .before .before .before .before .before .before .before .before .before .before in
-    let at-start = c .before .before .before .before .before .before .before .before .before .before .before .before .before .before .before .before .before .before .before .before .before .before .before .before .before .before .before in
+    let at-start = c .before .before .before .before .before .before .before .before .before .before .before .before .before .before .before .before
+    .before .before .before .before .before .before .before .before .before .before .before in
     let a = at-start .args in
     let l = at-loop .loop in
     let s = at-step-at .step-at in
@@ -72,7 +73,8 @@ loop-again c =
     let at-place = c .before .before .before .before .before .before .before .before .before in
     let at-step-at = c .before .before .before .before .before .before .before .before .before .before .before .before .before .before .before .before in
     let at-loop = c .before .before .before .before .before .before .before .before .before .before .before .before .before .before .before .before .before .before in
-    let at-start = c .before .before .before .before .before .before .before .before .before .before .before .before .before .before .before .before .before .before .before .before .before .before .before .before .before .before .before in
+    let at-start = c .before .before .before .before .before .before .before .before .before .before .before .before .before .before .before .before
+    .before .before .before .before .before .before .before .before .before .before .before in
     let a = at-start .args in
     let l = at-loop .loop in
     let s = at-step-at .step-at in
@@ -101,13 +103,15 @@ same-length-2 c = search needs
 same-length-3 : tie.Need-same-length-3 Inv-loop μ-loop
 same-length-3 c =
     let at-step-at = c .before .before .before .before .before .before .before .before .before .before .before .before .before .before .before .before in
-    let at-start = c .before .before .before .before .before .before .before .before .before .before .before .before .before .before .before .before .before .before .before .before .before .before .before .before .before .before .before in
+    let at-start = c .before .before .before .before .before .before .before .before .before .before .before .before .before .before .before .before
+    .before .before .before .before .before .before .before .before .before .before .before in
     at-step-at .step-at .ensures .1 .room ∙ sym (at-start .pre .1 .room)
 
 same-length-4 : tie.Need-same-length-4 Inv-loop μ-loop
 same-length-4 c =
     let at-place = c .before .before .before .before .before .before .before .before .before in
-    let at-start = c .before .before .before .before .before .before .before .before .before .before .before .before .before .before .before .before .before .before .before .before .before .before .before .before .before .before .before in
+    let at-start = c .before .before .before .before .before .before .before .before .before .before .before .before .before .before .before .before
+    .before .before .before .before .before .before .before .before .before .before .before in
     at-place .place .ensures .2 .room ∙ sym (at-start .pre .2 .room)
 
 returns : tie.Need-returns Inv-loop μ-loop
@@ -115,7 +119,8 @@ returns c =
     let at-place = c .before .before .before .before .before .before .before .before .before in
     let at-step-at = c .before .before .before .before .before .before .before .before .before .before .before .before .before .before .before .before in
     let at-loop = c .before .before .before .before .before .before .before .before .before .before .before .before .before .before .before .before .before .before in
-    let at-start = c .before .before .before .before .before .before .before .before .before .before .before .before .before .before .before .before .before .before .before .before .before .before .before .before .before .before .before in
+    let at-start = c .before .before .before .before .before .before .before .before .before .before .before .before .before .before .before .before
+    .before .before .before .before .before .before .before .before .before .before .before in
     let a = at-start .args in
     let l = at-loop .loop in
     let s = at-step-at .step-at in
@@ -142,13 +147,15 @@ same-length-6 c = search needs
 same-length-7 : tie.Need-same-length-7 Inv-loop μ-loop
 same-length-7 c =
     let at-step-at = c .before .before .before .before .before .before .before .before .before .before .before .before .before .before .before .before in
-    let at-start = c .before .before .before .before .before .before .before .before .before .before .before .before .before .before .before .before .before .before .before .before .before .before .before .before .before .before .before in
+    let at-start = c .before .before .before .before .before .before .before .before .before .before .before .before .before .before .before .before
+    .before .before .before .before .before .before .before .before .before .before .before in
     at-step-at .step-at .ensures .1 .room ∙ sym (at-start .pre .1 .room)
 
 same-length-8 : tie.Need-same-length-8 Inv-loop μ-loop
 same-length-8 c =
     let at-place = c .before .before .before .before .before .before .before .before .before in
-    let at-start = c .before .before .before .before .before .before .before .before .before .before .before .before .before .before .before .before .before .before .before .before .before .before .before .before .before .before .before in
+    let at-start = c .before .before .before .before .before .before .before .before .before .before .before .before .before .before .before .before
+    .before .before .before .before .before .before .before .before .before .before .before in
     at-place .place .ensures .2 .room ∙ sym (at-start .pre .2 .room)
 
 returns-2 : tie.Need-returns-2 Inv-loop μ-loop
@@ -156,7 +163,8 @@ returns-2 c =
     let at-place = c .before .before .before .before .before .before .before .before .before in
     let at-step-at = c .before .before .before .before .before .before .before .before .before .before .before .before .before .before .before .before in
     let at-loop = c .before .before .before .before .before .before .before .before .before .before .before .before .before .before .before .before .before .before in
-    let at-start = c .before .before .before .before .before .before .before .before .before .before .before .before .before .before .before .before .before .before .before .before .before .before .before .before .before .before .before in
+    let at-start = c .before .before .before .before .before .before .before .before .before .before .before .before .before .before .before .before
+    .before .before .before .before .before .before .before .before .before .before .before in
     let a = at-start .args in
     let l = at-loop .loop in
     let s = at-step-at .step-at in
@@ -183,13 +191,15 @@ same-length-10 c = search needs
 same-length-11 : tie.Need-same-length-11 Inv-loop μ-loop
 same-length-11 c =
     let at-step-at = c .before .before .before .before .before .before .before .before .before .before .before .before .before .before .before in
-    let at-start = c .before .before .before .before .before .before .before .before .before .before .before .before .before .before .before .before .before .before .before .before .before .before .before .before .before .before in
+    let at-start = c .before .before .before .before .before .before .before .before .before .before .before .before .before .before .before .before
+    .before .before .before .before .before .before .before .before .before .before in
     at-step-at .step-at .ensures .1 .room ∙ sym (at-start .pre .1 .room)
 
 same-length-12 : tie.Need-same-length-12 Inv-loop μ-loop
 same-length-12 c =
     let at-place = c .before .before .before .before .before .before .before .before in
-    let at-start = c .before .before .before .before .before .before .before .before .before .before .before .before .before .before .before .before .before .before .before .before .before .before .before .before .before .before in
+    let at-start = c .before .before .before .before .before .before .before .before .before .before .before .before .before .before .before .before
+    .before .before .before .before .before .before .before .before .before .before in
     at-place .place .ensures .2 .room ∙ sym (at-start .pre .2 .room)
 
 returns-3 : tie.Need-returns-3 Inv-loop μ-loop
@@ -197,7 +207,8 @@ returns-3 c =
     let at-place = c .before .before .before .before .before .before .before .before in
     let at-step-at = c .before .before .before .before .before .before .before .before .before .before .before .before .before .before .before in
     let at-loop = c .before .before .before .before .before .before .before .before .before .before .before .before .before .before .before .before .before in
-    let at-start = c .before .before .before .before .before .before .before .before .before .before .before .before .before .before .before .before .before .before .before .before .before .before .before .before .before .before in
+    let at-start = c .before .before .before .before .before .before .before .before .before .before .before .before .before .before .before .before
+    .before .before .before .before .before .before .before .before .before .before in
     let a = at-start .args in
     let l = at-loop .loop in
     let s = at-step-at .step-at in

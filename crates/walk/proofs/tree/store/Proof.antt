@@ -37,7 +37,15 @@ same-length-2 : tie.Need-same-length-2
 same-length-2 c = search needs
 
 returns : tie.Need-returns
-returns c = record { tree = c .kept .ensures; attributes = rw (c .before .before .before .before .before .before .before .before .before .before .before .attribute-place .ensures) at (c .before .before .before .before .before .before .before .before .before .before .put-attribute .ensures); nodes = rw (c .before .before .before .before .before .before .node-place .ensures) at (c .before .before .before .put-one .ensures) }
+returns c =
+    record {
+      tree = c .kept .ensures;
+      attributes = rw
+          (c .before .before .before .before .before .before .before .before .before .before .before .attribute-place .ensures) at
+          (c .before .before .before .before .before .before .before .before .before .before .put-attribute .ensures);
+      nodes = rw
+          (c .before .before .before .before .before .before .node-place .ensures) at (c .before .before .before .put-one .ensures);
+    }
 
 pub store-spec : {M : Type 1} → statement M
 store-spec =

@@ -1,16 +1,16 @@
 -- `xml::chars::chars_run` meets its contract. Invariant: what was passed is chars (`Passed`). Measure: the bytes left before `to`.
 use Prim.Native.Nat.{_-_}
 use native.Mathlib.Omega.{arith}
-use Rattle.xml.specs.Inner.Told.{Passed}
+use Rattle.xml.specs.Inner.NameRun.{Passed}
 use Rattle.xml.proofs.Names.{passed-on, passed-more, reached-to, reached-none}
 use Rattle.xml.proofs.chars.chars_run.Statement.{statement}
 use Rattle.xml.proofs.chars.chars_run.Tie as tie
 
 abbrev Inv-loop : tie.InvT-loop
-Inv-loop classes wide s at to i₀ i = Passed wide s at i
+Inv-loop classes utf16 s at to i₀ i = Passed utf16 s at i
 
 abbrev μ-loop : tie.MeasureT-loop
-μ-loop classes wide s at to i₀ i = to - i
+μ-loop classes utf16 s at to i₀ i = to - i
 
 seen-run-requires : tie.Need-seen-run-requires Inv-loop μ-loop
 seen-run-requires c κs = c .before .before .pre

@@ -7,7 +7,7 @@ use borrow.Author.Needs.{needs}
 use borrow.Author.Tests.{not-false}
 use lib.ListN.{getD}
 use denote.Ref.{now}
-use Rattle.xml.specs.Inner.Told.{Passed}
+use Rattle.xml.specs.Inner.NameRun.{Passed}
 use Rattle.xml.proofs.Names.{passed-none}
 use Rattle.xml.proofs.Passing.{passed-far}
 use Rattle.xml.proofs.chars.far_run.Statement.{statement}
