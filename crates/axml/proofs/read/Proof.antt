@@ -3,7 +3,7 @@
 --
 -- The borrow of the note table is opened once, before the loop, and shut after it. In a turn the word tables are passed
 -- on to `advance`, each for a lifetime that is made for the call, and are taken back; then one note is stored.
--- All that the walk knows of `begin` and of `advance` is their contracts. What the turns come to is Points.antt's.
+-- All that the walk knows of `begin` and of `advance` is their contracts. What the turns come to is LoopInvariant.antt's.
 mod LoopInvariant
 use mathlib.Core.Path.{_≡_, refl, sym, _∙_, ap, subst}
 use Prim.Native.Nat.{ℕ, _<_, _*_, _^_}
@@ -504,7 +504,8 @@ module _ {M : Type 1} (𝓤 : URA M) (H : Heap 𝓤) (A : Atoms 𝓤) (W : Given
           (fact 𝓤 (AdvanceKeeps xs-file (lends xs-names xs-area) (p .now-nodes) (p .now-attributes) (p .st) r (zs .1 .1 .1 .0) (zs .1 .1 .1 .1 .0)))))
           (id⊢ 𝓤 _) $
           pick ! (λ zs. split ! $ move ! (1 ∷ []) $
-          heard ! (AdvanceKeeps xs-file (lends xs-names xs-area) (p .now-nodes) (p .now-attributes) (p .st) r (zs .1 .1 .1 .0) (zs .1 .1 .1 .1 .0)) (λ e.
+          heard ! (AdvanceKeeps xs-file (lends xs-names xs-area) (p .now-nodes) (p .now-attributes) (p .st) r (zs .1 .1 .1 .0) (zs .1 .1 .1 .1 .0))
+          (λ e.
           fsplit ! $ drop ! $ fsplit ! $ drop ! $ fsplit ! $ drop ! $ fsplit ! $ fsplit ! $ move ! (1 ∷ []) $ feqL ! (λ lz-nodes. move ! (1 ∷ []) $
           fsplit ! $ fsplit ! $ move ! (1 ∷ []) $ feqL ! (λ lz-attributes. move ! (3 ∷ []) $ split ! $ move ! (1 ∷ []) $
           facts ! S.the-row (Is S.the-row) (shows 𝓤 H A S.the-row) r (w ∷ []) (λ is.
