@@ -1,7 +1,7 @@
 // What was asked for and what was right, in one table of numbers: two for each group, and the sets of names.
-use stored::print_group;
-use stored::print_one;
-use stored::say;
+use libc::STDOUT_FILENO;
+use stored::count_at;
+use stored::put_group;
 use stored::tally;
 
 // Groups 0 to 63 are the readings with that refusal, 64 to 127 the first values; 0 and 64 are those that are not refused.
@@ -30,6 +30,17 @@ pub(crate) fn tally_refusal(counts: &mut [u32], groups: usize, refusal: u32, rig
 }
 
 // ---- the report
+
+fn say(s: &[u8]) {
+    io::write_all(STDOUT_FILENO, s);
+}
+
+fn print_group(label: &[u8], counts: &[u32], group: usize) {
+    let mut line = [0u8; 25];
+    let n = put_group(&mut line, counts, group);
+    say(label);
+    say(&line[..n]);
+}
 
 fn print_readings(counts: &[u32]) {
     print_group(b"readings ", counts, READINGS);
@@ -74,7 +85,8 @@ fn print_firsts(counts: &[u32]) {
 }
 
 pub(crate) fn print_counts(counts: &[u32]) {
-    print_one(b"sets of names ", counts, SETS);
+    say(b"sets of names ");
+    io::print_decimal(STDOUT_FILENO, count_at(counts, SETS) as u64);
     say(b"\n");
     print_readings(counts);
     print_firsts(counts);

@@ -8,7 +8,6 @@ use axml::is_valid_name;
 use stored::load;
 use stored::part;
 use stored::tally;
-use stored::to_u64;
 use stored::word;
 
 // ---- first values
@@ -18,7 +17,7 @@ fn is_first(row: &[u8], a: FirstNumbers) -> bool {
     if a.refusal != word(row, 3) {
         return false;
     }
-    if a.value != to_u64(word(row, 4)) {
+    if a.value != word(row, 4) as u64 {
         return false;
     }
     if a.kind != word(row, 5) {
@@ -90,10 +89,10 @@ fn complex_bits(data: u32) -> u64 {
 
 // Whether a number is made of these two halves.
 fn is_made(n: u64, low: u32, high: u32) -> bool {
-    if n / 4294967296 != to_u64(high) {
+    if n / 4294967296 != high as u64 {
         return false;
     }
-    n % 4294967296 == to_u64(low)
+    n % 4294967296 == low as u64
 }
 
 // Its row: the data, the low and the high half of the bits.

@@ -13,7 +13,6 @@ use records::LISTED_NOTES;
 use records::NOTE_WORDS;
 use stored::part;
 use stored::tally;
-use stored::to_u64;
 use stored::word;
 
 // ---- an answer
@@ -23,7 +22,7 @@ fn tells(row: &[u8], n: Numbers) -> bool {
     if n.refusal != word(row, 6) {
         return false;
     }
-    if n.value != to_u64(word(row, 7)) {
+    if n.value != word(row, 7) as u64 {
         return false;
     }
     if n.starts != word(row, 8) {

@@ -1,10 +1,8 @@
 // What was asked for and what was right, in one table of numbers: two for each group, then the files and the sets of names.
+use libc::STDOUT_FILENO;
 use stored::bump;
 use stored::count_at;
-use stored::print_group;
-use stored::print_one;
-use stored::say;
-use stored::to_u64;
+use stored::put_group;
 
 // Groups 1 to 63 are the refusals with that number.
 pub const TEXTS: usize = 0;
@@ -20,16 +18,29 @@ pub const SETS: usize = 133;
 
 // A file is new where its number is how many there were: they are numbered in the order in which they are asked about.
 pub(crate) fn new_file(counts: &mut [u32], number: u32) {
-    if count_at(counts, FILES) == to_u64(number) {
+    if count_at(counts, FILES) == number {
         bump(counts, FILES);
     }
 }
 
 // ---- the report
 
+fn say(s: &[u8]) {
+    io::write_all(STDOUT_FILENO, s);
+}
+
+fn print_group(label: &[u8], counts: &[u32], group: usize) {
+    let mut line = [0u8; 25];
+    let n = put_group(&mut line, counts, group);
+    say(label);
+    say(&line[..n]);
+}
+
 pub(crate) fn print_counts(counts: &[u32]) {
-    print_one(b"files ", counts, FILES);
-    print_one(b", sets of names ", counts, SETS);
+    say(b"files ");
+    io::print_decimal(STDOUT_FILENO, count_at(counts, FILES) as u64);
+    say(b", sets of names ");
+    io::print_decimal(STDOUT_FILENO, count_at(counts, SETS) as u64);
     say(b"\n");
     print_group(b"texts ", counts, TEXTS);
     print_group(b"buffers just right and one short ", counts, BUFFERS);

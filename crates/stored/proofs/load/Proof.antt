@@ -1,31 +1,35 @@
--- `stored::load` is safe and ends: it keeps the length of the table, and stays within the words.
-use Prim.Native.Nat.{_≤_, _-_}
-use mathlib.Core.Path.{_≡_}
+-- `stored::load` meets its contract. Invariant: the first n words stand at the front, and the rest is as it was. Measure: the places left.
+use Prim.Native.Nat.{_≤_, _-_, _/_}
+use mathlib.Core.Path.{_≡_, refl}
+use mathlib.Core.List.{_++_}
+use native.Mathlib.Omega.{arith}
 use borrow.Author.Needs.{needs}
-use lib.ListN.{length}
+use lib.ListN.{length, drop}
+use Rattle.stored.specs.Inner.Data.{wordsTo}
+use Rattle.stored.proofs.Laws.{filled-none, filled-step, filled-whole}
 use Rattle.stored.proofs.load.Statement.{statement}
 use Rattle.stored.proofs.load.Tie as tie
 
 abbrev Inv-loop : tie.InvT-loop
-Inv-loop words table₀ n₀ at₀ table n at = (n ≤ length table₀) × (at ≤ length words) × (length table ≡ length table₀)
+Inv-loop words table₀ n₀ table n =
+    (n ≤ length table₀) × (n ≤ length words / 4) × (length table ≡ length table₀) × (table ≡ wordsTo n words ++ drop n table₀)
 
 abbrev μ-loop : tie.MeasureT-loop
-μ-loop words table₀ n₀ at₀ table n at = length table₀ - n
+μ-loop words table₀ n₀ table n = length table₀ - n
 
 loop-holds : tie.Need-loop-holds Inv-loop μ-loop
-loop-holds c = search needs
-
-sub-if1 : tie.Need-sub-if1 Inv-loop μ-loop
-sub-if1 c = search needs
+loop-holds c = (search needs, search needs, refl, filled-none _ _)
 
 same-length : tie.Need-same-length Inv-loop μ-loop
 same-length c = search needs
 
 returns : tie.Need-returns Inv-loop μ-loop
-returns c = search needs
+returns c =
+    let l = c .before .before .loop in
+    (search needs, filled-whole _ _ (l .n) (l .inv .3) (omega arith))
 
-u32-at-requires : tie.Need-u32-at-requires Inv-loop μ-loop
-u32-at-requires c κs = search needs
+word-requires : tie.Need-word-requires Inv-loop μ-loop
+word-requires c κs = search needs
 
 mul-table : tie.Need-mul-table Inv-loop μ-loop
 mul-table c = search needs
@@ -36,20 +40,21 @@ slice-write-table c = search needs
 add-n : tie.Need-add-n Inv-loop μ-loop
 add-n c = search needs
 
-add-at : tie.Need-add-at Inv-loop μ-loop
-add-at c = search needs
-
 loop-less : tie.Need-loop-less Inv-loop μ-loop
 loop-less c = search needs
 
 loop-again : tie.Need-loop-again Inv-loop μ-loop
-loop-again c = search needs
+loop-again c =
+    let l = c .before .before .before .loop in
+    (search needs, search needs, search needs, filled-step _ _ (l .n) (l .inv .3) (omega arith) (c .word .ensures))
 
 same-length-2 : tie.Need-same-length-2 Inv-loop μ-loop
 same-length-2 c = search needs
 
 returns-2 : tie.Need-returns-2 Inv-loop μ-loop
-returns-2 c = search needs
+returns-2 c =
+    let l = c .before .loop in
+    (search needs, filled-whole _ _ (l .n) (l .inv .3) (omega arith))
 
 pub load-spec : {M : Type 1} → statement M
 load-spec =
@@ -58,14 +63,12 @@ load-spec =
     Inv-loop
     μ-loop
     loop-holds
-    sub-if1
     same-length
     returns
-    u32-at-requires
+    word-requires
     mul-table
     slice-write-table
     add-n
-    add-at
     loop-less
     loop-again
     same-length-2
