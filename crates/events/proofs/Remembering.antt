@@ -22,7 +22,7 @@ use Rattle.events.specs.declared.Phase.the-variants.{AtNamed, AtOpen}
 use Rattle.events.specs.declared.Cursor.{Cursor}
 use Rattle.events.specs.declared.Step.{Step}
 use Rattle.events.specs.Inner.Steps.{toStep, openStep, namedStep, nameStep}
-use Rattle.events.specs.Inner.Remembered.{lookBy, lookOf, stateBy, lookStep, markOf, placeOf, lookPlace, lengthPlace, parts, words, Remembers}
+use Rattle.events.specs.Inner.Remembered.{lookBy, lookOf, stateBy, lookStep, markOf, placeOf, lookPlace, lengthPlace, strings, words, Remembers}
 
 -- ---- a look
 
@@ -127,15 +127,15 @@ module _ (m : List ℕ) (p at n look : ℕ) where
   long-other : (j : ℕ) → (j ≡ lookPlace p → ⊥) → (j ≡ lengthPlace p → ⊥) → getD (withLong m p at n look) j 0 ≡ getD m j 0
   long-other j a b = getD-set-other (set m (lookPlace p) (16 * at + look)) (lengthPlace p) j n 0 b ∙ getD-set-other m (lookPlace p) j (16 * at + look) 0 a
 
-  long-first : p < parts → length m ≡ words → getD (withLong m p at n look) (lookPlace p) 0 ≡ 16 * at + look
+  long-first : p < strings → length m ≡ words → getD (withLong m p at n look) (lookPlace p) 0 ≡ 16 * at + look
   long-first l r =
       getD-set-other (set m (lookPlace p) (16 * at + look)) (lengthPlace p) (lookPlace p) n 0 (λ z. let w : ⊥ = omega (arith, z) in w)
       ∙ getD-set-same m (lookPlace p) (16 * at + look) 0 (omega (arith, l, r))
 
-  pub long-there : p < parts → length m ≡ words → lengthPlace p < length (set m (lookPlace p) (16 * at + look))
+  pub long-there : p < strings → length m ≡ words → lengthPlace p < length (set m (lookPlace p) (16 * at + look))
   long-there l r = rw (length-set m (lookPlace p) (16 * at + look)) (omega (arith, l, r))
 
-  long-second : p < parts → length m ≡ words → getD (withLong m p at n look) (lengthPlace p) 0 ≡ n
+  long-second : p < strings → length m ≡ words → getD (withLong m p at n look) (lengthPlace p) 0 ≡ n
   long-second l r = getD-set-same (set m (lookPlace p) (16 * at + look)) (lengthPlace p) n 0 (long-there l r)
 
 module _ (h : Head) (t : List ℕ) (lent : Lent) where
@@ -180,7 +180,7 @@ module _ (h : Head) (t : List ℕ) (lent : Lent) where
           ap (λ (x : ℕ). x % 16) kept ∙ r .tells k (ap (λ (x : ℕ). x / 16) (sym kept) ∙ q)
 
   -- a long string more
-  pub remembers-long : (m : List ℕ) (p at n look : ℕ) → p < parts → look ≡ lookOf (some (h .utf16) (take n (drop at t))) → Remembers h t lent m
+  pub remembers-long : (m : List ℕ) (p at n look : ℕ) → p < strings → look ≡ lookOf (some (h .utf16) (take n (drop at t))) → Remembers h t lent m
       → Remembers h t lent (withLong m p at n look)
   remembers-long m p at n look l e r = record {
     room = length-set (set m (lookPlace p) (16 * at + look)) (lengthPlace p) n ∙ length-set m (lookPlace p) (16 * at + look) ∙ r .room;
@@ -193,7 +193,7 @@ module _ (h : Head) (t : List ℕ) (lent : Lent) where
       bound : look ≤ 8
       bound = rw e (lookOf-most (some (h .utf16) (take n (drop at t))))
 
-      go : (q a k : ℕ) → q < parts → 1 ≤ k → (b : Bool) → eqb q p ≡ b → getD (withLong m p at n look) (lookPlace q) 0 / 16 ≡ a
+      go : (q a k : ℕ) → q < strings → 1 ≤ k → (b : Bool) → eqb q p ≡ b → getD (withLong m p at n look) (lookPlace q) 0 / 16 ≡ a
           → getD (withLong m p at n look) (lengthPlace q) 0 ≡ k
           → getD (withLong m p at n look) (lookPlace q) 0 % 16 ≡ lookOf (some (h .utf16) (take k (drop a t)))
       go q a k f i true b x y =

@@ -11,11 +11,12 @@ ghost use Rattle.system_types.specs.Names.{lends};
 ghost use Rattle.text.specs.Content.{contentOf, stateIn};
 ghost use Rattle.text.specs.Inner.Found.{Asks, Inside, partOf};
 ghost use Rattle.text.specs.declared.Found.the-variants.{Pool};
-ghost use Rattle.events.specs.Inner.Remembered.{lookBy, lookOf, stateBy, Remembers};
+ghost use Rattle.events.specs.Inner.Remembered.{lookBy, lookOf, stateBy, strings, words, Remembers};
 use common::StringIndex;
 use text::Found;
 use text::Head;
 use text::NameState;
+use text::apart::LONG;
 use text::find;
 use text::found_whole;
 use text::part::found_state;
@@ -24,47 +25,59 @@ use text::state_of_found;
 // How many indices are kept, each at the place that the remainder of its number gives; a later one takes the place over.
 const INDICES: usize = 1024;
 
-// Behind the words of the indices stand those of 512 parts of the file: one for each, of a long string that begins there, and behind them
-// one for each with its length. A later string takes both over.
+// Behind the words of the indices stand those of 512 long strings of the pool, whatever their indices are: for each where it begins and its look, and
+// behind these for each its length.
+const STRINGS: usize = 512;
+
 const LENGTHS: usize = 1536;
 
 // All words of a memory.
 pub const MEMORY: usize = 2048;
 
-// How many bytes a long string has at least, whatever the file.
-const LEAST: usize = 1024;
-
-// How many bytes a long string has at least in a file of so many: two that do not overlap begin in different ones of its 512 parts.
-fn long_from(length: usize) -> usize
-    ensures { λ r. ⌜ 1024 ≤ r ⌝ }
+// How many places are looked at for a string of so many bytes: the longer it is, the more it costs to look at it again. From 32,768 on all of them.
+fn near_of(n: usize) -> usize
+    ensures { λ r. ⌜ r ≤ strings ⌝ }
 {
-    if length <= 524288 {
-        return LEAST;
+    if 32768 <= n {
+        return STRINGS;
     }
-    if length <= 2097152 {
-        return 4096;
-    }
-    if length <= 8388608 {
-        return 16384;
-    }
-    32768
+    n / 64
 }
 
-// The part of a file of so many bytes in which a byte lies.
-fn part_of(length: usize, at: usize) -> usize
-    requires { ⌜ (at < length) × (length ≤ fileLimit) ⌝ }
-    ensures { λ r. ⌜ r < 512 ⌝ }
+// Of two places that at which the shorter string is kept.
+fn shorter(memory: &[u32], p: usize, q: usize) -> usize
+    requires { ⌜ (length (now memory) ≡ words) × (p < strings) × (q < strings) ⌝ }
+    ensures { λ r. ⌜ r < strings ⌝ }
 {
-    if length <= 524288 {
-        return at / 1024;
+    if memory[LENGTHS + p] < memory[LENGTHS + q] {
+        p
+    } else {
+        q
     }
-    if length <= 2097152 {
-        return at / 4096;
+}
+
+// The place of a string that begins at `at`, among so many from the one that `at` gives: where one is kept that begins there, else the first that is
+// free, else that of the shortest.
+fn place_of(memory: &[u32], at: u32, near: usize) -> usize
+    requires { ⌜ (length (now memory) ≡ words) × (near ≤ strings) ⌝ }
+    ensures { λ r. ⌜ r < strings ⌝ }
+{
+    let home = at as usize / LONG;
+    let mut least = home % STRINGS;
+    let mut k = 0;
+    while k < near {
+        let p = (home + k) % STRINGS;
+        let seen = memory[INDICES + p];
+        if seen == 0 {
+            return p;
+        }
+        if seen / 16 == at {
+            return p;
+        }
+        least = shorter(memory, p, least);
+        k += 1;
     }
-    if length <= 8388608 {
-        return at / 16384;
-    }
-    at / 32768
+    least
 }
 
 // A look as one number. Ruled out: one number for a whole text and a damaged one, and for a valid name and another.
@@ -101,8 +114,9 @@ fn look_found(t: &[u8], area: &[u8], utf16: bool, f: Found) -> u32
     look_again(t, area, utf16, f)
 }
 
-// The look at a string of the pool, by what is remembered where it is long and came before, whatever its index was.
-// Ruled out: what is known of a string that begins at the same place and is shorter, and of another in the same part of the file.
+// The look at a long string of the pool, by what is remembered where it came before, whatever its index was. A longer string keeps its place, so
+// that short ones do not drive it out.
+// Ruled out: what is known of a string that begins at the same byte and is shorter, and of another that has the place.
 fn look_pool(
     t: &[u8],
     names: &[u32],
@@ -116,19 +130,25 @@ fn look_pool(
     ensures { λ r. ⌜ (r ≡ lookOf (partOf (h .utf16) (now (t .entry)) (now (area .entry)) (Pool at n)))
         × Remembers h (now (t .entry)) (lends (now (names .entry)) (now (area .entry))) (now (memory .exit)) ⌝ }
 {
-    if n < long_from(t.len()) {
+    if n < LONG {
         return look_found(t, area, h.utf16, Found::Pool(at, n));
     }
-    let part = part_of(t.len(), at);
-    let seen = memory[INDICES + part];
-    if seen / 16 == at as u32 {
-        if memory[LENGTHS + part] == n as u32 {
+    let begin = at as u32;
+    let size = n as u32;
+    let place = place_of(memory, begin, near_of(n));
+    let seen = memory[INDICES + place];
+    let kept = memory[LENGTHS + place];
+    if seen / 16 == begin {
+        if kept == size {
             return seen % 16;
         }
     }
     let look = look_found(t, area, h.utf16, Found::Pool(at, n));
-    memory[INDICES + part] = 16 * (at as u32) + look;
-    memory[LENGTHS + part] = n as u32;
+    if size < kept {
+        return look;
+    }
+    memory[INDICES + place] = 16 * begin + look;
+    memory[LENGTHS + place] = size;
     look
 }
 
@@ -154,7 +174,7 @@ fn is_long(f: Found) -> bool {
         Found::Nothing => false,
         Found::Cut => false,
         Found::System(_, _) => false,
-        Found::Pool(_, n) => LEAST <= n,
+        Found::Pool(_, n) => LONG <= n,
     }
 }
 

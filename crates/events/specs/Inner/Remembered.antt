@@ -8,9 +8,9 @@
 --   lookStep    the step at an element's name, by a look at it
 --   markOf      what is kept of an index and a look, at the place of the index: its quotient by 1,024 and one more, 16 times, and the look; 0 says nothing
 --   placeOf     the place of an index, its remainder by 1,024
---   lookPlace   the place of a part of the file, of which there are 512, behind those of the indices; lengthPlace that of the length of the string there
---   Remembers   2,048 words: an index whose mark stands at its place has the look that it says; and where the length of a part is n, not 0, and its
---               word is 16 times `at` and a look, the n bytes from `at` on have that look, whichever part it is
+--   lookPlace   the place of a long string, of which 512 are kept, behind those of the indices; lengthPlace that of its length
+--   Remembers   2,048 words: an index whose mark stands at its place has the look that it says; and where the length at a place of long strings is n,
+--               not 0, and the word there is 16 times `at` and a look, the n bytes from `at` on have that look, whichever place it is
 use Prim.Native.Nat.{ℕ, _+_, _*_, _/_, _%_, _≤_, _<_}
 use mathlib.Core.Path.{_≡_}
 use mathlib.Core.List.{List}
@@ -60,9 +60,9 @@ lookPlace p = 1024 + p
 abbrev pub lengthPlace : ℕ → ℕ
 lengthPlace p = 1536 + p
 
--- how many parts a file has
-abbrev pub parts : ℕ
-parts = 512
+-- how many long strings are kept
+abbrev pub strings : ℕ
+strings = 512
 
 -- how many words are kept
 abbrev pub words : ℕ
@@ -71,5 +71,5 @@ words = 2048
 pub record Remembers (h : Head) (t : List ℕ) (lent : Lent) (memory : List ℕ) : Type 0 where
   pub room : length memory ≡ words
   pub tells : (i : ℕ) → getD memory (placeOf i) 0 / 16 ≡ i / 1024 + 1 → getD memory (placeOf i) 0 % 16 ≡ lookOf (contentOf h t lent i)
-  pub longs : (p at n : ℕ) → p < parts → 1 ≤ n → getD memory (lookPlace p) 0 / 16 ≡ at → getD memory (lengthPlace p) 0 ≡ n
+  pub longs : (p at n : ℕ) → p < strings → 1 ≤ n → getD memory (lookPlace p) 0 / 16 ≡ at → getD memory (lengthPlace p) 0 ≡ n
       → getD memory (lookPlace p) 0 % 16 ≡ lookOf (some (h .utf16) (take n (drop at t)))

@@ -1,4 +1,5 @@
--- `events::memory::look_pool` meets its contract: by what is remembered of the string, else by a look, which is kept (`remembers-long`).
+-- `events::memory::look_pool` meets its contract: by what is remembered of the string, else by a look, which is kept (`remembers-long`) unless a longer
+-- string has the place.
 use Prim.Native.Nat.{_≤_}
 use native.Mathlib.Omega.{arith}
 use denote.Ref.{now}
@@ -10,151 +11,134 @@ use borrow.Author.Needs.{needs}
 use Rattle.events.proofs.memory.look_pool.Statement.{statement}
 use Rattle.events.proofs.memory.look_pool.Tie as tie
 
-long-from-requires : tie.Need-long-from-requires
-long-from-requires c κs = search needs
-
 look-found-requires : tie.Need-look-found-requires
-look-found-requires c κs = c .before .before .before .before .before .before .pre .1
+look-found-requires c κs = search needs
 
 returns : tie.Need-returns
-returns c = (c .look-found .ensures, c .before .before .before .before .before .before .before .pre .2)
+returns c = search needs
 
-part-of-requires : tie.Need-part-of-requires
-part-of-requires c κs = (
-  omega (arith, c .before .before .before .before .before .before .pre .1, c .if1 .left, c .before .long-from .ensures),
-  c .before .before .before .before .before .before .pre .0,
-)
+cast-begin : tie.Need-cast-begin
+cast-begin c = search needs
+
+cast-size : tie.Need-cast-size
+cast-size c = search needs
+
+near-of-requires : tie.Need-near-of-requires
+near-of-requires c κs = search needs
+
+place-of-requires : tie.Need-place-of-requires
+place-of-requires c κs = search needs
 
 add-seen : tie.Need-add-seen
-add-seen c = omega (arith, c .part-of .ensures)
+add-seen c = search needs
 
 mul-seen : tie.Need-mul-seen
-mul-seen c = omega (arith, c .part-of .ensures)
+mul-seen c = search needs
 
 slice-read-seen : tie.Need-slice-read-seen
-slice-read-seen c = omega (arith, c .before .part-of .ensures, c .before .before .before .before .before .before .before .before .pre .2 .room)
+slice-read-seen c = search needs
 
-cast-if2 : tie.Need-cast-if2
-cast-if2 c = omega (arith, c .before .before .before .before .before .before .before .before .pre .0, c .before .before .before .before .before .before .before .before .pre .1)
+add-kept : tie.Need-add-kept
+add-kept c = search needs
 
-add-if3 : tie.Need-add-if3
-add-if3 c = omega (arith, c .before .before .part-of .ensures)
+mul-kept : tie.Need-mul-kept
+mul-kept c = search needs
 
-mul-if3 : tie.Need-mul-if3
-mul-if3 c = omega (arith, c .before .before .part-of .ensures)
-
-slice-read-if3 : tie.Need-slice-read-if3
-slice-read-if3 c = omega (arith, c .before .before .before .part-of .ensures, c .before .before .before .before .before .before .before .before .before .before .pre .2 .room)
-
-cast-if3 : tie.Need-cast-if3
-cast-if3 c =
-    omega (
-      arith,
-      c .before .before .before .before .before .before .before .before .before .before .pre .0,
-      c .before .before .before .before .before .before .before .before .before .before .pre .1,
-    )
-
-returns-2 : tie.Need-returns-2
-returns-2 c =
-    let s = c .before .before .before .before .before .before .before .before .before .before .before in
-    let part = c .before .before .before .before .part-of in
-    let least : 1 ≤ s .args .n = omega (arith, c .before .before .before .before .before .if1 .left, c .before .before .before .before .before .before .long-from .ensures) in
-    (s .pre .2 .longs (part .result) (s .args .at) (s .args .n) (part .ensures) least (c .before .before .if2 .taken) (c .if3 .taken), s .pre .2)
-
-look-found-requires-2 : tie.Need-look-found-requires-2
-look-found-requires-2 c κs = c .before .before .before .before .before .before .before .before .before .pre .1
-
-cast-memory : tie.Need-cast-memory
-cast-memory c =
-    omega (
-      arith,
-      c .before .before .before .before .before .before .before .before .before .before .pre .0,
-      c .before .before .before .before .before .before .before .before .before .before .pre .1,
-    )
-
-mul-memory : tie.Need-mul-memory
-mul-memory c =
-    omega (
-      arith,
-      c .before .before .before .before .before .before .before .before .before .before .pre .0,
-      c .before .before .before .before .before .before .before .before .before .before .pre .1,
-    )
-
-add-memory : tie.Need-add-memory
-add-memory c =
-    let s = c .before .before .before .before .before .before .before .before .before .before in
-    let b = look-le (c .look-found2 .result) (some (s .args .h .utf16) (take (s .args .n) (drop (s .args .at) (now (s .args .t))))) (c .look-found2 .ensures) in
-    omega (arith, b, s .pre .0, s .pre .1)
-
-add-memory-2 : tie.Need-add-memory-2
-add-memory-2 c = omega (arith, c .before .before .before .part-of .ensures)
-
-mul-memory-2 : tie.Need-mul-memory-2
-mul-memory-2 c = omega (arith, c .before .before .before .part-of .ensures)
-
-slice-write-memory : tie.Need-slice-write-memory
-slice-write-memory c = omega (arith, c .before .before .before .part-of .ensures, c .before .before .before .before .before .before .before .before .before .before .pre .2 .room)
-
-cast-memory-2 : tie.Need-cast-memory-2
-cast-memory-2 c =
-    omega (
-      arith,
-      c .before .before .before .before .before .before .before .before .before .before .pre .0,
-      c .before .before .before .before .before .before .before .before .before .before .pre .1,
-    )
-
-add-memory-3 : tie.Need-add-memory-3
-add-memory-3 c = omega (arith, c .before .before .before .part-of .ensures)
-
-mul-memory-3 : tie.Need-mul-memory-3
-mul-memory-3 c = omega (arith, c .before .before .before .part-of .ensures)
-
-slice-write-memory-2 : tie.Need-slice-write-memory-2
-slice-write-memory-2 c =
-    let s = c .before .before .before .before .before .before .before .before .before .before in
-    let part = c .before .before .before .part-of in
-    long-there (now (s .args .memory)) (part .result) (s .args .at) (s .args .n) (c .look-found2 .result) (part .ensures) (s .pre .2 .room)
+slice-read-kept : tie.Need-slice-read-kept
+slice-read-kept c = search needs
 
 same-length : tie.Need-same-length
 same-length c = search needs
 
+returns-2 : tie.Need-returns-2
+returns-2 c =
+    let s = c .before .before .before .before .before .before .before .before .before .before .before .before in
+    let place = c .before .before .before .before .place-of in
+    let least : 1 ≤ s .args .n = omega (arith, c .before .before .before .before .before .before .before .if1 .left) in
+    (s .pre .2 .longs (place .result) (s .args .at) (s .args .n) (place .ensures) least (c .before .if2 .taken) (c .if3 .taken), s .pre .2)
+
+look-found-requires-2 : tie.Need-look-found-requires-2
+look-found-requires-2 c κs = search needs
+
+same-length-2 : tie.Need-same-length-2
+same-length-2 c = search needs
+
 returns-3 : tie.Need-returns-3
-returns-3 c =
-    let s = c .before .before .before .before .before .before .before .before .before .before in
+returns-3 c = search needs
+
+mul-memory : tie.Need-mul-memory
+mul-memory c = search needs
+
+add-memory : tie.Need-add-memory
+add-memory c =
+    let s = c .before .before .before .before .before .before .before .before .before .before .before .before .before in
+    let look = c .before .look-found2 in
+    let bound = look-le (look .result) (some (s .args .h .utf16) (take (s .args .n) (drop (s .args .at) (now (s .args .t))))) (look .ensures) in
+    omega (arith, bound, s .pre .0, s .pre .1)
+
+add-memory-2 : tie.Need-add-memory-2
+add-memory-2 c = search needs
+
+mul-memory-2 : tie.Need-mul-memory-2
+mul-memory-2 c = search needs
+
+slice-write-memory : tie.Need-slice-write-memory
+slice-write-memory c = search needs
+
+add-memory-3 : tie.Need-add-memory-3
+add-memory-3 c = search needs
+
+mul-memory-3 : tie.Need-mul-memory-3
+mul-memory-3 c = search needs
+
+slice-write-memory-2 : tie.Need-slice-write-memory-2
+slice-write-memory-2 c =
+    let s = c .before .before .before .before .before .before .before .before .before .before .before .before .before in
+    let place = c .before .before .before .before .before .place-of in
+    long-there (now (s .args .memory)) (place .result) (s .args .at) (s .args .n) (c .before .look-found2 .result) (place .ensures) (s .pre .2 .room)
+
+same-length-3 : tie.Need-same-length-3
+same-length-3 c = search needs
+
+returns-4 : tie.Need-returns-4
+returns-4 c =
+    let s = c .before .before .before .before .before .before .before .before .before .before .before .before .before in
     let a = s .args in
-    let part = c .before .before .before .part-of in (
-      c .look-found2 .ensures,
-      remembers-long (a .h) (now (a .t)) (lends (now (a .names)) (now (a .area))) (now (a .memory)) (part .result) (a .at) (a .n) (c .look-found2 .result) (part .ensures)
-          (c .look-found2 .ensures) (s .pre .2),
+    let place = c .before .before .before .before .before .place-of in
+    let look = c .before .look-found2 in (
+      look .ensures,
+      remembers-long (a .h) (now (a .t)) (lends (now (a .names)) (now (a .area))) (now (a .memory)) (place .result) (a .at) (a .n) (look .result) (place .ensures)
+          (look .ensures) (s .pre .2),
     )
 
 pub look-pool-spec : {M : Type 1} → statement M
 look-pool-spec =
     tie.close
     (tie.spec
-    long-from-requires
     look-found-requires
     returns
-    part-of-requires
+    cast-begin
+    cast-size
+    near-of-requires
+    place-of-requires
     add-seen
     mul-seen
     slice-read-seen
-    cast-if2
-    add-if3
-    mul-if3
-    slice-read-if3
-    cast-if3
+    add-kept
+    mul-kept
+    slice-read-kept
+    same-length
     returns-2
     look-found-requires-2
-    cast-memory
+    same-length-2
+    returns-3
     mul-memory
     add-memory
     add-memory-2
     mul-memory-2
     slice-write-memory
-    cast-memory-2
     add-memory-3
     mul-memory-3
     slice-write-memory-2
-    same-length
-    returns-3)
+    same-length-3
+    returns-4)
