@@ -5,10 +5,10 @@ use native.Mathlib.Omega.{arith}
 use mathlib.Core.Path.{_≡_, refl, sym, _∙_, ap}
 use mathlib.Core.Bool.{Bool, true, false, cond, _&&_, true≢false}
 use mathlib.Core.List.{List}
-use borrow.Author.Tests.{eqb-true, eqb-false, eq-eqb, ne-eqb}
+use borrow.Author.Tests.{eqb-true, eqb-false, eq-eqb, ne-eqb, le-leb, lt-leb}
 use lib.ListN.{length, getD, set, replicate, length-set}
 use lib.Seq.{getD-set-same, getD-set-other}
-use lib.Dec.{eqb}
+use lib.Dec.{eqb, leb}
 use Rattle.utf.specs.Text.{eqBytes}
 use Rattle.utf.proofs.Tables.{both-true}
 use Rattle.utf.proofs.Equal.{eqBytes-refl, eqBytes-true}
@@ -21,7 +21,7 @@ use Rattle.text.proofs.Read.{sameText-self, isFound-text}
 use Rattle.tables.specs.declared.numbers.Told.{Told}
 use Rattle.tables.specs.declared.numbers.Told.the-variants.{Same, Other}
 use Rattle.tables.specs.Inner.Keys.{hashIn}
-use Rattle.tables.specs.Inner.Numbered.{placeCount, wordCount, seenAt, firstAt, numberAt, markOf, Numbered, metAt, FirstOf, ToldBy}
+use Rattle.tables.specs.Inner.Numbered.{placeCount, nearCount, wordCount, veryLongFrom, seenAt, firstAt, numberAt, markOf, Numbered, metAt, FirstOf, ToldBy}
 use Rattle.tables.proofs.Hashes.{hashIn-same}
 
 -- ---- equal texts
@@ -70,6 +70,13 @@ module _ (h : Head) (t : List ℕ) (lent : Lent) (i j : ℕ) where
   pub found-own : (g : Found) {r : Bool} → Finds t lent h j g → r ≡ isFound g → i ≡ j → r ≡ sameName h t lent i j
   found-own g y e q =
       same-own (e ∙ isFound-text (h .utf16) t (lent .area) g ∙ ap hasText (y .same) ∙ ap (λ (k : ℕ). hasText (contentOf h t lent k)) (sym q)) q
+
+-- how many places are looked at
+pub near-all : (n m : ℕ) → n ≡ m → veryLongFrom ≤ n → placeCount ≡ cond (leb veryLongFrom m) placeCount nearCount
+near-all n m e l = rw (le-leb veryLongFrom m (omega (arith, e, l)))
+
+pub near-few : (n m : ℕ) → n ≡ m → n < veryLongFrom → nearCount ≡ cond (leb veryLongFrom m) placeCount nearCount
+near-few n m e l = rw (lt-leb veryLongFrom m (omega (arith, e, l)))
 
 -- what is told
 pub told-yes : (b : Bool) (r : Told) → ToldBy b r → r ≡ Same → true ≡ b

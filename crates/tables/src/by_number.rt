@@ -150,7 +150,29 @@ pub fn same_by(
     }
 }
 
-// Whether two indices have the same text: equal ones at once, long ones by what is known of them.
+// Whether two indices have the same text, of which nothing is known: both are found, and long ones are known afterwards.
+fn same_looked(
+    t: &[u8],
+    names: &[u32],
+    area: &[u8],
+    h: Head,
+    i: StringIndex,
+    j: StringIndex,
+    numbers: &mut [u64],
+) -> bool
+    requires { ⌜ Asks (now t) (lends (now names) (now area)) h × Numbered h (now t) (lends (now names) (now area)) (now numbers) ⌝ }
+    ensures { λ r. ⌜ (r ≡ sameName h (now (t .entry)) (lends (now (names .entry)) (now (area .entry))) (i .0) (j .0))
+        × Numbered h (now (t .entry)) (lends (now (names .entry)) (now (area .entry))) (now (numbers .exit)) ⌝ }
+{
+    let f = find(t, names, area, h, i);
+    let g = find(t, names, area, h, j);
+    if is_long(f) | is_long(g) {
+        return same_kept(t, names, area, h, i, f, j, g, numbers);
+    }
+    same_found(t, area, h.utf16, f, g)
+}
+
+// Whether two indices have the same text: equal ones at once, then by what is known of both, then by their texts.
 // Ruled out: no for two strings of the same text at two offsets, and yes for a text and one that begins with it.
 pub fn same_numbered(
     t: &[u8],
@@ -168,12 +190,12 @@ pub fn same_numbered(
     if i.0 == j.0 {
         return has_text(t, names, area, h, i);
     }
-    let f = find(t, names, area, h, i);
-    let g = find(t, names, area, h, j);
-    if is_long(f) | is_long(g) {
-        return same_kept(t, names, area, h, i, f, j, g, numbers);
+    let told = told_of(numbers, i, j, NEAR);
+    match told {
+        Told::Unknown => same_looked(t, names, area, h, i, j, numbers),
+        Told::Same => true,
+        Told::Other => false,
     }
-    same_found(t, area, h.utf16, f, g)
 }
 
 // ---- attributes

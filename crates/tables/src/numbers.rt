@@ -5,15 +5,16 @@
 // Differs from the Rust: 256 indices are kept, in fixed memory that the caller lends for a reading.
 ghost use mathlib.Core.Path.{_≡_};
 ghost use mathlib.Core.List.{List};
-ghost use mathlib.Core.Bool.{true};
+ghost use mathlib.Core.Bool.{true, cond};
 ghost use Prim.Native.Nat.{ℕ, _+_, _<_};
+ghost use lib.Dec.{leb};
 ghost use lib.ListN.{length, set};
 ghost use Rattle.system_types.specs.Names.{Lent, lends};
 ghost use Rattle.text.specs.declared.Head.{Head};
 ghost use Rattle.text.specs.Content.{contentOf, hasText, sameName};
 ghost use Rattle.text.specs.Inner.Found.{Asks, Finds, partOf};
 ghost use Rattle.tables.specs.Inner.Keys.{hashIn};
-ghost use Rattle.tables.specs.Inner.Numbered.{placeCount, wordCount, markOf, Numbered, metAt, FirstOf, ToldBy};
+ghost use Rattle.tables.specs.Inner.Numbered.{placeCount, nearCount, wordCount, longFrom, veryLongFrom, sizeOf, markOf, Numbered, metAt, FirstOf, ToldBy};
 use crate::hash::hash_found;
 use common::StringIndex;
 use text::Found;
@@ -48,7 +49,9 @@ pub enum Told {
 
 // ---- how long a text is, which decides who is asked and nothing else
 
-fn size_of(f: Found) -> usize {
+fn size_of(f: Found) -> usize
+    ensures { λ r. ⌜ r ≡ sizeOf f ⌝ }
+{
     match f {
         Found::Nothing => 0,
         Found::Cut => 0,
@@ -57,12 +60,19 @@ fn size_of(f: Found) -> usize {
     }
 }
 
-pub fn is_long(f: Found) -> bool {
+// Whether what was found is long, so that it is told by what is known of it.
+// Ruled out: yes for what has no bytes, and no for a string of 128.
+pub fn is_long(f: Found) -> bool
+    ensures { λ r. ⌜ r ≡ leb longFrom (sizeOf f) ⌝ }
+{
     LONG <= size_of(f)
 }
 
-// How many places are looked at for an index that was found as f.
-pub fn near_of(f: Found) -> u32 {
+// How many places are looked at for an index that was found as f: all for a very long text, which it costs more to compare.
+// Ruled out: all places for a short text, and none for any.
+pub fn near_of(f: Found) -> u32
+    ensures { λ r. ⌜ r ≡ cond (leb veryLongFrom (sizeOf f)) placeCount nearCount ⌝ }
+{
     if VERY_LONG <= size_of(f) {
         return ALL;
     }

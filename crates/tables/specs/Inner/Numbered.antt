@@ -1,5 +1,6 @@
 -- What is known of long texts while a file is read: a number of each, and which have the same text. Not part of what a reader must believe.
 --
+--   sizeOf     how many bytes what was found has; from `longFrom` on it is long, and from `veryLongFrom` on so long that all places are looked at for it
 --   seenAt     the index that stands at a place, and one more: 0 where none does
 --   firstAt    the index that stands for all of the same text, at a place
 --   numberAt   the number of the text, at a place
@@ -16,6 +17,8 @@ use lib.ListN.{length, getD}
 use lib.Dec.{eqb}
 use Rattle.system_types.specs.Names.{Lent}
 use Rattle.text.specs.Content.{contentOf, sameName}
+use Rattle.text.specs.declared.Found.{Found}
+use Rattle.text.specs.declared.Found.the-variants.{Nothing, Cut, System, Pool}
 use Rattle.text.specs.declared.Head.{Head}
 use Rattle.tables.specs.declared.numbers.Told.{Told}
 use Rattle.tables.specs.declared.numbers.Told.the-variants.{Unknown, Same, Other}
@@ -27,6 +30,22 @@ placeCount = 256
 
 abbrev pub wordCount : ℕ
 wordCount = 512
+
+-- how many places are looked at for most indices
+abbrev pub nearCount : ℕ
+nearCount = 16
+
+abbrev pub longFrom : ℕ
+longFrom = 128
+
+abbrev pub veryLongFrom : ℕ
+veryLongFrom = 16384
+
+abbrev pub sizeOf : Found → ℕ
+sizeOf Nothing = 0
+sizeOf Cut = 0
+sizeOf (System at n) = n
+sizeOf (Pool at n) = n
 
 abbrev pub seenAt : List ℕ → ℕ → ℕ
 seenAt m j = getD m j 0 / 4294967296
