@@ -5,13 +5,13 @@ use native.Mathlib.Omega.{arith}
 use mathlib.Core.Path.{_≡_, refl, sym, _∙_, ap}
 use mathlib.Core.List.{List, _++_}
 use mathlib.Core.Bool.{Bool, true, false, cond}
-use borrow.Author.Tests.{eqb-false}
-use lib.ListN.{length, take, getD, replicate}
+use borrow.Author.Tests.{ne-eqb, eqb-false}
+use lib.ListN.{length, take, replicate}
 use lib.Seq.{take-take, length-take-le}
 use lib.Dec.{eqb}
 use Rattle.anomaly.specs.declared.Note.{Note as NoteOf}
 use Rattle.errors.specs.declared.ReadAnswer.the-variants.{Done}
-use Rattle.records.specs.Words.{nodeWidth, nodeFirst, attributeWidth}
+use Rattle.records.specs.Words.{nodeWidth, attributeWidth}
 use Rattle.system_types.specs.Names.{Lent}
 use Rattle.events.specs.declared.Cursor.{Cursor}
 use Rattle.walk.specs.declared.tree.Tree.{Tree}
@@ -19,11 +19,11 @@ use Rattle.walk.specs.declared.State.{State}
 use Rattle.walk.specs.declared.placing.Halt.{Halt}
 use Rattle.walk.specs.declared.placing.Stop.the-variants.{Finished}
 use Rattle.walk.specs.Settle.{Room, Tables, going}
-use Rattle.walk.specs.Reading.{Reading, zeroNote, finalOf, nodesKept, attributesKept, secondOf}
-use Rattle.walk.specs.Inner.Tree.{Tied, tablesOf, keptNodes, keptAttributes}
+use Rattle.walk.specs.Reading.{Reading, zeroNote, finalOf, Dropped, noneDropped, droppedFrom, droppedIn, nodesKeptBy, attributesKeptBy, nodesKept, attributesKept}
+use Rattle.walk.specs.Inner.Tree.{aboveRootOf, Tied, tablesOf, keptNodes, keptAttributes}
 use Rattle.walk.specs.Inner.Run.{RanBy, RanIn}
 use Rattle.walk.specs.Inner.Outcome.{doneAnswer, Keepable, Finishes, roomOf, cleared, outcome, StateOk, Advanced}
-use Rattle.walk.proofs.Trees.{second-in}
+use Rattle.walk.proofs.Trees.{DroppedStored, dropped-stored, above-in}
 use Rattle.walk.proofs.Clearing.{clears}
 use Rattle.walk.proofs.Advancing.{tables, body, ReadHead}
 
@@ -38,8 +38,8 @@ kept-nodes-le ns ats t o h = go (eqb (t .«above_root») 0) refl
     go : (b : Bool) → eqb (t .«above_root») 0 ≡ b → cond b (t .nodes) (t .«above_root») ≤ t .nodes
     go true e = omega arith
     go false e =
-        let n : (secondOf o ≡ 0 → ⊥) = λ z. eqb-false _ _ e (sym (h .«above_root») ∙ z) in
-        omega (arith, second-in (take (nodeWidth * t .nodes) ns) o (h .linked) n, h .«above_root», lw)
+        let w = take (nodeWidth * t .nodes) ns in
+        omega (arith, above-in w (droppedIn o) (t .«above_root») (dropped-stored w o (h .linked)) (h .«above_root») (eqb-false _ _ e), lw)
 
 pub kept-attributes-le : (ns ats : List ℕ) (t : Tree) (o : List ℕ) → Tied ns ats t o → keptAttributes t ≤ t .attributes
 kept-attributes-le ns ats t o h = go (eqb (t .«above_root») 0)
@@ -83,26 +83,31 @@ module _ (f : List ℕ) (lent : Lent) (ns₀ ats₀ : List ℕ) (st : State) (g 
   ended : (os : List NoteOf) → length os ≡ st .room → outcome f lent ns₀ ats₀ os st (g .stack) ≡ finalOf R (going (F os))
   ended os l = hd .same os l ∙ ap (finalOf R) (fin .goes R (os-of os) (st .notes .counts) (sym (hd .ln)) (sym (hd .la)))
 
-  lw : length (take (nodeWidth * h .tree .nodes) ns′) ≡ nodeWidth * h .tree .nodes
+  abbrev words : List ℕ
+  words = take (nodeWidth * h .tree .nodes) ns′
+
+  lw : length words ≡ nodeWidth * h .tree .nodes
   lw = length-take-le (nodeWidth * h .tree .nodes) ns′ (fin .tied .sized .nodes)
 
   lv : length (take (attributeWidth * h .tree .attributes) ats′) ≡ attributeWidth * h .tree .attributes
   lv = length-take-le (attributeWidth * h .tree .attributes) ats′ (fin .tied .sized .attributes)
 
   nodes-kept : (os : List NoteOf) → nodesKept (F os) ≡ keptNodes (h .tree)
-  nodes-kept os = let d : nodeWidth * h .tree .nodes / nodeWidth ≡ h .tree .nodes = omega arith in rw (lw, d, fin .tied .«above_root»)
+  nodes-kept os = go (droppedIn (fin .last)) (dropped-stored words (fin .last) (fin .tied .linked)) (fin .tied .«above_root»)
+    where
+      go : (d : Dropped) → DroppedStored words d → aboveRootOf d ≡ h .tree .«above_root» → nodesKeptBy (length words / nodeWidth) d ≡ keptNodes (h .tree)
+      go noneDropped i e = rw (← e, lw) (omega arith)
+      go (droppedFrom k) i e = rw (← e, ne-eqb k 0 (λ z. omega (arith, i .0)))
 
   attributes-kept : (os : List NoteOf) → attributesKept (F os) ≡ keptAttributes (h .tree)
-  attributes-kept os = rw (lv, d, fin .tied .«above_root») (go (eqb (h .tree .«above_root») 0) refl)
+  attributes-kept os = go (droppedIn (fin .last)) (dropped-stored words (fin .last) (fin .tied .linked)) (fin .tied .«above_root»)
     where
-      d : attributeWidth * h .tree .attributes / attributeWidth ≡ h .tree .attributes
-      d = omega arith
-
-      go : (b : Bool) → eqb (h .tree .«above_root») 0 ≡ b
-          → cond b (h .tree .attributes) (getD (take (nodeWidth * h .tree .nodes) ns′) (nodeWidth * h .tree .«above_root» + nodeFirst) 0) ≡ cond b
-          (h .tree .attributes) (h .tree .«attributes_before_it»)
-      go true q = refl
-      go false q = fin .tied .«attributes_before_it» (eqb-false _ _ q)
+      go : (d : Dropped) → DroppedStored words d → aboveRootOf d ≡ h .tree .«above_root»
+          → attributesKeptBy words (length (F os .attributes) / attributeWidth) d ≡ keptAttributes (h .tree)
+      go noneDropped i e = rw (← e, lv) (omega arith)
+      go (droppedFrom k) i e =
+          let some : (h .tree .«above_root» ≡ 0 → ⊥) = λ z. omega (arith, i .0) in
+          rw (e, ne-eqb (h .tree .«above_root») 0 some) (fin .tied .«attributes_before_it» some)
 
   unfoldable shape : List NoteOf → ℕ → ℕ → ℕ → ℕ → Reading
   shape os n k a m = record {
@@ -125,7 +130,7 @@ module _ (f : List ℕ) (lent : Lent) (ns₀ ats₀ : List ℕ) (st : State) (g 
         notes = cleared os (st .notes .used) (st .room);
       }
       out os l =
-          let d : length (take (nodeWidth * h .tree .nodes) ns′) / nodeWidth ≡ h .tree .nodes = omega (arith, lw) in
+          let d : length words / nodeWidth ≡ h .tree .nodes = omega (arith, lw) in
           let m : length (os-of os) ≡ st .notes .used = stored-len os l in
           let nk = nodes-kept os in
           let ak = attributes-kept os in

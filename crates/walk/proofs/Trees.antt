@@ -22,8 +22,8 @@ use Rattle.tables.proofs.Ways.{hung-none}
 use Rattle.walk.specs.declared.tree.Tree.{Tree}
 use Rattle.walk.specs.declared.placing.Placed.the-variants.{Done, Full}
 use Rattle.walk.specs.Settle.{Room, going, push, parentIn, closedIn}
-use Rattle.walk.specs.Reading.{secondOf}
-use Rattle.walk.specs.Inner.Tree.{parentOf, openedTree, closedTree, openedWords, Linked, Tied, tablesOf, behindOf, Chained, PlacesBy}
+use Rattle.walk.specs.Reading.{Dropped, noneDropped, droppedFrom, droppedIn}
+use Rattle.walk.specs.Inner.Tree.{parentOf, openedTree, closedTree, openedWords, Linked, aboveRootOf, Tied, tablesOf, behindOf, Chained, PlacesBy}
 
 pub take-put : (l l′ w : List ℕ) (i j : ℕ) → i ≤ length l → i + length w ≡ j → l′ ≡ take i l ++ w ++ drop j l → take j l′ ≡ take i l ++ w
 take-put l l′ w i j h e q = rw (q, take-at (take i l ++ w) (drop j l) j (length-append (take i l) w ∙ rw (length-take-le i l h) e))
@@ -57,11 +57,20 @@ linked-set w i x n (k ∷ j ∷ r) e h = (
   linked-set w i x n (j ∷ r) e (h .3),
 )
 
-pub second-in : (w o : List ℕ) → Linked w o → (secondOf o ≡ 0 → ⊥) → nodeWidth * secondOf o + nodeWidth ≤ length w
-second-in w [] h n = absurd (n refl)
-second-in w (k ∷ []) h n = absurd (n refl)
-second-in w (k ∷ j ∷ []) h n = h .1
-second-in w (k ∷ j ∷ i ∷ r) h n = second-in w (j ∷ i ∷ r) (h .3) n
+-- the first node that is dropped is not the first of all, and it is stored
+abbrev pub DroppedStored : List ℕ → Dropped → Type 0
+DroppedStored w noneDropped = Unit {0}
+DroppedStored w (droppedFrom k) = (0 < k) × (nodeWidth * k + nodeWidth ≤ length w)
+
+pub dropped-stored : (w o : List ℕ) → Linked w o → DroppedStored w (droppedIn o)
+dropped-stored w [] h = tt
+dropped-stored w (k ∷ []) h = tt
+dropped-stored w (k ∷ j ∷ []) h = (h .0, h .1)
+dropped-stored w (k ∷ j ∷ i ∷ r) h = dropped-stored w (j ∷ i ∷ r) (h .3)
+
+pub above-in : (w : List ℕ) (d : Dropped) (n : ℕ) → DroppedStored w d → aboveRootOf d ≡ n → (n ≡ 0 → ⊥) → nodeWidth * n + nodeWidth ≤ length w
+above-in w noneDropped n h e some = absurd (some (sym e))
+above-in w (droppedFrom k) n h e some = omega (arith, h .1)
 
 -- ---- a node opens
 
@@ -96,7 +105,7 @@ module _ (rule : Rule) (key : Key) (ns ats ns′ : List ℕ) (t : Tree) (name : 
       )
 
   module _ (o : List ℕ) (h : Tied ns ats t o) (u : Tree) (un : u .nodes ≡ t .nodes + 1) (ua : u .attributes ≡ t .attributes)
-      (uf : u .first ≡ t .attributes) (ui : u .inner ≡ t .nodes) (us : secondOf (t .nodes ∷ o) ≡ u .«above_root»)
+      (uf : u .first ≡ t .attributes) (ui : u .inner ≡ t .nodes) (us : aboveRootOf (droppedIn (t .nodes ∷ o)) ≡ u .«above_root»)
       (uu : (u .«above_root» ≡ 0 → ⊥) → getD (w ++ opening) (nodeWidth * u .«above_root» + nodeFirst) 0 ≡ u .«attributes_before_it») (ub : u .«attributes_before_it» ≤ t .attributes) where
     pushed : (r : Room) (os : List NoteOf) (cs : List ℕ) → r .nodes ≡ length ns → r .attributes ≡ length ats
         → push rule r (going (tablesOf ns ats t o os cs)) (Open name fixed line) ≡ going (tablesOf ns′ ats u (t .nodes ∷ o) os cs)
@@ -144,8 +153,7 @@ module _ (rule : Rule) (key : Key) (ns ats ns′ : List ℕ) (t : Tree) (name : 
   node-opens (k ∷ j ∷ r) h =
       let q = linked-some w k (j ∷ r) (h .linked) in
       let e : (t .inner ≡ 0 → ⊥) = λ z. omega (arith, h .top, h .linked .0) in
-      let b : (t .«above_root» ≡ 0 → ⊥) → nodeWidth * t .«above_root» + nodeWidth ≤ length w =
-      λ n. rw (h .«above_root») at (second-in w (k ∷ j ∷ r) (h .linked) (rw (h .«above_root») n)) in
+      let b = above-in w (droppedIn (k ∷ j ∷ r)) (t .«above_root») (dropped-stored w (k ∷ j ∷ r) (h .linked)) (h .«above_root») in
       rw (ne-eqb (t .nodes) 0 (λ z. omega (arith, lw)), ne-eqb (t .inner) 0 e)
       (done (k ∷ j ∷ r) h
       (record { nodes = t .nodes + 1; attributes = t .attributes; first = t .attributes; inner = t .nodes; «above_root» = t .«above_root»; «attributes_before_it» = t .«attributes_before_it» })

@@ -3,14 +3,12 @@
 --   reading     THE PROMISE of `read`: what a file, with these names, leaves in tables of this room
 --   refuses     a refusal: zeros all over
 --   succeeds    the kept records and the notes, and zeros behind them
---   secondOf    the outermost element inside the first that is never closed: it and all starts after it are dropped
+--   droppedIn   what is dropped: the outermost element inside the first that is never closed, and all starts after it
 --   Reads       the same as what a call promises: the numbers of its answer (B7), and its three tables
 use Prim.Native.Nat.{ℕ, _+_, _-_, _*_, _/_}
 use mathlib.Core.Path.{_≡_}
 use mathlib.Core.List.{List, [], _∷_, _++_}
-use mathlib.Core.Bool.{cond}
 use lib.ListN.{length, take, getD, replicate}
-use lib.Dec.{eqb}
 use Rattle.anomaly.specs.declared.Note.{Note as NoteOf}
 use Rattle.errors.specs.declared.Refusal.{Refusal}
 use Rattle.errors.specs.declared.ReadAnswer.{ReadAnswer}
@@ -40,20 +38,34 @@ refuses r x = record { answer = Refused x; nodes = replicate (r .nodes) 0; attri
 
 -- ---- a success
 
--- Of the elements that are open at the end, the innermost first: the one that was opened next after the first of all. Its number is never 0,
--- since 0 is the first element's own, so that 0 says that no other element than the first is open.
-abbrev pub secondOf : List ℕ → ℕ
-secondOf [] = 0
-secondOf (k ∷ []) = 0
-secondOf (k ∷ j ∷ []) = k
-secondOf (k ∷ j ∷ i ∷ r) = secondOf (j ∷ i ∷ r)
+-- what is dropped: no node, or the node of this number and all after it, though they had their places (W29, B5)
+pub data Dropped : Type 0 where
+  noneDropped : Dropped
+  droppedFrom : ℕ → Dropped
+
+-- Told by the numbers of the elements that are open at the end, the innermost first, so that the file's first element comes last. Where no other
+-- is open, none is dropped; else the one before the last, which was opened next after the first, is the first that is dropped (W29).
+abbrev pub droppedIn : List ℕ → Dropped
+droppedIn [] = noneDropped
+droppedIn (k ∷ []) = noneDropped
+droppedIn (k ∷ j ∷ []) = droppedFrom k
+droppedIn (k ∷ j ∷ i ∷ r) = droppedIn (j ∷ i ∷ r)
+
+-- of n nodes: all, or those before the first that is dropped
+abbrev pub nodesKeptBy : ℕ → Dropped → ℕ
+nodesKeptBy n noneDropped = n
+nodesKeptBy n (droppedFrom k) = k
+
+-- of n attributes: all, or those that were stored before that node was, whose record among the nodes has the number of its first attribute
+abbrev pub attributesKeptBy : List ℕ → ℕ → Dropped → ℕ
+attributesKeptBy nodes n noneDropped = n
+attributesKeptBy nodes n (droppedFrom k) = getD nodes (nodeWidth * k + nodeFirst) 0
 
 abbrev pub nodesKept : Tables → ℕ
-nodesKept t = cond (eqb (secondOf (t .stack)) 0) (length (t .nodes) / nodeWidth) (secondOf (t .stack))
+nodesKept t = nodesKeptBy (length (t .nodes) / nodeWidth) (droppedIn (t .stack))
 
--- Where an element is dropped, the attributes that were stored before it was: its record has the number of its first attribute.
 abbrev pub attributesKept : Tables → ℕ
-attributesKept t = cond (eqb (secondOf (t .stack)) 0) (length (t .attributes) / attributeWidth) (getD (t .nodes) (nodeWidth * secondOf (t .stack) + nodeFirst) 0)
+attributesKept t = attributesKeptBy (t .nodes) (length (t .attributes) / attributeWidth) (droppedIn (t .stack))
 
 abbrev pub succeeds : Room → Tables → Reading
 succeeds r t = record {

@@ -28,7 +28,7 @@ use Rattle.head.specs.Entry.{isMode}
 use Rattle.events.specs.declared.Event.{Event}
 use Rattle.events.specs.Events.{Names, fileEvents}
 use Rattle.walk.specs.Settle.{Room, Out, going, refused, settle, nothingYet}
-use Rattle.walk.specs.Reading.{Reading, secondOf, nodesKept, attributesKept, succeeds, finalOf, settledIn, reading}
+use Rattle.walk.specs.Reading.{Reading, noneDropped, droppedIn, nodesKept, attributesKept, succeeds, finalOf, settledIn, reading}
 use Rattle.claims.specs.Insertion.{ForeignChunk, inserted, insertedFile, withNotes}
 use Rattle.claims.specs.Room.{HasRoom}
 use Rattle.claims.specs.Counts.{eventNotes}
@@ -96,8 +96,8 @@ module _ (r : Room) (f : List ℕ) (lent : Lent) (c : ReadCounts) (done : readin
   -- ---- without note 12
 
   module _ (none : _≡_ {A = ℕ} (countOfKind 12 (take (c .notes) (reading r f lent .notes))) 0) where
-    -- no second element is open in the end
-    no-second : _≡_ {A = ℕ} (secondOf (s .tables .stack)) 0
+    -- no second element is open in the end, so that none is dropped
+    no-second : droppedIn (s .tables .stack) ≡ noneDropped
     no-second =
         second-none (N .repeats) r es (s .tables) (file-ends N (openedOf f) t l) (s .settles) (omega (arith, s .cap))
         (ap (countOfKind 12) (told .notes ∙ sym noted) ∙ none)

@@ -13,7 +13,8 @@ use borrow.Author.Tests.{lt-ltb, le-ltb, le-leb, lt-leb, ltb-true, ltb-false, le
 use lib.ListN.{length}
 use lib.Dec.{ltb, leb}
 use Rattle.walk.specs.Settle.{closedIn}
-use Rattle.walk.specs.Reading.{secondOf}
+use Rattle.walk.specs.Reading.{droppedIn}
+use Rattle.walk.specs.Inner.Tree.{aboveRootOf}
 use Rattle.claims.specs.Lost.{Mark, start, end, comesEnd, getsEnd, startNames, stillOpen, behindFirst, beforeLost, keptOf}
 
 -- how many ends of these marks are the end of no start among them
@@ -83,7 +84,7 @@ open-above (end ∷ ms) h = open-above ms h
 -- how many are kept in the end, where n starts came, these elements are open, the innermost first, and these marks follow
 abbrev pub keptBy : List ℕ → ℕ → List Mark → ℕ
 keptBy [] n ms = n + keptOf ms
-keptBy (k ∷ s) n ms = cond (leb (length s) (spare ms)) (n + beforeLost ms) (secondOf (k ∷ s))
+keptBy (k ∷ s) n ms = cond (leb (length s) (spare ms)) (n + beforeLost ms) (aboveRootOf (droppedIn (k ∷ s)))
 
 le-test : (a b c d : ℕ) → (a ≤ b → c ≤ d) → (c ≤ d → a ≤ b) → leb a b ≡ leb c d
 le-test a b c d f g = go (leb a b) refl
@@ -103,7 +104,7 @@ kept-end [] n ms = refl
 kept-end (k ∷ []) n ms = rw (le-leb 0 (spare ms + 1) (omega arith), le-leb 0 (spare ms) (omega arith))
 kept-end (k ∷ j ∷ []) n ms = rw (le-leb 1 (spare ms + 1) (omega arith), le-leb 0 (spare ms) (omega arith))
 kept-end (k ∷ j ∷ i ∷ r) n ms =
-    ap (λ (t : Bool). cond t (n + beforeLost ms) (secondOf (j ∷ i ∷ r)))
+    ap (λ (t : Bool). cond t (n + beforeLost ms) (aboveRootOf (droppedIn (j ∷ i ∷ r))))
     (le-test (suc (suc (length r))) (spare ms + 1) (suc (length r)) (spare ms) (λ x. omega arith) (λ x. omega arith))
 
 first-by : (n o b : ℕ) (t : Bool) → ltb 0 o ≡ t → n + cond t (1 + b) 0 ≡ cond (leb 1 o) (n + 1 + b) n
@@ -125,5 +126,5 @@ kept-start (k ∷ []) n name line ms =
     rw (le-leb 0 (spare ms - 1) (omega arith), getsEnd-spare ms) (first-by n (spare ms) (beforeLost ms) (ltb 0 (spare ms)) refl)
 kept-start (k ∷ j ∷ r) n name line ms =
     rw (getsEnd-spare ms)
-    (above-by (length r) n (spare ms) (beforeLost ms) (secondOf (k ∷ j ∷ r)) (ltb 0 (spare ms)) (leb (suc (suc (length r))) (spare ms)) refl refl
+    (above-by (length r) n (spare ms) (beforeLost ms) (aboveRootOf (droppedIn (k ∷ j ∷ r))) (ltb 0 (spare ms)) (leb (suc (suc (length r))) (spare ms)) refl refl
     (le-test (suc (length r)) (spare ms - 1) (suc (suc (length r))) (spare ms) (λ x. omega arith) (λ x. omega arith)))

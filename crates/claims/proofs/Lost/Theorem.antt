@@ -7,10 +7,8 @@ use Prim.Native.Nat.{ℕ, _+_, _-_, _*_, _/_, _≤_}
 use native.Mathlib.Omega.{arith}
 use mathlib.Core.Path.{_≡_, refl, sym, _∙_, ap}
 use mathlib.Core.List.{List, [], _∷_, _++_, map, map-append}
-use mathlib.Core.Bool.{cond}
-use borrow.Author.Tests.{ne-eqb, lt-leb}
+use borrow.Author.Tests.{lt-leb}
 use lib.ListN.{length, take, getD, length-append, length-set}
-use lib.Dec.{eqb}
 use Rattle.anomaly.specs.Note.{made, noteOf}
 use Rattle.anomaly.specs.Kept.{keptNotes}
 use Rattle.anomaly.specs.declared.Note.{Note}
@@ -24,17 +22,17 @@ use Rattle.records.specs.Words.{nodeWidth}
 use Rattle.records.specs.Repeats.{Rule}
 use Rattle.system_types.specs.Names.{Lent}
 use Rattle.walk.specs.Settle.{Room, Tables, going, settle, nothingYet}
-use Rattle.walk.specs.Reading.{secondOf, nodesKept, Reads}
+use Rattle.walk.specs.Reading.{Dropped, noneDropped, droppedFrom, droppedIn, nodesKeptBy, nodesKept, Reads}
+use Rattle.walk.specs.Inner.Tree.{aboveRootOf}
 use Rattle.claims.specs.Counts.{eventNotes, depthFrom}
 use Rattle.claims.specs.Readers.{namesFor, eventsOf}
 use Rattle.claims.specs.Shape.{countOfKind, Structured}
 use Rattle.claims.specs.Lost.{Mark, marksIn, startNames, startLines, stillOpen, keptOf, beforeLost, NothingLost}
 use Rattle.claims.proofs.Settle.StoreAll.{empty}
 use Rattle.claims.proofs.Settle.ByEvent.{Idle, Goes, settle-in}
-use Rattle.claims.proofs.Structure.Shape.{Falls}
-use Rattle.claims.proofs.Structure.Done.{done-by, done-shaped}
+use Rattle.claims.proofs.Structure.Done.{done-by}
 use Rattle.claims.proofs.Structure.WalkDepth.{WalkedFile}
-use Rattle.claims.proofs.Structure.OpenElements.{near-second}
+use Rattle.claims.proofs.Structure.OpenElements.{SomeDropped, second-some}
 use Rattle.claims.proofs.Structure.Theorem as tree
 use Rattle.claims.proofs.Lost.Matching.{spare, depth-open, open-above, keptBy, kept-end, kept-start}
 use Rattle.claims.proofs.Lost.Marks.{eventMark, eventMarks, file-marks, events-depth, events-names, events-lines, events-starts}
@@ -81,21 +79,23 @@ goes r last = record {
 }
 
 -- with no mark to come
-kept-last : (s : List ℕ) (n m : ℕ) → Falls m s → keptBy s n [] ≡ cond (eqb (secondOf s) 0) n (secondOf s)
+kept-above : (n : ℕ) (d : Dropped) → SomeDropped d → nodesKeptBy n d ≡ aboveRootOf d
+kept-above n noneDropped s = absurd s
+kept-above n (droppedFrom k) s = refl
+
+kept-last : (s : List ℕ) (n : ℕ) → nodesKeptBy n (droppedIn s) ≡ keptBy s n []
 unfolding keptOf beforeLost
-kept-last [] n m f = omega arith
-kept-last (k ∷ []) n m f = omega arith
-kept-last (k ∷ j ∷ r) n m f =
-    let some = near-second (length (k ∷ j ∷ r)) m (k ∷ j ∷ r) (record { low = omega arith; high = omega arith }) (omega arith) f in
-    rw (lt-leb (length (j ∷ r)) 0 (omega arith), ne-eqb (secondOf (k ∷ j ∷ r)) 0 (λ z. omega arith))
+kept-last [] n = omega arith
+kept-last (k ∷ []) n = omega arith
+kept-last (k ∷ j ∷ r) n = rw (lt-leb (length (j ∷ r)) 0 (omega arith)) (kept-above n (droppedIn (k ∷ j ∷ r)) (second-some k j r))
 
 module _ (rule : Rule) (r : Room) (es : List Event) (t : Tables) (e : settle rule r nothingYet es ≡ going t) where
-  settled-kept : (m : ℕ) → Falls m (t .stack) → nodesKept t ≡ keptOf (eventMarks es)
-  settled-kept m f =
+  settled-kept : nodesKept t ≡ keptOf (eventMarks es)
+  settled-kept =
       let start : Keeping (keptOf (eventMarks es)) es empty = record { n = 0; nodes = refl; then = omega arith } in
       let h = rw e at (settle-in rule r (Keeping (keptOf (eventMarks es))) (goes r (keptOf (eventMarks es))) nothingYet es start) in
       let k : length (t .nodes) / nodeWidth ≡ h .n = omega (arith, h .nodes) in
-      ap (λ (n : ℕ). cond (eqb (secondOf (t .stack)) 0) n (secondOf (t .stack))) k ∙ sym (kept-last (t .stack) (h .n) m f) ∙ h .then
+      ap (λ (n : ℕ). nodesKeptBy n (droppedIn (t .stack))) k ∙ kept-last (t .stack) (h .n) ∙ h .then
 
 -- ---- a reading
 
@@ -137,7 +137,7 @@ module _ (f : List ℕ) (lent : Lent) (ns ats : List ℕ) (os : List Note) (cap 
     starts = all-starts;
     kept =
         let d = done-by f lent ns ats os cap mode c ns′ ats′ os′ reads in
-        d .nodes ∙ settled-kept _ _ es (d .tables) (d .out) _ (done-shaped f lent ns ats os cap mode (d .tables) (d .out) .stack) ∙ ap keptOf marks;
+        d .nodes ∙ settled-kept _ _ es (d .tables) (d .out) ∙ ap keptOf marks;
     names = λ k l. shape .names k l ∙ ap (λ (x : List ℕ). getD x k 0) (events-names es ∙ ap startNames marks);
     lines = λ k l. shape .lines k l ∙ ap (λ (x : List ℕ). getD x k 0) (events-lines es ∙ ap startLines marks);
     parents = shape .parents;

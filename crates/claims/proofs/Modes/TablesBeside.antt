@@ -9,7 +9,6 @@ use native.Mathlib.Omega.{arith}
 use mathlib.Core.Path.{_≡_, refl, sym, _∙_, ap, subst}
 use mathlib.Core.List.{List, [], _∷_, _++_}
 use mathlib.Core.Bool.{Bool, true, false, cond, _||_, true≢false}
-use borrow.Author.Tests.{eqb-false}
 use lib.ListN.{length, take, drop, length-append, length-set, length-drop}
 use lib.Seq.{take-append-le, drop-append-le, take-length, drop-length}
 use lib.Dec.{eqb}
@@ -19,14 +18,13 @@ use Rattle.events.specs.declared.Event.the-variants.{Nothing, Open, Attribute, 
 use Rattle.records.specs.Words.{nodeWidth, nodeFirst, nodeWords, attributeWidth, attributeWords}
 use Rattle.records.specs.Repeats.{Rule, byPrefix, repeatsOne, isRepeat}
 use Rattle.walk.specs.Settle.{Tables, opened, closed, kept, lastNode, recordOf, repeated, parentIn, closedIn}
-use Rattle.walk.specs.Reading.{secondOf, attributesKept}
+use Rattle.walk.specs.Reading.{Dropped, noneDropped, droppedFrom, droppedIn, attributesKeptBy, attributesKept}
 use Rattle.claims.specs.Shape.{begin}
 use Rattle.claims.specs.Modes.{mergedPrefix, Merges, none, both, lost}
 use Rattle.claims.proofs.Settle.TableGrowth.{bare, grow, grown}
 use Rattle.claims.proofs.Settle.StoreAll.{empty}
 use Rattle.claims.proofs.Structure.Words.{counting, word-old, word-new, word-other}
-use Rattle.claims.proofs.Structure.Shape.{Falls, second-lt, split-lt}
-use Rattle.claims.proofs.Structure.Tables.{pos}
+use Rattle.claims.proofs.Structure.Shape.{Falls, DroppedBelow, dropped-below, split-lt}
 use Rattle.claims.proofs.Modes.MergedEvents.{mergeAll}
 use Rattle.claims.proofs.Modes.Repeats.{or-right, or-by, no-true, merged-not-own, repeat-append, repeat-other, hit-of, hit-merged}
 
@@ -291,18 +289,13 @@ module _ (same : ℕ → ℕ → Bool) (trans : (i j k : ℕ) → same i j ≡ t
   -- what is kept of both
   pub tables-kept : (t u : Tables) → TablesBeside t u → (n : ℕ) → length (u .nodes) ≡ nodeWidth * n → Falls n (u .stack)
       → Merges (take (attributeWidth * attributesKept t) (t .attributes)) (take (attributeWidth * attributesKept u) (u .attributes))
-  tables-kept t u h n len falls = rw (h .stack) (go (eqb (secondOf (u .stack)) 0) refl)
+  tables-kept t u h n len falls = rw (h .stack) (go (droppedIn (u .stack)) (dropped-below n (u .stack) falls))
     where
-      s : ℕ
-      s = secondOf (u .stack)
-
-      go : (b : Bool) → eqb (secondOf (u .stack)) 0 ≡ b
-          → Merges (take (attributeWidth * cond b (length (t .attributes) / attributeWidth) (begin (t .nodes) s)) (t .attributes))
-          (take (attributeWidth * cond b (length (u .attributes) / attributeWidth) (begin (u .nodes) s)) (u .attributes))
-      go true e =
+      go : (d : Dropped) → DroppedBelow n d
+          → Merges (take (attributeWidth * attributesKeptBy (t .nodes) (length (t .attributes) / attributeWidth) d) (t .attributes))
+          (take (attributeWidth * attributesKeptBy (u .nodes) (length (u .attributes) / attributeWidth) d) (u .attributes))
+      go noneDropped b =
           let a₁ : attributeWidth * (length (t .attributes) / attributeWidth) ≡ length (t .attributes) = omega (arith, h .many₁) in
           let a₂ : attributeWidth * (length (u .attributes) / attributeWidth) ≡ length (u .attributes) = omega (arith, h .many₂) in
           rw (a₁, a₂, take-length (t .attributes), take-length (u .attributes)) (h .all)
-      go false e =
-          let l : s < n = second-lt n (u .stack) falls (pos s (eqb-false s 0 e)) in
-          h .marks s (omega (arith, len, h .nodes₂)) .here
+      go (droppedFrom s) b = h .marks s (omega (arith, b .1, len, h .nodes₂)) .here

@@ -30,7 +30,7 @@ use Rattle.xml_elements.proofs.Laws.{cond-by}
 use Rattle.events.specs.declared.Event.{Event}
 use Rattle.events.specs.Events.{prefixIn, namesIn, fileEvents}
 use Rattle.walk.specs.Settle.{Room, Tables, Out, going, refused, parentIn, closedIn, nothingYet}
-use Rattle.walk.specs.Reading.{Reading, zeroNote, refuses, secondOf, nodesKept, attributesKept, succeeds, readingBy, settledIn, reading}
+use Rattle.walk.specs.Reading.{Reading, zeroNote, refuses, Dropped, noneDropped, droppedFrom, droppedIn, nodesKeptBy, attributesKeptBy, nodesKept, attributesKept, succeeds, readingBy, settledIn, reading}
 use Rattle.listed.specs.Lists.{listedRoom, listed}
 use Rattle.c_api.specs.Words.{wordsOf}
 use Rattle.listing_back.specs.Due.{anyOver}
@@ -122,11 +122,11 @@ closed-fits [] h = h
 closed-fits (k ∷ []) h = h
 closed-fits (k ∷ j ∷ s) h = anyOver-others k (j ∷ s) h
 
-second-fits : (s : List ℕ) → anyOver s ≡ false → Fits (secondOf s)
-second-fits [] h = omega arith
-second-fits (k ∷ []) h = omega arith
-second-fits (k ∷ j ∷ []) h = anyOver-first k (j ∷ []) h
-second-fits (k ∷ j ∷ i ∷ s) h = second-fits (j ∷ i ∷ s) (anyOver-others k (j ∷ i ∷ s) h)
+kept-fits : (n : ℕ) → Fits n → (s : List ℕ) → anyOver s ≡ false → Fits (nodesKeptBy n (droppedIn s))
+kept-fits n f [] h = f
+kept-fits n f (k ∷ []) h = f
+kept-fits n f (k ∷ j ∷ []) h = anyOver-first k (j ∷ []) h
+kept-fits n f (k ∷ j ∷ i ∷ s) h = kept-fits n f (j ∷ i ∷ s) (anyOver-others k (j ∷ i ∷ s) h)
 
 module _ (r : Room) (roomNodes : Fits (r .nodes)) (roomAttributes : Fits (r .attributes)) (roomNotes : Fits (r .notes)) where
   goes : Goes r (Fitting r)
@@ -219,13 +219,14 @@ module _ (r : Room) (roomNodes : Fits (r .nodes)) (roomAttributes : Fits (r .att
   }
 
   nodes-kept : (t : Tables) → Fitting r [] t → Fits (nodesKept t)
-  nodes-kept t h =
-      cond-by Fits (eqb (secondOf (t .stack)) 0) (λ e. omega (arith, h .fewNodes, roomNodes)) (λ e. second-fits (t .stack) (h .stack))
+  nodes-kept t h = kept-fits (length (t .nodes) / nodeWidth) (omega (arith, h .fewNodes, roomNodes)) (t .stack) (h .stack)
 
   attributes-kept : (t : Tables) → Fitting r [] t → Fits (attributesKept t)
-  attributes-kept t h =
-      cond-by Fits (eqb (secondOf (t .stack)) 0) (λ e. omega (arith, h .fewAttributes, roomAttributes))
-      (λ e. over-at (t .nodes) (nodeWidth * secondOf (t .stack) + nodeFirst) (h .nodes))
+  attributes-kept t h = go (droppedIn (t .stack))
+    where
+      go : (d : Dropped) → Fits (attributesKeptBy (t .nodes) (length (t .attributes) / attributeWidth) d)
+      go noneDropped = omega (arith, h .fewAttributes, roomAttributes)
+      go (droppedFrom k) = over-at (t .nodes) (nodeWidth * k + nodeFirst) (h .nodes)
 
   done-in32 : (t : Tables) → Fitting r [] t → In32 (succeeds r t)
   unfolding numbersOf

@@ -1,9 +1,9 @@
 -- The depth and the open elements: docs/FORMAT.md, W25 to W29. For proofs/Structure/Theorem.antt.
 --
 --   settled-near     as many elements are open as the depth says, or one more
---   near-second      so with depth 0 there is no second open element, and from depth 2 on there is one
+--   near-second      so with depth 0 there is no second open element (`near-none`), and from depth 2 on there is one; second-some: of two open elements
 --   settled-walked   where events leave tables, they are those of a whole walk: none of them refuses
---   second-none      where no note 12 is kept, no second element is open in the end
+--   second-none      where no note 12 is kept, no second element is open in the end, so that none is dropped
 use Prim.Native.Nat.{ℕ, _+_, _-_, _≤_, _<_}
 use native.Mathlib.Omega.{arith}
 use mathlib.Core.Path.{_≡_, refl, sym, _∙_, ap}
@@ -16,12 +16,11 @@ use Rattle.records.specs.Repeats.{Rule}
 use Rattle.events.specs.declared.Event.{Event}
 use Rattle.events.specs.declared.Event.the-variants.{Refuse}
 use Rattle.walk.specs.Settle.{Room, Tables, going, settle, nothingYet, closedIn}
-use Rattle.walk.specs.Reading.{secondOf}
+use Rattle.walk.specs.Reading.{Dropped, noneDropped, droppedFrom, droppedIn}
 use Rattle.claims.specs.Counts.{depthFrom}
 use Rattle.claims.specs.Shape.{countOfKind}
 use Rattle.claims.proofs.Settle.StoreAll.{empty, settled}
 use Rattle.claims.proofs.Settle.ByEvent.{idle-still, Goes, settle-in}
-use Rattle.claims.proofs.Structure.Shape.{Falls}
 use Rattle.claims.proofs.Structure.WalkDepth.{WalkedFile, Ending, refusedAt, walkedTo}
 use Rattle.claims.proofs.Structure.NoteTwelve.{walked-twelve}
 use Rattle.claims.proofs.Events.Refusals.{refuse-right}
@@ -37,19 +36,23 @@ near-closed d [] h = record { low = omega (arith, h .low); high = omega arith }
 near-closed d (k ∷ []) h = record { low = omega (arith, h .low); high = omega (arith, h .high) }
 near-closed d (k ∷ j ∷ s) h = record { low = omega (arith, h .low); high = omega (arith, h .high) }
 
-pub near-none : (s : List ℕ) → Near 0 s → _≡_ {A = ℕ} (secondOf s) 0
+pub near-none : (s : List ℕ) → Near 0 s → droppedIn s ≡ noneDropped
 near-none [] h = refl
 near-none (k ∷ []) h = refl
 near-none (k ∷ j ∷ s) h = absurd (let y : ⊥ = omega (arith, h .high) in y)
 
-second-some : (n k j : ℕ) (s : List ℕ) → Falls n (k ∷ j ∷ s) → 0 < secondOf (k ∷ j ∷ s)
-second-some n k j [] f = f .1 .1
-second-some n k j (i ∷ s) f = second-some k j i s (f .1)
+abbrev pub SomeDropped : Dropped → Type 0
+SomeDropped noneDropped = ⊥
+SomeDropped (droppedFrom k) = Unit {0}
 
-pub near-second : (d n : ℕ) (s : List ℕ) → Near d s → 2 ≤ d → Falls n s → 0 < secondOf s
-near-second d n [] h g f = absurd (let y : ⊥ = omega (arith, h .low) in y)
-near-second d n (k ∷ []) h g f = absurd (let y : ⊥ = omega (arith, h .low) in y)
-near-second d n (k ∷ j ∷ s) h g f = second-some n k j s f
+pub second-some : (k j : ℕ) (s : List ℕ) → SomeDropped (droppedIn (k ∷ j ∷ s))
+second-some k j [] = tt
+second-some k j (i ∷ s) = second-some j i s
+
+pub near-second : (d : ℕ) (s : List ℕ) → Near d s → 2 ≤ d → SomeDropped (droppedIn s)
+near-second d [] h g = absurd (let y : ⊥ = omega (arith, h .low) in y)
+near-second d (k ∷ []) h g = absurd (let y : ⊥ = omega (arith, h .low) in y)
+near-second d (k ∷ j ∷ s) h g = second-some k j s
 
 -- the depth so far, which the events to come take to the last one
 record NearBy (last : ℕ) (es : List Event) (t : Tables) : Type 0 where
@@ -91,10 +94,10 @@ module _ (rule : Rule) (r : Room) where
 -- ---- without note 12
 
 module _ (rule : Rule) (r : Room) (es : List Event) (t : Tables) (ends : Ending es) (out : settle rule r nothingYet es ≡ going t) where
-  pub second-none : 0 < r .cap → _≡_ {A = ℕ} (countOfKind 12 (t .notes)) 0 → _≡_ {A = ℕ} (secondOf (t .stack)) 0
+  pub second-none : 0 < r .cap → _≡_ {A = ℕ} (countOfKind 12 (t .notes)) 0 → droppedIn (t .stack) ≡ noneDropped
   second-none one none = go (eqb (depthFrom 0 es) 0) refl
     where
-      go : (b : Bool) → eqb (depthFrom 0 es) 0 ≡ b → _≡_ {A = ℕ} (secondOf (t .stack)) 0
+      go : (b : Bool) → eqb (depthFrom 0 es) 0 ≡ b → droppedIn (t .stack) ≡ noneDropped
       go true e = near-none (t .stack) (rw (eqb-true (depthFrom 0 es) 0 e) at (settled-near rule r es t out))
       go false e =
           let kept = ap (countOfKind 12) (settled rule r es t out .notes) in

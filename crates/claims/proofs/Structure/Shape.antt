@@ -1,6 +1,7 @@
 -- The shape of the tables while events are put away: docs/FORMAT.md, W26, B9 to B11. For proofs/Structure/Theorem.antt and proofs/Calls/Zeros.antt.
 --
 --   Falls         the open elements, the innermost first: each below the one before, the last is the first node
+--   DroppedBelow  so what is dropped begins at a node, not the first (`dropped-below`)
 --   run-le        a run ends within the attributes; runs-cut: what an earlier node's run begins with ends the runs before it
 --   covered       each attribute lies in a run
 --   opens-..      what holds of parents, runs and owners, where a node opens; kept-.. where an attribute is kept
@@ -14,7 +15,7 @@ use lib.ListN.{length}
 use lib.Dec.{ltb, leb}
 use Rattle.records.specs.Words.{nodeWidth, nodeParent, nodeFirst, nodeCount, nodeWords, attributeWidth, attributeOwner, attributeWords}
 use Rattle.walk.specs.Settle.{parentIn, closedIn}
-use Rattle.walk.specs.Reading.{secondOf}
+use Rattle.walk.specs.Reading.{Dropped, noneDropped, droppedFrom, droppedIn}
 use Rattle.claims.specs.Shape.{attributeWord, Parent, Descends, begin, end, Runs, Owns}
 use Rattle.claims.proofs.Structure.Words.{counting, word-old, word-new, word-other, word-same}
 
@@ -38,12 +39,20 @@ falls-closed n [] f = f
 falls-closed n (k ∷ []) f = f
 falls-closed n (k ∷ j ∷ s) f = falls-more k n j s (omega (arith, f .0)) (f .1)
 
--- the second is a node
-pub second-lt : (n : ℕ) (s : List ℕ) → Falls n s → 0 < secondOf s → secondOf s < n
-second-lt n [] f h = absurd (omega arith)
-second-lt n (k ∷ []) f h = absurd (omega arith)
-second-lt n (k ∷ j ∷ []) f h = f .0
-second-lt n (k ∷ j ∷ i ∷ s) f h = omega (arith, second-lt k (j ∷ i ∷ s) (f .1) h, f .0)
+-- the first node that is dropped is one of the n, and not the first of all
+abbrev pub DroppedBelow : ℕ → Dropped → Type 0
+DroppedBelow n noneDropped = Unit {0}
+DroppedBelow n (droppedFrom k) = (0 < k) × (k < n)
+
+below-more : (n m : ℕ) (d : Dropped) → n ≤ m → DroppedBelow n d → DroppedBelow m d
+below-more n m noneDropped l h = tt
+below-more n m (droppedFrom k) l h = (h .0, omega (arith, h .1))
+
+pub dropped-below : (n : ℕ) (s : List ℕ) → Falls n s → DroppedBelow n (droppedIn s)
+dropped-below n [] f = tt
+dropped-below n (k ∷ []) f = tt
+dropped-below n (k ∷ j ∷ []) f = (f .1 .1, f .0)
+dropped-below n (k ∷ j ∷ i ∷ s) f = below-more k n (droppedIn (j ∷ i ∷ s)) (omega (arith, f .0)) (dropped-below k (j ∷ i ∷ s) (f .1))
 
 -- ---- the nodes
 

@@ -7,10 +7,7 @@ use Prim.Native.Nat.{ℕ, zero, suc, _+_, _-_, _*_, _/_, _≤_, _<_}
 use native.Mathlib.Omega.{arith}
 use mathlib.Core.Path.{_≡_, refl, sym, _∙_, ap}
 use mathlib.Core.List.{List, [], _∷_}
-use mathlib.Core.Bool.{Bool, true, false, cond}
-use borrow.Author.Tests.{eqb-false}
-use lib.Dec.{eqb}
-use lib.ListN.{length, getD, length-append, length-set}
+use lib.ListN.{length, length-append, length-set}
 use Rattle.anomaly.specs.Note.{noteOf}
 use Rattle.anomaly.specs.declared.ResAnomaly.{ResAnomaly}
 use Rattle.xml_elements.specs.declared.XmlAttributeElement.{XmlAttributeElement}
@@ -18,11 +15,11 @@ use Rattle.events.specs.declared.Event.{Event}
 use Rattle.records.specs.Words.{nodeWidth, nodeFirst, nodeWords, attributeWidth}
 use Rattle.records.specs.Repeats.{Rule}
 use Rattle.walk.specs.Settle.{Room, Tables, settle, nothingYet, opened, closed, kept, noted, parentIn}
-use Rattle.walk.specs.Reading.{secondOf, nodesKept, attributesKept}
+use Rattle.walk.specs.Reading.{Dropped, noneDropped, droppedFrom, droppedIn, nodesKeptBy, attributesKeptBy, nodesKept, attributesKept}
 use Rattle.claims.specs.Shape.{Descends, begin, end, Runs, Owns}
 use Rattle.claims.proofs.Settle.ByEvent.{InTables, settle-keeps}
 use Rattle.claims.proofs.Structure.Words.{word-new}
-use Rattle.claims.proofs.Structure.Shape.{Falls, second-lt, falls-opened, falls-closed, run-le, runs-cut}
+use Rattle.claims.proofs.Structure.Shape.{Falls, DroppedBelow, dropped-below, falls-opened, falls-closed, run-le, runs-cut}
 use Rattle.claims.proofs.Structure.Shape.{opens-parents, opens-runs, opens-owns, kept-parents, kept-begin, kept-runs, kept-owns}
 
 pub record Shaped (r : Room) (t : Tables) : Type 0 where
@@ -162,21 +159,16 @@ pub record KeptIn (w : List ℕ) (n m k a : ℕ) : Type 0 where
   pub runs : Runs w k a
 
 pub kept-in : (r : Room) (t : Tables) (h : Shaped r t) → KeptIn (t .nodes) (h .n) (h .m) (nodesKept t) (attributesKept t)
-kept-in r t h = go (eqb (secondOf (t .stack)) 0) refl
+kept-in r t h = go (droppedIn (t .stack)) (dropped-below (h .n) (t .stack) (h .stack))
   where
-    s : ℕ
-    s = secondOf (t .stack)
-
-    go : (b : Bool) → eqb (secondOf (t .stack)) 0 ≡ b
-        → KeptIn (t .nodes) (h .n) (h .m) (cond b (length (t .nodes) / nodeWidth) s) (cond b (length (t .attributes) / attributeWidth) (getD (t .nodes) (nodeWidth * s + nodeFirst) 0))
-    go true e =
+    go : (d : Dropped) → DroppedBelow (h .n) d
+        → KeptIn (t .nodes) (h .n) (h .m) (nodesKeptBy (length (t .nodes) / nodeWidth) d) (attributesKeptBy (t .nodes) (length (t .attributes) / attributeWidth) d)
+    go noneDropped b =
         let da : length (t .attributes) / attributeWidth ≡ h .m = omega (arith, h .attributes) in
         let dn : length (t .nodes) / nodeWidth ≡ h .n = omega (arith, h .nodes) in
         rw (da, dn) (record { nodes = omega arith; attributes = omega arith; runs = h .runs })
-    go false e =
-        let l : s < h .n = second-lt (h .n) (t .stack) (h .stack) (pos s (eqb-false s 0 e)) in
-        record {
-          nodes = omega arith;
-          attributes = omega (arith, run-le (t .nodes) (h .n) (h .m) (h .n - s - 1) s (h .runs) (omega arith));
-          runs = runs-cut (t .nodes) (h .n) (h .m) s (h .runs) l;
-        }
+    go (droppedFrom s) b = record {
+      nodes = omega (arith, b .1);
+      attributes = omega (arith, run-le (t .nodes) (h .n) (h .m) (h .n - s - 1) s (h .runs) (omega (arith, b .1)));
+      runs = runs-cut (t .nodes) (h .n) (h .m) s (h .runs) (b .1);
+    }

@@ -9,11 +9,8 @@ use Prim.Native.Nat.{ℕ, _+_, _-_, _*_, _/_, _≤_, _<_}
 use native.Mathlib.Omega.{arith}
 use mathlib.Core.Path.{_≡_, refl, sym, _∙_, ap}
 use mathlib.Core.List.{List, _++_, map}
-use mathlib.Core.Bool.{Bool, true, false, cond}
-use borrow.Author.Tests.{eq-eqb, ne-eqb, eqb-false}
 use lib.ListN.{length, take, length-map, List·getD-append}
 use lib.Seq.{getD-take, length-take-le, take-at}
-use lib.Dec.{eqb}
 use Rattle.anomaly.specs.Note.{noteOf}
 use Rattle.anomaly.specs.Kept.{keptNotes}
 use Rattle.anomaly.specs.declared.Note.{Note}
@@ -26,13 +23,13 @@ use Rattle.records.specs.Words.{nodeWidth, nodeName, nodeFixed, nodeParent, nod
 use Rattle.records.specs.Repeats.{Rule}
 use Rattle.system_types.specs.Names.{Lent}
 use Rattle.walk.specs.Settle.{Room, Tables, settle, nothingYet}
-use Rattle.walk.specs.Reading.{Reading, reading, secondOf, nodesKept, attributesKept, roomIn, Reads}
+use Rattle.walk.specs.Reading.{Reading, reading, Dropped, noneDropped, droppedFrom, droppedIn, nodesKeptBy, nodesKept, attributesKept, roomIn, Reads}
 use Rattle.claims.specs.Counts.{opensIn, eventNotes, depthFrom}
 use Rattle.claims.specs.Readers.{namesFor, eventsOf}
 use Rattle.claims.specs.Shape.{word, attributeWord, Descends, Runs, Owns, Structured}
 use Rattle.claims.proofs.Structure.Words.{place-lt}
-use Rattle.claims.proofs.Structure.Shape.{second-lt, run-le, covered}
-use Rattle.claims.proofs.Structure.Tables.{Shaped, kept-in, pos}
+use Rattle.claims.proofs.Structure.Shape.{DroppedBelow, dropped-below, run-le, covered}
+use Rattle.claims.proofs.Structure.Tables.{Shaped, kept-in}
 use Rattle.claims.proofs.Structure.Done.{DoneBy, done-by, done-shaped}
 use Rattle.claims.proofs.Structure.StartCount.{settled-starts}
 use Rattle.claims.proofs.Events.KeptNotes.{kept-number}
@@ -40,7 +37,7 @@ use Rattle.claims.proofs.Settle.StoreCases.{AllStay}
 use Rattle.claims.proofs.Settle.StoreAll.{settled}
 use Rattle.claims.proofs.Structure.NodeOrder.{settled-names, settled-fixed, settled-lines}
 use Rattle.claims.proofs.Structure.WalkDepth.{WalkedFile, walked-some, file-ends}
-use Rattle.claims.proofs.Structure.OpenElements.{Near, near-none, near-second, settled-near, settled-walked}
+use Rattle.claims.proofs.Structure.OpenElements.{Near, near-none, SomeDropped, near-second, settled-near, settled-walked}
 use Rattle.claims.proofs.Structure.NoteTwelve.{walked-said, walked-twelve, walked-none}
 
 -- ---- the kept records, and zeros behind them
@@ -83,27 +80,23 @@ owners-in w v n m h o j l =
 
 -- ---- how many are kept
 
-nodes-all : (t : Tables) → _≡_ {A = ℕ} (secondOf (t .stack)) 0 → nodesKept t ≡ length (t .nodes) / nodeWidth
-nodes-all t e = rw (eq-eqb (secondOf (t .stack)) 0 e)
-
-nodes-some : (t : Tables) → 0 < secondOf (t .stack) → nodesKept t ≡ secondOf (t .stack)
-nodes-some t h = rw (ne-eqb (secondOf (t .stack)) 0 (λ z. omega arith))
-
 module _ (r : Room) (t : Tables) (h : Shaped r t) where
   kept-some : 0 < h .n → 0 < nodesKept t
-  kept-some l = go (eqb (secondOf (t .stack)) 0) refl
+  kept-some l = go (droppedIn (t .stack)) (dropped-below (h .n) (t .stack) (h .stack))
     where
-      go : (b : Bool) → eqb (secondOf (t .stack)) 0 ≡ b → 0 < cond b (length (t .nodes) / nodeWidth) (secondOf (t .stack))
-      go true e = omega (arith, h .nodes)
-      go false e = pos (secondOf (t .stack)) (eqb-false (secondOf (t .stack)) 0 e)
+      go : (d : Dropped) → DroppedBelow (h .n) d → 0 < nodesKeptBy (length (t .nodes) / nodeWidth) d
+      go noneDropped b = omega (arith, h .nodes)
+      go (droppedFrom k) b = b .0
 
   kept-all : (d : ℕ) → Near d (t .stack) → d ≡ 0 → nodesKept t ≡ length (t .nodes) / nodeWidth
-  kept-all d g z = nodes-all t (near-none (t .stack) (rw z at g))
+  kept-all d g z = ap (nodesKeptBy (length (t .nodes) / nodeWidth)) (near-none (t .stack) (rw z at g))
 
   kept-fewer : (d : ℕ) → Near d (t .stack) → 2 ≤ d → nodesKept t < length (t .nodes) / nodeWidth
-  kept-fewer d g z =
-      let p = near-second d (h .n) (t .stack) g z (h .stack) in
-      omega (arith, nodes-some t p, second-lt (h .n) (t .stack) (h .stack) p, h .nodes)
+  kept-fewer d g z = go (droppedIn (t .stack)) (dropped-below (h .n) (t .stack) (h .stack)) (near-second d (t .stack) g z)
+    where
+      go : (x : Dropped) → DroppedBelow (h .n) x → SomeDropped x → nodesKeptBy (length (t .nodes) / nodeWidth) x < length (t .nodes) / nodeWidth
+      go noneDropped b s = absurd s
+      go (droppedFrom k) b s = omega (arith, b .1, h .nodes)
 
 -- ---- a reading
 

@@ -31,7 +31,7 @@ use Rattle.walk.specs.declared.tree.Put.the-variants.{NotStored, Full as
 use Rattle.walk.specs.declared.placing.Placed.{Placed}
 use Rattle.walk.specs.declared.placing.Placed.the-variants.{Done, Full, Due, Finished}
 use Rattle.walk.specs.Settle.{Room, Tables, going, refused, push}
-use Rattle.walk.specs.Reading.{secondOf}
+use Rattle.walk.specs.Reading.{Dropped, noneDropped, droppedFrom, droppedIn}
 
 -- ---- the numbers of a tree
 
@@ -85,11 +85,16 @@ abbrev pub topOf : List ℕ → ℕ
 topOf [] = 0
 topOf (k ∷ r) = k
 
+-- a tree's number for what is dropped: 0 where nothing is, for the first node, whose number it is, never is
+abbrev pub aboveRootOf : Dropped → ℕ
+aboveRootOf noneDropped = 0
+aboveRootOf (droppedFrom k) = k
+
 pub record Tied (ns ats : List ℕ) (t : Tree) (o : List ℕ) : Type 0 where
   pub sized : Sized ns ats t
   pub linked : Linked (take (nodeWidth * t .nodes) ns) o
   pub top : topOf o ≡ t .inner
-  pub «above_root» : secondOf o ≡ t .«above_root»
+  pub «above_root» : aboveRootOf (droppedIn o) ≡ t .«above_root»
   pub «attributes_before_it» : (t .«above_root» ≡ 0 → ⊥) → getD (take (nodeWidth * t .nodes) ns) (nodeWidth * t .«above_root» + nodeFirst) 0 ≡ t .«attributes_before_it»
   pub below : t .«attributes_before_it» ≤ t .attributes
 
