@@ -4,30 +4,29 @@
 --   Stored         what an event leaves that has its place: tables that are grown, and the notes that the cap keeps
 --   Fits           there is room for it
 --   push-tells     one event is stored; or it is refused, and if it did not refuse itself, then for want of room
-use Prim.Native.Nat.{_+_, _≤_}
+use Prim.Native.Nat.{ℕ, _+_, _≤_}
 use native.Mathlib.Omega.{arith}
 use mathlib.Core.Path.{_≡_, refl, sym, _∙_}
 use mathlib.Core.List.{List, [], _∷_, _++_, append-nil, map}
-use mathlib.Core.Bool.{Bool, true, false}
+use mathlib.Core.Bool.{true, false}
 use borrow.Author.Tests.{leb-false, ltb-false}
-use lib.ListN.{length, getD, length-append}
-use lib.Dec.{ltb, leb, eqb}
-use Rattle.anomaly.specs.Note.{kindIndex, noteOf}
+use lib.ListN.{length, length-append}
+use lib.Dec.{ltb, leb}
+use Rattle.anomaly.specs.Note.{noteOf}
 use Rattle.anomaly.specs.Kept.{keptFrom}
 use Rattle.anomaly.specs.declared.ResAnomaly.{ResAnomaly}
 use Rattle.anomaly.proofs.Laws.{keptFrom-due, keptFrom-past}
 use Rattle.errors.specs.Refusal.{refusalNumber}
 use Rattle.errors.specs.declared.Refusal.{Refusal}
-use Rattle.xml_elements.proofs.Laws.{cond-by}
 use Rattle.events.specs.declared.Event.{Event}
-use Rattle.events.specs.declared.Event.the-variants.{Nothing, Open, Attribute, LeftOut, Close, Note, Refuse, Finish}
 use Rattle.records.specs.Words.{nodeWidth, attributeWidth}
 use Rattle.records.specs.Repeats.{Rule}
-use Rattle.walk.specs.Settle.{Room, Tables, Out, going, refused, opened, kept, push, repeated, closed}
+use Rattle.walk.specs.Settle.{Room, Tables, Out, going, refused, push}
 use Rattle.claims.specs.Room.{isFull}
 use Rattle.claims.specs.Counts.{eventNote}
 use Rattle.claims.proofs.Events.Refusals.{RefuseOf, AllRefuse}
 use Rattle.claims.proofs.Settle.TableGrowth.{bare, grow}
+use Rattle.claims.proofs.Settle.ByEvent.{push-cases}
 
 -- refusals 8, 9, 10
 abbrev pub Full : Refusal → Type 0
@@ -39,6 +38,13 @@ Stays e = RefuseOf (λ x. ⊥) e
 
 abbrev pub AllStay : List Event → Type 0
 AllStay es = AllRefuse (λ x. ⊥) es
+
+-- more than there is room for, by the two tests of `push`
+over : (n room : ℕ) → leb n room ≡ false → n ≤ room → ⊥
+over n room e h = omega (arith, leb-false n room e)
+
+one-over : (n room : ℕ) → ltb n room ≡ false → n + 1 ≤ room → ⊥
+one-over n room e h = omega (arith, ltb-false n room e)
 
 module _ (rule : Rule) (r : Room) where
   -- the notes that are kept of those to come
@@ -64,81 +70,31 @@ module _ (rule : Rule) (r : Room) where
   Tells t e (refused x) = Stays e → Full x × (Fits t e → ⊥)
 
   -- an event that is no note
-  silent : (t : Tables) (e : Event) (t′ : Tables) → bare t′ ≡ grow rule (bare t) e → t′ .notes ≡ t .notes → t′ .counts ≡ t .counts → eventNote e ≡ []
+  silent : {t : Tables} {e : Event} {t′ : Tables} → bare t′ ≡ grow rule (bare t) e → t′ .notes ≡ t .notes → t′ .counts ≡ t .counts → eventNote e ≡ []
       → Stays e → Stored t e t′
   unfolding keptFrom
-  silent t e t′ g o c n s = record { tree = g; notes = o ∙ rw n (sym (append-nil (t .notes))); counts = λ ns. rw (n, c); stays = s }
+  silent {t = t} g o c n s = record { tree = g; notes = o ∙ rw n (sym (append-nil (t .notes))); counts = λ ns. rw (n, c); stays = s }
 
   pub push-tells : (t : Tables) (e : Event) → Tells t e (push rule r (going t) e)
   unfolding keptFrom refusalNumber
-  push-tells t Nothing = silent t Nothing t refl refl refl refl tt
-  push-tells t Finish = silent t Finish t refl refl refl refl tt
-  push-tells t (LeftOut n) = silent t (LeftOut n) t refl refl refl refl tt
-  push-tells t (Refuse x) = λ s. absurd s
-  push-tells t Close = silent t Close (closed t) refl refl refl refl tt
-  push-tells t (Open name fixed line) =
-      cond-by (Tells t (Open name fixed line)) (leb (length (t .nodes) + nodeWidth) (r .nodes))
-      (λ e. silent t (Open name fixed line) (opened t (name .0) fixed line) refl refl refl refl tt) (λ e s. (refl, full e))
-    where
-      full : leb (length (t .nodes) + nodeWidth) (r .nodes) ≡ false → Fits t (Open name fixed line) → ⊥
-      full e f =
-          let more : length (t .nodes) + nodeWidth ≤ r .nodes = rw length-append at (f .nodes) in
-          omega (arith, more, leb-false (length (t .nodes) + nodeWidth) (r .nodes) e)
-  push-tells t (Attribute p a) = none (eqb (length (t .nodes)) 0) refl
-    where
-      A : Event
-      A = Attribute p a
-
-      key : Bool
-      key = repeated rule t p a
-
-      full : eqb (length (t .nodes)) 0 ≡ false → key ≡ false → leb (length (t .attributes) + attributeWidth) (r .attributes) ≡ false → Fits t A → ⊥
-      full z k e f =
-          let more : length (t .attributes) + attributeWidth ≤ r .attributes = rw (z, k, length-append) at (f .attributes) in
-          omega (arith, more, leb-false (length (t .attributes) + attributeWidth) (r .attributes) e)
-
-      room : eqb (length (t .nodes)) 0 ≡ false → key ≡ false → (b : Bool) → leb (length (t .attributes) + attributeWidth) (r .attributes) ≡ b
-          → Tells t A (push rule r (going t) A)
-      room z k true e = rw (z, k, e) (silent t A (kept t p a) (rw (z, k)) refl refl refl tt)
-      room z k false e = rw (z, k, e) (λ s. (refl, full z k e))
-
-      there : eqb (length (t .nodes)) 0 ≡ false → (b : Bool) → key ≡ b → Tells t A (push rule r (going t) A)
-      there z true k = rw (z, k) (silent t A t (rw (z, k)) refl refl refl tt)
-      there z false k = room z k (leb (length (t .attributes) + attributeWidth) (r .attributes)) refl
-
-      none : (b : Bool) → eqb (length (t .nodes)) 0 ≡ b → Tells t A (push rule r (going t) A)
-      none true z = rw z (silent t A t (rw z) refl refl refl tt)
-      none false z = there z key refl
-  push-tells t (Note x) = due (ltb (getD (t .counts) (kindIndex x) 0) (r .cap)) refl
-    where
-      one : ltb (getD (t .counts) (kindIndex x) 0) (r .cap) ≡ true → keptOf t (x ∷ []) ≡ x ∷ []
-      one d = keptFrom-due (r .cap) (t .counts) x [] d
-
-      past : ltb (getD (t .counts) (kindIndex x) 0) (r .cap) ≡ false → keptOf t (x ∷ []) ≡ []
-      past d = keptFrom-past (r .cap) (t .counts) x [] d
-
-      full : ltb (getD (t .counts) (kindIndex x) 0) (r .cap) ≡ true → ltb (length (t .notes)) (r .notes) ≡ false → Fits t (Note x) → ⊥
-      full d e f =
-          let more : length (t .notes) + 1 ≤ r .notes = rw (one d) at (f .notes) in
-          omega (arith, more, ltb-false (length (t .notes)) (r .notes) e)
-
-      place : ltb (getD (t .counts) (kindIndex x) 0) (r .cap) ≡ true → (b : Bool) → ltb (length (t .notes)) (r .notes) ≡ b
-          → Tells t (Note x) (push rule r (going t) (Note x))
-      place d true e =
-          rw (d, e) (record {
-            tree = refl;
-            notes = rw (one d);
-            counts = λ ns. keptFrom-due (r .cap) (t .counts) x ns d ∙ rw (one d);
-            stays = tt;
-          })
-      place d false e = rw (d, e) (λ s. (refl, full d e))
-
-      due : (b : Bool) → ltb (getD (t .counts) (kindIndex x) 0) (r .cap) ≡ b → Tells t (Note x) (push rule r (going t) (Note x))
-      due true d = place d (ltb (length (t .notes)) (r .notes)) refl
-      due false d =
-          rw d (record {
-            tree = refl;
-            notes = rw (past d) (sym (append-nil (t .notes)));
-            counts = λ ns. keptFrom-past (r .cap) (t .counts) x ns d ∙ rw (past d);
-            stays = tt;
-          })
+  push-tells t e =
+      push-cases rule r t (Tells t) (record {
+        makes-nothing = silent refl refl refl refl tt;
+        finishes = silent refl refl refl refl tt;
+        leaves-out = λ n. silent refl refl refl refl tt;
+        refuses = λ x s. absurd s;
+        closes = silent refl refl refl refl tt;
+        opens = λ n f l e. silent refl refl refl refl tt;
+        no-node = λ n f l e s. (refl, λ h. over (length (t .nodes) + nodeWidth) (r .nodes) e (rw length-append at (h .nodes)));
+        before-all = λ p a z. silent (rw z) refl refl refl tt;
+        repeats = λ p a z k. silent (rw (z, k)) refl refl refl tt;
+        keeps = λ p a z k e. silent (rw (z, k)) refl refl refl tt;
+        no-attribute = λ p a z k e s. (refl, λ h. over (length (t .attributes) + attributeWidth) (r .attributes) e (rw (z, k, length-append) at (h .attributes)));
+        notes = λ x d e.
+            let due = keptFrom-due (r .cap) (t .counts) x in
+            record { tree = refl; notes = rw (due [] d); counts = λ ns. due ns d ∙ rw (due [] d); stays = tt };
+        no-note = λ x d e s. (refl, λ h. one-over (length (t .notes)) (r .notes) e (rw (keptFrom-due (r .cap) (t .counts) x [] d) at (h .notes)));
+        past = λ x d.
+            let past = keptFrom-past (r .cap) (t .counts) x in
+            record { tree = refl; notes = rw (past [] d) (sym (append-nil (t .notes))); counts = λ ns. past ns d ∙ rw (past [] d); stays = tt };
+      }) e
