@@ -3,4 +3,5 @@ pub mod Classes
 pub mod Ranges
 pub mod Names
 pub mod Ascii
+pub mod SeenChars
 pub mod Passing

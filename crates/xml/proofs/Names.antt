@@ -1,5 +1,5 @@
 -- One turn of the loop over a name, and where it starts and ends.
-use mathlib.Core.Path.{_≡_, refl, sym, ap, _∙_}
+use mathlib.Core.Path.{_≡_, refl, sym, subst, ap, _∙_}
 use mathlib.Core.Bool.{Bool, true, false, not, _&&_, cond, true≢false}
 use mathlib.Core.List.{List}
 use Prim.Native.Nat.{ℕ, _+_, _*_, _/_, _≤_, _<_}
@@ -13,7 +13,7 @@ use Rattle.utf.proofs.Steps.{stepOf-is, stepsOf-next, stepsOf-end}
 use Rattle.utf.proofs.Turns.{took-ascii, turn-sound, end-sound, stops, goes}
 use Rattle.utf.proofs.Units.{took-unit}
 use Rattle.xml.specs.NCName.{isStart, isChar, charSort, classOf, allChar, isNCName, validName}
-use Rattle.xml.specs.Inner.NameRun.{sortBy, sortAt, begins, charsIn, Told, Passed, Sound, Reached}
+use Rattle.xml.specs.Inner.NameRun.{sortBy, sortAt, begins, charsIn, Told, Passed, Seen, Reached}
 use Rattle.xml.proofs.Ranges.{charSort-start, charSort-char, classOf-ascii, ascii-of-class}
 
 -- ---- what is told of a step
@@ -93,9 +93,6 @@ validName-begins utf16 s h b =
 
 -- ---- a run of chars
 
-pub passed-none : (utf16 : Bool) (s : List ℕ) (at : ℕ) → Passed utf16 s at at
-passed-none utf16 s at = record { later = omega arith; rest = refl }
-
 pub passed-on : (utf16 : Bool) (s : List ℕ) (at i to : ℕ) → Passed utf16 s at i → Passed utf16 s i to → Passed utf16 s at to
 passed-on utf16 s at i to p q = record { later = omega (arith, p .later, q .later); rest = q .rest ∙ p .rest }
 
@@ -106,29 +103,46 @@ passed-more utf16 s at i sort width p h t n = record {
   rest = sym (goes _ _ (not (eqb sort 0)) (turn-char utf16 s i sort width h t) (ap not (ne-eqb sort 0 n))) ∙ p .rest;
 }
 
-pub passed-ascii : (s : List ℕ) (at i sort : ℕ) → Passed false s at i → i < length s → sort ≡ classOf (getD s i 0) → (sort ≡ 0 → ⊥) → (sort ≡ 3 → ⊥)
-    → Passed false s at (i + 1)
-passed-ascii s at i sort p h e n m = passed-more false s at i sort 1 p h (told-ascii s i sort h e m) n
+-- ---- a run of chars that are sound
 
-pub sound-none : (s : List ℕ) (at : ℕ) → Sound false s at at
-sound-none s at = record { kept = refl }
+pub seen-none : (utf16 : Bool) (s : List ℕ) (at : ℕ) → Seen utf16 s at at
+seen-none utf16 s at = record { passed = record { later = omega arith; rest = refl }; sound = refl }
 
-pub sound-ascii : (s : List ℕ) (at i sort : ℕ) → Sound false s at i → i < length s → sort ≡ classOf (getD s i 0) → (sort ≡ 3 → ⊥)
-    → Sound false s at (i + 1)
-sound-ascii s at i sort p h e m =
-    let a : getD s i 0 < 128 = ascii-of-class (getD s i 0) (λ f. m (e ∙ f)) in
-    record { kept = sym (goes _ _ true (turn-sound false s i (getD s i 0) 1 true h (took-ascii false s i refl h a)) refl) ∙ p .kept }
+pub seen-nothing : (utf16 : Bool) (s : List ℕ) (at : ℕ) → Seen utf16 s at (at + 0)
+seen-nothing utf16 s at = let e : at ≡ at + 0 = omega arith in subst (λ (to : ℕ). Seen utf16 s at to) e (seen-none utf16 s at)
 
--- a unit that is no surrogate, and a char of a name
-pub passed-char : (s : List ℕ) (at i : ℕ) → Passed true s at i → i + 1 < length s → ((k : ℕ) → getD s k 0 < 256) → (getD s (i + 1) 0 / 8 ≡ 27 → ⊥)
-    → (charSort (getD s i 0 + getD s (i + 1) 0 * 256) ≡ 0 → ⊥) → Passed true s at (i + 2)
-passed-char s at i p h b n c =
-    let u = getD s i 0 + getD s (i + 1) 0 * 256 in
-    passed-more true s at i (charSort u) 2 p (omega arith) (told true s i u 2 (charSort u) true (took-unit s i h b n) refl) c
+pub seen-on : (utf16 : Bool) (s : List ℕ) (at i to : ℕ) → Seen utf16 s at i → Seen utf16 s i to → Seen utf16 s at to
+seen-on utf16 s at i to p q = record { passed = passed-on utf16 s at i to (p .passed) (q .passed); sound = q .sound ∙ p .sound }
 
-pub passed-unit : (s : List ℕ) (at i sort : ℕ) → Passed true s at i → i + 1 < length s → ((k : ℕ) → getD s k 0 < 256)
-    → getD s i 0 + getD s (i + 1) 0 * 256 < 128 → sort ≡ classOf (getD s i 0 + getD s (i + 1) 0 * 256) → (sort ≡ 0 → ⊥) → Passed true s at (i + 2)
-passed-unit s at i sort p h b a e n = passed-more true s at i sort 2 p (omega arith) (told-unit s i sort h b a e) n
+sort-sound : (utf16 : Bool) (v : ℕ) → charSort v ≡ sortBy utf16 true v
+sort-sound true v = refl
+sort-sound false v = refl
+
+-- one step, whose value is a char of a name
+pub seen-step : (utf16 : Bool) (s : List ℕ) (at value width : ℕ) → at < length s → Took utf16 s at value width true → (charSort value ≡ 0 → ⊥)
+    → Seen utf16 s at (at + width)
+seen-step utf16 s at value width h t n =
+    let here = told utf16 s at value width (charSort value) true t (sort-sound utf16 value) in
+    record {
+      passed = passed-more utf16 s at at (charSort value) width (seen-none utf16 s at .passed) h here n;
+      sound = sym (goes _ _ true (turn-sound utf16 s at value width true h t) refl);
+    }
+
+pub seen-ascii : (s : List ℕ) (at sort : ℕ) → at < length s → sort ≡ classOf (getD s at 0) → (sort ≡ 0 → ⊥) → (sort ≡ 3 → ⊥) → Seen false s at (at + 1)
+seen-ascii s at sort h e n m =
+    let a : getD s at 0 < 128 = ascii-of-class (getD s at 0) (λ f. m (e ∙ f)) in
+    seen-step false s at (getD s at 0) 1 h (took-ascii false s at refl h a) (λ z. n (e ∙ classOf-ascii (getD s at 0) a ∙ z))
+
+-- a unit that is no surrogate
+pub seen-char : (s : List ℕ) (at : ℕ) → at + 1 < length s → ((k : ℕ) → getD s k 0 < 256) → (getD s (at + 1) 0 / 8 ≡ 27 → ⊥)
+    → (charSort (getD s at 0 + getD s (at + 1) 0 * 256) ≡ 0 → ⊥) → Seen true s at (at + 2)
+seen-char s at h b n c = seen-step true s at (getD s at 0 + getD s (at + 1) 0 * 256) 2 (omega arith) (took-unit s at h b n) c
+
+pub seen-unit : (s : List ℕ) (at sort : ℕ) → at + 1 < length s → ((k : ℕ) → getD s k 0 < 256)
+    → getD s at 0 + getD s (at + 1) 0 * 256 < 128 → sort ≡ classOf (getD s at 0 + getD s (at + 1) 0 * 256) → (sort ≡ 0 → ⊥) → Seen true s at (at + 2)
+seen-unit s at sort h b a e n =
+    let u = getD s at 0 + getD s (at + 1) 0 * 256 in
+    seen-char s at h b (λ f. omega arith) (λ z. n (e ∙ classOf-ascii u a ∙ z))
 
 -- ---- as far as a place: no char stands before it, or it is reached
 
@@ -162,12 +176,12 @@ validName-none utf16 s e = rw (stepsOf-end utf16 s 0 (omega arith)) (none-by utf
 
 -- ---- a name that is whole
 
--- one that begins well, and was passed to its end as ASCII
-pub whole-passed : (s : List ℕ) (to : ℕ) → 0 < length s → ((i : ℕ) → getD s i 0 < 256) → begins false s ≡ true → Passed false s 0 to → Sound false s 0 to
-    → length s ≤ to → (validName false s ≡ true) × (isSound false s ≡ true)
-whole-passed s to h b e p q f =
-    let chars : charsIn false s ≡ true = sym (p .rest) ∙ end-char false s to f in
-    (goes _ _ (begins false s) (validName-begins false s h b) e ∙ chars, sym (q .kept) ∙ end-sound false s to f)
+-- one that begins well, and was seen to its end
+pub whole-seen : (s : List ℕ) (to : ℕ) → 0 < length s → ((i : ℕ) → getD s i 0 < 256) → begins false s ≡ true → Seen false s 0 to → length s ≤ to
+    → (validName false s ≡ true) × (isSound false s ≡ true)
+whole-seen s to h b e p f =
+    let chars : charsIn false s ≡ true = sym (p .passed .rest) ∙ end-char false s to f in
+    (goes _ _ (begins false s) (validName-begins false s h b) e ∙ chars, sym (p .sound) ∙ end-sound false s to f)
 
 utf16-by : (x n : Bool) → cond (true && not x) false n ≡ (cond (true && not x) false n && x)
 utf16-by true true = refl

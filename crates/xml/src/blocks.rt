@@ -1,15 +1,18 @@
-// Whole blocks of a name in UTF-16: 32 units, 64 bytes, that are passed at once. Definitions: specs/Inner/Blocks.antt.
+// Whole blocks of a name, 64 or 48 bytes that are passed at once, and the tests of single bytes that tell a char without decoding it.
+// Definitions: specs/Inner/SeenChars.antt, specs/Inner/Blocks.antt.
 //
-// Mirrors nothing of xml/src/lib.rs (apk-info 13770539b8), whose loop goes by chars. A block is looked at byte by byte with no early way out, so that
-// the compiler takes many bytes at once; it holds chars of ASCII alone, or units alone whose high byte says that they are chars.
+// Mirrors nothing of xml/src/lib.rs (apk-info 13770539b8), whose loop goes by chars. A block is looked at byte by byte, each byte by its place, with no
+// early way out, so that the compiler takes many bytes at once. It holds chars of one form alone, of which the bytes say that they are chars.
 ghost use mathlib.Core.Path.{_≡_};
-ghost use mathlib.Core.Bool.{true, cond};
+ghost use mathlib.Core.Bool.{cond};
 ghost use Prim.Native.Nat.{_+_, _≤_, _<_};
-ghost use lib.Dec.{eqb};
 ghost use lib.ListN.{length};
 ghost use Rattle.utf.specs.Utf8.{inside};
-ghost use Rattle.xml.specs.Inner.Blocks.{asciiLow, farHigh, fitsAt, allFit};
-ghost use Rattle.xml.specs.Inner.NameRun.{Passed, Ahead};
+ghost use Rattle.xml.specs.Inner.SeenChars.{asciiLow, farHigh, isTrail, pairLead, tripleLead, tripleSecond};
+ghost use Rattle.xml.specs.Inner.Blocks.{inUtf16, sizeOf, fitsAt, allFit};
+ghost use Rattle.xml.specs.Inner.NameRun.{Seen, Ahead};
+
+// ---- a byte
 
 // Both tests are made, as everywhere here: a branch would hold the loop over a block to one byte at a time.
 fn between(first: u8, last: u8, b: u8) -> bool
@@ -18,7 +21,14 @@ fn between(first: u8, last: u8, b: u8) -> bool
     (first <= b) & (b <= last)
 }
 
-// Whether b is the low byte of a unit of ASCII that is a char: a letter, a digit, `-`, `.` or `_`.
+// x where the test is true, else y.
+fn choose(test: bool, x: bool, y: bool) -> bool
+    ensures { λ r. ⌜ r ≡ cond test x y ⌝ }
+{
+    (test & x) | (!test & y)
+}
+
+// Whether b is a byte of ASCII that is a char: a letter, a digit, `-`, `.` or `_`.
 fn ascii_low(b: u8) -> bool
     ensures { λ r. ⌜ r ≡ asciiLow b ⌝ }
 {
@@ -29,7 +39,7 @@ fn ascii_low(b: u8) -> bool
         | (b == 0x5f)
 }
 
-// Whether each unit with the high byte b is a start, whatever its low byte is.
+// Whether each unit of UTF-16 with the high byte b is a start, whatever its low byte is.
 // Ruled out: true of 03, which U+037E has; true of D8, which a surrogate has.
 pub fn far_high(b: u8) -> bool
     ensures { λ r. ⌜ r ≡ farHigh b ⌝ }
@@ -37,39 +47,88 @@ pub fn far_high(b: u8) -> bool
     between(0x04, 0x1f, b) | between(0x31, 0xd7, b)
 }
 
-// Whether b may stand in a block of ASCII: 0 at an odd place, a char at an even one.
-fn ascii_fits(odd: bool, b: u8) -> bool
-    ensures { λ r. ⌜ r ≡ cond odd (eqb b 0) (asciiLow b) ⌝ }
+// Whether b may follow the first byte of a char in UTF-8.
+// Ruled out: true of C0, true of 7F.
+pub fn is_trail(b: u8) -> bool
+    ensures { λ r. ⌜ r ≡ isTrail b ⌝ }
 {
-    (odd & (b == 0)) | (!odd & ascii_low(b))
+    between(0x80, 0xbf, b)
 }
 
-// Whether b may stand in a block of far units: anything at an even place.
-fn far_fits(odd: bool, b: u8) -> bool
-    ensures { λ r. ⌜ r ≡ cond odd (farHigh b) true ⌝ }
+// Whether each char of two bytes in UTF-8 that begins with b is a char of a name.
+// Ruled out: true of CD, which U+037E has; true of C3, which U+00D7 has.
+pub fn pair_lead(b: u8) -> bool
+    ensures { λ r. ⌜ r ≡ pairLead b ⌝ }
 {
-    !odd | far_high(b)
+    between(0xc4, 0xcc, b) | between(0xce, 0xdf, b)
 }
 
-// Whether b may stand at place k of a block: of far units, or of chars of ASCII.
-fn fits(far: bool, k: usize, b: u8) -> bool
-    ensures { λ r. ⌜ r ≡ fitsAt far k b ⌝ }
+// Whether each char of three bytes in UTF-8 that begins with b is a start, but for those whose second byte is 80.
+// Ruled out: true of E2, which U+2190 has; true of ED, behind which A0 to BF is ill-formed.
+pub fn triple_lead(b: u8) -> bool
+    ensures { λ r. ⌜ r ≡ tripleLead b ⌝ }
 {
-    if far {
-        return far_fits(k % 2 == 1, b);
+    (b == 0xe1) | between(0xe3, 0xec, b)
+}
+
+// Whether b may be the second byte of such a char.
+// Ruled out: true of 80, which U+3000 has behind E3; true of C0.
+pub fn triple_second(b: u8) -> bool
+    ensures { λ r. ⌜ r ≡ tripleSecond b ⌝ }
+{
+    between(0x81, 0xbf, b)
+}
+
+// ---- a block
+
+// What a block holds: units of ASCII or far units in UTF-16; chars of one, two or three bytes in UTF-8.
+pub enum Form {
+    AsciiUnits,
+    FarUnits,
+    Ascii,
+    Pairs,
+    Triples,
+}
+
+// How many bytes a block has.
+fn size_of(form: Form) -> usize
+    ensures { λ r. ⌜ r ≡ sizeOf form ⌝ }
+{
+    match form {
+        Form::AsciiUnits => 64,
+        Form::FarUnits => 64,
+        Form::Ascii => 64,
+        Form::Pairs => 64,
+        Form::Triples => 48,
     }
-    ascii_fits(k % 2 == 1, b)
 }
 
-// Whether the 64 bytes from `at` on are a block. The least of the answers decides, so that the loop has no early way out.
-fn is_block(far: bool, s: &[u8], at: usize) -> bool
-    requires { ⌜ at + 64 ≤ length (now s) ⌝ }
-    ensures { λ r. ⌜ r ≡ allFit far (now (s .entry)) at 64 ⌝ }
+// Whether b may stand at place k of a block.
+fn fits(form: Form, k: usize, b: u8) -> bool
+    ensures { λ r. ⌜ r ≡ fitsAt form k b ⌝ }
+{
+    match form {
+        Form::AsciiUnits => choose(k % 2 == 1, b == 0, ascii_low(b)),
+        Form::FarUnits => choose(k % 2 == 1, far_high(b), true),
+        Form::Ascii => ascii_low(b),
+        Form::Pairs => choose(k % 2 == 1, is_trail(b), pair_lead(b)),
+        Form::Triples => choose(
+            k % 3 == 0,
+            triple_lead(b),
+            choose(k % 3 == 1, triple_second(b), is_trail(b)),
+        ),
+    }
+}
+
+// Whether each of the n bytes from `at` on fits. The least of the answers decides, so that the loop has no early way out.
+fn all_fit(form: Form, n: usize, s: &[u8], at: usize) -> bool
+    requires { ⌜ at + n ≤ length (now s) ⌝ }
+    ensures { λ r. ⌜ r ≡ allFit form (now (s .entry)) at n ⌝ }
 {
     let mut least = 1;
     let mut k = 0;
-    while k < 64 {
-        let x = fits(far, k, s[at + k]) as u8;
+    while k < n {
+        let x = fits(form, k, s[at + k]) as u8;
         if x < least {
             least = x;
         }
@@ -78,21 +137,55 @@ fn is_block(far: bool, s: &[u8], at: usize) -> bool
     least == 1
 }
 
-// The first place from `at` on, in steps of 64, where no block begins: fewer bytes are left, or they are of neither sort. The high byte of
-// the first unit tells which sort the block can be.
-fn utf16_blocks(s: &[u8], at: usize) -> usize
+// How many bytes a block of the form takes at a place with 64 bytes behind it: 0 where none begins there.
+fn block_len(form: Form, s: &[u8], at: usize) -> usize
+    requires { ⌜ at + 64 ≤ length (now s) ⌝ }
+    ensures { λ r. ⌜ Seen (inUtf16 form) (now (s .entry)) at (at + r) × (r ≤ 64) ⌝ }
+{
+    let n = size_of(form);
+    if all_fit(form, n, s, at) {
+        return n;
+    }
+    0
+}
+
+// The form that a block at a place can have: the high byte of its first unit tells it, and in UTF-8 its first byte.
+fn form_at(utf16: bool, s: &[u8], at: usize) -> Form
+    requires { ⌜ at + 64 ≤ length (now s) ⌝ }
+    ensures { λ r. ⌜ inUtf16 r ≡ utf16 ⌝ }
+{
+    if utf16 {
+        if s[at + 1] == 0 {
+            return Form::AsciiUnits;
+        }
+        return Form::FarUnits;
+    }
+    if 0xe0 <= s[at] {
+        return Form::Triples;
+    }
+    if 0x80 <= s[at] {
+        return Form::Pairs;
+    }
+    Form::Ascii
+}
+
+// The end of the blocks that stand at a place, one behind the other: fewer than 64 bytes are left there, or no block begins.
+fn blocks_end(utf16: bool, s: &[u8], at: usize) -> usize
     requires { ⌜ at ≤ length (now s) ⌝ }
-    ensures { λ r. ⌜ Passed true (now (s .entry)) at r × (r ≤ length (now (s .entry))) ⌝ }
+    ensures { λ r. ⌜ Seen utf16 (now (s .entry)) at r × (r ≤ length (now (s .entry))) ⌝ }
 {
     let mut i = at;
     while 64 <= s.len() - i {
-        if !is_block(s[i + 1] != 0, s, i) {
+        let n = block_len(form_at(utf16, s, i), s, i);
+        if n == 0 {
             return i;
         }
-        i += 64;
+        i += n;
     }
     i
 }
+
+// ---- a stretch
 
 // What is looked at next: whole blocks end at `from`, and the chars from there to `to` are looked at one by one.
 pub struct Stretch {
@@ -100,12 +193,13 @@ pub struct Stretch {
     pub to: usize,
 }
 
-// Where no block begins, the next is tried 256 bytes on, so that a text of which each block fails loses little.
-fn utf16_stretch(s: &[u8], at: usize) -> Stretch
+// The stretch at a place inside. Where no block begins, the next is tried 256 bytes on, so that a text of which each block fails loses little.
+// Ruled out: a stretch of no bytes, and one that ends behind the text.
+pub fn stretch_at(utf16: bool, s: &[u8], at: usize) -> Stretch
     requires { ⌜ at < length (now s) ⌝ }
-    ensures { λ r. ⌜ Ahead true (now (s .entry)) at (r .from) (r .to) ⌝ }
+    ensures { λ r. ⌜ Ahead utf16 (now (s .entry)) at (r .from) (r .to) ⌝ }
 {
-    let from = utf16_blocks(s, at);
+    let from = blocks_end(utf16, s, at);
     if 256 <= s.len() - from {
         return Stretch {
             from: from,
@@ -114,23 +208,6 @@ fn utf16_stretch(s: &[u8], at: usize) -> Stretch
     }
     Stretch {
         from: from,
-        to: s.len(),
-    }
-}
-
-// The stretch at a place inside. A text in UTF-8, and one in which fewer than 64 bytes are left, is one stretch.
-// Ruled out: a stretch of no bytes, and one that ends behind the text.
-pub fn stretch_at(utf16: bool, s: &[u8], at: usize) -> Stretch
-    requires { ⌜ at < length (now s) ⌝ }
-    ensures { λ r. ⌜ Ahead utf16 (now (s .entry)) at (r .from) (r .to) ⌝ }
-{
-    if utf16 {
-        if 64 <= s.len() - at {
-            return utf16_stretch(s, at);
-        }
-    }
-    Stretch {
-        from: at,
         to: s.len(),
     }
 }

@@ -1,18 +1,24 @@
 // What stands at a place of a text, as a part of a name, and how far its chars go.
 //
 // Mirrors the loop of `is_valid_name` in xml/src/lib.rs (apk-info 13770539b8), over bytes or units in place of chars. Definitions: specs/Inner/NameRun.antt.
-// A byte of ASCII in UTF-8, and a unit of ASCII in UTF-16, is its own value and is looked up; a unit whose high byte says that it is a start
-// is passed; anything else is decoded first.
+// A byte of ASCII in UTF-8, and a unit of ASCII in UTF-16, is its own value and is looked up; a char of which the bytes, or the unit's high byte, say
+// that it is a char of a name is passed; anything else is decoded first.
 use super::blocks::far_high;
+use super::blocks::is_trail;
+use super::blocks::pair_lead;
+use super::blocks::stretch_at;
+use super::blocks::triple_lead;
+use super::blocks::triple_second;
 use super::sort_in;
 use utf::next_of;
 ghost use mathlib.Core.Path.{_≡_};
 ghost use mathlib.Core.Bool.{true, false};
-ghost use Prim.Native.Nat.{_≤_, _<_};
+ghost use Prim.Native.Nat.{_+_, _≤_, _<_};
 ghost use lib.ListN.{length};
 ghost use Rattle.utf.specs.Text.{isSound};
 ghost use Rattle.xml.specs.NCName.{validName};
-ghost use Rattle.xml.specs.Inner.NameRun.{IsTable, begins, Told, Passed, Sound, Reached};
+ghost use Rattle.xml.specs.Inner.SeenChars.{isPair, isTriple};
+ghost use Rattle.xml.specs.Inner.NameRun.{IsTable, begins, Told, Seen, Reached};
 
 // The sort of what stands there, and how many bytes it takes.
 pub struct Char {
@@ -116,22 +122,68 @@ pub fn begins_well(classes: &[u8], utf16: bool, s: &[u8]) -> bool
 
 // ---- a run of chars that need no decoding
 
-// Bytes of ASCII in UTF-8, which are sound.
+// Whether two bytes in UTF-8 are a char of a name: the first byte tells it, and with C3, which U+00D7 and U+00F7 have, the second too. False tells nothing.
+fn is_pair(b: u8, c: u8) -> bool
+    ensures { λ r. ⌜ r ≡ isPair b c ⌝ }
+{
+    is_trail(c) & (pair_lead(b) | (b == 0xc3) & (c != 0x97) & (c != 0xb7))
+}
+
+// Whether three bytes in UTF-8 are one. False tells nothing.
+fn is_triple(b: u8, c: u8, d: u8) -> bool
+    ensures { λ r. ⌜ r ≡ isTriple b c d ⌝ }
+{
+    triple_lead(b) & triple_second(c) & is_trail(d)
+}
+
+// How many bytes the char at a place inside takes, where two or three bytes tell that it is a char of a name; else 0.
+fn wide_width(s: &[u8], at: usize) -> usize
+    requires { ⌜ at < length (now s) ⌝ }
+    ensures { λ r. ⌜ Seen false (now (s .entry)) at (at + r) × (at + r ≤ length (now (s .entry))) ⌝ }
+{
+    if s.len() - at < 2 {
+        return 0;
+    }
+    if is_pair(s[at], s[at + 1]) {
+        return 2;
+    }
+    if s.len() - at < 3 {
+        return 0;
+    }
+    if is_triple(s[at], s[at + 1], s[at + 2]) {
+        return 3;
+    }
+    0
+}
+
+// The same, and 1 where it is one of ASCII.
+fn seen_width(classes: &[u8], s: &[u8], at: usize) -> usize
+    requires { ⌜ IsTable (now classes) × (at < length (now s)) ⌝ }
+    ensures { λ r. ⌜ Seen false (now (s .entry)) at (at + r) × (at + r ≤ length (now (s .entry))) ⌝ }
+{
+    let b = s[at];
+    let k = classes[b as usize];
+    if k == 3 {
+        return wide_width(s, at);
+    }
+    if k == 0 {
+        return 0;
+    }
+    1
+}
+
+// Chars in UTF-8 whose bytes tell that they are chars.
 fn utf8_run(classes: &[u8], s: &[u8], at: usize, to: usize) -> usize
     requires { ⌜ IsTable (now classes) × (to ≤ length (now s)) ⌝ }
-    ensures { λ r. ⌜ Passed false (now (s .entry)) at r × Sound false (now (s .entry)) at r ⌝ }
+    ensures { λ r. ⌜ Seen false (now (s .entry)) at r ⌝ }
 {
     let mut i = at;
     while i < to {
-        let b = s[i];
-        let k = classes[b as usize];
-        if k == 0 {
+        let w = seen_width(classes, s, i);
+        if w == 0 {
             return i;
         }
-        if k == 3 {
-            return i;
-        }
-        i += 1;
+        i += w;
     }
     i
 }
@@ -139,7 +191,7 @@ fn utf8_run(classes: &[u8], s: &[u8], at: usize, to: usize) -> usize
 // Units of ASCII in UTF-16.
 fn utf16_run(classes: &[u8], s: &[u8], at: usize, to: usize) -> usize
     requires { ⌜ IsTable (now classes) × (to ≤ length (now s)) × (0 < to) ⌝ }
-    ensures { λ r. ⌜ Passed true (now (s .entry)) at r ⌝ }
+    ensures { λ r. ⌜ Seen true (now (s .entry)) at r ⌝ }
 {
     let last = to - 1;
     let mut i = at;
@@ -160,7 +212,7 @@ fn utf16_run(classes: &[u8], s: &[u8], at: usize, to: usize) -> usize
 // Units whose high byte alone says that they are starts.
 fn far_run(s: &[u8], at: usize, to: usize) -> usize
     requires { ⌜ (to ≤ length (now s)) × (0 < to) ⌝ }
-    ensures { λ r. ⌜ Passed true (now (s .entry)) at r ⌝ }
+    ensures { λ r. ⌜ Seen true (now (s .entry)) at r ⌝ }
 {
     let last = to - 1;
     let mut i = at;
@@ -173,10 +225,11 @@ fn far_run(s: &[u8], at: usize, to: usize) -> usize
     i
 }
 
-// A place from `at` on, `to` or before it, up to which chars stand that need no decoding: those of ASCII, and in UTF-16 far units behind them.
+// A place from `at` on up to which chars stand that need no decoding: in UTF-8 those that their bytes tell, in UTF-16 those of ASCII and far units behind
+// them. It is `to` or lies before it, and in UTF-8 up to two bytes behind it, where a char goes beyond.
 fn seen_run(classes: &[u8], utf16: bool, s: &[u8], at: usize, to: usize) -> usize
     requires { ⌜ IsTable (now classes) × (to ≤ length (now s)) × (0 < to) ⌝ }
-    ensures { λ r. ⌜ Passed utf16 (now (s .entry)) at r ⌝ }
+    ensures { λ r. ⌜ Seen utf16 (now (s .entry)) at r ⌝ }
 {
     if utf16 {
         let i = utf16_run(classes, s, at, to);
@@ -203,21 +256,25 @@ pub fn chars_run(classes: &[u8], utf16: bool, s: &[u8], at: usize, to: usize) ->
     i
 }
 
-// ---- a name of ASCII
+// ---- a name whose bytes alone tell
 
-// Whether a UTF-8 text that is not empty is a name of ASCII alone, in which nothing was replaced: one pass, and nothing beyond the first char is
-// decoded. False tells nothing.
+// Whether a UTF-8 text that is not empty is a name of which each char can be told from its bytes, so that nothing in it was replaced: one pass, and
+// nothing beyond the first char is decoded. False tells nothing.
 // Ruled out: true of `1a`, which begins with no start; true of FF, which is decoded.
-pub fn is_ascii_name(classes: &[u8], s: &[u8]) -> bool
+pub fn is_seen_name(classes: &[u8], s: &[u8]) -> bool
     requires { ⌜ IsTable (now classes) × (0 < length (now s)) ⌝ }
     ensures { λ r. ⌜ (r ≡ true → (validName false (now (s .entry)) ≡ true) × (isSound false (now (s .entry)) ≡ true)) ⌝ }
 {
     if !utf8_begins(classes, s) {
         return false;
     }
-    let end = utf8_run(classes, s, 0, s.len());
-    if end < s.len() {
-        return false;
+    let mut at = 0;
+    while at < s.len() {
+        let p = stretch_at(false, s, at);
+        at = utf8_run(classes, s, p.from, p.to);
+        if at < p.to {
+            return false;
+        }
     }
     true
 }

@@ -1,8 +1,8 @@
 // Names: whether a text is an NCName, and what a byte or a value is in one.
 //
 // Mirrors xml/src/lib.rs (apk-info 13770539b8): `is_valid_name`, `is_name_start_char`, `is_name_char`.
-// Definitions: specs/NCName.antt, from XML 1.0 (Fifth Edition) and Namespaces in XML 1.0. Text of ASCII is looked up, and what lies
-// beyond is decoded; in UTF-16 whole blocks are passed at once (blocks.rt), and far units by their high byte alone.
+// Definitions: specs/NCName.antt, from XML 1.0 (Fifth Edition) and Namespaces in XML 1.0. Text of ASCII is looked up, chars whose bytes tell that they
+// are chars of a name are passed, and what is left is decoded; whole blocks are passed at once (blocks.rt).
 // Differs from the Rust: a text in UTF-16 is read as it stands, and ill-formed UTF-8 is read as U+FFFD.
 pub mod blocks;
 pub mod chars;
@@ -10,7 +10,7 @@ pub mod chars;
 use blocks::stretch_at;
 use chars::begins_well;
 use chars::chars_run;
-use chars::is_ascii_name;
+use chars::is_seen_name;
 use utf::is_sound;
 ghost use mathlib.Core.Path.{_≡_};
 ghost use mathlib.Core.Bool.{false, _&&_};
@@ -129,8 +129,8 @@ pub fn valid_name(utf16: bool, s: &[u8]) -> bool
     true
 }
 
-// Whether the text is an NCName in which nothing was replaced. A name of ASCII is seen to be sound as it is passed, and a name in UTF-16 is sound,
-// so that only a name in UTF-8 with a char beyond ASCII is passed over again.
+// Whether the text is an NCName in which nothing was replaced. A name whose bytes tell its chars is seen to be sound as it is passed, and a name in
+// UTF-16 is sound, so that only a name in UTF-8 with a char that must be decoded is passed over again.
 // Ruled out: true of FF in UTF-8, whose U+FFFD is a start; false of EF BF BD, a U+FFFD of the text's own.
 pub fn whole_name(utf16: bool, s: &[u8]) -> bool
     ensures { λ r. ⌜ r ≡ (validName utf16 (now (s .entry)) && isSound utf16 (now (s .entry))) ⌝ }
@@ -141,7 +141,7 @@ pub fn whole_name(utf16: bool, s: &[u8]) -> bool
     if s.len() == 0 {
         return false;
     }
-    if is_ascii_name(&CLASSES, s) {
+    if is_seen_name(&CLASSES, s) {
         return true;
     }
     if !valid_name(false, s) {

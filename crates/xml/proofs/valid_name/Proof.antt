@@ -58,7 +58,7 @@ returns-3 : tie.Need-returns-3 Inv-loop μ-loop
 returns-3 c =
     let q = c .before .before .before .before in
     let r = c .before .before .chars-run .ensures in
-    sym (r .stuck (c .if3 .taken)) ∙ r .passed .rest ∙ q .stretch-at .ensures .passed .rest ∙ q .before .before .loop .inv
+    sym (r .stuck (c .if3 .taken)) ∙ r .passed .rest ∙ q .stretch-at .ensures .seen .passed .rest ∙ q .before .before .loop .inv
 
 loop-less : tie.Need-loop-less Inv-loop μ-loop
 loop-less c =
@@ -68,7 +68,7 @@ loop-less c =
 loop-again : tie.Need-loop-again Inv-loop μ-loop
 loop-again c =
     let q = c .before .before .before .before in
-    c .before .before .chars-run .ensures .passed .rest ∙ q .stretch-at .ensures .passed .rest ∙ q .before .before .loop .inv
+    c .before .before .chars-run .ensures .passed .rest ∙ q .stretch-at .ensures .seen .passed .rest ∙ q .before .before .loop .inv
 
 returns-4 : tie.Need-returns-4 Inv-loop μ-loop
 returns-4 c =

@@ -1,6 +1,6 @@
--- `xml::whole_name` meets its contract: by the encoding, and in UTF-8 by whether the name is of ASCII.
+-- `xml::whole_name` meets its contract: by the encoding, and in UTF-8 by whether its bytes tell its chars.
 use native.Mathlib.Omega.{arith}
-use mathlib.Core.Path.{_≡_, refl, sym, _∙_}
+use mathlib.Core.Path.{sym, _∙_}
 use mathlib.Core.Bool.{false}
 use denote.Ref.{now}
 use borrow.Author.Tests.{not-true, not-false}
@@ -23,16 +23,16 @@ returns-2 c =
     let a = c .before .before .before .args in
     whole-utf8 (a .utf16) (now (a .s)) false (c .before .if1 .left) (not-first _ _ (validName-none false (now (a .s)) (c .if2 .taken)))
 
-slice-aggregate-is-ascii-name : tie.Need-slice-aggregate-is-ascii-name
-slice-aggregate-is-ascii-name c = search needs
+slice-aggregate-is-seen-name : tie.Need-slice-aggregate-is-seen-name
+slice-aggregate-is-seen-name c = search needs
 
-is-ascii-name-requires : tie.Need-is-ascii-name-requires
-is-ascii-name-requires c κs = (classes-right, omega arith)
+is-seen-name-requires : tie.Need-is-seen-name-requires
+is-seen-name-requires c κs = (classes-right, omega arith)
 
 returns-3 : tie.Need-returns-3
 returns-3 c =
     let a = c .before .before .before .before .before .before .args in
-    let whole = c .before .is-ascii-name .ensures (c .if3 .taken) in
+    let whole = c .before .is-seen-name .ensures (c .if3 .taken) in
     whole-utf8 (a .utf16) (now (a .s)) _ (c .before .before .before .before .if1 .left) (both _ _ (whole .0) (whole .1))
 
 valid-name-requires-2 : tie.Need-valid-name-requires-2
@@ -61,8 +61,8 @@ whole-name-spec =
     valid-name-requires
     returns
     returns-2
-    slice-aggregate-is-ascii-name
-    is-ascii-name-requires
+    slice-aggregate-is-seen-name
+    is-seen-name-requires
     returns-3
     valid-name-requires-2
     returns-4

@@ -6,9 +6,9 @@
 --   charsIn    what is left of a name, from a place on: each value is a char, and nothing is refused
 --   Told       the step at a place inside: what it is in a name, and how far it goes
 --   Passed     what lies between two places is chars of a name
---   Sound      what lies between two places is sound
---   Reached    the same, and where the second place lies before `to`, what is left from there on is no part of a name
---   Ahead      what lies before `from` is chars of a name; `to` is a place inside or the end, behind `at`
+--   Seen       the same, and it is sound: no U+FFFD stands for a part of it
+--   Reached    what lies between two places is chars of a name, and where the second lies before `to`, what is left from there on is no part of one
+--   Ahead      what lies before `from` is chars of a name, and sound; `to` is a place inside or the end, behind `at`
 use mathlib.Core.Path.{_≡_}
 use Prim.Native.Nat.{ℕ, _≤_, _<_}
 use mathlib.Core.Bool.{Bool, false, not, _&&_, cond}
@@ -45,14 +45,15 @@ pub record Passed (utf16 : Bool) (s : List ℕ) (at to : ℕ) : Type 0 where
   pub later : at ≤ to
   pub rest : charsIn utf16 (drop to s) ≡ charsIn utf16 (drop at s)
 
-pub record Sound (utf16 : Bool) (s : List ℕ) (at to : ℕ) : Type 0 where
-  pub kept : isSound utf16 (drop to s) ≡ isSound utf16 (drop at s)
+pub record Seen (utf16 : Bool) (s : List ℕ) (at to : ℕ) : Type 0 where
+  pub passed : Passed utf16 s at to
+  pub sound : isSound utf16 (drop to s) ≡ isSound utf16 (drop at s)
 
 pub record Reached (utf16 : Bool) (s : List ℕ) (at to r : ℕ) : Type 0 where
   pub passed : Passed utf16 s at r
   pub stuck : r < to → charsIn utf16 (drop r s) ≡ false
 
 pub record Ahead (utf16 : Bool) (s : List ℕ) (at from to : ℕ) : Type 0 where
-  pub passed : Passed utf16 s at from
+  pub seen : Seen utf16 s at from
   pub ends : to ≤ length s
   pub farther : at < to

@@ -1,6 +1,6 @@
 -- `xml::blocks::ascii_low` meets its contract.
 use borrow.Author.Needs.{needs}
-use Rattle.xml.proofs.Passing.{asciiLow-is}
+use Rattle.xml.proofs.SeenChars.{asciiLow-is}
 use Rattle.xml.proofs.blocks.ascii_low.Statement.{statement}
 use Rattle.xml.proofs.blocks.ascii_low.Tie as tie
 

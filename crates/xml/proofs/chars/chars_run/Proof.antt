@@ -16,7 +16,7 @@ seen-run-requires : tie.Need-seen-run-requires Inv-loop μ-loop
 seen-run-requires c κs = c .before .before .pre
 
 loop-holds : tie.Need-loop-holds Inv-loop μ-loop
-loop-holds c = c .seen-run .ensures
+loop-holds c = c .seen-run .ensures .passed
 
 decoded-requires : tie.Need-decoded-requires Inv-loop μ-loop
 decoded-requires c κs =
@@ -41,7 +41,7 @@ seen-run-requires-2 c κs = c .before .before .before .before .before .before .b
 loop-less : tie.Need-loop-less Inv-loop μ-loop
 loop-less c =
     let q = c .before .before .before .before in
-    omega (arith, q .decoded .ensures, q .before .loop-test .taken, c .seen-run2 .ensures .later)
+    omega (arith, q .decoded .ensures, q .before .loop-test .taken, c .seen-run2 .ensures .passed .later)
 
 loop-again : tie.Need-loop-again Inv-loop μ-loop
 loop-again c =
@@ -50,7 +50,7 @@ loop-again c =
     let test = q .before .loop-test .taken in
     let char = c .before .before .if1 .left in
     let more = passed-more _ _ _ _ _ _ (l .loop .inv) (omega (arith, test, l .before .before .before .before .pre)) (q .decoded .ensures) char in
-    passed-on _ _ _ _ _ more (c .seen-run2 .ensures)
+    passed-on _ _ _ _ _ more (c .seen-run2 .ensures .passed)
 
 returns-2 : tie.Need-returns-2 Inv-loop μ-loop
 returns-2 c = reached-to _ _ _ _ _ (c .before .loop .inv) (c .loop-test .left)

@@ -1,4 +1,4 @@
--- `xml::chars::far_run` meets its contract. Invariant: what was passed is chars (`Passed`). Measure: the bytes left before the last.
+-- `xml::chars::far_run` meets its contract. Invariant: what was passed is chars, and sound (`Seen`). Measure: the bytes left before the last.
 use mathlib.Core.Path.{sym, _∙_}
 use mathlib.Core.Bool.{true}
 use Prim.Native.Nat.{ℕ, _-_, _<_}
@@ -7,14 +7,14 @@ use borrow.Author.Needs.{needs}
 use borrow.Author.Tests.{not-false}
 use lib.ListN.{getD}
 use denote.Ref.{now}
-use Rattle.xml.specs.Inner.NameRun.{Passed}
-use Rattle.xml.proofs.Names.{passed-none}
-use Rattle.xml.proofs.Passing.{passed-far}
+use Rattle.xml.specs.Inner.NameRun.{Seen}
+use Rattle.xml.proofs.Names.{seen-none, seen-on}
+use Rattle.xml.proofs.SeenChars.{seen-far}
 use Rattle.xml.proofs.chars.far_run.Statement.{statement}
 use Rattle.xml.proofs.chars.far_run.Tie as tie
 
 abbrev Inv-loop : tie.InvT-loop
-Inv-loop s at to last i₀ i = Passed true s at i
+Inv-loop s at to last i₀ i = Seen true s at i
 
 abbrev μ-loop : tie.MeasureT-loop
 μ-loop s at to last i₀ i = last - i
@@ -23,7 +23,7 @@ sub-last : tie.Need-sub-last Inv-loop μ-loop
 sub-last c = omega (arith, c .before .pre .1)
 
 loop-holds : tie.Need-loop-holds Inv-loop μ-loop
-loop-holds c = passed-none _ _ _
+loop-holds c = seen-none _ _ _
 
 add-far-high : tie.Need-add-far-high Inv-loop μ-loop
 add-far-high c = omega arith
@@ -51,7 +51,8 @@ loop-again c =
     let i = q .loop .i in
     let bytes : (k : ℕ) → getD s k 0 < 256 = λ k. c .before .before .shared-slice-known2 .given k .fits in
     let far = sym (c .before .far-high .ensures) ∙ not-false _ (c .if1 .left) in
-    passed-far s (start .args .at) i (q .loop .inv) (omega (arith, c .before .before .before .loop-test .taken, start .pre)) bytes far
+    let unit = seen-far s i (omega (arith, c .before .before .before .loop-test .taken, start .pre)) bytes far in
+    seen-on true s (start .args .at) i _ (q .loop .inv) unit
 
 returns-2 : tie.Need-returns-2 Inv-loop μ-loop
 returns-2 c = c .before .loop .inv

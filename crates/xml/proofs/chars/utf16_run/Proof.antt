@@ -1,16 +1,16 @@
--- `xml::chars::utf16_run` meets its contract. Invariant: what was passed is chars (`Passed`). Measure: the bytes left before the last.
+-- `xml::chars::utf16_run` meets its contract. Invariant: what was passed is chars, and sound (`Seen`). Measure: the bytes left before the last.
 use Prim.Native.Nat.{ℕ, _+_, _-_, _*_, _<_}
 use mathlib.Core.Bool.{true}
 use native.Mathlib.Omega.{arith}
 use lib.ListN.{getD}
 use denote.Ref.{now}
-use Rattle.xml.specs.Inner.NameRun.{Passed}
-use Rattle.xml.proofs.Names.{passed-none, passed-unit}
+use Rattle.xml.specs.Inner.NameRun.{Seen}
+use Rattle.xml.proofs.Names.{seen-none, seen-on, seen-unit}
 use Rattle.xml.proofs.chars.utf16_run.Statement.{statement}
 use Rattle.xml.proofs.chars.utf16_run.Tie as tie
 
 abbrev Inv-loop : tie.InvT-loop
-Inv-loop classes s at to last i₀ i = Passed true s at i
+Inv-loop classes s at to last i₀ i = Seen true s at i
 
 abbrev μ-loop : tie.MeasureT-loop
 μ-loop classes s at to last i₀ i = last - i
@@ -19,7 +19,7 @@ sub-last : tie.Need-sub-last Inv-loop μ-loop
 sub-last c = omega (arith, c .pre .2)
 
 loop-holds : tie.Need-loop-holds Inv-loop μ-loop
-loop-holds c = passed-none _ _ _
+loop-holds c = seen-none _ _ _
 
 shared-slice-read-u : tie.Need-shared-slice-read-u Inv-loop μ-loop
 shared-slice-read-u c = omega arith
@@ -68,7 +68,7 @@ loop-again c =
     let ascii = c .before .before .if1 .left in
     let class = q .before .pre .0 .right (getD s i 0 + getD s (i + 1) 0 * 256) (omega (arith, ascii)) in
     let test = c .before .before .before .before .before .loop-test .taken in
-    passed-unit _ _ _ _ (q .loop .inv) (omega (arith, test, q .before .pre)) bytes ascii class (c .if2 .left)
+    seen-on _ _ _ _ _ (q .loop .inv) (seen-unit _ _ _ (omega (arith, test, q .before .pre)) bytes ascii class (c .if2 .left))
 
 returns-3 : tie.Need-returns-3 Inv-loop μ-loop
 returns-3 c = c .before .loop .inv

@@ -1,21 +1,21 @@
--- `xml::blocks::is_block` meets its contract. Invariant: the least answer so far is 1 where each byte so far fits. Measure: the bytes left.
+-- `xml::blocks::all_fit` meets its contract. Invariant: the least answer so far is 1 where each byte so far fits. Measure: the bytes left.
 use mathlib.Core.Path.{_≡_, refl, ap, _∙_}
 use mathlib.Core.Bool.{Bool, cond}
 use mathlib.Core.Logic.{⊎-elim}
 use Prim.Native.Nat.{ℕ, _-_, _≤_}
-use native.Mathlib.Omega.{arith}
 use denote.Ref.{now}
-use borrow.Author.Needs.{needs}
 use Rattle.xml.specs.Inner.Blocks.{allFit}
 use Rattle.xml.proofs.Passing.{boolByte-is, least-put, least-kept, least-is}
-use Rattle.xml.proofs.blocks.is_block.Statement.{statement}
-use Rattle.xml.proofs.blocks.is_block.Tie as tie
+use borrow.Author.Needs.{needs}
+use native.Mathlib.Omega.{arith}
+use Rattle.xml.proofs.blocks.all_fit.Statement.{statement}
+use Rattle.xml.proofs.blocks.all_fit.Tie as tie
 
 abbrev Inv-loop : tie.InvT-loop
-Inv-loop far s at least₀ k₀ least k = (k ≤ 64) × (least ≡ cond (allFit far s at k) 1 0)
+Inv-loop form n s at least₀ k₀ least k = (k ≤ n) × (least ≡ cond (allFit form s at k) 1 0)
 
 abbrev μ-loop : tie.MeasureT-loop
-μ-loop far s at least₀ k₀ least k = 64 - k
+μ-loop form n s at least₀ k₀ least k = n - k
 
 loop-holds : tie.Need-loop-holds Inv-loop μ-loop
 unfolding allFit
@@ -47,8 +47,8 @@ loop-again c =
     let x = boolByte-is (c .before .fits2 .result) ∙ ap (λ (b : Bool). cond {A = ℕ} b 1 0) (c .before .fits2 .ensures) in (
       omega arith,
       ⊎-elim
-          (λ w. rw (w .1) (least-put (a .far) s (a .at) (l .k) (l .least) _ (l .inv .1) x (w .0 .taken)))
-          (λ w. rw (w .1) (least-kept (a .far) s (a .at) (l .k) (l .least) _ (l .inv .1) x (w .0 .left)))
+          (λ w. rw (w .1) (least-put (a .form) s (a .at) (l .k) (l .least) _ (l .inv .1) x (w .0 .taken)))
+          (λ w. rw (w .1) (least-kept (a .form) s (a .at) (l .k) (l .least) _ (l .inv .1) x (w .0 .left)))
           (c .if1 .came),
     )
 
@@ -56,22 +56,9 @@ returns : tie.Need-returns Inv-loop μ-loop
 returns c =
     let a = c .before .before .before .args in
     let l = c .before .loop in
-    let k : l .k ≡ 64 = omega arith in
+    let k : l .k ≡ a .n = omega arith in
     let s = now (a .s) in
-    least-is (l .least) (allFit (a .far) s (a .at) 64) (l .inv .1 ∙ ap (λ (n : ℕ). cond {A = ℕ} (allFit (a .far) s (a .at) n) 1 0) k)
+    least-is (l .least) (allFit (a .form) s (a .at) (a .n)) (l .inv .1 ∙ ap (λ (n : ℕ). cond {A = ℕ} (allFit (a .form) s (a .at) n) 1 0) k)
 
-pub is-block-spec : {M : Type 1} → statement M
-is-block-spec =
-    tie.close
-    (tie.spec
-    Inv-loop
-    μ-loop
-    loop-holds
-    add-fits
-    shared-slice-read-fits
-    fits-requires
-    cast-x
-    add-k
-    loop-less
-    loop-again
-    returns)
+pub all-fit-spec : {M : Type 1} → statement M
+all-fit-spec = tie.close (tie.spec Inv-loop μ-loop loop-holds add-fits shared-slice-read-fits fits-requires cast-x add-k loop-less loop-again returns)
