@@ -179,7 +179,8 @@ def long_texts(count, units, letter):
 def in_turns(size, count, utf8=False, letter="a", tags=False, each=1, bad=False, step=1):
     """So many long names, half the file, used in turns by the rest: as attributes, so many to an element, or as elements' own names.
     bad: no name is valid, for its last unit. step: the indices that are used are so far apart, and between them stand names of one letter."""
-    units = min(size // 2 // count // (1 if utf8 else 2), 32_760 // len(letter.encode()) if utf8 else LIMIT)
+    each_unit = len(letter.encode()) if utf8 else 2
+    units = min(size // 2 // count, 32_760 if utf8 else LIMIT) // each_unit
     texts = [t + "!" if bad else t for t in long_texts(count, units, letter)]
     spread = [texts[i // step] if i % step == 0 else "a" for i in range((count - 1) * step + 1)]
     spread.append("a")
@@ -241,6 +242,22 @@ def far_name(size, utf8=False):
     return on_each(size, [*(f"n{i:02}" for i in range(32)), "a" * shares(size, 1, utf8)], utf8)
 
 
+def in_spaces(size, texts, utf8):
+    """Elements that each have one attribute's name in every one of these namespaces."""
+    name, tag = len(texts), len(texts) + 1
+    head = pool_of([*texts, "n", "a"], utf8)
+    one = start(tag, [(i, name, 16, i) for i in range(name)]) + end(tag)
+    room = size - len(whole((head, start(tag), end(tag))))
+    return whole((head, start(tag), one * (room // len(one)), end(tag)))
+
+
+def long_spaces(size, count, place, utf8=False):
+    """So many long namespaces that take half the file and differ in one unit alone, the first, the middle or the last one, all on each element."""
+    units = shares(size, count, utf8)
+    at = {"first": 0, "middle": units // 2, "last": units - 1}[place]
+    return in_spaces(size, ["a" * at + chr(98 + i) + "a" * (units - at - 1) for i in range(count)], utf8)
+
+
 def offsets():
     data = b"\1\1a\0"
     return whole((pool(data, [0] * 4_000_000, True), start(3_999_999), end(0)))
@@ -289,6 +306,9 @@ MANY = (("65,535 attributes of different names", lambda: elements(HEXED), 0),
 
 BOTH = (("", False), (", UTF-8", True))
 
+# how a name is written: UTF-16, and in UTF-8 by one, two or three bytes a char
+SCRIPTS = (("UTF-16", False, "a"), ("UTF-8", True, "a"), ("Cyrillic in UTF-8", True, "\u0436"), ("kana in UTF-8", True, "\u3042"))
+
 LONG = (("one long name in one element", lambda: in_turns(1_500_000, 1, each=30_000)),
         ("one long name, once in each element", lambda: in_turns(1_000_000, 1)),
         *((f"{n:,} long names in turns", lambda n=n: in_turns(1_000_000, n)) for n in (2, 17, 257, 1025, 4097)),
@@ -301,6 +321,7 @@ LONG = (("one long name in one element", lambda: in_turns(1_500_000, 1, each=30_
         ("three long names 1,024 indices apart", lambda: in_turns(1_000_000, 3, step=1024)),
         ("two long names 1,024 indices apart, UTF-8", lambda: in_turns(1_000_000, 2, True, step=1024)),
         ("two long Cyrillic names 1,024 indices apart, UTF-8", lambda: in_turns(1_000_000, 2, True, letter="\u0436", step=1024)),
+        *((f"130 long names 1,024 indices apart, {script}", lambda u=u, letter=letter: in_turns(4_000_000, 130, u, letter, step=1024)) for script, u, letter in SCRIPTS),
         *((f"16 long names that differ in the {place} unit{encoding}", lambda place=place, u=u: differing(1_000_000, 16, place, u))
           for place in ("first", "middle") for encoding, u in BOTH),
         *((f"a long name at {n} indices{encoding}", lambda n=n, u=u: copied(1_000_000, n, u)) for n in (2, 16) for encoding, u in BOTH),
@@ -314,11 +335,18 @@ LONG_16 = (("one long name in elements of 65,535", lambda: in_turns(LIMIT, 1, ea
            ("17 long names that are not valid", lambda: in_turns(LIMIT, 17, bad=True)),
            ("two long names 1,024 indices apart", lambda: in_turns(LIMIT, 2, step=1024)),
            ("three long names 1,024 indices apart", lambda: in_turns(LIMIT, 3, step=1024)),
+           *((f"600 long names 1,024 indices apart, {script}", lambda u=u, letter=letter: in_turns(LIMIT, 600, u, letter, step=1024)) for script, u, letter in SCRIPTS),
            ("16 long names that differ in the first unit", lambda: differing(LIMIT, 16, "first")),
            ("16 long names that differ in the middle unit, UTF-8", lambda: differing(LIMIT, 16, "middle", True)),
            ("a long name at 2 indices", lambda: copied(LIMIT, 2)),
            ("a long name at 16 indices, UTF-8", lambda: copied(LIMIT, 16, True)),
            ("a long name as the 33rd attribute", lambda: far_name(LIMIT)))
+
+# Read by ours in the second mode, by the Rust as ever.
+SPACES = (("one long namespace", lambda: long_spaces(1_000_000, 1, "last")),
+          ("two long namespaces on each element", lambda: long_spaces(1_000_000, 2, "last")),
+          *((f"16 long namespaces that differ in the {place} unit{encoding}", lambda place=place, u=u: long_spaces(1_000_000, 16, place, u))
+            for place in ("first", "middle", "last") for encoding, u in BOTH))
 
 # Left slow, and so in no bar: strings that lie in each other (docs/DECISIONS.md, 33).
 SLOW = (("strings that lie in each other", lambda: overlapping(1_000_000)),)

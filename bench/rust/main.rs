@@ -3,6 +3,8 @@
 //!   time NAMES ROUNDS FILE     a line: nanoseconds of the Rust with and without freeing its result, of ours with and without making its
 //!                              tables, each the median of the rounds; the ratio of the first to the third and of the second to the fourth,
 //!                              each as median and quartiles. Where the answers differ it says so and ends with 1.
+//!   apart NAMES ROUNDS FILE    as `time`, ours in the second mode, which the Rust does not have: it reads as ever, and the answers are held equal in
+//!                              the first mode
 //!   grow ROUNDS FILE..         the files in turns, ours with no names; for each a line: nanoseconds per byte, and those of the last file over
 //!                              them, each as median and quartiles
 //!   ask NAMES ROUNDS FILE      forty pairs of a file that was read, asked of the Rust one by one, of ours one by one, and of ours at once; a line: how many
@@ -61,7 +63,7 @@ fn measured(side: Side, file: &[u8], names: &Names, tables: &mut Tables) {
         Side::Freed => equal::freed(file, names.lent()),
         Side::Rust => equal::kept(file, names.lent()),
         Side::Made => {
-            let mut t = Tables::of(file.len());
+            let mut t = Tables::in_mode(file.len(), tables.mode);
             black_box(t.read(file, names));
         }
         Side::Ours => {
@@ -120,11 +122,12 @@ fn held(path: &str, equal: Result<(), String>) {
     }
 }
 
-fn time(names: &Names, rounds: usize, path: &str) {
+fn time(names: &Names, mode: u32, rounds: usize, path: &str) {
     let file = std::fs::read(path).unwrap();
     let mut tables = Tables::of(file.len());
     let answer = tables.read(&file, names);
     held(path, equal::equal(&file, names.lent(), &tables, &answer));
+    tables.mode = mode;
     turns(rounds, &mut |i| measured(SIDES[i], black_box(&file), names, &mut tables), equal::forget);
 }
 
@@ -239,10 +242,11 @@ fn main() {
         [what, names, items, rounds, path] if what == "values" => {
             values(&Names::of(names), &Names::items(items), rounds.parse().unwrap(), path);
         }
-        [what, names, rounds, path] if what == "time" => {
+        [what, names, rounds, path] if what == "time" || what == "apart" => {
+            let mode = if what == "apart" { ours::APART } else { ours::MERGED };
             let (names, rounds, path) = (Names::of(names), rounds.parse().unwrap(), path.clone());
             // the Rust drops its tree by recursion, once for each level
-            std::thread::Builder::new().stack_size(4 << 30).spawn(move || time(&names, rounds, &path)).unwrap().join().unwrap();
+            std::thread::Builder::new().stack_size(4 << 30).spawn(move || time(&names, mode, rounds, &path)).unwrap().join().unwrap();
         }
         _ => panic!("see the head of main.rs"),
     }

@@ -26,8 +26,9 @@ const CAP: usize = 16;
 pub const NODE_WORDS: usize = 6;
 pub const ATTRIBUTE_WORDS: usize = 6;
 
-/// The first mode, the Rust's.
-const MERGED: u32 = 1;
+/// The first mode, the Rust's, and the second, in which attributes of other namespaces are kept apart.
+pub const MERGED: u32 = 1;
+pub const APART: u32 = 2;
 
 /// System names, three words for each, or items, six, and the bytes that they lie in.
 pub struct Names {
@@ -85,21 +86,28 @@ pub struct Tables {
     pub nodes: Vec<u32>,
     pub attributes: Vec<u32>,
     pub notes: Vec<u32>,
+    /// of the readings into them
+    pub mode: u32,
 }
 
 impl Tables {
     /// Room for whatever a file of so many bytes holds: an element is 36 bytes or more, an attribute 20, and the first element has one more.
     pub fn of(bytes: usize) -> Tables {
-        Tables { nodes: vec![0; NODE_WORDS * (bytes / 36 + 1)], attributes: vec![0; ATTRIBUTE_WORDS * (bytes / 20 + 1)], notes: vec![0; 3 * 14 * CAP] }
+        Tables::in_mode(bytes, MERGED)
+    }
+
+    pub fn in_mode(bytes: usize, mode: u32) -> Tables {
+        let (nodes, attributes) = (vec![0; NODE_WORDS * (bytes / 36 + 1)], vec![0; ATTRIBUTE_WORDS * (bytes / 20 + 1)]);
+        Tables { nodes, attributes, notes: vec![0; 3 * 14 * CAP], mode }
     }
 
     pub fn read(&mut self, file: &[u8], names: &Names) -> Answer {
-        let Tables { nodes, attributes, notes } = self;
+        let Tables { nodes, attributes, notes, mode } = self;
         // SAFETY: each pointer lends as many elements as the length behind it says, and what is written overlaps nothing
         unsafe {
             axml_read(
                 file.as_ptr(), file.len(), names.words.as_ptr(), names.words.len(), names.area.as_ptr(), names.area.len(), nodes.as_mut_ptr(),
-                nodes.len(), attributes.as_mut_ptr(), attributes.len(), notes.as_mut_ptr(), notes.len(), CAP as u32, MERGED,
+                nodes.len(), attributes.as_mut_ptr(), attributes.len(), notes.as_mut_ptr(), notes.len(), CAP as u32, *mode,
             )
         }
     }
