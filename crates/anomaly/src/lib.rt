@@ -12,7 +12,7 @@ use common::StringIndex;
 
 // A note as it is lent and printed: the number of its kind, and two numbers that the kind explains.
 #[repr(C)]
-#[derive(Drop)]
+#[derive(Clone, Copy)]
 pub struct Note {
     pub kind: u32,
     pub a: u32,
@@ -20,7 +20,7 @@ pub struct Note {
 }
 
 // What was amiss, with the numbers that a note tells of it.
-#[derive(Drop)]
+#[derive(Clone, Copy)]
 pub enum ResAnomaly {
     StringPoolGarbageChunk(u32, u32), // a chunk of another type where the pool was expected: its type, and how many bytes were skipped
     StringCountMismatch(u32, u32), // the declared number of strings, and how many offsets there are
@@ -94,7 +94,7 @@ pub fn note_of(x: ResAnomaly) -> Note
 }
 
 // The note state: how many notes of each kind are kept, and how many in all, which is the place of the next in the table.
-#[derive(Drop)]
+#[derive(Clone, Copy)]
 pub struct Notes {
     pub counts: [u32; KINDS],
     pub used: usize,

@@ -58,7 +58,7 @@ pub fn read(
 }
 
 // The answer of a reading, and its notes by value.
-#[derive(Drop)]
+#[derive(Clone, Copy)]
 pub struct Listed {
     pub answer: ReadAnswer,
     pub notes: [Note; LISTED_NOTES],

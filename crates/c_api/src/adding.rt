@@ -9,7 +9,7 @@ use round_up::{NUMBERS, PLACES, add_where_room, kinds_in, share_by};
 
 // The numbers of the answer: 0, 13 with what does not fit, or 29 with 0.
 #[repr(C)]
-#[derive(Drop)]
+#[derive(Clone, Copy)]
 pub struct AxmlAddAnswer {
     pub refusal: u32,
     pub value: u64,

@@ -9,7 +9,7 @@ use errors::{PairNumbers, pair_numbers};
 
 // The numbers of the answer: how many pairs were answered, or why none was.
 #[repr(C)]
-#[derive(Drop)]
+#[derive(Clone, Copy)]
 pub struct AxmlPairsAnswer {
     pub refusal: u32,
     pub value: u64,

@@ -15,7 +15,7 @@ use text::{Found, find};
 
 // A part of what was lent: of nothing (slice 0), of the name area (1) or of the file (2).
 #[repr(C)]
-#[derive(Drop)]
+#[derive(Clone, Copy)]
 pub struct AxmlContentAnswer {
     pub slice: u32,
     pub start: u64,

@@ -41,7 +41,7 @@ use walk::{MEMORY, NUMBERS, Stage};
 
 // The numbers of a reading's answer.
 #[repr(C)]
-#[derive(Drop)]
+#[derive(Clone, Copy)]
 pub struct AxmlAnswer {
     pub refusal: u32,
     pub value: u64,
@@ -153,7 +153,7 @@ pub extern "C" fn axml_read(
 
 // The numbers of a text question's answer.
 #[repr(C)]
-#[derive(Drop)]
+#[derive(Clone, Copy)]
 pub struct AxmlTextAnswer {
     pub refusal: u32,
     pub value: u64,
@@ -192,7 +192,7 @@ pub extern "C" fn axml_text(
 
 // The numbers of a first-value question's answer. C calls the kind `type`.
 #[repr(C)]
-#[derive(Drop)]
+#[derive(Clone, Copy)]
 pub struct AxmlFirstAnswer {
     pub refusal: u32,
     pub value: u64,

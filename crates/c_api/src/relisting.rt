@@ -7,7 +7,7 @@ use listing_back::read_listing;
 
 // The numbers of what a listing says, and its cap: 0 says that notes are unknown.
 #[repr(C)]
-#[derive(Drop)]
+#[derive(Clone, Copy)]
 pub struct AxmlRelisted {
     pub refusal: u32,
     pub value: u64,

@@ -9,7 +9,7 @@ use main_activities::{MainNumbers, main_numbers};
 
 // The numbers of the answer: how many names there are, or why that is not told.
 #[repr(C)]
-#[derive(Drop)]
+#[derive(Clone, Copy)]
 pub struct AxmlMainAnswer {
     pub refusal: u32,
     pub value: u64,

@@ -12,7 +12,7 @@ use value_text::{Attribute, value_text};
 
 // The numbers of a value text's answer.
 #[repr(C)]
-#[derive(Drop)]
+#[derive(Clone, Copy)]
 pub struct AxmlValueAnswer {
     pub refusal: u32,
     pub value: u64,
@@ -24,7 +24,7 @@ pub struct AxmlValueAnswer {
 
 // The numbers of many texts' answer.
 #[repr(C)]
-#[derive(Drop)]
+#[derive(Clone, Copy)]
 pub struct AxmlManyAnswer {
     pub refusal: u32,
     pub value: u64,

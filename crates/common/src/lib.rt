@@ -16,16 +16,16 @@ pub use value::{
 };
 
 // The place of a string in the pool. Never a resource id: both are u32, and the two types keep them apart.
-#[derive(Drop)]
+#[derive(Clone, Copy)]
 pub struct StringIndex(pub u32);
 
 // The id of a resource: package, type and entry. Never a string index.
-#[derive(Drop)]
+#[derive(Clone, Copy)]
 pub struct ResourceId(pub u32);
 
 // The 8 bytes at the front of a chunk: its type (the Rust's `type_`), the size that it gives its header, and the size that it gives
 // the whole chunk.
-#[derive(Drop)]
+#[derive(Clone, Copy)]
 pub struct ResChunkHeader {
     pub kind: u32,
     pub header_size: u32,
@@ -33,7 +33,7 @@ pub struct ResChunkHeader {
 }
 
 // The header, or that fewer than its 8 bytes are left.
-#[derive(Drop)]
+#[derive(Clone, Copy)]
 pub enum HeaderRead {
     Whole(ResChunkHeader),
     Short,
@@ -69,7 +69,7 @@ pub fn header_at(s: &[u8], at: usize) -> HeaderRead
 }
 
 // What a chunk is, by its type. `Unknown` keeps a number that has no name.
-#[derive(Drop)]
+#[derive(Clone, Copy)]
 pub enum ResourceHeaderType {
     Null,
     StringPool,

@@ -8,7 +8,7 @@ ghost use Rattle.common.specs.ValueType.{value_type_of, value_type_number, is_re
 ghost use Rattle.common.specs.Complex.{Complex};
 
 // What a value is, by its type. `Unknown` keeps a number that has no name, also one over 255.
-#[derive(Drop)]
+#[derive(Clone, Copy)]
 pub enum ResourceValueType {
     Null,
     Reference,

@@ -9,7 +9,7 @@ ghost use Rattle.errors.specs.Refusal.{refusal_number, refusal_value, numbers_of
 ghost use Rattle.errors.specs.Refusal.{first_numbers_of, value_numbers_of, many_numbers_of, pair_numbers_of};
 
 // One case for each number of a refusal.
-#[derive(Drop)]
+#[derive(Clone, Copy)]
 pub enum Refusal {
     TooSmallError(usize), // 1, with the length
     TooLargeError, // 2
@@ -44,7 +44,7 @@ pub enum Refusal {
 }
 
 // What a reading counted: the starts read whole, dropped ones too, and the records that it kept.
-#[derive(Drop)]
+#[derive(Clone, Copy)]
 pub struct ReadCounts {
     pub starts: u32,
     pub nodes: u32,
@@ -53,14 +53,14 @@ pub struct ReadCounts {
 }
 
 // The counts, or why there are none.
-#[derive(Drop)]
+#[derive(Clone, Copy)]
 pub enum ReadAnswer {
     Done(ReadCounts),
     Refused(Refusal),
 }
 
 // What became of a text. Where it is not whole, the file does not have the characters that the text has.
-#[derive(Drop)]
+#[derive(Clone, Copy)]
 pub enum TextState {
     Whole, // 0
     Replaced(u32), // 1, with how many U+FFFD were put in
@@ -69,21 +69,21 @@ pub enum TextState {
 }
 
 // The length and the state of the text, or why there is none.
-#[derive(Drop)]
+#[derive(Clone, Copy)]
 pub enum TextAnswer {
     Text { length: usize, state: TextState },
     Refused(Refusal),
 }
 
 // The length of what was printed, or why nothing was.
-#[derive(Drop)]
+#[derive(Clone, Copy)]
 pub enum LinesAnswer {
     Text(usize),
     Refused(Refusal),
 }
 
 // The type and the data of the first value, and whether it is a reference; or why there is none.
-#[derive(Drop)]
+#[derive(Clone, Copy)]
 pub enum FirstAnswer {
     Found {
         kind: u32,
@@ -94,7 +94,7 @@ pub enum FirstAnswer {
 }
 
 // The length of a value's text, how many set bits of a flag no name covers, and the text's state, or why there is no text.
-#[derive(Drop)]
+#[derive(Clone, Copy)]
 pub enum ValueAnswer {
     Value {
         length: usize,
@@ -105,14 +105,14 @@ pub enum ValueAnswer {
 }
 
 // How many questions were answered at once and the bytes of all their texts, or why none was.
-#[derive(Drop)]
+#[derive(Clone, Copy)]
 pub enum ManyTexts {
     Answered { count: usize, length: usize },
     Refused(Refusal),
 }
 
 // The numbers of a `ReadAnswer`, as a listing prints them.
-#[derive(Drop)]
+#[derive(Clone, Copy)]
 pub struct Numbers {
     pub refusal: u32,
     pub value: u64,
@@ -123,7 +123,7 @@ pub struct Numbers {
 }
 
 // The numbers of a `TextAnswer`.
-#[derive(Drop)]
+#[derive(Clone, Copy)]
 pub struct TextNumbers {
     pub refusal: u32,
     pub value: u64,
@@ -133,7 +133,7 @@ pub struct TextNumbers {
 }
 
 // The numbers of a `LinesAnswer`.
-#[derive(Drop)]
+#[derive(Clone, Copy)]
 pub struct LinesNumbers {
     pub refusal: u32,
     pub value: u64,
@@ -141,7 +141,7 @@ pub struct LinesNumbers {
 }
 
 // The numbers of a `FirstAnswer`.
-#[derive(Drop)]
+#[derive(Clone, Copy)]
 pub struct FirstNumbers {
     pub refusal: u32,
     pub value: u64,
@@ -151,7 +151,7 @@ pub struct FirstNumbers {
 }
 
 // The numbers of a `ValueAnswer`.
-#[derive(Drop)]
+#[derive(Clone, Copy)]
 pub struct ValueNumbers {
     pub refusal: u32,
     pub value: u64,
@@ -162,7 +162,7 @@ pub struct ValueNumbers {
 }
 
 // The numbers of a `ManyTexts`.
-#[derive(Drop)]
+#[derive(Clone, Copy)]
 pub struct ManyNumbers {
     pub refusal: u32,
     pub value: u64,
@@ -398,14 +398,14 @@ pub fn many_numbers(a: ManyTexts) -> ManyNumbers
 // ---- many pairs
 
 // How many pairs were answered, or why none was.
-#[derive(Drop)]
+#[derive(Clone, Copy)]
 pub enum ManyAnswer {
     Answered(usize),
     Refused(Refusal),
 }
 
 // The numbers of a `ManyAnswer`.
-#[derive(Drop)]
+#[derive(Clone, Copy)]
 pub struct PairNumbers {
     pub refusal: u32,
     pub value: u64,

@@ -33,7 +33,7 @@ use notes::{
 use turns::turn_step;
 
 // What a step makes.
-#[derive(Drop)]
+#[derive(Clone, Copy)]
 pub enum Event {
     Nothing,
     // name, 1 for `invalid-element`, line
@@ -50,7 +50,7 @@ pub enum Event {
 }
 
 // Where the reading is: in the head, at a chunk, at one of the things that a start makes in turn, or behind the last chunk.
-#[derive(Drop)]
+#[derive(Clone, Copy)]
 pub enum Phase {
     AtGarbage,
     AtCount,
@@ -71,7 +71,7 @@ pub enum Phase {
     Over,
 }
 
-#[derive(Drop)]
+#[derive(Clone, Copy)]
 pub struct Cursor {
     // place in the body
     pub at: usize,
@@ -88,7 +88,7 @@ pub struct Cursor {
     pub left: u32,
 }
 
-#[derive(Drop)]
+#[derive(Clone, Copy)]
 pub struct Step {
     pub event: Event,
     pub cur: Cursor,

@@ -28,14 +28,14 @@ use runs::fit_of;
 use text::Head;
 
 // Whether the lent tables fit the counts, or the first node that does not.
-#[derive(Drop)]
+#[derive(Clone, Copy)]
 pub enum Fit {
     Fitting,
     Unfit(u32),
 }
 
 // The attributes of a node that was found: the first one's number, and how many.
-#[derive(Drop)]
+#[derive(Clone, Copy)]
 pub enum NodeFound {
     Run(u32, u32),
     NoNode,

@@ -25,7 +25,7 @@ use tables::{zero_all, zero_from};
 use text::Head;
 
 // How many pairs there are, or the first that does not lie in the area, or how many whole ones there are where words remain.
-#[derive(Drop)]
+#[derive(Clone, Copy)]
 pub enum PairsRead {
     Whole(usize),
     Bad(usize),

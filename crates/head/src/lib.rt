@@ -27,7 +27,7 @@ use system_types::{NamesRead, check_names};
 use text::Head;
 
 // The part of the pool that ran out, with the file offset at which it should begin.
-#[derive(Drop)]
+#[derive(Clone, Copy)]
 pub enum PoolPart {
     // the chunk in the pool's place
     Skipped(usize),
@@ -39,14 +39,14 @@ pub enum PoolPart {
 }
 
 // The same of the map.
-#[derive(Drop)]
+#[derive(Clone, Copy)]
 pub enum MapPart {
     MapHeader(usize),
     MapIds(usize),
 }
 
 // What is amiss with a head, or that it is whole.
-#[derive(Drop)]
+#[derive(Clone, Copy)]
 pub enum HeadEnd {
     Whole,
     // the file's length
@@ -58,7 +58,7 @@ pub enum HeadEnd {
 }
 
 // What the head says: the chunk in the pool's place, the declared count, what is amiss, what texts are read by.
-#[derive(Drop)]
+#[derive(Clone, Copy)]
 pub struct Opened {
     pub garbage: Garbage,
     pub declared: u32,
@@ -67,14 +67,14 @@ pub struct Opened {
 }
 
 // Who asks for a file: a question, or a reading, with how many notes of a kind it keeps, and its mode.
-#[derive(Drop)]
+#[derive(Clone, Copy)]
 pub enum Asker {
     Question,
     Reading(u32, u32),
 }
 
 // A file behind what every entry point checks: its head, opened, which may still be amiss.
-#[derive(Drop)]
+#[derive(Clone, Copy)]
 pub enum Entered {
     In(Opened),
     // the first check that fails
@@ -82,7 +82,7 @@ pub enum Entered {
 }
 
 // The head of a file that is not refused before its body is looked at.
-#[derive(Drop)]
+#[derive(Clone, Copy)]
 pub enum OpenRead {
     Open(Head),
     Closed(Refusal),

@@ -25,7 +25,7 @@ use utf::same::same_bytes;
 pub use values::attr_value;
 
 // One named value of an attribute. The names are parts of the area.
-#[derive(Drop)]
+#[derive(Clone, Copy)]
 pub struct Item {
     pub attribute: u32,
     pub attribute_len: u32,
@@ -36,28 +36,28 @@ pub struct Item {
     pub value: u32,
 }
 
-#[derive(Drop)]
+#[derive(Clone, Copy)]
 pub enum ItemsRead {
     Good,
     // the first item that breaks the rule, or how many whole items there are where words remain
     Bad(usize),
 }
 
-#[derive(Drop)]
+#[derive(Clone, Copy)]
 pub enum EnumFound {
     Named(Item),
     Unnamed,
 }
 
 // Items that stand together: the number of the first, and that behind the last; as many as there are, twice, for none.
-#[derive(Drop)]
+#[derive(Clone, Copy)]
 pub struct Run {
     pub first: usize,
     pub end: usize,
 }
 
 // What is left of a flag behind some items: the place behind the names taken, the bits left, whether a name was taken.
-#[derive(Drop)]
+#[derive(Clone, Copy)]
 pub struct Flags {
     pub at: usize,
     pub left: u32,
@@ -65,7 +65,7 @@ pub struct Flags {
 }
 
 // What the items of an attribute say of a value: whether they have a text, its length, and how many bits no name covers.
-#[derive(Drop)]
+#[derive(Clone, Copy)]
 pub struct Said {
     pub some: bool,
     pub length: usize,

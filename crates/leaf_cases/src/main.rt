@@ -77,7 +77,7 @@ fn agrees(s: &[u8], at: usize) -> u32
     one(bits % 4294967296 == low)
 }
 
-#[derive(Drop)]
+#[derive(Clone, Copy)]
 struct Tally {
     right: u32,
     all: u32,

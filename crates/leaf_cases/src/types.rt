@@ -64,7 +64,7 @@ fn value_reference(n: u32) -> u32
 }
 
 // Of the numbers below 65,536: how many come back, how many have a name, and how many are picked out.
-#[derive(Drop)]
+#[derive(Clone, Copy)]
 struct Types {
     back: u32,
     named: u32,

@@ -16,7 +16,7 @@ use listing_text::LISTED_BYTES;
 use records::{ATTRIBUTE_WORDS, LISTED_ATTRIBUTES, LISTED_FILE, LISTED_NODES, NODE_WORDS};
 
 // What came in on standard input.
-#[derive(Drop)]
+#[derive(Clone, Copy)]
 pub enum Input {
     Whole(usize), // so many bytes, and then its end
     Full, // at least as many bytes as there is room

@@ -21,7 +21,7 @@ use stepping::{Spot, read_end, read_records};
 use tables::{zero_all, zero_from};
 
 // What a listing says: the answer that was listed, or why the text is none; and its cap, where 0 says that notes are unknown.
-#[derive(Drop)]
+#[derive(Clone, Copy)]
 pub struct Relisted {
     pub answer: ReadAnswer,
     pub cap: u32,

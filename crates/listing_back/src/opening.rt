@@ -7,7 +7,7 @@ ghost use Rattle.listing_back.specs.Inner.Whole.{spot_of, ReadsHead};
 use crate::stepping::{Spot, gone, number_due};
 
 // The fault of a line and its value, or the place behind the head; and the head's numbers, which mean something where there is no fault.
-#[derive(Drop)]
+#[derive(Clone, Copy)]
 pub struct Heading {
     pub fault: u32,
     pub stop: usize,

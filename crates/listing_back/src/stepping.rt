@@ -11,7 +11,7 @@ ghost use Rattle.listing_back.specs.Inner.Steps.{equals_in, TakesAlone, test_by,
 use crate::taking::{Taking, take_form};
 
 // How far the lines are read: the fault's number (0 for none) and its value, or the place reached, and the number of the last line of the head.
-#[derive(Drop)]
+#[derive(Clone, Copy)]
 pub struct Spot {
     pub fault: u32,
     pub value: usize,

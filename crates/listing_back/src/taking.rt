@@ -8,7 +8,7 @@ ghost use Rattle.listing_back.specs.Due.{is_over};
 ghost use Rattle.listing_back.specs.Inner.Stands.{IsFigure, Holds, MovesOn, form_at};
 
 // A number: whether there is one, the number or 2^32 where it is over 32 bits, and the place behind it.
-#[derive(Drop)]
+#[derive(Clone, Copy)]
 pub struct Figure {
     pub found: bool,
     pub value: u64,
@@ -17,7 +17,7 @@ pub struct Figure {
 
 // What a form has taken so far: whether the text is as it says, whether a number was over 32 bits, the first number, how many there were,
 // and the place reached.
-#[derive(Drop)]
+#[derive(Clone, Copy)]
 pub struct Taking {
     pub good: bool,
     pub over: bool,

@@ -25,21 +25,21 @@ use text::Head;
 use value_text::open_value;
 
 // The number of the first attribute of a name, or that there is none.
-#[derive(Drop)]
+#[derive(Clone, Copy)]
 pub enum AttributeFound {
     At(u32),
     NoAttribute,
 }
 
 // How many activities start, or why that is not told.
-#[derive(Drop)]
+#[derive(Clone, Copy)]
 pub enum MainAnswer {
     Found(usize),
     Refused(Refusal),
 }
 
 // The numbers of a `MainAnswer`.
-#[derive(Drop)]
+#[derive(Clone, Copy)]
 pub struct MainNumbers {
     pub refusal: u32,
     pub value: u64,
@@ -47,14 +47,14 @@ pub struct MainNumbers {
 }
 
 // The node to go on with, and whether what was looked for stands before it.
-#[derive(Drop)]
+#[derive(Clone, Copy)]
 pub struct Scan {
     pub next: u32,
     pub yes: bool,
 }
 
 // The node to go on with, and how many names were found so far.
-#[derive(Drop)]
+#[derive(Clone, Copy)]
 pub struct Going {
     pub next: u32,
     pub found: usize,

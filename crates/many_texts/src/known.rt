@@ -19,7 +19,7 @@ use value_text::known_run;
 pub const KNOWN: usize = 128;
 
 // The items of an index's text, or that it has none.
-#[derive(Drop)]
+#[derive(Clone, Copy)]
 pub enum Looked {
     NoName,
     At(Run),

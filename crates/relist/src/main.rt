@@ -21,7 +21,7 @@ use records::{
 };
 
 // The number of the reader's own refusal and its value; 0 for a listing, and then how many bytes were printed.
-#[derive(Drop)]
+#[derive(Clone, Copy)]
 pub struct Verdict {
     pub fault: u32,
     pub value: u64,

@@ -17,7 +17,7 @@ pub mod content;
 pub use content::split_string;
 
 // The chunk that stood in the pool's place and was skipped whole: note 0 where there was one.
-#[derive(Drop)]
+#[derive(Clone, Copy)]
 pub struct Garbage {
     pub found: bool,
     pub kind: u32,
@@ -26,7 +26,7 @@ pub struct Garbage {
 
 // The pool: how many strings it declares and how many its offsets hold, whether they are UTF-16, where offsets and string data
 // begin, and how many bytes the data has. A place is counted from the first byte behind the file's header.
-#[derive(Drop)]
+#[derive(Clone, Copy)]
 pub struct Pool {
     pub declared: u32,
     pub count: u32,
@@ -37,7 +37,7 @@ pub struct Pool {
 }
 
 // Whether all of the pool is there, or which part ran out, with how many bytes left where that part begins.
-#[derive(Drop)]
+#[derive(Clone, Copy)]
 pub enum PoolEnd {
     Complete,
     GarbageShort(usize),
@@ -47,7 +47,7 @@ pub enum PoolEnd {
     DataShort(usize),
 }
 
-#[derive(Drop)]
+#[derive(Clone, Copy)]
 pub struct PoolRead {
     pub garbage: Garbage,
     pub pool: Pool,
@@ -55,7 +55,7 @@ pub struct PoolRead {
 }
 
 // Where the content of the string at the front lies, or that it is cut.
-#[derive(Drop)]
+#[derive(Clone, Copy)]
 pub enum Split {
     // its first byte's place, and how many bytes it has
     Content(usize, usize),

@@ -8,7 +8,7 @@ ghost use Rattle.resource_map.specs.Map.{ids_in, ids_by, map_of, id_of};
 use common::{HeaderRead, ResChunkHeader, ResourceId, StringIndex, header_at};
 use field::u32_at;
 
-#[derive(Drop)]
+#[derive(Clone, Copy)]
 pub enum MapRead {
     // how many ids it has
     Ids(u32),

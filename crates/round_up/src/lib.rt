@@ -30,27 +30,27 @@ pub const PLACES: usize = GRID_FROM + CLASSES * ROUND_UP_KINDS;
 const LARGEST: u32 = 4294967295;
 
 // The counts: files read, files refused by number, and the grid kind by kind; `files_read`, `refused_by` and `notes_of` say what stands where.
-#[derive(Drop)]
+#[derive(Clone, Copy)]
 pub struct RoundUp {
     pub counts: [u32; PLACES],
 }
 
 // Whether a file was added, or why it was not: 29 alone.
-#[derive(Drop)]
+#[derive(Clone, Copy)]
 pub enum AddAnswer {
     Added,
     Refused(Refusal),
 }
 
 // The answer, and the round-up from now on.
-#[derive(Drop)]
+#[derive(Clone, Copy)]
 pub struct Added {
     pub answer: AddAnswer,
     pub round_up: RoundUp,
 }
 
 // The numbers of an `AddAnswer`.
-#[derive(Drop)]
+#[derive(Clone, Copy)]
 pub struct AddNumbers {
     pub refusal: u32,
     pub value: u64,

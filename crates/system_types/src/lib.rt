@@ -12,14 +12,14 @@ ghost use Rattle.utf.specs.Plain.{is_ascii};
 use common::ResourceId;
 use utf::is_ascii;
 
-#[derive(Drop)]
+#[derive(Clone, Copy)]
 pub enum NamesRead {
     Good,
     // the first entry that breaks the rule, or how many whole entries there are where words remain
     Bad(usize),
 }
 
-#[derive(Drop)]
+#[derive(Clone, Copy)]
 pub enum Lookup {
     // start and length of the whole name in the area
     Name(u32, u32),

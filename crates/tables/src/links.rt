@@ -26,7 +26,7 @@ pub const LINK_WORDS: usize = 3;
 const LINK_KEY: usize = 2;
 
 // Where a search came to: whether it found what it sought, the last record on its way, and the bits of the key that are left there.
-#[derive(Drop)]
+#[derive(Clone, Copy)]
 pub struct WayEnd {
     pub found: bool,
     pub at: usize,

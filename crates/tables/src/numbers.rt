@@ -33,7 +33,7 @@ const VERY_LONG: usize = 16384;
 const HALF: u64 = 4294967296;
 
 // Where two texts stand to each other.
-#[derive(Drop)]
+#[derive(Clone, Copy)]
 pub enum Told {
     Unknown,
     Same,

@@ -29,7 +29,7 @@ use system_types::{Lookup, get_type_name, without_attr};
 use utf::is_sound;
 
 // What texts are read by: the pool's numbers and the map's, as places in the bytes behind the file's header.
-#[derive(Drop)]
+#[derive(Clone, Copy)]
 pub struct Head {
     pub utf16: bool,
     pub count: u32,
@@ -48,7 +48,7 @@ const ANDROID_UTF16: [u8; 84] =
     *b"h\0t\0t\0p\0:\0/\0/\0s\0c\0h\0e\0m\0a\0s\0.\0a\0n\0d\0r\0o\0i\0d\0.\0c\0o\0m\0/\0a\0p\0k\0/\0r\0e\0s\0/\0a\0n\0d\0r\0o\0i\0d\0";
 
 // Where the text of an index lies.
-#[derive(Drop)]
+#[derive(Clone, Copy)]
 pub enum Found {
     // no text
     Nothing,
@@ -61,7 +61,7 @@ pub enum Found {
 }
 
 // What tells most strings of the pool apart from one that was found there, before any of them is read whole.
-#[derive(Drop)]
+#[derive(Clone, Copy)]
 pub struct Marks {
     // the first index that can be told apart; those up to the pool's count can
     pub first: StringIndex,
@@ -78,7 +78,7 @@ pub struct Marks {
 }
 
 // Whether an index has a text, and whether this is a valid name.
-#[derive(Drop)]
+#[derive(Clone, Copy)]
 pub enum NameState {
     NoText,
     Invalid,

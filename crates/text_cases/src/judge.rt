@@ -36,7 +36,7 @@ fn is_zero(s: &[u8]) -> bool {
 // ---- an answer
 
 // The numbers that are wanted, but for the length.
-#[derive(Drop)]
+#[derive(Clone, Copy)]
 pub struct Wanted {
     pub refusal: u32,
     pub value: usize,

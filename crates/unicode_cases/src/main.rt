@@ -13,7 +13,7 @@ use libc::STDOUT_FILENO;
 use utf::{replaced_of, same_text, state_of, text_into, text_len};
 use xml::valid_name;
 
-#[derive(Drop)]
+#[derive(Clone, Copy)]
 pub struct Tally {
     pub texts: u64,
     pub wrong_texts: u64,
@@ -23,7 +23,7 @@ pub struct Tally {
 }
 
 // Which of the four answers on a text are right.
-#[derive(Drop)]
+#[derive(Clone, Copy)]
 pub struct Verdict {
     pub text: bool,
     pub state: bool,
@@ -85,7 +85,7 @@ fn state_right(utf16: bool, s: &[u8], state: u8, replaced: usize) -> bool {
 // ---- the vectors
 
 // A record of a file: its marks, and where its bytes and their text lie.
-#[derive(Drop)]
+#[derive(Clone, Copy)]
 pub struct Record {
     pub whole: bool,
     pub utf16: bool,

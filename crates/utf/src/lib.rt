@@ -24,7 +24,7 @@ pub use utf8::utf8_step;
 use utf8::{put_scalar, scalar_len};
 pub use utf16::utf16_step;
 
-#[derive(Drop)]
+#[derive(Clone, Copy)]
 pub enum Step {
     // a scalar value, and how many bytes it took
     Scalar(u32, usize),
@@ -34,7 +34,7 @@ pub enum Step {
 }
 
 // What a step stands for, how far it goes, and whether it is sound.
-#[derive(Drop)]
+#[derive(Clone, Copy)]
 pub struct Taken {
     pub value: u32,
     pub width: usize,

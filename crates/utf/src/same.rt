@@ -13,7 +13,7 @@ use super::{is_refused, next_of};
 // ---- step by step
 
 // Whether the steps at two places stand for the same, and the places after them.
-#[derive(Drop)]
+#[derive(Clone, Copy)]
 pub struct Both {
     pub same: bool,
     pub i: usize,

@@ -10,7 +10,7 @@ ghost use Rattle.utf.specs.Inner.Lead.{row, lead_of, step_by};
 use super::Step;
 
 // What a first byte says: how many bytes follow (4: it starts nothing), and the range of the second.
-#[derive(Drop)]
+#[derive(Clone, Copy)]
 pub struct Lead {
     pub more: u8,
     pub low: u8,

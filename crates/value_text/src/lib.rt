@@ -37,7 +37,7 @@ use text::equal::same_part;
 use text::{ANDROID_URI, Found, Head, find, found_ascii, found_ascii_into, found_into, is_found};
 
 // An attribute as a record of the table has it.
-#[derive(Drop)]
+#[derive(Clone, Copy)]
 pub struct Attribute {
     pub owner: u32,
     pub prefix: u32,
@@ -48,7 +48,7 @@ pub struct Attribute {
 }
 
 // What is told of a value: the length of its text, the bits that no name covers and what became of it; that its name has no text; that it has none.
-#[derive(Drop)]
+#[derive(Clone, Copy)]
 pub enum Told {
     Shown(usize, u32, TextState),
     NoName,

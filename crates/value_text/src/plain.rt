@@ -24,7 +24,7 @@ use system_types::{Lookup, get_type_name};
 use text::{Found, Head, find, found_into, is_found};
 
 // How a value is written.
-#[derive(Drop)]
+#[derive(Clone, Copy)]
 pub enum Form {
     Reference,
     Attribute,

@@ -29,7 +29,7 @@ use text::Head;
 use tree::Tree;
 
 // How far a reading has come. Before its last stage there is no answer.
-#[derive(Drop)]
+#[derive(Clone, Copy)]
 pub enum Stage {
     // nothing is read
     Fresh,
@@ -41,7 +41,7 @@ pub enum Stage {
 
 // The reader between two notes: whether all is done, the place and the note that the caller is to write, how many places the note table has
 // and how many notes of a kind are kept, the mode, the stage, the head, where the reading stands, the tree and the note state.
-#[derive(Drop)]
+#[derive(Clone, Copy)]
 pub struct State {
     pub done: bool,
     pub slot: usize,

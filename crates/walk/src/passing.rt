@@ -14,7 +14,7 @@ use events::{Cursor, Phase};
 use head::{Opened, body_of};
 
 // A place in the body, and the sort of the foreign chunk before it.
-#[derive(Drop)]
+#[derive(Clone, Copy)]
 pub struct Reach {
     pub at: usize,
     pub run: u32,

@@ -24,7 +24,7 @@ use text::Head;
 use xml_elements::XmlAttributeElement;
 
 // What became of an event.
-#[derive(Drop)]
+#[derive(Clone, Copy)]
 pub enum Placed {
     Done(Tree),
     Full(Refusal),
@@ -33,14 +33,14 @@ pub enum Placed {
 }
 
 // Why `run` stopped.
-#[derive(Drop)]
+#[derive(Clone, Copy)]
 pub enum Stop {
     Full(Refusal),
     Due(ResAnomaly),
     Finished,
 }
 
-#[derive(Drop)]
+#[derive(Clone, Copy)]
 pub struct Halt {
     pub cur: Cursor,
     pub tree: Tree,

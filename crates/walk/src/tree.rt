@@ -27,7 +27,7 @@ use xml_elements::XmlAttributeElement;
 
 // How many nodes and attributes are stored, how many attributes before those of the last node, the innermost open element, the one that is
 // open above the first (0: none), and how many attributes were there before it.
-#[derive(Drop)]
+#[derive(Clone, Copy)]
 pub struct Tree {
     pub nodes: u32,
     pub attributes: u32,
@@ -38,7 +38,7 @@ pub struct Tree {
 }
 
 // What became of an attribute.
-#[derive(Drop)]
+#[derive(Clone, Copy)]
 pub enum Put {
     // it repeats one of its element, or there is no element
     NotStored,

@@ -81,7 +81,7 @@ pub fn triple_second(b: u8) -> bool
 // ---- a block
 
 // What a block holds: units of ASCII or far units in UTF-16; chars of one, two or three bytes in UTF-8.
-#[derive(Drop)]
+#[derive(Clone, Copy)]
 pub enum Form {
     AsciiUnits,
     FarUnits,
@@ -188,7 +188,7 @@ fn blocks_end(utf16: bool, s: &[u8], at: usize) -> usize
 // ---- a stretch
 
 // What is looked at next: whole blocks end at `from`, and the chars from there to `to` are looked at one by one.
-#[derive(Drop)]
+#[derive(Clone, Copy)]
 pub struct Stretch {
     pub from: usize,
     pub to: usize,

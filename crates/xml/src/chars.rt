@@ -16,7 +16,7 @@ use super::units::units_end;
 use utf::next_of;
 
 // The sort of what stands there, and how many bytes it takes.
-#[derive(Drop)]
+#[derive(Clone, Copy)]
 pub struct Char {
     pub sort: u8,
     pub width: usize,

@@ -12,7 +12,7 @@ use common::{HeaderRead, ResChunkHeader, StringIndex, header_at};
 use field::{u8_at, u16_at, u32_at};
 
 // What a start says of itself.
-#[derive(Drop)]
+#[derive(Clone, Copy)]
 pub struct XmlStartElement {
     // the size of the whole chunk, as its header has it
     pub size: u32,
@@ -27,7 +27,7 @@ pub struct XmlStartElement {
 }
 
 // An attribute as it stands in the file.
-#[derive(Drop)]
+#[derive(Clone, Copy)]
 pub struct XmlAttributeElement {
     pub namespace_uri: StringIndex,
     pub name: StringIndex,
@@ -36,7 +36,7 @@ pub struct XmlAttributeElement {
 }
 
 // An XML chunk that is whole.
-#[derive(Drop)]
+#[derive(Clone, Copy)]
 pub enum Chunk {
     Start(XmlStartElement),
     End,
@@ -47,7 +47,7 @@ pub enum Chunk {
 }
 
 // An XML chunk that is cut, by the part that is not there.
-#[derive(Drop)]
+#[derive(Clone, Copy)]
 pub enum CutChunk {
     // line and comment
     CutLine,
@@ -64,7 +64,7 @@ pub enum CutChunk {
 }
 
 // What stands at a place of the walk.
-#[derive(Drop)]
+#[derive(Clone, Copy)]
 pub enum Turn {
     // fewer than 8 bytes
     Stop,
