@@ -1,0 +1,26 @@
+-- `c_api::content::axml_content` meets its contract: by whether the file is open (proofs/Placing.antt).
+use mathlib.Core.Path.{refl, sym, ◌∙◌}
+use Rattle.system_types.specs.Names.{lends}
+use Rattle.head.proofs.Questions.{open_of-asks}
+use Rattle.c_api.proofs.Placing.{place-open, place-closed}
+use Rattle.c_api.proofs.content.axml_content.Goals as goal
+
+pub find-f-requires : goal.find-f-requires
+find-f-requires c = let a = c.args in
+    let e = sym c.open_file-opened.ensures ∙ c.opened-1.given.1 in
+    rw c.tables_of-t.ensures (open_of-asks a.file.now (lends a.names.now a.area.now) e)
+
+pub place_of-requires : goal.place_of-requires
+place_of-requires c = let a = c.args in
+    let e = sym c.open_file-opened.ensures ∙ c.opened-1.given.1 in
+    (c.find-f.ensures.inside, rw c.tables_of-t.ensures (open_of-asks a.file.now (lends a.names.now a.area.now) e).fits.short)
+
+pub returns-in-Open : goal.returns-in-Open
+returns-in-Open c = let a = c.args in
+    let e = sym c.open_file-opened.ensures ∙ c.opened-1.given.1 in
+    place-open a.file.now (lends a.names.now a.area.now) a.index e c.tables_of-t.ensures c.find-f.ensures c.place_of.ensures
+
+pub returns-in-Closed : goal.returns-in-Closed
+returns-in-Closed c = let a = c.args in
+    let e = sym c.open_file-opened.ensures ∙ c.enum_told-1.given.1 in
+    place-closed a.file.now (lends a.names.now a.area.now) a.index e refl

@@ -1,0 +1,11 @@
+-- `errors::many_numbers` meets its contract: an arm for texts, and one for a refusal.
+use Rattle.errors.specs.Refusal.{many_numbers_of}
+use Rattle.errors.proofs.many_numbers.Goals as goal
+
+pub returns-in-Answered : goal.returns-in-Answered
+unfolding many_numbers_of
+returns-in-Answered c = rw c.a-1.given.1
+
+pub returns-in-Refused : goal.returns-in-Refused
+unfolding many_numbers_of
+returns-in-Refused c = rw (c.a-in-Refused-1.given.1, ← c.refusal_number.ensures, ← c.refusal_value.ensures)

@@ -1,0 +1,32 @@
+-- `events::turns::cut_step` meets its contract: the arms are those of `cut_step`.
+use Rattle.events.specs.Inner.Steps.{cut_step}
+use mathlib.Core.Path.{◌∙◌, sym, ap}
+use Rattle.events.proofs.turns.cut_step.Goals as goal
+
+pub returns-in-CutLine : goal.returns-in-CutLine
+returns-in-CutLine c = let a = c.args in
+    c.Quiet-step.ensures ∙ ap (cut_step a.n a.c) (sym c.enum_told-1.given.1)
+
+pub returns-in-CutHead : goal.returns-in-CutHead
+returns-in-CutHead c = let a = c.args in
+    c.quiet_step-in-CutHead.ensures ∙ ap (cut_step a.n a.c) (sym c.enum_told-in-CutHead-1.given.1)
+
+pub returns-in-CutGap : goal.returns-in-CutGap
+returns-in-CutGap c = let a = c.args in
+    c.begin_step.ensures ∙ ap (cut_step a.n a.c) (sym c.x-1.given.1)
+
+pub returns-in-CutAttributes : goal.returns-in-CutAttributes
+returns-in-CutAttributes c = let a = c.args in
+    c.begin_step-in-CutAttributes.ensures ∙ ap (cut_step a.n a.c) (sym c.x-in-CutAttributes-1.given.1)
+
+pub returns-in-CutTrailing : goal.returns-in-CutTrailing
+returns-in-CutTrailing c = let a = c.args in
+    c.begin_step-in-CutTrailing.ensures ∙ ap (cut_step a.n a.c) (sym c.x-in-CutTrailing-1.given.1)
+
+pub returns-in-CutEnd : goal.returns-in-CutEnd
+returns-in-CutEnd c = let a = c.args in
+    c.close_step.ensures ∙ ap (cut_step a.n a.c) (sym c.enum_told-in-CutEnd-1.given.1)
+
+pub returns-in-CutOther : goal.returns-in-CutOther
+returns-in-CutOther c = let a = c.args in
+    c.skip_step.ensures ∙ ap (cut_step a.n a.c) (sym c.enum_told-in-CutOther-1.given.1)

@@ -1,0 +1,44 @@
+-- `events::turns::turn_step` meets its contract: the arms are those of `turn_step`; what stands here lies in the body (proofs/Laws.antt of xml_elements).
+use Rattle.xml_elements.specs.Chunk.{turn_of}
+use Rattle.events.proofs.Model.{rest}
+use native.Mathlib.Omega.{arith}
+use Rattle.xml_elements.proofs.Laws.{foreign-there, met-there}
+use Rattle.events.specs.Inner.Steps.{turn_step}
+use mathlib.Core.Path.{◌∙◌, sym, ap}
+use Rattle.events.proofs.turns.turn_step.Goals as goal
+
+pub foreign_step-requires : goal.foreign_step-requires
+foreign_step-requires c = let start = c in
+    let a = start.args in
+    let v = c.turn-1.given in
+    let e = c.look-turn.ensures ∙ ap turn_of (rest a.b.now a.c.at) in
+    let q = foreign-there a.b.now a.c.at v.0.0 v.0.1.0 v.0.1.1.0 (sym e ∙ v.1) start.requires.0 in
+    (q.2, start.requires.1)
+
+pub chunk_step-requires : goal.chunk_step-requires
+chunk_step-requires c = let start = c in
+    let a = start.args in
+    let v = c.turn-in-Met-1.given in
+    let e = c.look-turn.ensures ∙ ap turn_of (rest a.b.now a.c.at) in
+    let q = met-there a.b.now a.c.at v.0.0 (sym e ∙ v.1) start.requires.0 in
+    omega (arith, q.1, start.requires.1)
+
+pub returns-in-Stop : goal.returns-in-Stop
+returns-in-Stop c = let a = c.args in
+    let e = c.look-turn.ensures ∙ ap turn_of (rest a.b.now a.c.at) in
+    c.Quiet-step.ensures ∙ ap (turn_step a.b.now a.c) (sym c.enum_told-1.given.1 ∙ e)
+
+pub returns-in-Foreign : goal.returns-in-Foreign
+returns-in-Foreign c = let a = c.args in
+    let e = c.look-turn.ensures ∙ ap turn_of (rest a.b.now a.c.at) in
+    c.foreign_step.ensures ∙ ap (turn_step a.b.now a.c) (sym c.turn-1.given.1 ∙ e)
+
+pub returns-in-Met : goal.returns-in-Met
+returns-in-Met c = let a = c.args in
+    let e = c.look-turn.ensures ∙ ap turn_of (rest a.b.now a.c.at) in
+    c.chunk_step.ensures ∙ ap (turn_step a.b.now a.c) (sym c.turn-in-Met-1.given.1 ∙ e)
+
+pub returns-in-Cut : goal.returns-in-Cut
+returns-in-Cut c = let a = c.args in
+    let e = c.look-turn.ensures ∙ ap turn_of (rest a.b.now a.c.at) in
+    c.cut_step.ensures ∙ ap (turn_step a.b.now a.c) (sym c.turn-in-Cut-1.given.1 ∙ e)

@@ -1,0 +1,8 @@
+-- `head::map_refusal` meets its contract: each arm knows the part.
+use Rattle.head.proofs.map_refusal.Goals as goal
+
+pub returns-in-MapHeader : goal.returns-in-MapHeader
+returns-in-MapHeader c = rw c.e-1.given.1
+
+pub returns-in-MapIds : goal.returns-in-MapIds
+returns-in-MapIds c = rw c.e-in-MapIds-1.given.1

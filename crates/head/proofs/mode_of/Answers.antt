@@ -1,0 +1,8 @@
+-- `head::mode_of` meets its contract: case by case.
+use Rattle.head.proofs.mode_of.Goals as goal
+
+pub returns-in-Question : goal.returns-in-Question
+returns-in-Question c = rw c.enum_told-1.given.1
+
+pub returns-in-Reading : goal.returns-in-Reading
+returns-in-Reading c = rw c.asker-1.given.1

@@ -1,0 +1,10 @@
+-- `items::taking::put_bar` meets its contract: `|`, or nothing.
+use Rattle.digits.proofs.Written.{wrote_none}
+use Rattle.items.proofs.taking.put_bar.Goals as goal
+
+pub returns-then-some : goal.returns-then-some
+returns-then-some c = rw c.if-some.true c.put_byte.ensures
+
+pub returns : goal.returns
+returns c = let a = c.args in
+    rw c.if-some.false (wrote_none 1 a.p a.out-1.now)

@@ -1,0 +1,40 @@
+-- `listing_back::stepping::read_records` meets its contract. Invariant: the records before the k-th are read. Measure: those left.
+use Prim.Native.Nat.{◌-◌}
+use native.Mathlib.Omega.{arith}
+use Rattle.listing_back.proofs.Spots.{records-first, records-more, records-stopped, records-done}
+use Rattle.listing_back.proofs.stepping.read_records.Goals as goal
+
+
+record-due-requires : tie.Need-record-due-requires invariant-loop decreases-loop
+
+record-due-requires c κs =
+    let s = c.before.before.before.before.loop.invariant.same in
+    let z = c.before.before.before.before.loop.invariant.room c.before.if1.false in (
+      c.before.if1.false,
+      c.before.before.before.before.loop.invariant.inside,
+      c.before.before.before.before.before.before.before.requires.1,
+      omega arith,
+    )
+
+pub loop-k-init : goal.loop-k-init
+loop-k-init c = records-first _ _ _ _ _ _ _ _ c.requires.0
+
+pub shape_of-words-then-spot-ne0 : goal.shape_of-words-then-spot-ne0
+shape_of-words-then-spot-ne0 c = c.loop-k.invariant.same
+
+pub returns-then-spot-ne0 : goal.returns-then-spot-ne0
+returns-then-spot-ne0 c = records-stopped _ _ _ _ _ _ _ _ _ _ _ _ c.loop-k.invariant c.if-spot-ne0.true
+
+pub overflow_add-i : goal.overflow_add-i
+overflow_add-i c = let s = c.loop-k.invariant.room c.if-spot-ne0.false in omega arith
+
+pub loop-k-preserved : goal.loop-k-preserved
+loop-k-preserved c = records-more _ _ _ _ _ _ _ _ _ _ _ _ _ _ c.loop-k.invariant (omega arith)
+    c.if-spot-ne0.false c.requires.2
+    c.requires.6 c.record_due-spot.ensures
+
+pub shape_of-words : goal.shape_of-words
+shape_of-words c = c.loop-k.invariant.same
+
+pub returns : goal.returns
+returns c = records-done _ _ _ _ _ _ _ _ _ _ _ _ c.loop-k.invariant (omega arith)

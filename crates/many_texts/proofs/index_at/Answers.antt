@@ -1,0 +1,7 @@
+-- `many_texts::index_at` meets its contract: in the part of the buffer from the place on (`tells_at`).
+use Rattle.many_texts.proofs.Going.{tells_at}
+use Rattle.many_texts.proofs.index_at.Goals as goal
+
+pub returns : goal.returns
+returns c = let a = c.args in
+    tells_at a.at c.within-from.result a.out-1.now _ c.within-from.ensures c.index_into.ensures

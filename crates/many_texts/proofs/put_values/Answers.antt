@@ -1,0 +1,70 @@
+-- `many_texts::put_values` meets its contract. Invariant: the first k texts and answers (`Done`), and what is known. Measure: the records left.
+use Prim.Native.Nat.{◌-◌}
+use native.Mathlib.Omega.{arith}
+use Rattle.system_types.specs.Names.{lends}
+use Rattle.many_texts.specs.Inner.Going.{record_value}
+use Rattle.many_texts.proofs.KnownLaws.{knows-none}
+use Rattle.many_texts.proofs.Going.{done_first, done-step, done_all, value-turn}
+use Rattle.many_texts.proofs.put_values.Goals as goal
+
+pub loop-k-init : goal.loop-k-init
+loop-k-init c = let a = c.args in (
+      (omega arith, omega arith),
+      omega arith,
+      done_first (record_value a.h a.t.now (lends a.names.now a.area.now) a.items.now a.item-area.now a.attributes.now)
+          a.out-1.now a.answers-1.now,
+      knows-none a.h a.t.now (lends a.names.now a.area.now) a.items.now a.item-area.now,
+    )
+
+pub attribute_at-requires : goal.attribute_at-requires
+attribute_at-requires c = omega (
+      arith,
+      c.requires.3,
+      c.loop-k-test.true,
+    )
+
+pub value_at-told-requires : goal.value_at-told-requires
+value_at-told-requires c = (
+  c.requires.0,
+  c.requires.1,
+  c.requires.2,
+  c.loop-k.invariant.3,
+)
+
+pub put_told-at-requires : goal.put_told-at-requires
+put_told-at-requires c = omega (
+      arith,
+      c.loop-k.invariant.2.utf16,
+      c.pre.4,
+      c.loop-k-test.true,
+    )
+
+pub overflow_add-k : goal.overflow_add-k
+overflow_add-k c = omega (
+      arith,
+      c.loop-k-test.true,
+      c.loop-k.invariant.0,
+    )
+
+pub loop-k-smaller : goal.loop-k-smaller
+loop-k-smaller c = omega (arith, c.loop-k-test.true)
+
+pub loop-k-preserved : goal.loop-k-preserved
+loop-k-preserved c = let a = c.args in
+    let t = value-turn a.h a.t.now (lends a.names.now a.area.now) a.items.now a.item-area.now a.attributes.now
+    c.loop-k.k
+    c.attribute_at.ensures
+    c.value_at-told.ensures.0 in (
+      (
+        omega (arith, c.loop-k-test.true),
+        c.loop-k.invariant.0.1,
+      ),
+      c.loop-k.invariant.1,
+      done-step c.loop-k.invariant.1
+          c.loop-k.invariant.2 t
+          (c.put_told-at.ensures _ t.told),
+      c.value_at-told.ensures.1,
+    )
+
+pub returns : goal.returns
+returns c = done_all (omega (arith, c.loop-k-test.false, c.loop-k.invariant.0)) c.loop-k.invariant.2

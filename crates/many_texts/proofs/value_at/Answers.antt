@@ -1,0 +1,14 @@
+-- `many_texts::value_at` meets its contract: in the part of the buffer from the place on (`tells_at`).
+use Rattle.many_texts.proofs.Going.{tells_at}
+use Rattle.many_texts.proofs.value_at.Goals as goal
+
+pub value_by-requires : goal.value_by-requires
+value_by-requires c = c.requires
+
+pub returns : goal.returns
+returns c = let a = c.args in (
+      tells_at a.at c.within-from.result a.out-1.now _
+          c.within-from.ensures
+          c.value_by.ensures.0,
+      c.value_by.ensures.1,
+    )

@@ -1,0 +1,36 @@
+-- `many_texts::value_texts` meets its contract: by whether the file is open (`values-open`, `values-closed`). The first item at each place is found once,
+-- for the check of the items and for the values.
+use mathlib.Core.Path.{refl, sym, ◌∙◌}
+use Rattle.system_types.specs.Names.{lends}
+use Rattle.value_text.proofs.Opening.{opens}
+use Rattle.many_texts.proofs.Going.{values-open, values-closed}
+use Rattle.many_texts.proofs.value_texts.Goals as goal
+
+pub put_firsts-requires : goal.put_firsts-requires
+put_firsts-requires c = refl
+
+pub open_known-opened-requires : goal.open_known-opened-requires
+open_known-opened-requires c = c.put_firsts.ensures
+
+pub values_in-requires : goal.values_in-requires
+values_in-requires c = let a = c.args in
+    let lent = lends a.names.now a.area.now in
+    let e = sym c.open_known-opened.ensures ∙ c.opened-1.given.1 in
+    let o = opens a.file.now lent a.items.now a.item-area.now e in
+    (rw c.tables_of.ensures o.asks, o.good, c.put_firsts.ensures)
+
+pub returns-in-Open : goal.returns-in-Open
+returns-in-Open c = let a = c.args in
+    let lent = lends a.names.now a.area.now in
+    let p8 = c in
+    let e = sym p8.open_known-opened.ensures ∙ p8.opened-1.given.1 in
+    values-open a.file.now lent a.items.now a.item-area.now a.attributes.now a.out-1.now a.answers-1.now a.attribute-count e
+    p8.tables_of.ensures c.values_in.ensures
+
+pub returns-in-Closed : goal.returns-in-Closed
+returns-in-Closed c = let a = c.args in
+    let lent = lends a.names.now a.area.now in
+    let p8 = c in
+    let e = sym p8.open_known-opened.ensures ∙ p8.opened-in-Closed-1.given.1 in
+    values-closed a.file.now lent a.items.now a.item-area.now a.attributes.now a.out-1.now a.answers-1.now a.attribute-count e
+    c.refuse.ensures

@@ -1,0 +1,12 @@
+-- `replay::replay_rows` is safe and ends: each turn takes 84 bytes of the rows, and the four lent tables keep their lengths.
+use Prim.Native.Nat.{◌≤◌, ◌-◌}
+use mathlib.Core.Path.{◌≡◌}
+use lib.ListN.{length}
+use Rattle.replay.proofs.replay_rows.Given as goal
+
+abbrev pub invariant-loop-at : goal.invariant-loop-at
+invariant-loop-at l = (l.at ≤ length l.rows) × (length l.nodes ≡ length l.initial.nodes) × (length l.attributes ≡ length l.initial.attributes) × (length l.notes ≡ length l.initial.notes)
+    × (length l.counts ≡ length l.initial.counts)
+
+abbrev pub decreases-loop-at : goal.decreases-loop-at
+decreases-loop-at l = length l.rows - l.at

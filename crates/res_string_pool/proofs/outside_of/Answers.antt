@@ -1,0 +1,35 @@
+-- `res_string_pool::outside_of` meets its contract. Invariant: k counts the offsets outside among the first i. Measure: n - i.
+use Prim.Native.Nat.{◌-◌, ◌/◌}
+use mathlib.Core.Path.{◌≡◌, refl}
+use mathlib.Core.Logic.{⊎_elim}
+use native.Mathlib.Omega.{arith}
+use lib.ListN.{length}
+use Rattle.res_string_pool.specs.Pool.{outside_of, offset_of}
+use Rattle.res_string_pool.proofs.Offsets.{outside_of-out, outside_of-in, outside_of-le}
+use Rattle.res_string_pool.proofs.outside_of.Goals as goal
+
+-- ---- entering
+pub loop-i-init : goal.loop-i-init
+unfolding outside_of
+loop-i-init c = (omega arith, refl)
+
+pub overflow_add-k : goal.overflow_add-k
+overflow_add-k c = let a = c.args in
+    omega (arith, outside_of-le a.o.now a.size c.loop-i.i)
+
+pub loop-i-preserved : goal.loop-i-preserved
+unfolding offset_of
+loop-i-preserved c = let a = c.args in
+    let l = c.loop-i in (
+      omega arith,
+      ⊎_elim
+          (λ w. omega (arith, outside_of-out a.o.now a.size l.i (omega arith)))
+          (λ w. omega (arith, outside_of-in a.o.now a.size l.i (omega arith)))
+          c.if-size-to_usize.branch,
+    )
+
+-- ---- leaving
+pub returns : goal.returns
+returns c = let l = c.loop-i in
+    let e : l.i ≡ length c.args.o.now / 4 = omega arith in
+    rw (← e) l.invariant.1

@@ -1,0 +1,24 @@
+-- `text::apart::pool_apart` meets its contract: by where both were found.
+use mathlib.Core.Path.{sym}
+use mathlib.Core.Bool.{true≢false}
+use Rattle.text.proofs.Read.{inside-pool}
+use Rattle.text.proofs.apart.pool_apart.Goals as goal
+
+pub part_apart-requires : goal.part_apart-requires
+part_apart-requires c = let a = c.args in (
+      inside-pool a.t.now a.area.now c.requires.0 c.f-1.given.1,
+      c.requires.1,
+      c.requires.2,
+    )
+
+pub returns-in-Nothing : goal.returns-in-Nothing
+returns-in-Nothing c = λ e. absurd (true≢false (sym e))
+
+pub returns-in-Cut : goal.returns-in-Cut
+returns-in-Cut c = λ e. absurd (true≢false (sym e))
+
+pub returns-in-System : goal.returns-in-System
+returns-in-System c = λ e. absurd (true≢false (sym e))
+
+pub returns-in-Pool : goal.returns-in-Pool
+returns-in-Pool c = λ e. rw c.f-1.given.1 (c.part_apart.ensures e)

@@ -1,0 +1,35 @@
+-- `text::string_at` meets its contract: by the offset and the split (`string-outside`, `string-cut`, `string-pool`).
+use Prim.Native.Nat.{◌-◌}
+use native.Mathlib.Omega.{arith}
+use mathlib.Core.Path.{sym, ◌∙◌}
+use Rattle.text.proofs.Parts.{string-outside, string-cut, string-pool, string-pool-le, data-slice}
+use Rattle.text.proofs.string_at.Goals as goal
+
+pub returns-then-size-o : goal.returns-then-size-o
+returns-then-size-o c = let s = c in
+    let a = s.args in
+    λ area. string-outside a.utf16 a.t.now a.strings a.size a.o s.requires area c.if-size-o.true
+
+pub overflow_add-result-in-Content : goal.overflow_add-result-in-Content
+overflow_add-result-in-Content c = let s = c in
+    let p5 = c in
+    let a = s.args in
+    let e = sym c.split_string-split.ensures ∙ c.split-1.given.1 in
+    let q = string-pool-le a.utf16 a.t.now a.strings a.size a.o s.requires p5.if-size-o.false
+    (data-slice a.utf16 a.t.now a.strings a.size a.o e) in
+    omega arith
+
+pub returns-in-Cut : goal.returns-in-Cut
+returns-in-Cut c = let s = c in
+    let a = s.args in
+    let e = sym c.split_string-split.ensures ∙ c.enum_told-1.given.1 in
+    λ area. string-cut a.utf16 a.t.now a.strings a.size a.o s.requires area c.if-size-o.false
+    (data-slice a.utf16 a.t.now a.strings a.size a.o e)
+
+pub returns-in-Content : goal.returns-in-Content
+returns-in-Content c = let s = c in
+    let p5 = c in
+    let a = s.args in
+    let e = sym c.split_string-split.ensures ∙ c.split-1.given.1 in
+    λ area. string-pool a.utf16 a.t.now a.strings a.size a.o s.requires area _ _ p5.if-size-o.false
+    (data-slice a.utf16 a.t.now a.strings a.size a.o e)

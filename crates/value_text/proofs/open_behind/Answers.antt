@@ -1,0 +1,8 @@
+-- `value_text::open_behind` meets its contract: by what the items say.
+use Rattle.value_text.proofs.open_behind.Goals as goal
+
+pub returns-in-Good : goal.returns-in-Good
+returns-in-Good c = rw c.enum_told-1.given.1 c.head_of.ensures
+
+pub returns-in-Bad : goal.returns-in-Bad
+returns-in-Bad c = rw c.read-1.given.1

@@ -1,0 +1,17 @@
+-- `value_text::open_value` meets its contract: the checks in their order (`open_in`, `open-out`).
+use mathlib.Core.Path.{sym, ◌∙◌}
+use Rattle.system_types.specs.Names.{lends}
+use Rattle.value_text.proofs.Opening.{open_in, open-out}
+use Rattle.value_text.proofs.open_value.Goals as goal
+
+pub returns-in-In : goal.returns-in-In
+returns-in-In c = let a = c.args in
+    let lent = lends a.names.now a.area.now in
+    open_in a.file.now lent a.items.now a.item-area.now
+    (sym c.enter-entered.ensures ∙ c.entered-1.given.1) c.check_items.ensures
+    c.open_behind.ensures
+
+pub returns-in-Out : goal.returns-in-Out
+returns-in-Out c = let a = c.args in
+    let lent = lends a.names.now a.area.now in
+    open-out a.file.now lent a.items.now a.item-area.now (sym c.enter-entered.ensures ∙ c.entered-in-Out-1.given.1)

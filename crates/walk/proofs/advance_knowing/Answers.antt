@@ -1,0 +1,16 @@
+-- `walk::advance_knowing` meets its contract: each stage has its own function, and clearing goes on (proofs/Clearing.antt).
+use Rattle.walk.proofs.Clearing.{goes-clearing}
+use Rattle.walk.proofs.Knowing.{knows-cleared}
+use Rattle.system_types.specs.Names.{lends}
+use Rattle.walk.proofs.advance_knowing.Goals as goal
+
+pub returns-in-Clearing : goal.returns-in-Clearing
+returns-in-Clearing c = let at-start = c in
+    let at_stage = c in
+    let a = at-start.args in
+    let r = c.Clear-next in (
+      (λ g.
+          rw r.ensures
+          (goes-clearing a.file.now (lends a.names.now a.area.now) a.nodes-1.now a.attributes-1.now a.st g _ at_stage.stage-1.given.1)),
+      knows-cleared a.file.now (lends a.names.now a.area.now) _ _ at-start.requires.1.looks-room at-start.requires.1.texts-room a.st _ _ r.ensures,
+    )

@@ -1,0 +1,30 @@
+-- `xml::clear::all_clear` meets its contract. Invariant: where the least answer so far is 1, the places so far are passed. Measure: the places left.
+use mathlib.Core.Logic.{⊎_elim}
+use Prim.Native.Nat.{ℕ, ◌+◌, ◌-◌, ◌<◌}
+use lib.ListN.{length, get_or}
+use borrow.Author.Tests.{eqb-true}
+use Rattle.xml.proofs.Passing.{bool_byte-is}
+use Rattle.xml.proofs.ClearPlaces.{places-first, places-put, places-kept, places-all, clear-passes}
+use native.Mathlib.Omega.{arith}
+use Rattle.xml.proofs.clear.all_clear.Goals as goal
+
+pub loop-k-init : goal.loop-k-init
+loop-k-init c = places-first _ _
+
+pub loop-k-preserved : goal.loop-k-preserved
+loop-k-preserved c = let start = c in
+    let l = c.loop-k in
+    let s = start.args.s.now in
+    let at = start.args.at in
+    let bytes : (i : ℕ) → get_or s i 0 < 256 = λ i. (c.shared_slice_known-in-loop-k-4-1.given i).fits in
+    let turn : l.k < 64 = omega (arith, c.loop-k-test.true) in
+    let inside : at + l.k < length s = omega (arith, start.requires, turn) in
+    ⊎_elim
+    (λ w. rw w.1 (places-put s at l.least l.k _ c.is_clear-x.result (bool_byte-is c.is_clear-x.result) l.invariant turn w.0.taken))
+    (λ w. rw w.1 (places-kept s at l.least l.k _ c.is_clear-x.result (bool_byte-is c.is_clear-x.result) l.invariant turn w.0.left (λ t. clear-passes s bytes (at + l.k) inside (c.is_clear-x.ensures t))))
+    c.if-x-least.branch
+
+pub returns : goal.returns
+returns c = let a = c.args in
+    let l = c.loop-k in
+    λ t. places-all a.s.now a.at l.least l.k l.invariant (eqb-true l.least 1 t) (omega arith)

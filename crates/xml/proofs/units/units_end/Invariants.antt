@@ -1,0 +1,11 @@
+-- `xml::units::units_end` meets its contract. Invariant: what was passed is chars, and sound (`Seen`). Measure: the bytes left before `to`.
+use mathlib.Core.Bool.{true}
+use Prim.Native.Nat.{◌-◌}
+use Rattle.xml.specs.Inner.NameRun.{Seen}
+use Rattle.xml.proofs.units.units_end.Given as goal
+
+abbrev pub invariant-loop-i : goal.invariant-loop-i
+invariant-loop-i l = Seen true l.s l.at l.i
+
+abbrev pub decreases-loop-i : goal.decreases-loop-i
+decreases-loop-i l = l.to - l.i
