@@ -4,113 +4,57 @@ use Rattle.anomaly.specs.Note.{note_of}
 use borrow.Author.Rules.{rules}
 use Rattle.anomaly.proofs.note_of.Goals as goal
 
-pub enum_known-x : goal.enum_known-x
-unfolding note_of
-enum_known-x c = search rules
-
 pub made-requires : goal.made-requires
 unfolding note_of
 made-requires c = search rules
-
-pub enum_known-x-in-StringCountMismatch-1 : goal.enum_known-x-in-StringCountMismatch-1
-unfolding note_of
-enum_known-x-in-StringCountMismatch-1 c = search rules
 
 pub made-requires-in-StringCountMismatch : goal.made-requires-in-StringCountMismatch
 unfolding note_of
 made-requires-in-StringCountMismatch c = search rules
 
-pub enum_known-x-in-StringOffsetsOutOfBounds-1 : goal.enum_known-x-in-StringOffsetsOutOfBounds-1
-unfolding note_of
-enum_known-x-in-StringOffsetsOutOfBounds-1 c = search rules
-
 pub made-requires-in-StringOffsetsOutOfBounds : goal.made-requires-in-StringOffsetsOutOfBounds
 unfolding note_of
 made-requires-in-StringOffsetsOutOfBounds c = search rules
-
-pub enum_known-x-in-NonXmlChunk-1 : goal.enum_known-x-in-NonXmlChunk-1
-unfolding note_of
-enum_known-x-in-NonXmlChunk-1 c = search rules
 
 pub made-requires-in-NonXmlChunk : goal.made-requires-in-NonXmlChunk
 unfolding note_of
 made-requires-in-NonXmlChunk c = search rules
 
-pub enum_known-x-in-XmlNodeHeaderSize-1 : goal.enum_known-x-in-XmlNodeHeaderSize-1
-unfolding note_of
-enum_known-x-in-XmlNodeHeaderSize-1 c = search rules
-
 pub made-requires-in-XmlNodeHeaderSize : goal.made-requires-in-XmlNodeHeaderSize
 unfolding note_of
 made-requires-in-XmlNodeHeaderSize c = search rules
-
-pub enum_known-x-in-UnknownChunk-1 : goal.enum_known-x-in-UnknownChunk-1
-unfolding note_of
-enum_known-x-in-UnknownChunk-1 c = search rules
 
 pub made-requires-in-UnknownChunk : goal.made-requires-in-UnknownChunk
 unfolding note_of
 made-requires-in-UnknownChunk c = search rules
 
-pub enum_known-x-in-AttributeStartShifted-1 : goal.enum_known-x-in-AttributeStartShifted-1
-unfolding note_of
-enum_known-x-in-AttributeStartShifted-1 c = search rules
-
 pub made-requires-in-AttributeStartShifted : goal.made-requires-in-AttributeStartShifted
 unfolding note_of
 made-requires-in-AttributeStartShifted c = search rules
-
-pub enum_known-x-in-AttributeSizeMismatch-1 : goal.enum_known-x-in-AttributeSizeMismatch-1
-unfolding note_of
-enum_known-x-in-AttributeSizeMismatch-1 c = search rules
 
 pub made-requires-in-AttributeSizeMismatch : goal.made-requires-in-AttributeSizeMismatch
 unfolding note_of
 made-requires-in-AttributeSizeMismatch c = search rules
 
-pub enum_known-x-in-ElementTrailingBytes-1 : goal.enum_known-x-in-ElementTrailingBytes-1
-unfolding note_of
-enum_known-x-in-ElementTrailingBytes-1 c = search rules
-
 pub made-requires-in-ElementTrailingBytes : goal.made-requires-in-ElementTrailingBytes
 unfolding note_of
 made-requires-in-ElementTrailingBytes c = search rules
-
-pub enum_known-x-in-InvalidElementName-1 : goal.enum_known-x-in-InvalidElementName-1
-unfolding note_of
-enum_known-x-in-InvalidElementName-1 c = search rules
 
 pub made-requires-in-InvalidElementName : goal.made-requires-in-InvalidElementName
 unfolding note_of
 made-requires-in-InvalidElementName c = search rules
 
-pub enum_known-x-in-InvalidAttributeName-1 : goal.enum_known-x-in-InvalidAttributeName-1
-unfolding note_of
-enum_known-x-in-InvalidAttributeName-1 c = search rules
-
 pub made-requires-in-InvalidAttributeName : goal.made-requires-in-InvalidAttributeName
 unfolding note_of
 made-requires-in-InvalidAttributeName c = search rules
-
-pub enum_told-1 : goal.enum_told-1
-unfolding note_of
-enum_told-1 c = search rules
 
 pub made-requires-in-TruncatedXml : goal.made-requires-in-TruncatedXml
 unfolding note_of
 made-requires-in-TruncatedXml c = search rules
 
-pub enum_known-x-in-UnclosedElements-1 : goal.enum_known-x-in-UnclosedElements-1
-unfolding note_of
-enum_known-x-in-UnclosedElements-1 c = search rules
-
 pub made-requires-in-UnclosedElements : goal.made-requires-in-UnclosedElements
 unfolding note_of
 made-requires-in-UnclosedElements c = search rules
-
-pub enum_known-x-in-DamagedElementName-1 : goal.enum_known-x-in-DamagedElementName-1
-unfolding note_of
-enum_known-x-in-DamagedElementName-1 c = search rules
 
 pub made-requires-in-DamagedElementName : goal.made-requires-in-DamagedElementName
 unfolding note_of
@@ -162,7 +106,7 @@ returns-in-InvalidAttributeName c = rw c.x-in-InvalidAttributeName-1.given.1 c.m
 
 pub returns-in-TruncatedXml : goal.returns-in-TruncatedXml
 unfolding note_of
-returns-in-TruncatedXml c = rw c.enum_told-1.given.1 c.made-in-TruncatedXml.ensures
+returns-in-TruncatedXml c = rw c.in-TruncatedXml.is c.made-in-TruncatedXml.ensures
 
 pub returns-in-UnclosedElements : goal.returns-in-UnclosedElements
 unfolding note_of

@@ -4,12 +4,13 @@ use Rattle.c_api.proofs.LoopInvariant.{reads-by}
 use Rattle.c_api.proofs.axml_read.Goals as goal
 
 pub returns : goal.returns
-returns c = let at-numbers = c in
+returns c =
+    let at-numbers = c in
     let at_words = at-numbers in
     let at-start = at_words in
     let a = at-start.args in
     let q = at_words.read_words-answer in
     let n = at-numbers.read_numbers in
-    reads-by a.file.now (lends a.names.now a.area.now) a.nodes-1.now a.attributes-1.now a.notes-1.now a.cap a.mode q.result
+    reads-by a.file.now (lends a.names.now a.area.now) a.nodes.now a.attributes.now a.notes.now a.cap a.mode q.result
     q.new.1.1.1.0 q.new.1.1.1.1.0 q.new.1.1.1.1.1.0 q.ensures
     n.result n.ensures c.answer_of.result c.answer_of.ensures

@@ -13,12 +13,14 @@ pub loop-k-init : goal.loop-k-init
 loop-k-init c = (search rules, search rules, sym (rw add-zero))
 
 pub overflow_add-doubts : goal.overflow_add-doubts
-overflow_add-doubts c = let at-loop = c in
+overflow_add-doubts c =
+    let at-loop = c in
     let a = at-loop.args in
     omega (arith, doubt-le (is_bare (drop (a.at + 8 * at-loop.loop-k.k) a.s.now)) c.doubt_at-doubts.ensures)
 
 pub loop-k-preserved : goal.loop-k-preserved
-loop-k-preserved c = let at-loop = c in
+loop-k-preserved c =
+    let at-loop = c in
     let a = at-loop.args in
     let k = at-loop.loop-k.k in
     let d = at-loop.loop-k.doubts in
@@ -27,7 +29,8 @@ loop-k-preserved c = let at-loop = c in
     (search rules, omega arith, at-loop.loop-k.invariant.2 ∙ step)
 
 pub returns : goal.returns
-returns c = let at-loop = c in
+returns c =
+    let at-loop = c in
     let a = at-loop.args in
     let k = at-loop.loop-k.k in
     all_bare-stop 8 k at-loop.loop-k.doubts (drop (a.at + 8 * k) a.s.now) (omega arith) ∙ sym at-loop.loop-k.invariant.2

@@ -7,19 +7,22 @@ use Rattle.chunk.proofs.Laws.{run_used-short, run_used-other, run_used-here}
 use Rattle.chunk.proofs.run_used.Goals as goal
 
 pub skip_content-requires : goal.skip_content-requires
-skip_content-requires c = let at-header = c in
+skip_content-requires c =
+    let at-header = c in
     let a = at-header.args in
     let w = sym at-header.header_at-read.ensures ∙ c.read-1.given.1 in
     header_of-long-at a.s.now a.at w at-header.requires
 
 pub returns-in-Short : goal.returns-in-Short
-returns-in-Short c = let at-header = c in
+returns-in-Short c =
+    let at-header = c in
     let a = at-header.args in
-    let w = sym at-header.header_at-read.ensures ∙ c.enum_told-1.given.1 in
+    let w = sym at-header.header_at-read.ensures ∙ c.in-Short.is in
     (sym (run_used-short a.sort (drop a.at a.s.now) w), search rules)
 
 pub returns-then-sort_of-sort : goal.returns-then-sort_of-sort
-returns-then-sort_of-sort c = let at-header = c in
+returns-then-sort_of-sort c =
+    let at-header = c in
     let start = at-header in
     let a = start.args in
     let w = sym at-header.header_at-read.ensures ∙ c.read-1.given.1 in
@@ -27,7 +30,8 @@ returns-then-sort_of-sort c = let at-header = c in
     run_used-here a.s.now a.at a.sort c.skip_content.result w same start.requires c.skip_content.ensures
 
 pub returns-else-sort_of-sort : goal.returns-else-sort_of-sort
-returns-else-sort_of-sort c = let at-header = c in
+returns-else-sort_of-sort c =
+    let at-header = c in
     let a = at-header.args in
     let w = sym at-header.header_at-read.ensures ∙ c.read-1.given.1 in (
       sym (run_used-other a.sort (drop a.at a.s.now) w (λ e. c.if-sort_of-sort.false (c.sort_of.ensures ∙ e))),

@@ -3,7 +3,6 @@ use Prim.Native.Nat.{◌-◌}
 use native.Mathlib.Omega.{arith}
 use mathlib.Core.Path.{refl, sym, ◌∙◌}
 use borrow.Author.Rules.{rules}
-use borrow.Author.Tests.{not-false}
 use Rattle.chunk.proofs.HeaderOnly.{skip_run-bare}
 use Rattle.chunk.proofs.skip_bare.Goals as goal
 
@@ -11,8 +10,9 @@ pub loop-p-init : goal.loop-p-init
 loop-p-init c = (search rules, refl, search rules)
 
 pub loop-p-preserved : goal.loop-p-preserved
-loop-p-preserved c = let at-loop = c in
+loop-p-preserved c =
+    let at-loop = c in
     let a = at-loop.args in
-    let all = sym c.bare_block.ensures ∙ not-false c.bare_block.result c.if-not-bare_block.false in
+    let all = sym c.bare_block.ensures ∙ c.if-not-bare_block.false in
     let step = skip_run-bare 8 a.s.now at-loop.loop-p.p (omega arith) all in
     (search rules, at-loop.loop-p.invariant.1 ∙ step, search rules)

@@ -9,7 +9,6 @@ use Rattle.chunk.proofs.Laws.{skip_run-stop, skip_run-step}
 use Rattle.chunk.proofs.HeaderOnly.{skip_run-tested}
 use Rattle.chunk.proofs.skip_run.Goals as goal
 
-
 ne-pos : {n : ℕ} → (n ≡ 0 → ⊥) → 0 < n
 ne-pos h = omega arith
 
@@ -17,7 +16,8 @@ pub loop-at-init : goal.loop-at-init
 loop-at-init c = (search rules, refl, search rules)
 
 pub returns-then-n-eq0 : goal.returns-then-n-eq0
-returns-then-n-eq0 c = let at-loop = c in
+returns-then-n-eq0 c =
+    let at-loop = c in
     let a = at-loop.args in
     let none = sym c.run_used-n.ensures.0 ∙ c.if-n-eq0.true in (
       sym (skip_run-stop a.s.now at-loop.loop-at.p a.sort none) ∙ sym at-loop.loop-at.invariant.1,
@@ -26,12 +26,14 @@ returns-then-n-eq0 c = let at-loop = c in
     )
 
 pub loop-at-smaller-then-n-sort : goal.loop-at-smaller-then-n-sort
-loop-at-smaller-then-n-sort c = let used = c.run_used-n in
+loop-at-smaller-then-n-sort c =
+    let used = c.run_used-n in
     let h : 0 < used.result = ne-pos c.if-n-eq0.false in
     omega arith
 
 pub loop-at-preserved-then-n-sort : goal.loop-at-preserved-then-n-sort
-loop-at-preserved-then-n-sort c = let at-loop = c in
+loop-at-preserved-then-n-sort c =
+    let at-loop = c in
     let a = at-loop.args in
     let used = c.run_used-n in
     let p = at-loop.loop-at.p in
@@ -42,10 +44,12 @@ loop-at-preserved-then-n-sort c = let at-loop = c in
     (search rules, at-loop.loop-at.invariant.1 ∙ one ∙ blocks, search rules)
 
 pub loop-at-smaller : goal.loop-at-smaller
-loop-at-smaller c = let h : 0 < c.run_used-n.result = ne-pos c.if-n-eq0.false in omega arith
+loop-at-smaller c =
+    let h : 0 < c.run_used-n.result = ne-pos c.if-n-eq0.false in omega arith
 
 pub loop-at-preserved : goal.loop-at-preserved
-loop-at-preserved c = let at-loop = c in
+loop-at-preserved c =
+    let at-loop = c in
     let a = at-loop.args in
     let used = c.run_used-n in
     let step = skip_run-step a.s.now at-loop.loop-at.p a.sort used.result (sym used.ensures.0) (ne-pos c.if-n-eq0.false) in

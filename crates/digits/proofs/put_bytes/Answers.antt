@@ -11,9 +11,11 @@ pub loop-i-init : goal.loop-i-init
 loop-i-init c = (search rules, search rules, refl, left-first _ _ _)
 
 pub loop-i-preserved : goal.loop-i-preserved
-loop-i-preserved c = let l = c.loop-i in
+loop-i-preserved c =
+    let l = c.loop-i in
     (search rules, search rules, search rules, left-byte _ l.i (search rules) l.invariant.3 c.put_byte-at.ensures)
 
 pub returns : goal.returns
-returns c = let l = c.loop-i in
+returns c =
+    let l = c.loop-i in
     left_end (length c.args.text.now) _ l.i (search rules) l.invariant.3 (omega arith)

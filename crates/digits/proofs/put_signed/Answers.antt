@@ -6,12 +6,14 @@ use Rattle.digits.proofs.Written.{wrote-more, wrote-append}
 use Rattle.digits.proofs.put_signed.Goals as goal
 
 pub returns-then-n-lt2147483648 : goal.returns-then-n-lt2147483648
-returns-then-n-lt2147483648 c = let call = c in
+returns-then-n-lt2147483648 c =
+    let call = c in
     let test = call in
     wrote-more call.put_word.ensures (sym (signed_text-below test.args.n test.if-n-lt2147483648.true)) (omega arith)
 
 pub returns : goal.returns
-returns c = let number = c in
+returns c =
+    let number = c in
     let sign = number in
     let test = sign in
     wrote-more (wrote-append sign.put_byte-at.ensures number.put_word-2.ensures)

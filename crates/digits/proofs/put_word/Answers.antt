@@ -7,7 +7,8 @@ use Rattle.digits.proofs.Written.{wrote-more}
 use Rattle.digits.proofs.put_word.Goals as goal
 
 pub returns : goal.returns
-returns c = let call = c in
+returns c =
+    let call = c in
     let n = call.args.n in
     let h : n < 10 ^ suc 9 = omega arith in
     wrote-more call.put_digits.ensures (digits-enough 9 n h 19 (omega arith)) (le_refl 10)

@@ -13,10 +13,12 @@ pub loop-i-init : goal.loop-i-init
 loop-i-init c = (search rules, refl, fill_none _ 0)
 
 pub loop-i-preserved : goal.loop-i-preserved
-loop-i-preserved c = let l = c.loop-i in
+loop-i-preserved c =
+    let l = c.loop-i in
     (search rules, search rules, rw l.invariant.2 (fill_more l.i 0 _ (omega arith)))
 
 pub returns : goal.returns
-returns c = let l = c.loop-i in
+returns c =
+    let l = c.loop-i in
     let e : l.i ≡ length c.args.out.now = omega arith in
     l.invariant.2 ∙ rw (e, drop-length, append-nil)

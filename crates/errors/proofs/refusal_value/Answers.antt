@@ -4,137 +4,21 @@ use Rattle.errors.specs.Refusal.{refusal_value}
 use borrow.Author.Rules.{rules}
 use Rattle.errors.proofs.refusal_value.Goals as goal
 
-pub enum_known-r : goal.enum_known-r
-unfolding refusal_value
-enum_known-r c = search rules
-
-pub enum_told-1 : goal.enum_told-1
-unfolding refusal_value
-enum_told-1 c = search rules
-
-pub enum_known-r-in-HeaderSizeError-1 : goal.enum_known-r-in-HeaderSizeError-1
-unfolding refusal_value
-enum_known-r-in-HeaderSizeError-1 c = search rules
-
 pub overflow_cast-result : goal.overflow_cast-result
 unfolding refusal_value
 overflow_cast-result c = search rules
-
-pub enum_told-in-MissingRoot : goal.enum_told-in-MissingRoot
-unfolding refusal_value
-enum_told-in-MissingRoot c = search rules
-
-pub enum_known-r-in-SystemNamesError-1 : goal.enum_known-r-in-SystemNamesError-1
-unfolding refusal_value
-enum_known-r-in-SystemNamesError-1 c = search rules
-
-pub enum_known-r-in-NodesFull-1 : goal.enum_known-r-in-NodesFull-1
-unfolding refusal_value
-enum_known-r-in-NodesFull-1 c = search rules
-
-pub enum_known-r-in-AttributesFull-1 : goal.enum_known-r-in-AttributesFull-1
-unfolding refusal_value
-enum_known-r-in-AttributesFull-1 c = search rules
-
-pub enum_known-r-in-NotesFull-1 : goal.enum_known-r-in-NotesFull-1
-unfolding refusal_value
-enum_known-r-in-NotesFull-1 c = search rules
-
-pub enum_known-r-in-TextShort-1 : goal.enum_known-r-in-TextShort-1
-unfolding refusal_value
-enum_known-r-in-TextShort-1 c = search rules
-
-pub enum_told-in-NothingFound : goal.enum_told-in-NothingFound
-unfolding refusal_value
-enum_told-in-NothingFound c = search rules
-
-pub enum_known-r-in-TablesError-1 : goal.enum_known-r-in-TablesError-1
-unfolding refusal_value
-enum_known-r-in-TablesError-1 c = search rules
 
 pub overflow_cast-result-in-TablesError : goal.overflow_cast-result-in-TablesError
 unfolding refusal_value
 overflow_cast-result-in-TablesError c = search rules
 
-pub enum_known-r-in-ItemsError-1 : goal.enum_known-r-in-ItemsError-1
-unfolding refusal_value
-enum_known-r-in-ItemsError-1 c = search rules
-
-pub enum_known-r-in-NoPlainText-1 : goal.enum_known-r-in-NoPlainText-1
-unfolding refusal_value
-enum_known-r-in-NoPlainText-1 c = search rules
-
 pub overflow_cast-result-in-NoPlainText : goal.overflow_cast-result-in-NoPlainText
 unfolding refusal_value
 overflow_cast-result-in-NoPlainText c = search rules
 
-pub enum_known-r-in-ModeError-1 : goal.enum_known-r-in-ModeError-1
-unfolding refusal_value
-enum_known-r-in-ModeError-1 c = search rules
-
 pub overflow_cast-result-in-ModeError : goal.overflow_cast-result-in-ModeError
 unfolding refusal_value
 overflow_cast-result-in-ModeError c = search rules
-
-pub enum_known-r-in-PairsError-1 : goal.enum_known-r-in-PairsError-1
-unfolding refusal_value
-enum_known-r-in-PairsError-1 c = search rules
-
-pub enum_known-r-in-AnswersFull-1 : goal.enum_known-r-in-AnswersFull-1
-unfolding refusal_value
-enum_known-r-in-AnswersFull-1 c = search rules
-
-pub enum_known-r-in-ListingMalformed-1 : goal.enum_known-r-in-ListingMalformed-1
-unfolding refusal_value
-enum_known-r-in-ListingMalformed-1 c = search rules
-
-pub enum_known-r-in-ListingNumber-1 : goal.enum_known-r-in-ListingNumber-1
-unfolding refusal_value
-enum_known-r-in-ListingNumber-1 c = search rules
-
-pub enum_known-r-in-ListingOrder-1 : goal.enum_known-r-in-ListingOrder-1
-unfolding refusal_value
-enum_known-r-in-ListingOrder-1 c = search rules
-
-pub enum_told-in-NotesOff : goal.enum_told-in-NotesOff
-unfolding refusal_value
-enum_told-in-NotesOff c = search rules
-
-pub enum_known-r-in-ListFull-1 : goal.enum_known-r-in-ListFull-1
-unfolding refusal_value
-enum_known-r-in-ListFull-1 c = search rules
-
-pub enum_told-in-RoundUpFull : goal.enum_told-in-RoundUpFull
-unfolding refusal_value
-enum_told-in-RoundUpFull c = search rules
-
-pub enum_known-r-in-StringPoolGarbage-1 : goal.enum_known-r-in-StringPoolGarbage-1
-unfolding refusal_value
-enum_known-r-in-StringPoolGarbage-1 c = search rules
-
-pub enum_known-r-in-StringPoolHeader-1 : goal.enum_known-r-in-StringPoolHeader-1
-unfolding refusal_value
-enum_known-r-in-StringPoolHeader-1 c = search rules
-
-pub enum_known-r-in-StringPoolOffsets-1 : goal.enum_known-r-in-StringPoolOffsets-1
-unfolding refusal_value
-enum_known-r-in-StringPoolOffsets-1 c = search rules
-
-pub enum_known-r-in-StringPoolStyles-1 : goal.enum_known-r-in-StringPoolStyles-1
-unfolding refusal_value
-enum_known-r-in-StringPoolStyles-1 c = search rules
-
-pub enum_known-r-in-StringPoolData-1 : goal.enum_known-r-in-StringPoolData-1
-unfolding refusal_value
-enum_known-r-in-StringPoolData-1 c = search rules
-
-pub enum_known-r-in-ResourceMapHeader-1 : goal.enum_known-r-in-ResourceMapHeader-1
-unfolding refusal_value
-enum_known-r-in-ResourceMapHeader-1 c = search rules
-
-pub enum_known-r-in-ResourceMapIds-1 : goal.enum_known-r-in-ResourceMapIds-1
-unfolding refusal_value
-enum_known-r-in-ResourceMapIds-1 c = search rules
 
 pub returns-in-TooSmallError : goal.returns-in-TooSmallError
 unfolding refusal_value
@@ -142,7 +26,7 @@ returns-in-TooSmallError c = rw c.r-1.given.1
 
 pub returns-in-TooLargeError : goal.returns-in-TooLargeError
 unfolding refusal_value
-returns-in-TooLargeError c = rw c.enum_told-1.given.1
+returns-in-TooLargeError c = rw c.in-TooLargeError.is
 
 pub returns-in-HeaderSizeError : goal.returns-in-HeaderSizeError
 unfolding refusal_value
@@ -150,7 +34,7 @@ returns-in-HeaderSizeError c = rw c.r-in-HeaderSizeError-1.given.1
 
 pub returns-in-MissingRoot : goal.returns-in-MissingRoot
 unfolding refusal_value
-returns-in-MissingRoot c = rw c.enum_told-in-MissingRoot-1.given.1
+returns-in-MissingRoot c = rw c.in-MissingRoot.is
 
 pub returns-in-SystemNamesError : goal.returns-in-SystemNamesError
 unfolding refusal_value
@@ -174,7 +58,7 @@ returns-in-TextShort c = rw c.r-in-TextShort-1.given.1
 
 pub returns-in-NothingFound : goal.returns-in-NothingFound
 unfolding refusal_value
-returns-in-NothingFound c = rw c.enum_told-in-NothingFound-1.given.1
+returns-in-NothingFound c = rw c.in-NothingFound.is
 
 pub returns-in-TablesError : goal.returns-in-TablesError
 unfolding refusal_value
@@ -214,7 +98,7 @@ returns-in-ListingOrder c = rw c.r-in-ListingOrder-1.given.1
 
 pub returns-in-NotesOff : goal.returns-in-NotesOff
 unfolding refusal_value
-returns-in-NotesOff c = rw c.enum_told-in-NotesOff-1.given.1
+returns-in-NotesOff c = rw c.in-NotesOff.is
 
 pub returns-in-ListFull : goal.returns-in-ListFull
 unfolding refusal_value
@@ -222,7 +106,7 @@ returns-in-ListFull c = rw c.r-in-ListFull-1.given.1
 
 pub returns-in-RoundUpFull : goal.returns-in-RoundUpFull
 unfolding refusal_value
-returns-in-RoundUpFull c = rw c.enum_told-in-RoundUpFull-1.given.1
+returns-in-RoundUpFull c = rw c.in-RoundUpFull.is
 
 pub returns-in-StringPoolGarbage : goal.returns-in-StringPoolGarbage
 unfolding refusal_value

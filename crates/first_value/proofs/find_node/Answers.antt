@@ -10,15 +10,18 @@ use borrow.Author.Rules.{rules}
 use Rattle.first_value.proofs.find_node.Goals as goal
 
 pub loop-k-init : goal.loop-k-init
-loop-k-init c = let a = c.args in
+loop-k-init c =
+    let a = c.args in
     (search rules, sym (rw sub-zero), others-none a.h a.t.now (lends a.names.now a.area.now) a.tag.now 64, refl)
 
 pub is_tagged_once-requires : goal.is_tagged_once-requires
-is_tagged_once-requires c = let l = c.loop-k in
+is_tagged_once-requires c =
+    let l = c.loop-k in
     (c.requires.0, l.invariant.3, l.invariant.2)
 
 pub returns-then-is_tagged_once : goal.returns-then-is_tagged_once
-returns-then-is_tagged_once c = let l = c.loop-k in
+returns-then-is_tagged_once c =
+    let l = c.loop-k in
     let a = c.args in
     let test = c.loop-k-test in
     let place = c.node_place-at in
@@ -27,7 +30,8 @@ returns-then-is_tagged_once c = let l = c.loop-k in
     test.true place.ensures told.ensures.same c.if-is_tagged_once.true)
 
 pub loop-k-preserved : goal.loop-k-preserved
-loop-k-preserved c = let l = c.loop-k in
+loop-k-preserved c =
+    let l = c.loop-k in
     let a = c.args in
     let test = c.loop-k-test in
     let place = c.node_place-at in
@@ -37,6 +41,7 @@ loop-k-preserved c = let l = c.loop-k in
     (search rules, l.invariant.1 ∙ e, told.ensures.others-1, told.auto.1.1.1.1.1.0 ∙ l.invariant.3)
 
 pub returns : goal.returns
-returns c = let l = c.loop-k in
+returns c =
+    let l = c.loop-k in
     let a = c.args in
     sym (l.invariant.1 ∙ find_node-end a.h a.t.now (lends a.names.now a.area.now) a.tag.now a.count a.nodes.now l.k c.loop-k-test.false)

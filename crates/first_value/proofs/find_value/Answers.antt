@@ -12,7 +12,8 @@ pub loop-k-init : goal.loop-k-init
 loop-k-init c = (search rules, sym (rw sub-zero))
 
 pub returns-then-is_named : goal.returns-then-is_named
-returns-then-is_named c = let at-if = c in
+returns-then-is_named c =
+    let at-if = c in
     let at_place = at-if in
     let at-loop = at_place in
     let a = at-loop.args in
@@ -22,7 +23,8 @@ returns-then-is_named c = let at-if = c in
     at_place.loop-k-test.true at_place.attribute_place-at.ensures at-if.is_named.ensures at-if.if-is_named.true c.found.ensures)
 
 pub loop-k-preserved : goal.loop-k-preserved
-loop-k-preserved c = let at_place = c in
+loop-k-preserved c =
+    let at_place = c in
     let at-loop = at_place in
     let a = at-loop.args in
     let l = at-loop.loop-k in
@@ -32,7 +34,8 @@ loop-k-preserved c = let at_place = c in
     (search rules, l.invariant.1 ∙ e)
 
 pub returns : goal.returns
-returns c = let at-loop = c in
+returns c =
+    let at-loop = c in
     let a = at-loop.args in
     let l = at-loop.loop-k in
     sym

@@ -2,7 +2,7 @@
 use Rattle.first_value.proofs.fitted.Goals as goal
 
 pub returns-in-Fitting : goal.returns-in-Fitting
-returns-in-Fitting c = rw c.enum_told-1.given.1
+returns-in-Fitting c = rw c.in-Fitting.is
 
 pub returns-in-Unfit : goal.returns-in-Unfit
 returns-in-Unfit c = rw c.fit-1.given.1

@@ -5,15 +5,17 @@ use Rattle.system_types.specs.Names.{lends}
 use Rattle.first_value.proofs.value_in.Goals as goal
 
 pub find_node-node-requires : goal.find_node-node-requires
-find_node-node-requires c = let s = c in
+find_node-node-requires c =
+    let s = c in
     let a = s.args in
-    (s.requires.0, (fit_of-fits a.nodes.now a.attributes.now a.node-count a.attribute-count s.requires.1).nodes)
+    (s.requires.0, (fit_of-fits a.nodes.now a.attributes.now a.node_count a.attribute_count s.requires.1).nodes)
 
 pub value_of-requires : goal.value_of-requires
-value_of-requires c = let s = c in
+value_of-requires c =
+    let s = c in
     let a = s.args in (
       s.requires.0,
-      run_fits a.h a.t.now (lends a.names.now a.area.now) a.tag.now a.nodes.now a.attributes.now a.node-count a.attribute-count
+      run_fits a.h a.t.now (lends a.names.now a.area.now) a.tag.now a.nodes.now a.attributes.now a.node_count a.attribute_count
           s.requires.1 c.find_node-node.ensures,
     )
 

@@ -8,7 +8,6 @@ use Prim.Native.Nat.{◌+◌, ◌*◌, ◌≤◌}
 use native.Mathlib.Omega.{arith}
 use Rattle.first_value.proofs.value_of.Goals as goal
 
-
 -- the attributes of the node end in the table
 inside
     : (c : tie.After-attribute-place)
@@ -27,13 +26,15 @@ pub slice_bounds-find_value-start : goal.slice_bounds-find_value-start
 slice_bounds-find_value-start c = omega (arith, inside c)
 
 pub find_value-requires : goal.find_value-requires
-find_value-requires c = let s = c in
+find_value-requires c =
+    let s = c in
     (s.requires.0, rest-words s.args.attributes.now c.attribute_place.result _ (inside c))
 
 pub returns-in-Run : goal.returns-in-Run
-returns-in-Run c = let a = c.args in
+returns-in-Run c =
+    let a = c.args in
     value-run a.h a.t.now (lends a.names.now a.area.now) a.name.now a.attributes.now
     c.node-1.given.1 c.attribute_place.ensures c.find_value.ensures
 
 pub returns-in-NoNode : goal.returns-in-NoNode
-returns-in-NoNode c = rw c.enum_told-1.given.1
+returns-in-NoNode c = rw c.in-NoNode.is

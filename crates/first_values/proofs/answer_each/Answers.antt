@@ -14,67 +14,75 @@ use Rattle.first_values.proofs.answer_each.Goals as goal
 
 pub loop-k-init : goal.loop-k-init
 unfolding answers_from
-loop-k-init c = let a = c.args in
-    let find = finds_in a.h a.t.now (lends a.names.now a.area.now) a.nodes.now a.node-count in
-    (search rules, refl, node-none find a.pairs.now a.pair-area.now _)
+loop-k-init c =
+    let a = c.args in
+    let find = finds_in a.h a.t.now (lends a.names.now a.area.now) a.nodes.now a.node_count in
+    (search rules, refl, node-none find a.pairs.now a.pair_area.now _)
 
 pub node_for-node-requires : goal.node_for-node-requires
-node_for-node-requires c = let s = c in
+node_for-node-requires c =
+    let s = c in
     let a = s.args in
-    let fits = fit_of-fits a.nodes.now a.attributes.now a.node-count a.attribute-count s.requires.1 in
+    let fits = fit_of-fits a.nodes.now a.attributes.now a.node_count a.attribute_count s.requires.1 in
     (s.requires.0, fits.nodes, omega (arith, s.requires.2, c.loop-k-test.true), c.loop-k.invariant.2)
 
 pub name_at-requires : goal.name_at-requires
 name_at-requires c = omega (arith, c.requires.2, c.loop-k-test.true)
 
 pub value_of-value-requires : goal.value_of-value-requires
-value_of-value-requires c = let s = c in
+value_of-value-requires c =
+    let s = c in
     let a = s.args in
-    let tag = tag_at a.pairs.now a.pair-area.now c.loop-k.k in
+    let tag = tag_at a.pairs.now a.pair_area.now c.loop-k.k in
     let run =
-    run_fits a.h a.t.now (lends a.names.now a.area.now) tag a.nodes.now a.attributes.now a.node-count a.attribute-count
+    run_fits a.h a.t.now (lends a.names.now a.area.now) tag a.nodes.now a.attributes.now a.node_count a.attribute_count
     s.requires.1 c.node_for-node.ensures in
     (s.requires.0, run)
 
 pub put_answer-requires : goal.put_answer-requires
-put_answer-requires c = let s = c in
+put_answer-requires c =
+    let s = c in
     let a = s.args in
     let l = c.loop-k in
-    let ask = asks_in a.h a.t.now (lends a.names.now a.area.now) a.nodes.now a.node-count a.attributes.now in
+    let ask = asks_in a.h a.t.now (lends a.names.now a.area.now) a.nodes.now a.node_count a.attributes.now in
     let test = c.loop-k-test.true in
-    let e = answers-long ask a.pair-area.now a.pairs.now a.answers-1.now l.answers-1 l.k (omega (arith, s.requires.3, test)) l.invariant.1 in
+    let e = answers-long ask a.pair_area.now a.pairs.now a.answers.now l.answers l.k (omega (arith, s.requires.3, test)) l.invariant.1 in
     omega (arith, e, s.requires.3, test)
 
 pub overflow_add-k : goal.overflow_add-k
-overflow_add-k c = let test = c in
+overflow_add-k c =
+    let test = c in
     let s = c in
     omega (arith, test.loop-k-test.true, s.well-formed.1.1.1.1.1.1.1.1.1.1.1.0)
 
 pub loop-k-preserved : goal.loop-k-preserved
-loop-k-preserved c = let a = c.args in
+loop-k-preserved c =
+    let a = c.args in
     let l = c.loop-k in
-    let ask = asks_in a.h a.t.now (lends a.names.now a.area.now) a.nodes.now a.node-count a.attributes.now in
-    let find = finds_in a.h a.t.now (lends a.names.now a.area.now) a.nodes.now a.node-count in
+    let ask = asks_in a.h a.t.now (lends a.names.now a.area.now) a.nodes.now a.node_count a.attributes.now in
+    let find = finds_in a.h a.t.now (lends a.names.now a.area.now) a.nodes.now a.node_count in
     let node = c.node_for-node.ensures in
     let name = c.name_at.ensures in
     let value = c.value_of_lem.ensures in
     let numbers = c.first_numbers.ensures in
     let ws =
-    answer-words a.h a.t.now (lends a.names.now a.area.now) a.nodes.now a.node-count a.attributes.now a.pairs.now
-    a.pair-area.now l.k node name value numbers in
-    let put = answers-put ask a.pair-area.now a.pairs.now a.answers-1.now l.answers-1 _ l.k l.invariant.1 c.put_answer.ensures ws in
-    let next = node-next find a.pairs.now a.pair-area.now l.k _ node in
+    answer-words a.h a.t.now (lends a.names.now a.area.now) a.nodes.now a.node_count a.attributes.now a.pairs.now
+    a.pair_area.now l.k node name value numbers in
+    let put = answers-put ask a.pair_area.now a.pairs.now a.answers.now l.answers _ l.k l.invariant.1 c.put_answer.ensures ws in
+    let next = node-next find a.pairs.now a.pair_area.now l.k _ node in
     (omega (arith, c.loop-k-test.true), put, next)
 
 pub shape_of-answers : goal.shape_of-answers
-shape_of-answers c = let s = c in
+shape_of-answers c =
+    let s = c in
     let a = s.args in
     let l = c.loop-k in
-    let ask = asks_in a.h a.t.now (lends a.names.now a.area.now) a.nodes.now a.node-count a.attributes.now in
-    answers-long ask a.pair-area.now a.pairs.now a.answers-1.now l.answers-1 l.k (omega (arith, s.requires.3, l.invariant.0)) l.invariant.1
+    let ask = asks_in a.h a.t.now (lends a.names.now a.area.now) a.nodes.now a.node_count a.attributes.now in
+    answers-long ask a.pair_area.now a.pairs.now a.answers.now l.answers l.k (omega (arith, s.requires.3, l.invariant.0)) l.invariant.1
 
 pub returns : goal.returns
-returns c = let a = c.args in
+returns c =
+    let a = c.args in
     let l = c.loop-k in
-    let ask = asks_in a.h a.t.now (lends a.names.now a.area.now) a.nodes.now a.node-count a.attributes.now in
-    answers-all ask a.pair-area.now a.pairs.now a.answers-1.now l.answers-1 l.invariant.1 (omega (arith, l.invariant.0, c.loop-k-test.false))
+    let ask = asks_in a.h a.t.now (lends a.names.now a.area.now) a.nodes.now a.node_count a.attributes.now in
+    answers-all ask a.pair_area.now a.pairs.now a.answers.now l.answers l.invariant.1 (omega (arith, l.invariant.0, c.loop-k-test.false))

@@ -17,4 +17,5 @@ pub bounds-answers-i-4 : goal.bounds-answers-i-4
 bounds-answers-i-4 c = simp length-set (omega arith)
 
 pub returns : goal.returns
-returns c = let a = c.args in put-words (number_words a.n) a.answers.now (answer_width * a.k) c.requires
+returns c =
+    let a = c.args in put-words (number_words a.n) a.answers.now (answer_width * a.k) c.requires

@@ -12,27 +12,31 @@ use Rattle.head.proofs.Entering.{entered-long, entered-off, entered-names, enter
 use Rattle.head.proofs.enter.Goals as goal
 
 pub returns-then-file-gt-FILE_LIMIT : goal.returns-then-file-gt-FILE_LIMIT
-returns-then-file-gt-FILE_LIMIT c = let a = c.args in
+returns-then-file-gt-FILE_LIMIT c =
+    let a = c.args in
     entered-long a.file.now (lends a.names.now a.area.now) (terms_of a.asker) c.if-file-gt-FILE_LIMIT.true
 
 pub returns-then-keeps_none : goal.returns-then-keeps_none
-returns-then-keeps_none c = let a = c.args in
+returns-then-keeps_none c =
+    let a = c.args in
     entered-off a.file.now (lends a.names.now a.area.now) (terms_of a.asker) c.if-file-gt-FILE_LIMIT.false
     (sym c.keeps_none.ensures ∙ c.if-keeps_none.true)
 
 pub returns-in-Good : goal.returns-in-Good
-returns-in-Good c = let at_told = c in
+returns-in-Good c =
+    let at_told = c in
     let at_names = at_told in
     let at_cap = at_names in
     let a = at_cap.args in
     let good = sym at_names.check_names-read.ensures ∙ at_told.enum_told-1.given.1 in
     c.enter_in.ensures
-    ∙ ap (λ (m : ℕ). cond (is_mode m) (In (opened_of a.file.now)) (Out (ModeError m))) c.Mode-of.ensures
+    ∙ ap (λ (m : ℕ). cond (is_mode m) (In (opened_of a.file.now)) (Out (ModeError m))) c.mode_of.ensures
     ∙ entered-good a.file.now (lends a.names.now a.area.now) (terms_of a.asker) at_cap.if-file-gt-FILE_LIMIT.false
     (sym at_cap.keeps_none.ensures ∙ at_cap.if-keeps_none.false) good refl
 
 pub returns-in-Bad : goal.returns-in-Bad
-returns-in-Bad c = let at_names = c in
+returns-in-Bad c =
+    let at_names = c in
     let at_cap = at_names in
     let a = at_cap.args in
     let bad = sym at_names.check_names-read.ensures ∙ c.read-1.given.1 in

@@ -4,7 +4,8 @@ use Rattle.head.specs.declared.Entered.TheVariants.{In}
 use Rattle.head.proofs.enter_in.Goals as goal
 
 pub returns-then-is_mode : goal.returns-then-is_mode
-returns-then-is_mode c = let m = sym c.is_mode.ensures ∙ c.if-is_mode.true in
+returns-then-is_mode c =
+    let m = sym c.is_mode.ensures ∙ c.if-is_mode.true in
     rw m (ap In c.open_head.ensures)
 
 pub returns : goal.returns

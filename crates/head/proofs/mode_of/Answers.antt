@@ -2,7 +2,7 @@
 use Rattle.head.proofs.mode_of.Goals as goal
 
 pub returns-in-Question : goal.returns-in-Question
-returns-in-Question c = rw c.enum_told-1.given.1
+returns-in-Question c = rw c.in-Question.is
 
 pub returns-in-Reading : goal.returns-in-Reading
 returns-in-Reading c = rw c.asker-1.given.1

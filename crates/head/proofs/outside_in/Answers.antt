@@ -6,7 +6,8 @@ use Rattle.head.proofs.Cases.{outside_in-by}
 use Rattle.head.proofs.outside_in.Goals as goal
 
 pub returns : goal.returns
-returns c = let s = c in
+returns c =
+    let s = c in
     let a = s.args in
-    c.Outside-of.ensures ∙ outside_in-by a.t.now a.h (a.h.offsets + 4 * c.to_usize-n.result - a.h.offsets) s.requires
+    c.outside_of.ensures ∙ outside_in-by a.t.now a.h (a.h.offsets + 4 * c.to_usize-n.result - a.h.offsets) s.requires
     (omega arith)

@@ -5,34 +5,41 @@ use Rattle.head.proofs.Cases.{tables_of-complete, tables_of-cut, pool-fits}
 use Rattle.head.proofs.tables_at.Goals as goal
 
 pub mapped-requires : goal.mapped-requires
-mapped-requires c = let s = c in
+mapped-requires c =
+    let s = c in
     (pool-fits s.args.t.now c.pool_of-read.ensures c.enum_told-1.given.1, s.requires)
 
 pub returns-in-Complete : goal.returns-in-Complete
-returns-in-Complete c = let a = c.args in
-    c.mapped.ensures ∙ tables_of-complete a.t.now c.pool_of-read.ensures c.enum_told-1.given.1
+returns-in-Complete c =
+    let a = c.args in
+    c.mapped.ensures ∙ tables_of-complete a.t.now c.pool_of-read.ensures c.in-Complete.is
 
 pub returns-in-GarbageShort : goal.returns-in-GarbageShort
-returns-in-GarbageShort c = let a = c.args in
+returns-in-GarbageShort c =
+    let a = c.args in
     c.pool_short.ensures ∙ tables_of-cut a.t.now c.pool_of-read.ensures _ Skipped
     c.end-1.given.1 c.begins_at.ensures refl
 
 pub returns-in-HeaderShort : goal.returns-in-HeaderShort
-returns-in-HeaderShort c = let a = c.args in
+returns-in-HeaderShort c =
+    let a = c.args in
     c.pool_short-in-HeaderShort.ensures ∙ tables_of-cut a.t.now c.pool_of-read.ensures _ Header
     c.end-in-HeaderShort-1.given.1 c.begins_at-in-HeaderShort.ensures refl
 
 pub returns-in-OffsetsShort : goal.returns-in-OffsetsShort
-returns-in-OffsetsShort c = let a = c.args in
+returns-in-OffsetsShort c =
+    let a = c.args in
     c.pool_short-in-OffsetsShort.ensures ∙ tables_of-cut a.t.now c.pool_of-read.ensures _ Offsets
     c.end-in-OffsetsShort-1.given.1 c.begins_at-in-OffsetsShort.ensures refl
 
 pub returns-in-StylesShort : goal.returns-in-StylesShort
-returns-in-StylesShort c = let a = c.args in
+returns-in-StylesShort c =
+    let a = c.args in
     c.pool_short-in-StylesShort.ensures ∙ tables_of-cut a.t.now c.pool_of-read.ensures _ Styles
     c.end-in-StylesShort-1.given.1 c.begins_at-in-StylesShort.ensures refl
 
 pub returns-in-DataShort : goal.returns-in-DataShort
-returns-in-DataShort c = let a = c.args in
+returns-in-DataShort c =
+    let a = c.args in
     c.pool_short-in-DataShort.ensures ∙ tables_of-cut a.t.now c.pool_of-read.ensures _ Data
     c.end-in-DataShort-1.given.1 c.begins_at-in-DataShort.ensures refl

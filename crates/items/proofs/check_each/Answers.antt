@@ -10,21 +10,24 @@ use Rattle.items.proofs.Laws.{rule_end, rule-bad, rule-next, table-first, table-
 use Rattle.items.proofs.check_each.Goals as goal
 
 pub loop-k-init : goal.loop-k-init
-loop-k-init c = let a = c.args in
+loop-k-init c =
+    let a = c.args in
     (omega arith, table-first a.area.now a.items.now)
 
 pub is_good-requires : goal.is_good-requires
 is_good-requires c = (c.requires.0, omega arith, c.requires.1)
 
 pub returns-then-not-is_good : goal.returns-then-not-is_good
-returns-then-not-is_good c = let a = c.args in
+returns-then-not-is_good c =
+    let a = c.args in
     let l = c.loop-k in
     let w = a.items.now in
     rule-bad a.area.now w (end_of w) (length w / item_width) l.k (omega arith) c.item_at.ensures c.is_good.ensures
     c.if-not-is_good.true ∙ sym l.invariant.1
 
 pub loop-k-preserved : goal.loop-k-preserved
-loop-k-preserved c = let a = c.args in
+loop-k-preserved c =
+    let a = c.args in
     let l = c.loop-k in
     let w = a.items.now in (
       omega arith,
@@ -33,7 +36,8 @@ loop-k-preserved c = let a = c.args in
     )
 
 pub returns-then-items-ne0 : goal.returns-then-items-ne0
-returns-then-items-ne0 c = let a = c.args in
+returns-then-items-ne0 c =
+    let a = c.args in
     let l = c.loop-k in
     let w = a.items.now in
     let k : l.k ≡ length w / item_width = omega arith in
@@ -41,7 +45,8 @@ returns-then-items-ne0 c = let a = c.args in
     (sym k))
 
 pub returns : goal.returns
-returns c = let a = c.args in
+returns c =
+    let a = c.args in
     let l = c.loop-k in
     let w = a.items.now in
     sym (l.invariant.1 ∙ rule_end a.area.now w (end_of w) (length w / item_width) l.k (omega arith) ∙ table-whole a.area.now w c.if-items-ne0.false)

@@ -6,7 +6,8 @@ use Rattle.items.proofs.RunLaws.{plain_known}
 use Rattle.items.proofs.check_known.Goals as goal
 
 pub check_each-requires : goal.check_each-requires
-check_each-requires c = let a = c.args in
+check_each-requires c =
+    let a = c.args in
     (plain_known (length a.items.now / item_width) a.area.now c.is_plain.ensures, c.requires)
 
 pub returns : goal.returns

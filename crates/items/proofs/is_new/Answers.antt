@@ -15,13 +15,15 @@ pub loop-j-init : goal.loop-j-init
 loop-j-init c = (omega arith, refl)
 
 pub returns-then-same_attribute : goal.returns-then-same_attribute
-returns-then-same_attribute c = let a = c.args in
+returns-then-same_attribute c =
+    let a = c.args in
     let l = c.loop-j in
     sym (l.invariant.1 ∙ is_new-same a.area.now a.items.now a.i l.j (omega (arith, c.loop-j-test.true)) c.item_at-p.ensures
     c.same_attribute.ensures c.if-same_attribute.true)
 
 pub loop-j-preserved : goal.loop-j-preserved
-loop-j-preserved c = let a = c.args in
+loop-j-preserved c =
+    let a = c.args in
     let l = c.loop-j in (
       omega arith,
       l.invariant.1 ∙ is_new-other a.area.now a.items.now a.i l.j (omega (arith, c.loop-j-test.true)) c.item_at-p.ensures
@@ -29,7 +31,8 @@ loop-j-preserved c = let a = c.args in
     )
 
 pub returns : goal.returns
-returns c = let s = c in
+returns c =
+    let s = c in
     let a = s.args in
     let l = c.loop-j in
     sym (l.invariant.1 ∙ new_told a.area.now a.items.now a.firsts.now s.requires.1 a.i l.j

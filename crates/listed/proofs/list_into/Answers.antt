@@ -3,7 +3,8 @@ use Rattle.listed.proofs.Lists.{lists-large, lists-read}
 use Rattle.listed.proofs.list_into.Goals as goal
 
 pub returns-then-file-gt-LISTED_FILE : goal.returns-then-file-gt-LISTED_FILE
-returns-then-file-gt-LISTED_FILE c = let printed = c in
+returns-then-file-gt-LISTED_FILE c =
+    let printed = c in
     let numbers = printed in
     let second = numbers in
     let first = second in
@@ -12,7 +13,8 @@ returns-then-file-gt-LISTED_FILE c = let printed = c in
     printed.listing_into.ensures
 
 pub returns : goal.returns
-returns c = let printed = c in
+returns c =
+    let printed = c in
     let numbers = printed in
     let read = numbers in
     let test = read in

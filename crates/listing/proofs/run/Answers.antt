@@ -6,7 +6,7 @@ use borrow.Author.Rules.{rules}
 use Rattle.listing.proofs.run.Goals as goal
 
 -- GONE slice-aggregate-write-all-2
--- 
+--
 -- slice-aggregate-write-all-2 : tie.Need-slice-aggregate-write-all-2
 -- slice-aggregate-write-all-2 c =
 --     sym (length-take-le _ _ (omega (arith, c.before.before.before.before.before.before.before.before.list-input.ensures.1)))

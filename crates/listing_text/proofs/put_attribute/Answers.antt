@@ -6,13 +6,15 @@ use borrow.Author.Rules.{rules}
 use Rattle.listing_text.proofs.put_attribute.Goals as goal
 
 pub put_field-requires : goal.put_field-requires
-put_field-requires c = let second = c in
+put_field-requires c =
+    let second = c in
     let first = second in
     let start = first in
     (omega (arith, second.put_three-b.ensures.near, first.put_three-a.ensures.near, start.requires.0), search rules)
 
 pub returns : goal.returns
-returns c = let third = c in
+returns c =
+    let third = c in
     let second = third in
     let first = second in
     let w6 = first in

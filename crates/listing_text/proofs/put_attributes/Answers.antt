@@ -14,12 +14,14 @@ pub loop-k-init : goal.loop-k-init
 loop-k-init c = (search rules, search rules, search rules, refl, rw sub-zero (left-first _ _ _))
 
 pub returns-then-attributes-i-lt-ATTRIBUTE_WORDS : goal.returns-then-attributes-i-lt-ATTRIBUTE_WORDS
-returns-then-attributes-i-lt-ATTRIBUTE_WORDS c = let a = c.args in
+returns-then-attributes-i-lt-ATTRIBUTE_WORDS c =
+    let a = c.args in
     let l = c.loop-k in
     left-none _ l.invariant.4 (record_lines-short attribute_width attribute_line l.k _ l.i a.attributes.now (search rules)) (omega arith)
 
 pub loop-k-preserved : goal.loop-k-preserved
-loop-k-preserved c = let call = c in
+loop-k-preserved c =
+    let call = c in
     let at-loop = call in
     let start = at-loop in
     let a = start.args in
@@ -28,6 +30,7 @@ loop-k-preserved c = let call = c in
     (search rules, search rules, search rules, search rules, left-piece l.invariant.4 turn call.put_attribute-at.ensures)
 
 pub returns : goal.returns
-returns c = let a = c.args in
+returns c =
+    let a = c.args in
     let l = c.loop-k in
     left-none _ l.invariant.4 (record_lines-stop attribute_width attribute_line l.k a.count l.i a.attributes.now (search rules)) (omega arith)

@@ -5,7 +5,8 @@ use Rattle.listing_text.proofs.Whole.{listing_text-parts}
 use Rattle.listing_text.proofs.put_listing.Goals as goal
 
 pub returns : goal.returns
-returns c = let fourth = c in
+returns c =
+    let fourth = c in
     let third = fourth in
     let second = third in
     let first = second in

@@ -5,21 +5,23 @@ use Rattle.main_activities.proofs.Opening.{open_in, open-out}
 use Rattle.main_activities.proofs.open_main.Goals as goal
 
 pub returns-in-Open : goal.returns-in-Open
-returns-in-Open c = let a = c.args in
+returns-in-Open c =
+    let a = c.args in
     let at-open-value = c.open_value-opened in
     let at-opened = c.opened-1 in
     let at-fit-of = c.fit_of in
     let at-fitted = c.fitted in
     let e = sym at-open-value.ensures ∙ at-opened.given.1 in
-    open_in a.file.now (lends a.names.now a.area.now) a.items.now a.item-area.now a.nodes.now
-    a.attributes.now a.node-count
-    a.attribute-count e at-fit-of.ensures at-fitted.ensures
+    open_in a.file.now (lends a.names.now a.area.now) a.items.now a.item_area.now a.nodes.now
+    a.attributes.now a.node_count
+    a.attribute_count e at-fit-of.ensures at-fitted.ensures
 
 pub returns-in-Closed : goal.returns-in-Closed
-returns-in-Closed c = let a = c.args in
+returns-in-Closed c =
+    let a = c.args in
     let at-open-value = c.open_value-opened in
     let at-opened2 = c.opened-in-Closed-1 in
     let e = sym at-open-value.ensures ∙ at-opened2.given.1 in
-    open-out a.file.now (lends a.names.now a.area.now) a.items.now a.item-area.now a.nodes.now
-    a.attributes.now a.node-count
-    a.attribute-count e
+    open-out a.file.now (lends a.names.now a.area.now) a.items.now a.item_area.now a.nodes.now
+    a.attributes.now a.node_count
+    a.attribute_count e

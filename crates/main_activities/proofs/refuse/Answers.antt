@@ -3,5 +3,6 @@ use mathlib.Core.Path.{refl}
 use Rattle.main_activities.proofs.refuse.Goals as goal
 
 pub returns : goal.returns
-returns c = let at-zero-all = c.zero_all in
+returns c =
+    let at-zero-all = c.zero_all in
     (refl, at-zero-all.ensures)

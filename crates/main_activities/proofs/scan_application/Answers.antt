@@ -10,74 +10,85 @@ use Rattle.main_activities.proofs.Lists.{listing_start, listing_step, listing-en
 use Rattle.main_activities.proofs.scan_application.Goals as goal
 
 pub overflow_add-k : goal.overflow_add-k
-overflow_add-k c = let p = c.requires in
+overflow_add-k c =
+    let p = c.requires in
     omega (arith, p.1)
 
 pub loop-k-init : goal.loop-k-init
-loop-k-init c = let a = c.args in
+loop-k-init c =
+    let a = c.args in
     let p = c.requires in
-    let w = tree_of a.h a.t.now (lends a.names.now a.area.now) a.items.now a.item-area.now a.nodes.now
+    let w = tree_of a.h a.t.now (lends a.names.now a.area.now) a.items.now a.item_area.now a.nodes.now
     a.attributes.now a.count in
     (listing_start w a.p p.1, refl)
 
 pub parent_at-requires : goal.parent_at-requires
-parent_at-requires c = let p = c.requires in
+parent_at-requires c =
+    let p = c.requires in
     let test = c.loop-k-test in
     omega (arith, p.0.fits, test.true)
 
 pub shape_of-list-then-parent_at-p : goal.shape_of-list-then-parent_at-p
-shape_of-list-then-parent_at-p c = let l = c.loop-k in
+shape_of-list-then-parent_at-p c =
+    let l = c.loop-k in
     l.invariant.1
 
 pub returns-then-parent_at-p : goal.returns-then-parent_at-p
-returns-then-parent_at-p c = let a = c.args in
+returns-then-parent_at-p c =
+    let a = c.args in
     let test = c.loop-k-test in
     let at-parent-at = c.parent_at in
     let if1 = c.if-parent_at-p in
     let l = c.loop-k in
-    let w = tree_of a.h a.t.now (lends a.names.now a.area.now) a.items.now a.item-area.now a.nodes.now
+    let w = tree_of a.h a.t.now (lends a.names.now a.area.now) a.items.now a.item_area.now a.nodes.now
     a.attributes.now a.count in
     listing-end w a.p l.k (rest_out w a.p l.k test.true (omega (arith, at-parent-at.ensures, if1.true))) l.invariant.0
 
 pub activity_child-s-requires : goal.activity_child-s-requires
-activity_child-s-requires c = let p = c.requires in
+activity_child-s-requires c =
+    let p = c.requires in
     let test = c.loop-k-test in
     (p.0, test.true)
 
 pub put_given-found-requires : goal.put_given-found-requires
-put_given-found-requires c = let p = c.requires in
+put_given-found-requires c =
+    let p = c.requires in
     let test = c.loop-k-test in
     (p.0, test.true)
 
 pub loop-k-smaller : goal.loop-k-smaller
-loop-k-smaller c = let test = c.loop-k-test in
+loop-k-smaller c =
+    let test = c.loop-k-test in
     let at-activity-child = c.activity_child-s in
     omega (arith, test.true, at-activity-child.ensures.0.later, at-activity-child.ensures.0.fits)
 
 pub loop-k-preserved : goal.loop-k-preserved
-loop-k-preserved c = let a = c.args in
+loop-k-preserved c =
+    let a = c.args in
     let test = c.loop-k-test in
     let at-parent-at = c.parent_at in
     let if1 = c.if-parent_at-p in
     let at-activity-child = c.activity_child-s in
     let at-put-given = c.put_given-found in
     let l = c.loop-k in
-    let w = tree_of a.h a.t.now (lends a.names.now a.area.now) a.items.now a.item-area.now a.nodes.now
+    let w = tree_of a.h a.t.now (lends a.names.now a.area.now) a.items.now a.item_area.now a.nodes.now
     a.attributes.now a.count in (
-      listing_step w a.p l.k l.list-1 l.found _ _ test.true (omega (arith, at-parent-at.ensures, if1.false))
+      listing_step w a.p l.k l.list l.found _ _ test.true (omega (arith, at-parent-at.ensures, if1.false))
           at-activity-child.ensures.0 at-activity-child.ensures.1
           at-put-given.ensures l.invariant.0,
       at-put-given.auto.1.1.1.1.1.1.1.1.0 ∙ l.invariant.1,
     )
 
 pub shape_of-list : goal.shape_of-list
-shape_of-list c = let l = c.loop-k in
+shape_of-list c =
+    let l = c.loop-k in
     l.invariant.1
 
 pub returns : goal.returns
-returns c = let a = c.args in
+returns c =
+    let a = c.args in
     let test = c.loop-k-test in
     let l = c.loop-k in
-    let w = tree_of a.h a.t.now (lends a.names.now a.area.now) a.items.now a.item-area.now a.nodes.now
+    let w = tree_of a.h a.t.now (lends a.names.now a.area.now) a.items.now a.item_area.now a.nodes.now
     a.attributes.now a.count in
     listing-end w a.p l.k (rest_end w a.p l.k test.false) l.invariant.0

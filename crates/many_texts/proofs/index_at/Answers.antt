@@ -3,5 +3,6 @@ use Rattle.many_texts.proofs.Going.{tells_at}
 use Rattle.many_texts.proofs.index_at.Goals as goal
 
 pub returns : goal.returns
-returns c = let a = c.args in
-    tells_at a.at c.within-from.result a.out-1.now _ c.within-from.ensures c.index_into.ensures
+returns c =
+    let a = c.args in
+    tells_at a.at c.within-from.result a.out.now _ c.within-from.ensures c.index_into.ensures

@@ -21,5 +21,6 @@ pub bounds-words-i-6 : goal.bounds-words-i-6
 bounds-words-i-6 c = simp length-set (omega arith)
 
 pub returns : goal.returns
-returns c = let a = c.args in
+returns c =
+    let a = c.args in
     put-words (answer_words a.refusal a.start a.bytes a.uncovered a.state a.replaced) a.words.now a.i c.requires

@@ -8,19 +8,23 @@ use Rattle.many_texts.proofs.Going.{puts-shown, puts-past}
 use Rattle.many_texts.proofs.put_shown.Goals as goal
 
 pub overflow_cast-at : goal.overflow_cast-at
-overflow_cast-at c = let a = c.args in omega (arith, leb-true (a.at + a.n) most_bytes (sym c.is_is_word.ensures ∙ c.if-is_word.true))
+overflow_cast-at c =
+    let a = c.args in omega (arith, leb-true (a.at + a.n) most_bytes (sym c.is_is_word.ensures ∙ c.if-is_word.true))
 
 pub overflow_cast-n : goal.overflow_cast-n
-overflow_cast-n c = let a = c.args in omega (arith, leb-true (a.at + a.n) most_bytes (sym c.is_is_word.ensures ∙ c.if-is_word.true))
+overflow_cast-n c =
+    let a = c.args in omega (arith, leb-true (a.at + a.n) most_bytes (sym c.is_is_word.ensures ∙ c.if-is_word.true))
 
 pub returns-then-is_word : goal.returns-then-is_word
-returns-then-is_word c = let s = c in
+returns-then-is_word c =
+    let s = c in
     let a = s.args in
     λ l e.
-    puts-shown a.k a.at a.n _ l a.answers-1.now _ s.requires refl e c.behind-next.ensures
+    puts-shown a.k a.at a.n _ l a.answers.now _ s.requires refl e c.behind-next.ensures
     c.state_number.ensures c.replaced_number.ensures c.put_answer.ensures
 
 pub returns : goal.returns
-returns c = let a = c.args in
+returns c =
+    let a = c.args in
     let past = leb-false (a.at + a.n) most_bytes (sym c.is_is_word.ensures ∙ c.if-is_word.false) in
-    λ s e. puts-past a.k a.at a.n _ s a.answers-1.now past e c.behind-next.ensures
+    λ s e. puts-past a.k a.at a.n _ s a.answers.now past e c.behind-next.ensures

@@ -7,10 +7,11 @@ use Rattle.many_texts.proofs.Going.{done_first, done-step, done_all}
 use Rattle.many_texts.proofs.put_texts.Goals as goal
 
 pub loop-k-init : goal.loop-k-init
-loop-k-init c = let a = c.args in (
-  omega arith,
-  done_first (index_value a.h a.t.now (lends a.names.now a.area.now) a.indices.now) a.out-1.now a.answers-1.now,
-)
+loop-k-init c =
+    let a = c.args in (
+      omega arith,
+      done_first (index_value a.h a.t.now (lends a.names.now a.area.now) a.indices.now) a.out.now a.answers.now,
+    )
 
 pub index_at-told-requires : goal.index_at-told-requires
 index_at-told-requires c = c.requires.0

@@ -10,8 +10,8 @@ returns-in-Shown c = puts-told c.told-1.given.1 c.put_shown.ensures
 
 pub returns-in-NoName : goal.returns-in-NoName
 unfolding refusal_number
-returns-in-NoName c = puts-no-name c.enum_told-1.given.1 (c.put_none.ensures no_name refl refl)
+returns-in-NoName c = puts-no-name c.in-NoName.is (c.put_none.ensures no_name refl refl)
 
 pub returns-in-NoText : goal.returns-in-NoText
 unfolding refusal_number
-returns-in-NoText c = puts-no-text c.enum_told-in-NoText-1.given.1 (c.put_none-in-NoText.ensures no_text refl refl)
+returns-in-NoText c = puts-no-text c.in-NoText.is (c.put_none-in-NoText.ensures no_text refl refl)

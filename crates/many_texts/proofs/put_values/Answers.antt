@@ -8,20 +8,21 @@ use Rattle.many_texts.proofs.Going.{done_first, done-step, done_all, value-turn}
 use Rattle.many_texts.proofs.put_values.Goals as goal
 
 pub loop-k-init : goal.loop-k-init
-loop-k-init c = let a = c.args in (
+loop-k-init c =
+    let a = c.args in (
       (omega arith, omega arith),
       omega arith,
-      done_first (record_value a.h a.t.now (lends a.names.now a.area.now) a.items.now a.item-area.now a.attributes.now)
-          a.out-1.now a.answers-1.now,
-      knows-none a.h a.t.now (lends a.names.now a.area.now) a.items.now a.item-area.now,
+      done_first (record_value a.h a.t.now (lends a.names.now a.area.now) a.items.now a.item_area.now a.attributes.now)
+          a.out.now a.answers.now,
+      knows-none a.h a.t.now (lends a.names.now a.area.now) a.items.now a.item_area.now,
     )
 
 pub attribute_at-requires : goal.attribute_at-requires
 attribute_at-requires c = omega (
-      arith,
-      c.requires.3,
-      c.loop-k-test.true,
-    )
+  arith,
+  c.requires.3,
+  c.loop-k-test.true,
+)
 
 pub value_at-told-requires : goal.value_at-told-requires
 value_at-told-requires c = (
@@ -33,25 +34,26 @@ value_at-told-requires c = (
 
 pub put_told-at-requires : goal.put_told-at-requires
 put_told-at-requires c = omega (
-      arith,
-      c.loop-k.invariant.2.utf16,
-      c.pre.4,
-      c.loop-k-test.true,
-    )
+  arith,
+  c.loop-k.invariant.2.utf16,
+  c.pre.4,
+  c.loop-k-test.true,
+)
 
 pub overflow_add-k : goal.overflow_add-k
 overflow_add-k c = omega (
-      arith,
-      c.loop-k-test.true,
-      c.loop-k.invariant.0,
-    )
+  arith,
+  c.loop-k-test.true,
+  c.loop-k.invariant.0,
+)
 
 pub loop-k-smaller : goal.loop-k-smaller
 loop-k-smaller c = omega (arith, c.loop-k-test.true)
 
 pub loop-k-preserved : goal.loop-k-preserved
-loop-k-preserved c = let a = c.args in
-    let t = value-turn a.h a.t.now (lends a.names.now a.area.now) a.items.now a.item-area.now a.attributes.now
+loop-k-preserved c =
+    let a = c.args in
+    let t = value-turn a.h a.t.now (lends a.names.now a.area.now) a.items.now a.item_area.now a.attributes.now
     c.loop-k.k
     c.attribute_at.ensures
     c.value_at-told.ensures.0 in (

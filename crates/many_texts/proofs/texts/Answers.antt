@@ -6,22 +6,25 @@ use Rattle.many_texts.proofs.Going.{texts-open, texts-closed}
 use Rattle.many_texts.proofs.texts.Goals as goal
 
 pub texts_in-requires : goal.texts_in-requires
-texts_in-requires c = let a = c.args in
+texts_in-requires c =
+    let a = c.args in
     let lent = lends a.names.now a.area.now in
     let e = sym c.open_file-opened.ensures ∙ c.opened-1.given.1 in
     rw c.tables_of.ensures (open_of-asks a.file.now lent e)
 
 pub returns-in-Open : goal.returns-in-Open
-returns-in-Open c = let a = c.args in
+returns-in-Open c =
+    let a = c.args in
     let lent = lends a.names.now a.area.now in
     let e = sym c.open_file-opened.ensures ∙
     c.opened-1.given.1 in
-    texts-open a.file.now lent a.indices.now a.out-1.now a.answers-1.now e
+    texts-open a.file.now lent a.indices.now a.out.now a.answers.now e
     c.tables_of.ensures c.texts_in.ensures
 
 pub returns-in-Closed : goal.returns-in-Closed
-returns-in-Closed c = let a = c.args in
+returns-in-Closed c =
+    let a = c.args in
     let lent = lends a.names.now a.area.now in
     let e = sym c.open_file-opened.ensures ∙
     c.opened-in-Closed-1.given.1 in
-    texts-closed a.file.now lent a.indices.now a.out-1.now a.answers-1.now e c.refuse.ensures
+    texts-closed a.file.now lent a.indices.now a.out.now a.answers.now e c.refuse.ensures

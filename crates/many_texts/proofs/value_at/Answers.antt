@@ -6,8 +6,9 @@ pub value_by-requires : goal.value_by-requires
 value_by-requires c = c.requires
 
 pub returns : goal.returns
-returns c = let a = c.args in (
-      tells_at a.at c.within-from.result a.out-1.now _
+returns c =
+    let a = c.args in (
+      tells_at a.at c.within-from.result a.out.now _
           c.within-from.ensures
           c.value_by.ensures.0,
       c.value_by.ensures.1,

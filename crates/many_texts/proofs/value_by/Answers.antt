@@ -7,9 +7,10 @@ use Rattle.many_texts.proofs.KnownLaws.{looks-same}
 use Rattle.many_texts.proofs.value_by.Goals as goal
 
 pub returns-then-a-eq2 : goal.returns-then-a-eq2
-returns-then-a-eq2 c = let a = c.args in
+returns-then-a-eq2 c =
+    let a = c.args in
     let lent = lends a.names.now a.area.now in (
-      value-uri a.h a.t.now lent a.items.now a.item-area.now a.a c.if-a-eq2.true
+      value-uri a.h a.t.now lent a.items.now a.item_area.now a.a c.if-a-eq2.true
           c.uri_into.ensures,
       c.requires.3,
     )
@@ -23,32 +24,35 @@ look_up-looked-requires c = (
 )
 
 pub named_into-requires : goal.named_into-requires
-named_into-requires c = let a = c.args in
+named_into-requires c =
+    let a = c.args in
     let lent = lends a.names.now a.area.now in
-    let g = looks-same a.h a.t.now lent a.items.now a.item-area.now a.a.name.0 c.looked-1.given.1
+    let g = looks-same a.h a.t.now lent a.items.now a.item_area.now a.a.name.0 c.looked-1.given.1
     c.look_up-looked.ensures.0 in (
       c.pre.0,
       g.run.fits,
     )
 
 pub returns-in-NoName : goal.returns-in-NoName
-returns-in-NoName c = let a = c.args in
+returns-in-NoName c =
+    let a = c.args in
     let lent = lends a.names.now a.area.now in
-    let g = looks-same a.h a.t.now lent a.items.now a.item-area.now a.a.name.0 c.enum_told-1.given.1
+    let g = looks-same a.h a.t.now lent a.items.now a.item_area.now a.a.name.0 c.in-NoName.is
     c.look_up-looked.ensures.0 in (
-      value-no-name a.h a.t.now lent a.items.now a.item-area.now a.a
+      value-no-name a.h a.t.now lent a.items.now a.item_area.now a.a
           c.if-a-eq2.false g refl refl,
       c.look_up-looked.ensures.1,
     )
 
 pub returns-in-At : goal.returns-in-At
-returns-in-At c = let a = c.args in
+returns-in-At c =
+    let a = c.args in
     let lent = lends a.names.now a.area.now in
-    let g = looks-same a.h a.t.now lent a.items.now a.item-area.now a.a.name.0
+    let g = looks-same a.h a.t.now lent a.items.now a.item_area.now a.a.name.0
     c.looked-1.given.1
     c.look_up-looked.ensures.0 in
     let name = text_in (content_of a.h a.t.now lent a.a.name.0) in (
-      value-run a.h a.t.now lent a.items.now a.item-area.now a.a
+      value-run a.h a.t.now lent a.items.now a.item_area.now a.a
           c.if-a-eq2.false g.named
           (c.named_into.ensures name g.run),
       c.look_up-looked.ensures.1,

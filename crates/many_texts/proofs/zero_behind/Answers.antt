@@ -3,5 +3,6 @@ use Rattle.head.proofs.Zeros.{zero-tail}
 use Rattle.many_texts.proofs.zero_behind.Goals as goal
 
 pub returns : goal.returns
-returns c = let a = c.args in
-    zero-tail a.out-1.now c.zero.new.0 a.from c.zero.ensures
+returns c =
+    let a = c.args in
+    zero-tail a.out.now c.zero.new.0 a.from c.zero.ensures

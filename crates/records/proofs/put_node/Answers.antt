@@ -22,4 +22,5 @@ pub bounds-words-i-6 : goal.bounds-words-i-6
 bounds-words-i-6 c = simp length-set (omega arith)
 
 pub returns : goal.returns
-returns c = let a = c.args in put-words (node_words a.name a.fixed a.parent a.first a.count a.line) a.words.now a.i c.requires
+returns c =
+    let a = c.args in put-words (node_words a.name a.fixed a.parent a.first a.count a.line) a.words.now a.i c.requires

@@ -8,7 +8,8 @@ returns-then-is_own c = judges-own c.read_listing-read.ensures _
     c.read_numbers-n.ensures _ _ (sym c.is_own.ensures ∙ c.if-is_own.true) c.told.ensures
 
 pub returns : goal.returns
-returns c = let start = c in
+returns c =
+    let start = c in
     judges-listing c.read_listing-read.ensures _
     c.read_numbers-n.ensures _ _ _ _ _ start.pre.0
     start.pre.1 c.notes_of-records.ensures

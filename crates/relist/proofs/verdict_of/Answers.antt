@@ -7,4 +7,4 @@ pub returns-in-Text : goal.returns-in-Text
 returns-in-Text c = c.told.ensures ∙ sym (ap verdict_of c.answer-1.given.1)
 
 pub returns-in-Refused : goal.returns-in-Refused
-returns-in-Refused c = c.told-in-Refused.ensures ∙ sym (ap verdict_of c.enum_told-1.given.1)
+returns-in-Refused c = c.told-in-Refused.ensures ∙ sym (ap verdict_of c.in-Refused.is)

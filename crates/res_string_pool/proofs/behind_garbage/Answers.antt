@@ -10,13 +10,15 @@ use Rattle.res_string_pool.proofs.Ends.{behind_garbage-short, behind_garbage-by}
 use Rattle.res_string_pool.proofs.behind_garbage.Goals as goal
 
 pub returns-then-s-n : goal.returns-then-s-n
-returns-then-s-n c = let a = c.args in
+returns-then-s-n c =
+    let a = c.args in
     let s = a.s.now in
     let no_garbage = ap (λ (g : Garbage). unread g (GarbageShort (length s - 8))) c.no_garbage.ensures in
     c.short.ensures ∙ (no_garbage ∙ sym (behind_garbage-short a.h s (omega arith)))
 
 pub returns : goal.returns
-returns c = let a = c.args in
+returns c =
+    let a = c.args in
     let skipped = c.content_size-skipped in
     let n = c.to_usize-n in
     let by = behind_garbage-by a.h a.s.now skipped.result n.result skipped.ensures n.ensures (omega arith) in

@@ -5,14 +5,18 @@ use Rattle.res_string_pool.proofs.Ends.{end_of-offsets, end_of-styles, end_of-da
 use Rattle.res_string_pool.proofs.end_of.Goals as goal
 
 pub returns-then-n-count : goal.returns-then-n-count
-returns-then-n-count c = let a = c.args in sym (end_of-offsets a.n a.count a.styles a.size c.if-n-count.true)
+returns-then-n-count c =
+    let a = c.args in sym (end_of-offsets a.n a.count a.styles a.size c.if-n-count.true)
 
 pub returns-then-behind-styles : goal.returns-then-behind-styles
-returns-then-behind-styles c = let a = c.args in sym (end_of-styles a.n a.count a.styles a.size c.if-n-count.false c.if-behind-styles.true)
+returns-then-behind-styles c =
+    let a = c.args in sym (end_of-styles a.n a.count a.styles a.size c.if-n-count.false c.if-behind-styles.true)
 
 pub returns-then-left-size : goal.returns-then-left-size
-returns-then-left-size c = let a = c.args in
+returns-then-left-size c =
+    let a = c.args in
     sym (end_of-data a.n a.count a.styles a.size c.if-n-count.false c.if-behind-styles.false c.if-left-size.true)
 
 pub returns : goal.returns
-returns c = let a = c.args in sym (end_of-complete a.n a.count a.styles a.size (omega arith))
+returns c =
+    let a = c.args in sym (end_of-complete a.n a.count a.styles a.size (omega arith))

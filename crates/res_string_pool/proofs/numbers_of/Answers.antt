@@ -3,7 +3,8 @@ use Rattle.res_string_pool.proofs.Ends.{numbered-by}
 use Rattle.res_string_pool.proofs.numbers_of.Goals as goal
 
 pub returns : goal.returns
-returns c = let a = c.args in
+returns c =
+    let a = c.args in
     numbered-by
     a.at
     a.h

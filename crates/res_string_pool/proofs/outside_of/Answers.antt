@@ -14,12 +14,14 @@ unfolding outside_of
 loop-i-init c = (omega arith, refl)
 
 pub overflow_add-k : goal.overflow_add-k
-overflow_add-k c = let a = c.args in
+overflow_add-k c =
+    let a = c.args in
     omega (arith, outside_of-le a.o.now a.size c.loop-i.i)
 
 pub loop-i-preserved : goal.loop-i-preserved
 unfolding offset_of
-loop-i-preserved c = let a = c.args in
+loop-i-preserved c =
+    let a = c.args in
     let l = c.loop-i in (
       omega arith,
       ⊎_elim
@@ -30,6 +32,7 @@ loop-i-preserved c = let a = c.args in
 
 -- ---- leaving
 pub returns : goal.returns
-returns c = let l = c.loop-i in
+returns c =
+    let l = c.loop-i in
     let e : l.i ≡ length c.args.o.now / 4 = omega arith in
     rw (← e) l.invariant.1

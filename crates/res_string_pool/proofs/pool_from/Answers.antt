@@ -4,12 +4,14 @@ use Rattle.res_string_pool.proofs.Ends.{pool_from-short, pool_from-by}
 use Rattle.res_string_pool.proofs.pool_from.Goals as goal
 
 pub returns-then-m-lt28 : goal.returns-then-m-lt28
-returns-then-m-lt28 c = let a = c.args in
+returns-then-m-lt28 c =
+    let a = c.args in
     c.short.ensures ∙ sym (pool_from-short a.garbage a.at a.h a.m.now c.if-m-lt28.true)
 
 pub returns : goal.returns
-returns c = let a = c.args in
-    let p = c.Numbers-of in
+returns c =
+    let a = c.args in
+    let p = c.numbers_of-pool in
     let styles = c.to_usize-2.ensures ∙ c.u32_at.ensures in
     pool_from-by
     a.garbage

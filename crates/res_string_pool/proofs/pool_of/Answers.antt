@@ -10,25 +10,30 @@ use Rattle.res_string_pool.proofs.Ends.{pool_of-short, pool_of-pool, pool_of-gar
 use Rattle.res_string_pool.proofs.pool_of.Goals as goal
 
 pub pool_from-requires : goal.pool_from-requires
-pool_from-requires c = let w = sym c.header_at-read.ensures ∙ c.read-1.given.1 in
+pool_from-requires c =
+    let w = sym c.header_at-read.ensures ∙ c.read-1.given.1 in
     (header_of-long c.args.s.now w, search rules)
 
 pub behind_garbage-requires : goal.behind_garbage-requires
-behind_garbage-requires c = let w = sym c.header_at-read.ensures ∙ c.read-1.given.1 in
+behind_garbage-requires c =
+    let w = sym c.header_at-read.ensures ∙ c.read-1.given.1 in
     (header_of-long c.args.s.now w, search rules)
 
 pub returns-in-Short : goal.returns-in-Short
-returns-in-Short c = let s = c.args.s.now in
-    let w = sym c.header_at-read.ensures ∙ c.enum_told-1.given.1 in
+returns-in-Short c =
+    let s = c.args.s.now in
+    let w = sym c.header_at-read.ensures ∙ c.in-Short.is in
     c.short.ensures ∙ (ap (λ (g : Garbage). unread g (HeaderShort (length s))) c.no_garbage.ensures ∙ sym (pool_of-short s w))
 
 pub returns-then-h-eq1 : goal.returns-then-h-eq1
-returns-then-h-eq1 c = let s = c.args.s.now in
+returns-then-h-eq1 c =
+    let s = c.args.s.now in
     let w = sym c.header_at-read.ensures ∙ c.read-1.given.1 in
     let no_garbage = ap (λ (g : Garbage). pool_from g 0 c.read-1.given.0.0 s) c.no_garbage-then-h-eq1.ensures in
     c.pool_from.ensures ∙ (no_garbage ∙ sym (pool_of-pool s w c.if-h-eq1.true))
 
 pub returns-else-h-eq1 : goal.returns-else-h-eq1
-returns-else-h-eq1 c = let s = c.args.s.now in
+returns-else-h-eq1 c =
+    let s = c.args.s.now in
     let w = sym c.header_at-read.ensures ∙ c.read-1.given.1 in
     c.behind_garbage.ensures ∙ sym (pool_of-garbage s w c.if-h-eq1.false)

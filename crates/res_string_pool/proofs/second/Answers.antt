@@ -6,15 +6,18 @@ use Rattle.res_string_pool.proofs.Ends.{second_by-short, second_by-whole}
 use Rattle.res_string_pool.proofs.second.Goals as goal
 
 pub pool_from-requires : goal.pool_from-requires
-pool_from-requires c = let w = sym c.header_at-read.ensures ∙ c.read-1.given.1 in
+pool_from-requires c =
+    let w = sym c.header_at-read.ensures ∙ c.read-1.given.1 in
     (header_of-long c.args.m.now w, search rules)
 
 pub returns-in-Short : goal.returns-in-Short
-returns-in-Short c = let a = c.args in
-    let w = sym c.header_at-read.ensures ∙ c.enum_told-1.given.1 in
+returns-in-Short c =
+    let a = c.args in
+    let w = sym c.header_at-read.ensures ∙ c.in-Short.is in
     c.short.ensures ∙ sym (second_by-short a.garbage a.at a.m.now w)
 
 pub returns-in-Whole : goal.returns-in-Whole
-returns-in-Whole c = let a = c.args in
+returns-in-Whole c =
+    let a = c.args in
     let w = sym c.header_at-read.ensures ∙ c.read-1.given.1 in
     c.pool_from.ensures ∙ sym (second_by-whole a.garbage a.at a.m.now w)

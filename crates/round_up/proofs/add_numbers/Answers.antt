@@ -4,7 +4,7 @@ use Rattle.round_up.proofs.add_numbers.Goals as goal
 
 pub returns-in-Added : goal.returns-in-Added
 unfolding add_numbers
-returns-in-Added c = rw c.enum_told-1.given.1
+returns-in-Added c = rw c.in-Added.is
 
 pub returns-in-Refused : goal.returns-in-Refused
 unfolding add_numbers

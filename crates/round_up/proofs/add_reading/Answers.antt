@@ -10,22 +10,25 @@ pub share_by-share-requires : goal.share_by-share-requires
 share_by-share-requires c = rw c.read_numbers-numbers.ensures (number_lt _)
 
 pub add_where_room-requires : goal.add_where_room-requires
-add_where_room-requires c = let a : length c.args.round_up.counts-1 ≡ places = search rules in
+add_where_room-requires c =
+    let a : length c.args.round_up.counts-1 ≡ places = search rules in
     let b : length c.share_by-share.result ≡ places = search rules in
     a ∙ sym b
 
 pub returns-then-add_where_room : goal.returns-then-add_where_room
-returns-then-add_where_room c = let tried = c in
+returns-then-add_where_room c =
+    let tried = c in
     let shared = tried in
     let n = shared in
     let a = n.args in
-    added-of-room a.round_up a.kinds a.answer a.file-length _ _ n.read_numbers-numbers.ensures shared.share_by-share.ensures _ _
+    added-of-room a.round_up a.kinds a.answer a.file_length _ _ n.read_numbers-numbers.ensures shared.share_by-share.ensures _ _
     tried.add_where_room.ensures c.if-add_where_room.true _ c.with_counts.ensures
 
 pub returns : goal.returns
-returns c = let tried = c in
+returns c =
+    let tried = c in
     let shared = tried in
     let n = shared in
     let a = n.args in
-    added-of-full a.round_up a.kinds a.answer a.file-length _ _ n.read_numbers-numbers.ensures shared.share_by-share.ensures _ _
+    added-of-full a.round_up a.kinds a.answer a.file_length _ _ n.read_numbers-numbers.ensures shared.share_by-share.ensures _ _
     tried.add_where_room.ensures c.if-add_where_room.false _ c.full.ensures

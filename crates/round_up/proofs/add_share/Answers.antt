@@ -9,19 +9,23 @@ pub loop-i-init : goal.loop-i-init
 loop-i-init c = adding-first _ _ c.requires.1
 
 pub overflow_add-counts : goal.overflow_add-counts
-overflow_add-counts c = let l = c.loop-i in
+overflow_add-counts c =
+    let l = c.loop-i in
     let s = c.args.share.now in
     omega (arith, has_room-here l.counts s l.i (omega arith) (omega arith) l.invariant.room)
 
 pub loop-i-smaller : goal.loop-i-smaller
-loop-i-smaller c = let l = c.loop-i in
+loop-i-smaller c =
+    let l = c.loop-i in
     let s = c.args.share.now in
     omega (arith, length-set l.counts l.i (get_or l.counts l.i 0 + get_or s l.i 0))
 
 pub loop-i-preserved : goal.loop-i-preserved
-loop-i-preserved c = let l = c.loop-i in
+loop-i-preserved c =
+    let l = c.loop-i in
     let a = c.args in
     adding-next a.counts.now a.share.now l.counts l.i c.requires.0 c.loop-i-test.true l.invariant
 
 pub returns : goal.returns
-returns c = let l = c.loop-i in adding-last _ _ l.counts l.i c.loop-i-test.false l.invariant
+returns c =
+    let l = c.loop-i in adding-last _ _ l.counts l.i c.loop-i-test.false l.invariant

@@ -7,10 +7,12 @@ pub add_share-requires : goal.add_share-requires
 add_share-requires c = (c.requires, sym c.has_room.ensures ∙ c.if-has_room.true)
 
 pub returns-then-has_room : goal.returns-then-has_room
-returns-then-has_room c = let a = c.args in
-    adds-all a.counts-1.now a.share.now _ c.has_room.ensures c.if-has_room.true
+returns-then-has_room c =
+    let a = c.args in
+    adds-all a.counts.now a.share.now _ c.has_room.ensures c.if-has_room.true
     _ c.add_share.ensures
 
 pub returns : goal.returns
-returns c = let a = c.args in
-    adds_none a.counts-1.now a.share.now _ c.has_room.ensures c.if-has_room.false
+returns c =
+    let a = c.args in
+    adds_none a.counts.now a.share.now _ c.has_room.ensures c.if-has_room.false

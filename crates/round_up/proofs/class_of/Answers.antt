@@ -4,7 +4,6 @@ use borrow.Author.Rules.{rules}
 use Rattle.round_up.specs.RoundUp.{class_of}
 use Rattle.round_up.proofs.class_of.Goals as goal
 
-
 ruleset tests = (le-leb, lt-leb, rules)
 
 pub returns-then-file_length-le4096 : goal.returns-then-file_length-le4096

@@ -4,7 +4,6 @@ use borrow.Author.Tests.{lt-ltb, le-ltb}
 use borrow.Author.Rules.{rules}
 use Rattle.round_up.proofs.count_kind.Goals as goal
 
-
 ruleset tests = (lt-ltb, le-ltb, rules)
 
 pub overflow_add-counts : goal.overflow_add-counts

@@ -12,16 +12,19 @@ unfolding tally how_many kinds_from
 loop-i-init c = (omega arith, refl)
 
 pub count_kind-requires : goal.count_kind-requires
-count_kind-requires c = let l = c.loop-i in
+count_kind-requires c =
+    let l = c.loop-i in
     let words = c.args.words.now in
     λ k. rw l.invariant.1 (omega (arith, tally-le kinds 0 k (kinds_from l.i words), kinds_from-length l.i words))
 
 pub loop-i-preserved : goal.loop-i-preserved
-loop-i-preserved c = let l = c.loop-i in
+loop-i-preserved c =
+    let l = c.loop-i in
     let words = c.args.words.now in
     (omega arith, c.count_kind.ensures ∙ rw l.invariant.1 (kinds-turn words l.i))
 
 pub returns : goal.returns
-returns c = let l = c.loop-i in
+returns c =
+    let l = c.loop-i in
     let n : l.i ≡ c.fewer-n.result = omega arith in
     l.invariant.1 ∙ ap (λ (k : ℕ). tally kinds 0 (kinds_from k c.args.words.now)) (n ∙ c.fewer-n.ensures)

@@ -3,7 +3,6 @@ use borrow.Author.Tests.{lt-ltb, le-ltb}
 use borrow.Author.Rules.{rules}
 use Rattle.round_up.proofs.refused_by.Goals as goal
 
-
 ruleset tests = (lt-ltb, le-ltb, rules)
 
 pub returns-then-at-lt-NUMBERS : goal.returns-then-at-lt-NUMBERS

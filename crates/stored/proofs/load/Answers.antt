@@ -7,13 +7,16 @@ pub loop-n-init : goal.loop-n-init
 loop-n-init c = (search rules, search rules, refl, filled_none _ _)
 
 pub returns-then-words-n : goal.returns-then-words-n
-returns-then-words-n c = let l = c.loop-n in
+returns-then-words-n c =
+    let l = c.loop-n in
     (search rules, filled-whole _ _ l.n l.invariant.3 (omega arith))
 
 pub loop-n-preserved : goal.loop-n-preserved
-loop-n-preserved c = let l = c.loop-n in
+loop-n-preserved c =
+    let l = c.loop-n in
     (search rules, search rules, search rules, filled-step _ _ l.n l.invariant.3 (omega arith) c.word.ensures)
 
 pub returns : goal.returns
-returns c = let l = c.loop-n in
+returns c =
+    let l = c.loop-n in
     (search rules, filled-whole _ _ l.n l.invariant.3 (omega arith))

@@ -4,11 +4,13 @@ use Rattle.stored.proofs.Laws.{group_text-outside, group_text-inside}
 use Rattle.stored.proofs.put_text.Goals as goal
 
 pub returns-then-counts-group : goal.returns-then-counts-group
-returns-then-counts-group c = let a = c.args in
-    group_text-outside a.counts.now a.out-1.now a.group (omega arith)
+returns-then-counts-group c =
+    let a = c.args in
+    group_text-outside a.counts.now a.out.now a.group (omega arith)
 
 pub returns : goal.returns
-returns c = let feed = c in
+returns c =
+    let feed = c in
     let asked = feed in
     let of = asked in
     let right = of in

@@ -5,10 +5,12 @@ use Rattle.system_types.proofs.Pass.{seen_first, seen-falls, seen-rises, Seen-do
 use Rattle.system_types.proofs.all_keep.Goals as goal
 
 pub loop-k-init : goal.loop-k-init
-loop-k-init c = let a = c.args in (omega arith, seen_first a.area.now a.names.now)
+loop-k-init c =
+    let a = c.args in (omega arith, seen_first a.area.now a.names.now)
 
 pub loop-k-preserved : goal.loop-k-preserved
-loop-k-preserved c = let a = c.args in
+loop-k-preserved c =
+    let a = c.args in
     let ascii = c.requires in
     let l = c.loop-k in
     let g = c.greater-most in
@@ -22,6 +24,7 @@ loop-k-preserved c = let a = c.args in
     (omega arith, ⊎_elim (λ w. rw w.1 falls) (λ w. rw w.1 (rises least.0 least.1 w.0.left)) c.if-id-last.branch)
 
 pub returns : goal.returns
-returns c = let a = c.args in
+returns c =
+    let a = c.args in
     let l = c.loop-k in
     Seen-done a.area.now a.names.now l.k l.falls l.last l.most l.invariant.1 (omega arith)

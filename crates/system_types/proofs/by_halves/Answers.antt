@@ -8,7 +8,8 @@ pub loop-low-init : goal.loop-low-init
 loop-low-init c = between_first c.args.names.now c.args.wanted.0
 
 pub returns-then-found-wanted : goal.returns-then-found-wanted
-returns-then-found-wanted c = let a = c.args in
+returns-then-found-wanted c =
+    let a = c.args in
     let l = c.loop-low in
     let m = l.low + (l.high - l.low) / 2 in
     let rising = c.requires in
@@ -16,20 +17,23 @@ returns-then-found-wanted c = let a = c.args in
     sym (rising-found a.wanted.0 a.names.now m rising (omega arith) c.if-found-wanted.true)
 
 pub loop-low-preserved-then-found-wanted-2 : goal.loop-low-preserved-then-found-wanted-2
-loop-low-preserved-then-found-wanted-2 c = let a = c.args in
+loop-low-preserved-then-found-wanted-2 c =
+    let a = c.args in
     let l = c.loop-low in
     let m = l.low + (l.high - l.low) / 2 in
     let rising = c.requires in
     between-low a.names.now a.wanted.0 l.low l.high m rising l.invariant (omega arith) (omega arith) (omega arith)
 
 pub loop-low-preserved : goal.loop-low-preserved
-loop-low-preserved c = let a = c.args in
+loop-low-preserved c =
+    let a = c.args in
     let l = c.loop-low in
     let m = l.low + (l.high - l.low) / 2 in
     let rising = c.requires in
     between-high a.names.now a.wanted.0 l.low l.high m rising l.invariant (omega arith) (omega arith) (omega arith)
 
 pub returns : goal.returns
-returns c = let a = c.args in
+returns c =
+    let a = c.args in
     let l = c.loop-low in
     sym (between-missing a.names.now a.wanted.0 l.low l.high l.invariant (omega arith))

@@ -11,13 +11,15 @@ pub is_good-requires : goal.is_good-requires
 is_good-requires c = c.requires
 
 pub returns-then-not-is_good : goal.returns-then-not-is_good
-returns-then-not-is_good c = let a = c.args in
+returns-then-not-is_good c =
+    let a = c.args in
     let l = c.loop-k in
     let g = c.is_good in
     names_from-refused a.area.now l.last a.names.now l.k (omega arith) g.result _ g.ensures c.if-not-is_good.true l.invariant.1
 
 pub loop-k-preserved : goal.loop-k-preserved
-loop-k-preserved c = let a = c.args in
+loop-k-preserved c =
+    let a = c.args in
     let l = c.loop-k in
     let g = c.is_good in
     let area = a.area.now in
@@ -25,7 +27,8 @@ loop-k-preserved c = let a = c.args in
     (omega arith, names_from-passed area l.last names l.k (omega arith) g.result _ g.ensures c.if-not-is_good.false l.invariant.1)
 
 pub returns-then-names-ne0 : goal.returns-then-names-ne0
-returns-then-names-ne0 c = let a = c.args in
+returns-then-names-ne0 c =
+    let a = c.args in
     let l = c.loop-k in
     let w = drop (3 * l.k) a.names.now in
     let some : 1 ≤ length w = rw length-drop (omega arith) in
@@ -33,7 +36,8 @@ returns-then-names-ne0 c = let a = c.args in
     sym (names_from-left a.area.now l.last l.k w some few) ∙ l.invariant.1
 
 pub returns : goal.returns
-returns c = let a = c.args in
+returns c =
+    let a = c.args in
     let l = c.loop-k in
     let w = drop (3 * l.k) a.names.now in
     let none : length w ≡ 0 = rw length-drop (omega arith) in

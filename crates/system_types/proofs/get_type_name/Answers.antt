@@ -4,10 +4,12 @@ use Rattle.system_types.proofs.Search.{system_name-top, system_name-other, risin
 use Rattle.system_types.proofs.get_type_name.Goals as goal
 
 pub returns-then-id-ne1 : goal.returns-then-id-ne1
-returns-then-id-ne1 c = let a = c.args in sym (system_name-other a.id.0 a.names.now c.if-id-ne1.true)
+returns-then-id-ne1 c =
+    let a = c.args in sym (system_name-other a.id.0 a.names.now c.if-id-ne1.true)
 
 pub returns-then-names-place : goal.returns-then-names-place
-returns-then-names-place c = let a = c.args in
+returns-then-names-place c =
+    let a = c.args in
     let rising = c.requires in
     let top = c.if-id-ne1.false in
     let place = c.guess-place.result in
@@ -16,5 +18,6 @@ returns-then-names-place c = let a = c.args in
     sym (system_name-top a.id.0 a.names.now top ∙ found)
 
 pub returns : goal.returns
-returns c = let a = c.args in
+returns c =
+    let a = c.args in
     c.by_halves.ensures ∙ sym (system_name-top a.id.0 a.names.now c.if-id-ne1.false)

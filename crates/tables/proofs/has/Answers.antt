@@ -16,7 +16,8 @@ use borrow.Author.Rules.{rules}
 use Rattle.tables.proofs.has.Goals as goal
 
 pub returns-then-words-lt-ATTRIBUTE_WORDS : goal.returns-then-words-lt-ATTRIBUTE_WORDS
-returns-then-words-lt-ATTRIBUTE_WORDS c = let at-start = c in
+returns-then-words-lt-ATTRIBUTE_WORDS c =
+    let at-start = c in
     let a = at-start.args in let lent = lends a.names.now a.area.now in
     let same = same_name a.h a.t.now lent in (
       (λ owner kind value.
@@ -28,12 +29,14 @@ pub find-wanted-requires : goal.find-wanted-requires
 find-wanted-requires c = c.requires.0
 
 pub has_numbered-requires : goal.has_numbered-requires
-has_numbered-requires c = let at-find = c in
+has_numbered-requires c =
+    let at-find = c in
     let at-start = c in
     (at-start.requires.0, at-find.find-wanted.ensures, at-start.requires.1, at-start.requires.2)
 
 pub shape_of-numbers-then-is_numbered : goal.shape_of-numbers-then-is_numbered
-shape_of-numbers-then-is_numbered c = let at-has-numbered = c in
+shape_of-numbers-then-is_numbered c =
+    let at-has-numbered = c in
     let at-start = c in
     at-has-numbered.has_numbered.ensures.1.room ∙ sym at-start.requires.2.room
 
@@ -41,12 +44,14 @@ pub returns-then-is_numbered : goal.returns-then-is_numbered
 returns-then-is_numbered c = c.has_numbered.ensures
 
 pub is_plain_name-plain-requires : goal.is_plain_name-plain-requires
-is_plain_name-plain-requires c = let at-find = c in
+is_plain_name-plain-requires c =
+    let at-find = c in
     let at-start = c in
     (at-find.find-wanted.ensures.inside, λ n. ap is_name at-find.find-wanted.ensures.same ∙ at-start.requires.1 n)
 
 pub marks_of-marks-requires : goal.marks_of-marks-requires
-marks_of-marks-requires c = let at-find = c in
+marks_of-marks-requires c =
+    let at-find = c in
     let at-start = c in
     (at-start.requires.0.fits, at-find.find-wanted.ensures.inside, known_of c.is_plain_name-plain.ensures)
 
@@ -61,27 +66,29 @@ offset_bounds-words-i c = omega (arith, c.loop-i.invariant.0, c.well-formed.1.1.
 
 pub overflow_add-other : goal.overflow_add-other
 overflow_add-other c = omega (
-      arith,
-      c.loop-i.invariant.0,
-      c.well-formed.1.1.1.1.0,
-    )
+  arith,
+  c.loop-i.invariant.0,
+  c.well-formed.1.1.1.1.0,
+)
 
 pub offset_bounds-words-i-then-words-i : goal.offset_bounds-words-i-then-words-i
 offset_bounds-words-i-then-words-i c = omega (
-      arith,
-      c.loop-i.invariant.0,
-      c.well-formed.1.1.1.1.0,
-    )
+  arith,
+  c.loop-i.invariant.0,
+  c.well-formed.1.1.1.1.0,
+)
 
 pub same_as_known-requires : goal.same_as_known-requires
-same_as_known-requires c = let at-loop = c in
+same_as_known-requires c =
+    let at-loop = c in
     let at-marks-of = c in
     let at-find = c in
     let at-start = c in
     (at-start.requires.0, at-find.find-wanted.ensures, at-loop.loop-i.invariant.1, at-marks-of.marks_of-marks.ensures)
 
 pub returns-then-same_as_known : goal.returns-then-same_as_known
-returns-then-same_as_known c = let then3 = c in
+returns-then-same_as_known c =
+    let then3 = c in
     let in-loop = c in
     let at-loop = c in
     let else2 = c in
@@ -102,13 +109,14 @@ returns-then-same_as_known c = let then3 = c in
 
 pub overflow_add-i-in-loop-i : goal.overflow_add-i-in-loop-i
 overflow_add-i-in-loop-i c = omega (
-      arith,
-      c.loop-i.invariant.0,
-      c.well-formed.1.1.1.1.0,
-    )
+  arith,
+  c.loop-i.invariant.0,
+  c.well-formed.1.1.1.1.0,
+)
 
 pub loop-i-preserved : goal.loop-i-preserved
-loop-i-preserved c = let in-loop = c in
+loop-i-preserved c =
+    let in-loop = c in
     let at-loop = c in
     let at-start = c in
     let a = at-start.args in let lent = lends a.names.now a.area.now in
@@ -127,7 +135,8 @@ loop-i-preserved c = let in-loop = c in
     )
 
 pub returns : goal.returns
-returns c = let at-find = c in
+returns c =
+    let at-find = c in
     let at-start = c in
     let a = at-start.args in let lent = lends a.names.now a.area.now in
     let same = same_name a.h a.t.now lent in

@@ -6,7 +6,8 @@ use Rattle.tables.proofs.Valid.{name-plain, both_left, both_right}
 use Rattle.tables.proofs.is_plain_name.Goals as goal
 
 pub returns-then-utf16-prefix : goal.returns-then-utf16-prefix
-returns-then-utf16-prefix c = let s = c in
+returns-then-utf16-prefix c =
+    let s = c in
     let a = s.args in
     let other = eqb-false a.prefix 2 (not-true (eqb a.prefix 2) (both_right a.utf16 (not (eqb a.prefix 2)) c.if-utf16-prefix.true)) in
     name-plain a.utf16 a.t.now a.area.now a.f (both_left a.utf16 (not (eqb a.prefix 2)) c.if-utf16-prefix.true) s.requires.0 (s.requires.1 other)

@@ -6,16 +6,19 @@ use Rattle.records.specs.Words.{own_prefix}
 use Rattle.tables.proofs.same_space.Goals as goal
 
 pub returns-then-prefix-ne-OWN_PREFIX : goal.returns-then-prefix-ne-OWN_PREFIX
-returns-then-prefix-ne-OWN_PREFIX c = let a = c.args in (rw (ne_eqb a.prefix own_prefix (λ e. omega (arith, c.if-prefix-ne-OWN_PREFIX.true))), c.requires.1)
+returns-then-prefix-ne-OWN_PREFIX c =
+    let a = c.args in (rw (ne_eqb a.prefix own_prefix (λ e. omega (arith, c.if-prefix-ne-OWN_PREFIX.true))), c.requires.1)
 
 pub same_numbered-requires : goal.same_numbered-requires
 same_numbered-requires c = c.requires
 
 pub shape_of-numbers : goal.shape_of-numbers
-shape_of-numbers c = let at-same-numbered = c in
+shape_of-numbers c =
+    let at-same-numbered = c in
     let at-start = c in
     at-same-numbered.same_numbered.ensures.1.room ∙ sym at-start.requires.1.room
 
 pub returns : goal.returns
-returns c = let a = c.args in
+returns c =
+    let a = c.args in
     (rw (eq-eqb a.prefix own_prefix (omega (arith, c.if-prefix-ne-OWN_PREFIX.false)), c.same_numbered.ensures.0), c.same_numbered.ensures.1)

@@ -3,6 +3,7 @@ use Rattle.tables.proofs.Tables.{zero-tail}
 use Rattle.tables.proofs.zero_from.Goals as goal
 
 pub returns : goal.returns
-returns c = let at-start = c in
+returns c =
+    let at-start = c in
     let a = at-start.args in
-    zero-tail a.words-1.now c.zero_all.new.0 a.from at-start.requires c.zero_all.ensures
+    zero-tail a.words.now c.zero_all.new.0 a.from at-start.requires c.zero_all.ensures

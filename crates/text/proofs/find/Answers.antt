@@ -5,25 +5,29 @@ use Rattle.text.proofs.Index.{content_of-system, content_of-string}
 use Rattle.text.proofs.find.Goals as goal
 
 pub returns-in-Nothing : goal.returns-in-Nothing
-returns-in-Nothing c = let s = c in
+returns-in-Nothing c =
+    let s = c in
     let a = s.args in
     content_of-string a.h a.t.now (lends a.names.now a.area.now) a.index.0 a.h.utf16 c.find_string.result
-    (rw (← c.enum_told-1.given.1) c.find_system-named.ensures) (c.find_string.ensures a.area.now)
+    (rw (← c.in-Nothing.is) c.find_system-named.ensures) (c.find_string.ensures a.area.now)
 
 pub returns-in-Cut : goal.returns-in-Cut
-returns-in-Cut c = let s = c in
+returns-in-Cut c =
+    let s = c in
     let a = s.args in
     content_of-system a.h a.t.now (lends a.names.now a.area.now) a.index.0 a.h.utf16 _ refl
-    (rw (← c.enum_told-in-Cut-1.given.1) c.find_system-named.ensures)
+    (rw (← c.in-Cut.is) c.find_system-named.ensures)
 
 pub returns-in-System : goal.returns-in-System
-returns-in-System c = let s = c in
+returns-in-System c =
+    let s = c in
     let a = s.args in
     content_of-system a.h a.t.now (lends a.names.now a.area.now) a.index.0 a.h.utf16 _ refl
     (rw (← c.named-1.given.1) c.find_system-named.ensures)
 
 pub returns-in-Pool : goal.returns-in-Pool
-returns-in-Pool c = let s = c in
+returns-in-Pool c =
+    let s = c in
     let a = s.args in
     content_of-system a.h a.t.now (lends a.names.now a.area.now) a.index.0 a.h.utf16 _ refl
     (rw (← c.named-in-Pool-1.given.1) c.find_system-named.ensures)

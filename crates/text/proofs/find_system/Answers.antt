@@ -6,32 +6,37 @@ use Rattle.text.proofs.Index.{system-past, system-missing, system-name, map-slic
 use Rattle.text.proofs.find_system.Goals as goal
 
 pub returns-then-h-index : goal.returns-then-h-index
-returns-then-h-index c = let s = c in
+returns-then-h-index c =
+    let s = c in
     let a = s.args in
     system-past a.h a.t.now (lends a.names.now a.area.now) a.index.0 c.if-h-index.true
 
 pub get_type_name-name-requires : goal.get_type_name-name-requires
-get_type_name-name-requires c = let s = c in
+get_type_name-name-requires c =
+    let s = c in
     let a = s.args in
     rising-of-good (lends a.names.now a.area.now) s.requires.good
 
 pub stripped-requires : goal.stripped-requires
-stripped-requires c = let s = c in
+stripped-requires c =
+    let s = c in
     let a = s.args in
     let q = system_name-of-good (lends a.names.now a.area.now) c.id_at-id.result.0 _ _ s.requires.good
     (sym c.get_type_name-name.ensures ∙ c.name-1.given.1) in
     (q.0, q.2)
 
 pub returns-in-Missing : goal.returns-in-Missing
-returns-in-Missing c = let s = c in
+returns-in-Missing c =
+    let s = c in
     let p5 = c in
     let a = s.args in
     let id = map-slice a.h a.t.now a.index.0 s.requires.fits c.id_at-id.ensures in
     system-missing a.h a.t.now (lends a.names.now a.area.now) a.index.0 p5.if-h-index.false id
-    (sym c.get_type_name-name.ensures ∙ c.enum_told-1.given.1)
+    (sym c.get_type_name-name.ensures ∙ c.in-Missing.is)
 
 pub returns-in-Name : goal.returns-in-Name
-returns-in-Name c = let s = c in
+returns-in-Name c =
+    let s = c in
     let p7 = c in
     let p5 = c in
     let a = s.args in

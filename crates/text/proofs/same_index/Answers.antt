@@ -7,7 +7,8 @@ use Rattle.text.proofs.Read.{same_text-self}
 use Rattle.text.proofs.same_index.Goals as goal
 
 pub returns-then-i-j : goal.returns-then-i-j
-returns-then-i-j c = let s = c in
+returns-then-i-j c =
+    let s = c in
     let a = s.args in
     let at-index = content_of a.h a.t.now (lends a.names.now a.area.now) in
     c.has_text.ensures ∙ sym (same_text-self (at-index a.i.0)) ∙ ap (λ (x : Content). same_text (at-index a.i.0) x) (ap at-index c.if-i-j.true)

@@ -6,12 +6,14 @@ use Rattle.text.proofs.Parts.{string-outside, string-cut, string-pool, string-po
 use Rattle.text.proofs.string_at.Goals as goal
 
 pub returns-then-size-o : goal.returns-then-size-o
-returns-then-size-o c = let s = c in
+returns-then-size-o c =
+    let s = c in
     let a = s.args in
     λ area. string-outside a.utf16 a.t.now a.strings a.size a.o s.requires area c.if-size-o.true
 
 pub overflow_add-result-in-Content : goal.overflow_add-result-in-Content
-overflow_add-result-in-Content c = let s = c in
+overflow_add-result-in-Content c =
+    let s = c in
     let p5 = c in
     let a = s.args in
     let e = sym c.split_string-split.ensures ∙ c.split-1.given.1 in
@@ -20,14 +22,16 @@ overflow_add-result-in-Content c = let s = c in
     omega arith
 
 pub returns-in-Cut : goal.returns-in-Cut
-returns-in-Cut c = let s = c in
+returns-in-Cut c =
+    let s = c in
     let a = s.args in
-    let e = sym c.split_string-split.ensures ∙ c.enum_told-1.given.1 in
+    let e = sym c.split_string-split.ensures ∙ c.in-Cut.is in
     λ area. string-cut a.utf16 a.t.now a.strings a.size a.o s.requires area c.if-size-o.false
     (data-slice a.utf16 a.t.now a.strings a.size a.o e)
 
 pub returns-in-Content : goal.returns-in-Content
-returns-in-Content c = let s = c in
+returns-in-Content c =
+    let s = c in
     let p5 = c in
     let a = s.args in
     let e = sym c.split_string-split.ensures ∙ c.split-1.given.1 in

@@ -3,9 +3,7 @@ use Prim.Native.Nat.{◌-◌}
 use native.Mathlib.Omega.{arith}
 use Rattle.unicode_cases.proofs.walk.Goals as goal
 
-
 record-at-requires : tie.Need-record-at-requires invariant-loop decreases-loop
-
 record-at-requires c κs = c.loop-test.true
 
 pub judge-v-requires : goal.judge-v-requires
@@ -15,4 +13,5 @@ pub loop-at-smaller : goal.loop-at-smaller
 loop-at-smaller c = omega (arith, c.record_at-r.ensures.1, c.record_at-r.ensures.0.inside)
 
 pub loop-at-preserved : goal.loop-at-preserved
-loop-at-preserved c = let k = c.record_at-r.ensures.0 in (k.bytes, omega arith)
+loop-at-preserved c =
+    let k = c.record_at-r.ensures.0 in (k.bytes, omega arith)

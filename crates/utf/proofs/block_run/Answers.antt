@@ -3,7 +3,6 @@ use Prim.Native.Nat.{ℕ, ◌+◌, ◌-◌, ◌<◌}
 use mathlib.Core.Path.{sym, ◌∙◌}
 use native.Mathlib.Omega.{arith}
 use lib.ListN.{get_or}
-use borrow.Author.Tests.{not-false}
 use Rattle.utf.proofs.Units.{ran-none}
 use Rattle.utf.proofs.Blocks.{ran-block}
 use Rattle.utf.proofs.block_run.Goals as goal
@@ -15,10 +14,11 @@ pub returns-then-not-is_single : goal.returns-then-not-is_single
 returns-then-not-is_single c = c.loop-i.invariant
 
 pub loop-i-preserved : goal.loop-i-preserved
-loop-i-preserved c = let l = c.loop-i in
+loop-i-preserved c =
+    let l = c.loop-i in
     let s = c.args.s.now in
     let bytes : (i : ℕ) → get_or s i 0 < 256 = λ i. (c.shared_slice_known-1.given i).fits in
-    let e = sym c.is_single.ensures ∙ not-false _ c.if-not-is_single.false in
+    let e = sym c.is_single.ensures ∙ c.if-not-is_single.false in
     (ran-block _ s _ l.i (l.i + 64 - l.i) l.invariant.0 (omega arith) bytes e (omega arith), omega arith)
 
 pub returns : goal.returns

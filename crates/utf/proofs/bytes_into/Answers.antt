@@ -8,7 +8,8 @@ pub loop-at-init : goal.loop-at-init
 loop-at-init c = none_written _ _ _
 
 pub put_scalar-o-requires : goal.put_scalar-o-requires
-put_scalar-o-requires c = let k = c.next_of-t.ensures in
+put_scalar-o-requires c =
+    let k = c.next_of-t.ensures in
     let at-loop = c in
     (k.small, fitting _ _ _ _ _ _ _ _ _ at-loop.loop-at.invariant c.loop-at-test.true k at-loop.requires)
 
@@ -19,7 +20,8 @@ pub loop-at-smaller : goal.loop-at-smaller
 loop-at-smaller c = omega (arith, c.next_of-t.ensures)
 
 pub loop-at-preserved : goal.loop-at-preserved
-loop-at-preserved c = let p = c in
+loop-at-preserved c =
+    let p = c in
     let q = p in
     let k = q.next_of-t.ensures in
     let w = q.loop-at.invariant in

@@ -11,7 +11,8 @@ pub overflow_sub-n : goal.overflow_sub-n
 overflow_sub-n c = omega (arith, c.loop-at.invariant.held)
 
 pub returns-then-n-k : goal.returns-then-n-k
-returns-then-n-k c = let in-loop = c in
+returns-then-n-k c =
+    let in-loop = c in
     let told = c.next_of-t.ensures in
     counted-past _ _ _ _ _ _ _ _ in-loop.loop-at.invariant in-loop.loop-at-test.true told c.scalar_len-k.ensures c.if-n-k.true
 
@@ -25,7 +26,8 @@ pub loop-at-smaller : goal.loop-at-smaller
 loop-at-smaller c = omega (arith, c.next_of-t.ensures)
 
 pub loop-at-preserved : goal.loop-at-preserved
-loop-at-preserved c = let in-loop = c in
+loop-at-preserved c =
+    let in-loop = c in
     let told = c.next_of-t.ensures in
     counted _ _ _ _ _ _ _ _ in-loop.loop-at.invariant in-loop.loop-at-test.true told c.scalar_len-k.ensures c.if-n-k.false
 

@@ -16,7 +16,8 @@ pub step_run-at-requires : goal.step_run-at-requires
 step_run-at-requires c = (omega (arith, c.block_end-end.ensures), omega (arith, c.block_end-end.ensures))
 
 pub returns-then-at-end : goal.returns-then-at-end
-returns-then-at-end c = let q = c in
+returns-then-at-end c =
+    let q = c in
     let l = q.loop-at in
     let ran = ran-join _ _ _ _ _ l.invariant (ran-join _ _ _ _ _ q.sound_blocks-from.ensures.0 q.step_run-at.ensures.ran) in
     sym (q.step_run-at.ensures.halts c.if-at-end.true) ∙ ran.rest
@@ -25,7 +26,8 @@ pub loop-at-smaller : goal.loop-at-smaller
 loop-at-smaller c = omega (arith, c.block_end-end.ensures, c.sound_blocks-from.ensures.0.later)
 
 pub loop-at-preserved : goal.loop-at-preserved
-loop-at-preserved c = let q = c in
+loop-at-preserved c =
+    let q = c in
     let l = q.loop-at in
     ran-join _ _ _ _ _ l.invariant (ran-join _ _ _ _ _ q.sound_blocks-from.ensures.0 q.step_run-at.ensures.ran)
 

@@ -26,7 +26,8 @@ pub loop-i-smaller : goal.loop-i-smaller
 loop-i-smaller c = omega (arith, c.block_run-i-in-loop-i.ensures.0.later, c.block_run-i-in-loop-i.ensures.1, c.if-n-i.false, c.formed_end-n.ensures.0.later, c.loop-i-test.true)
 
 pub loop-i-preserved : goal.loop-i-preserved
-loop-i-preserved c = let more = ran-join _ _ _ _ _ c.formed_end-n.ensures.0 c.block_run-i-in-loop-i.ensures.0 in
+loop-i-preserved c =
+    let more = ran-join _ _ _ _ _ c.formed_end-n.ensures.0 c.block_run-i-in-loop-i.ensures.0 in
     (ran-join _ _ _ _ _ c.loop-i.invariant.0 more, c.block_run-i-in-loop-i.ensures.1)
 
 pub overflow_sub-s-2 : goal.overflow_sub-s-2

@@ -15,7 +15,8 @@ pub returns-then-s-i-eq27 : goal.returns-then-s-i-eq27
 returns-then-s-i-eq27 c = c.loop-i.invariant.0
 
 pub loop-i-preserved : goal.loop-i-preserved
-loop-i-preserved c = let l = c.loop-i in
+loop-i-preserved c =
+    let l = c.loop-i in
     let bytes : (i : ℕ) → get_or c.args.s.now i 0 < 256 = λ i. (c.shared_slice_known-1.given i).fits in
     (ran-unit _ _ _ l.invariant.0 (omega arith) bytes c.if-s-i-eq27.false, omega arith)
 

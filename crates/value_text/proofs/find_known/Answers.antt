@@ -20,7 +20,8 @@ pub find_first-requires : goal.find_first-requires
 find_first-requires c = c.requires.4
 
 pub returns : goal.returns
-returns c = let a = c.args in
-    first_of a.item-area.now a.items.now
+returns c =
+    let a = c.args in
+    first_of a.item_area.now a.items.now
     (name-held c.found_into-n.ensures (omega (arith, c.if-n-gt64.false)))
     c.find_first.ensures

@@ -10,5 +10,6 @@ pub run_of-requires : goal.run_of-requires
 run_of-requires c = c.requires.2
 
 pub returns : goal.returns
-returns c = let a = c.args in
+returns c =
+    let a = c.args in
     c.run_of.ensures (text_in (part_of a.utf16 a.t.now a.area.now a.f)) c.find_known-first.ensures

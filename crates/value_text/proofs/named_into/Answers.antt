@@ -8,13 +8,15 @@ pub attr_value-said-requires : goal.attr_value-said-requires
 attr_value-said-requires c = omega (arith, c.requires.1)
 
 pub returns-then-said : goal.returns-then-said
-returns-then-said c = let a = c.args in
+returns-then-said c =
+    let a = c.args in
     let lent = lends a.names.now a.area.now in
-    λ name found. named-said a.h a.t.now lent a.items.now a.item-area.now name a.kind a.v a.run found
+    λ name found. named-said a.h a.t.now lent a.items.now a.item_area.now name a.kind a.v a.run found
     c.attr_value-said.ensures c.if-said.true
 
 pub returns : goal.returns
-returns c = let a = c.args in
+returns c =
+    let a = c.args in
     let lent = lends a.names.now a.area.now in
-    λ name found. named-plain a.h a.t.now lent a.items.now a.item-area.now name a.kind a.v a.run found
+    λ name found. named-plain a.h a.t.now lent a.items.now a.item_area.now name a.kind a.v a.run found
     c.attr_value-said.ensures c.if-said.false c.plain_into.ensures

@@ -2,7 +2,7 @@
 use Rattle.value_text.proofs.open_behind.Goals as goal
 
 pub returns-in-Good : goal.returns-in-Good
-returns-in-Good c = rw c.enum_told-1.given.1 c.head_of.ensures
+returns-in-Good c = rw c.in-Good.is c.head_of.ensures
 
 pub returns-in-Bad : goal.returns-in-Bad
 returns-in-Bad c = rw c.read-1.given.1

@@ -5,13 +5,15 @@ use Rattle.value_text.proofs.Opening.{open_in, open-out}
 use Rattle.value_text.proofs.open_value.Goals as goal
 
 pub returns-in-In : goal.returns-in-In
-returns-in-In c = let a = c.args in
+returns-in-In c =
+    let a = c.args in
     let lent = lends a.names.now a.area.now in
-    open_in a.file.now lent a.items.now a.item-area.now
+    open_in a.file.now lent a.items.now a.item_area.now
     (sym c.enter-entered.ensures ∙ c.entered-1.given.1) c.check_items.ensures
     c.open_behind.ensures
 
 pub returns-in-Out : goal.returns-in-Out
-returns-in-Out c = let a = c.args in
+returns-in-Out c =
+    let a = c.args in
     let lent = lends a.names.now a.area.now in
-    open-out a.file.now lent a.items.now a.item-area.now (sym c.enter-entered.ensures ∙ c.entered-in-Out-1.given.1)
+    open-out a.file.now lent a.items.now a.item_area.now (sym c.enter-entered.ensures ∙ c.entered-in-Out-1.given.1)

@@ -7,18 +7,21 @@ use Rattle.value_text.proofs.Front.{tells-other, tells-string, tells-plain, form
 use Rattle.value_text.proofs.plain_into.Goals as goal
 
 pub returns-then-is_other : goal.returns-then-is_other
-returns-then-is_other c = let a = c.args in
+returns-then-is_other c =
+    let a = c.args in
     let e = ap is_other (sym c.form_of-form.ensures) ∙ sym c.is_other.ensures ∙ c.if-is_other.true in
     tells-other a.h a.t.now (lends a.names.now a.area.now) a.uncovered a.v (value_type_of a.kind) e
 
 pub returns-then-is_pool : goal.returns-then-is_pool
-returns-then-is_pool c = let a = c.args in
+returns-then-is_pool c =
+    let a = c.args in
     let e = ap is_pool (sym c.form_of-form.ensures) ∙ sym
     c.is_pool.ensures ∙ c.if-is_pool.true in
     tells-string a.h a.t.now (lends a.names.now a.area.now) a.uncovered a.v (value_type_of a.kind) e c.string_told.ensures
 
 pub returns : goal.returns
-returns c = let a = c.args in
+returns c =
+    let a = c.args in
     let lent = lends a.names.now a.area.now in
     let form = c.form_of-form.ensures in
     let e = ap is_other (sym form) ∙ sym c.is_other.ensures ∙ c.if-is_other.false in

@@ -8,7 +8,8 @@ use Rattle.value_text.proofs.Looking.{pool-asks, pool-content}
 use Rattle.value_text.proofs.string_told.Goals as goal
 
 pub find-f-requires : goal.find-f-requires
-find-f-requires c = let s = c in
+find-f-requires c =
+    let s = c in
     let a = s.args in
     pool-asks a.h a.t.now (lends a.names.now a.area.now) s.requires
 
@@ -23,7 +24,8 @@ found_ascii_into-n-requires c = (
 )
 
 pub returns-then-found_ascii : goal.returns-then-found_ascii
-returns-then-found_ascii c = let a = c.args in
+returns-then-found_ascii c =
+    let a = c.args in
     let same = c.find-f.ensures.same ∙ pool-content a.h a.t.now (lends a.names.now a.area.now) a.area.now a.v in
     let is = sym c.found_ascii.ensures ∙ c.if-found_ascii.true in
     string-shown (string_of a.h a.t.now a.v) (ap text_in same) c.found_ascii_into-n.ensures
@@ -36,6 +38,7 @@ pub string_state-state-requires : goal.string_state-state-requires
 string_state-state-requires c = (c.find-f.ensures.inside, c.requires.fits.short)
 
 pub returns : goal.returns
-returns c = let a = c.args in
+returns c =
+    let a = c.args in
     let same = c.find-f.ensures.same ∙ pool-content a.h a.t.now (lends a.names.now a.area.now) a.area.now a.v in
     string-shown (string_of a.h a.t.now a.v) (ap text_in same) c.found_into-n.ensures (c.string_state-state.ensures ∙ ap string_state same)

@@ -5,23 +5,26 @@ use Rattle.value_text.proofs.Opening.{opens, reads-open, reads-closed}
 use Rattle.value_text.proofs.value_text.Goals as goal
 
 pub value_in-requires : goal.value_in-requires
-value_in-requires c = let a = c.args in
+value_in-requires c =
+    let a = c.args in
     let lent = lends a.names.now a.area.now in
     let e = sym c.open_value-opened.ensures ∙ c.opened-1.given.1 in
-    let o = opens a.file.now lent a.items.now a.item-area.now e in
+    let o = opens a.file.now lent a.items.now a.item_area.now e in
     (rw c.tables_of.ensures o.asks, o.good)
 
 pub returns-in-Open : goal.returns-in-Open
-returns-in-Open c = let a = c.args in
+returns-in-Open c =
+    let a = c.args in
     let lent = lends a.names.now a.area.now in
     let e = sym c.open_value-opened.ensures
     ∙ c.opened-1.given.1 in
-    reads-open a.file.now lent a.items.now a.item-area.now a.out-1.now _ a.attribute e
+    reads-open a.file.now lent a.items.now a.item_area.now a.out.now _ a.attribute e
     c.tables_of.ensures c.value_in.ensures
 
 pub returns-in-Closed : goal.returns-in-Closed
-returns-in-Closed c = let a = c.args in
+returns-in-Closed c =
+    let a = c.args in
     let lent = lends a.names.now a.area.now in
     let e = sym c.open_value-opened.ensures
     ∙ c.opened-in-Closed-1.given.1 in
-    reads-closed a.file.now lent a.items.now a.item-area.now a.out-1.now _ a.attribute e c.refuse.ensures
+    reads-closed a.file.now lent a.items.now a.item_area.now a.out.now _ a.attribute e c.refuse.ensures

@@ -5,12 +5,13 @@ use Rattle.system_types.specs.Names.{lends}
 use Rattle.walk.proofs.advance_knowing.Goals as goal
 
 pub returns-in-Clearing : goal.returns-in-Clearing
-returns-in-Clearing c = let at-start = c in
+returns-in-Clearing c =
+    let at-start = c in
     let at_stage = c in
     let a = at-start.args in
-    let r = c.Clear-next in (
+    let r = c.clear_next in (
       (λ g.
           rw r.ensures
-          (goes-clearing a.file.now (lends a.names.now a.area.now) a.nodes-1.now a.attributes-1.now a.st g _ at_stage.stage-1.given.1)),
+          (goes-clearing a.file.now (lends a.names.now a.area.now) a.nodes.now a.attributes.now a.st g _ at_stage.stage-1.given.1)),
       knows-cleared a.file.now (lends a.names.now a.area.now) _ _ at-start.requires.1.looks-room at-start.requires.1.texts-room a.st _ _ r.ensures,
     )

@@ -4,10 +4,10 @@ use Rattle.walk.proofs.Clearing.{fresh-clears, reading-clears, clearing-same}
 use Rattle.walk.proofs.answer_of.Goals as goal
 
 pub returns-in-Fresh : goal.returns-in-Fresh
-returns-in-Fresh c = λ a e. absurd (fresh-clears a (sym c.enum_told-1.given.1 ∙ e))
+returns-in-Fresh c = λ a e. absurd (fresh-clears a (sym c.in-Fresh.is ∙ e))
 
 pub returns-in-Reading : goal.returns-in-Reading
-returns-in-Reading c = λ a e. absurd (reading-clears a (sym c.enum_told-in-Reading-1.given.1 ∙ e))
+returns-in-Reading c = λ a e. absurd (reading-clears a (sym c.in-Reading.is ∙ e))
 
 pub returns-in-Clearing : goal.returns-in-Clearing
 returns-in-Clearing c = λ a e. clearing-same (sym c.stage-1.given.1 ∙ e)

@@ -13,41 +13,48 @@ use Rattle.walk.proofs.Knowing.{knows-refused, knows-finished, knows-noted}
 use Rattle.walk.proofs.read_on.Goals as goal
 
 pub loop-x-init : goal.loop-x-init
-loop-x-init c = let at-start = c in
+loop-x-init c =
+    let at-start = c in
     let k = at-start.requires.2 in
     let e = at-start.requires.1 in
     (refl, refl, refl, refl, (λ g. read_first _ _ _ _ _ g e), k.looks e, k.texts e)
 
 pub run_in-h-requires : goal.run_in-h-requires
-run_in-h-requires c = let at-loop = c in
+run_in-h-requires c =
+    let at-loop = c in
     let at-start = c in
     let l = at-loop.loop-x in
     ((l.invariant.4 at-start.requires.0).now, l.invariant.5, l.invariant.6)
 
 pub shape_of-nodes-in-Full : goal.shape_of-nodes-in-Full
-shape_of-nodes-in-Full c = let at-refuse = c in
+shape_of-nodes-in-Full c =
+    let at-refuse = c in
     let at-run-in = c in
     let at-loop = c in
     at-refuse.refuse.auto.0 ∙ at-run-in.run_in-h.auto.1.1.1.1.1.0 ∙ at-loop.loop-x.invariant.0
 
 pub shape_of-attributes-in-Full : goal.shape_of-attributes-in-Full
-shape_of-attributes-in-Full c = let at-refuse = c in
+shape_of-attributes-in-Full c =
+    let at-refuse = c in
     let at-run-in = c in
     let at-loop = c in
     at-refuse.refuse.auto.1.0 ∙ at-run-in.run_in-h.auto.1.1.1.1.1.1.0 ∙ at-loop.loop-x.invariant.1
 
 pub shape_of-memory-in-Full : goal.shape_of-memory-in-Full
-shape_of-memory-in-Full c = let at-run-in = c in
+shape_of-memory-in-Full c =
+    let at-run-in = c in
     let at-loop = c in
     at-run-in.run_in-h.auto.1.1.1.1.1.1.1.0 ∙ at-loop.loop-x.invariant.2
 
 pub shape_of-numbers-in-Full : goal.shape_of-numbers-in-Full
-shape_of-numbers-in-Full c = let at-run-in = c in
+shape_of-numbers-in-Full c =
+    let at-run-in = c in
     let at-loop = c in
     at-run-in.run_in-h.auto.1.1.1.1.1.1.1.1.1.1.0 ∙ at-loop.loop-x.invariant.3
 
 pub returns-in-Full : goal.returns-in-Full
-returns-in-Full c = let at-refuse = c in
+returns-in-Full c =
+    let at-refuse = c in
     let at-stop = c in
     let at-run-in = c in
     let at-loop = c in
@@ -58,15 +65,16 @@ returns-in-Full c = let at-refuse = c in
     let r = at-refuse.refuse in
     let s = at-stop.stop-1.given in (
       (λ g.
-          read-full a.file.now (lends a.names.now a.area.now) a.nodes-1.now a.attributes-1.now a.st g l.nodes-1 l.attributes-1 l.cur-1
-          l.tree-1 (l.invariant.4 g)
+          read-full a.file.now (lends a.names.now a.area.now) a.nodes.now a.attributes.now a.st g l.nodes l.attributes l.cur
+          l.tree (l.invariant.4 g)
           q.result q.new.1.1.1.1.1.0 q.new.1.1.1.1.1.1.0 q.auto.1.1.1.1.1.0 q.auto.1.1.1.1.1.1.0 q.ensures.0
           s.0.0 s.1 r.result r.new.0 r.new.1.0 r.ensures),
       knows-refused a.file.now (lends a.names.now a.area.now) _ _ q.ensures.1.room q.ensures.2.room _ _ _ _ _ _ _ r.ensures,
     )
 
 pub finish-requires : goal.finish-requires
-finish-requires c = let at-enum-told = c in
+finish-requires c =
+    let at-enum-told = c in
     let at-run-in = c in
     let at-loop = c in
     let at-start = c in
@@ -74,35 +82,40 @@ finish-requires c = let at-enum-told = c in
     let l = at-loop.loop-x in
     let q = at-run-in.run_in-h in
     let g = at-start.requires.0 in
-    read-keepable a.file.now (lends a.names.now a.area.now) a.nodes-1.now a.attributes-1.now a.st g l.nodes-1 l.attributes-1 l.cur-1
-    l.tree-1 (l.invariant.4 g)
+    read-keepable a.file.now (lends a.names.now a.area.now) a.nodes.now a.attributes.now a.st g l.nodes l.attributes l.cur
+    l.tree (l.invariant.4 g)
     q.result q.new.1.1.1.1.1.0 q.new.1.1.1.1.1.1.0 q.auto.1.1.1.1.1.0 q.auto.1.1.1.1.1.1.0 q.ensures.0
     at-enum-told.enum_told-1.given.1
 
 pub shape_of-nodes-in-Finished : goal.shape_of-nodes-in-Finished
-shape_of-nodes-in-Finished c = let at-finish = c in
+shape_of-nodes-in-Finished c =
+    let at-finish = c in
     let at-run-in = c in
     let at-loop = c in
     at-finish.finish.auto.0 ∙ at-run-in.run_in-h.auto.1.1.1.1.1.0 ∙ at-loop.loop-x.invariant.0
 
 pub shape_of-attributes-in-Finished : goal.shape_of-attributes-in-Finished
-shape_of-attributes-in-Finished c = let at-finish = c in
+shape_of-attributes-in-Finished c =
+    let at-finish = c in
     let at-run-in = c in
     let at-loop = c in
     at-finish.finish.auto.1.0 ∙ at-run-in.run_in-h.auto.1.1.1.1.1.1.0 ∙ at-loop.loop-x.invariant.1
 
 pub shape_of-memory-in-Finished : goal.shape_of-memory-in-Finished
-shape_of-memory-in-Finished c = let at-run-in = c in
+shape_of-memory-in-Finished c =
+    let at-run-in = c in
     let at-loop = c in
     at-run-in.run_in-h.auto.1.1.1.1.1.1.1.0 ∙ at-loop.loop-x.invariant.2
 
 pub shape_of-numbers-in-Finished : goal.shape_of-numbers-in-Finished
-shape_of-numbers-in-Finished c = let at-run-in = c in
+shape_of-numbers-in-Finished c =
+    let at-run-in = c in
     let at-loop = c in
     at-run-in.run_in-h.auto.1.1.1.1.1.1.1.1.1.1.0 ∙ at-loop.loop-x.invariant.3
 
 pub returns-in-Finished : goal.returns-in-Finished
-returns-in-Finished c = let at-finish = c in
+returns-in-Finished c =
+    let at-finish = c in
     let at-enum-told = c in
     let at-run-in = c in
     let at-loop = c in
@@ -112,8 +125,8 @@ returns-in-Finished c = let at-finish = c in
     let q = at-run-in.run_in-h in
     let r = at-finish.finish in (
       (λ g.
-          read_done a.file.now (lends a.names.now a.area.now) a.nodes-1.now a.attributes-1.now a.st g l.nodes-1 l.attributes-1 l.cur-1
-          l.tree-1 (l.invariant.4 g)
+          read_done a.file.now (lends a.names.now a.area.now) a.nodes.now a.attributes.now a.st g l.nodes l.attributes l.cur
+          l.tree (l.invariant.4 g)
           q.result q.new.1.1.1.1.1.0 q.new.1.1.1.1.1.1.0 q.auto.1.1.1.1.1.0 q.auto.1.1.1.1.1.1.0 q.ensures.0
           at-enum-told.enum_told-1.given.1 r.result r.new.0 r.new.1.0 r.ensures),
       knows-finished a.file.now (lends a.names.now a.area.now) _ _ q.ensures.1.room q.ensures.2.room _ _ _ _ _ _ _ r.ensures,
@@ -123,35 +136,41 @@ pub is_due-requires : goal.is_due-requires
 is_due-requires c = omega (arith, c.kind_index.ensures, kind_index-lt c.stop-in-Due-1.given.0.0)
 
 pub note_due-requires : goal.note_due-requires
-note_due-requires c = let then1 = c in
+note_due-requires c =
+    let then1 = c in
     let at-is-due = c in
     let at-kind-index = c in
     ltb-true _ _ (sym (rw at-kind-index.kind_index.ensures at at-is-due.is_due.ensures) ∙ then1.if-is_due.true)
 
 pub shape_of-nodes-then-is_due : goal.shape_of-nodes-then-is_due
-shape_of-nodes-then-is_due c = let at-note-due = c in
+shape_of-nodes-then-is_due c =
+    let at-note-due = c in
     let at-run-in = c in
     let at-loop = c in
     at-note-due.note_due.auto.0 ∙ at-run-in.run_in-h.auto.1.1.1.1.1.0 ∙ at-loop.loop-x.invariant.0
 
 pub shape_of-attributes-then-is_due : goal.shape_of-attributes-then-is_due
-shape_of-attributes-then-is_due c = let at-note-due = c in
+shape_of-attributes-then-is_due c =
+    let at-note-due = c in
     let at-run-in = c in
     let at-loop = c in
     at-note-due.note_due.auto.1.0 ∙ at-run-in.run_in-h.auto.1.1.1.1.1.1.0 ∙ at-loop.loop-x.invariant.1
 
 pub shape_of-memory-then-is_due : goal.shape_of-memory-then-is_due
-shape_of-memory-then-is_due c = let at-run-in = c in
+shape_of-memory-then-is_due c =
+    let at-run-in = c in
     let at-loop = c in
     at-run-in.run_in-h.auto.1.1.1.1.1.1.1.0 ∙ at-loop.loop-x.invariant.2
 
 pub shape_of-numbers-then-is_due : goal.shape_of-numbers-then-is_due
-shape_of-numbers-then-is_due c = let at-run-in = c in
+shape_of-numbers-then-is_due c =
+    let at-run-in = c in
     let at-loop = c in
     at-run-in.run_in-h.auto.1.1.1.1.1.1.1.1.1.1.0 ∙ at-loop.loop-x.invariant.3
 
 pub returns-then-is_due : goal.returns-then-is_due
-returns-then-is_due c = let at-note-due = c in
+returns-then-is_due c =
+    let at-note-due = c in
     let then1 = c in
     let at-is-due = c in
     let at-kind-index = c in
@@ -167,7 +186,7 @@ returns-then-is_due c = let at-note-due = c in
     let s = at-stop2.stop-in-Due-1.given in
     let under = ltb-true _ _ (sym (rw at-kind-index.kind_index.ensures at at-is-due.is_due.ensures) ∙ at-if1.if-is_due.true) in (
       (λ g.
-          read-due a.file.now (lends a.names.now a.area.now) a.nodes-1.now a.attributes-1.now a.st g l.nodes-1 l.attributes-1 l.cur-1 l.tree-1
+          read-due a.file.now (lends a.names.now a.area.now) a.nodes.now a.attributes.now a.st g l.nodes l.attributes l.cur l.tree
           (l.invariant.4 g)
           q.result q.new.1.1.1.1.1.0 q.new.1.1.1.1.1.1.0 q.auto.1.1.1.1.1.0 q.auto.1.1.1.1.1.1.0 q.ensures.0
           s.0.0 s.1 under r.result r.new.0 r.new.1.0 r.ensures),
@@ -175,7 +194,8 @@ returns-then-is_due c = let at-note-due = c in
     )
 
 pub pass_in-cur-requires : goal.pass_in-cur-requires
-pass_in-cur-requires c = let at-stop2 = c in
+pass_in-cur-requires c =
+    let at-stop2 = c in
     let at-run-in = c in
     let at-loop = c in
     let at-start = c in
@@ -183,13 +203,14 @@ pass_in-cur-requires c = let at-stop2 = c in
     let l = at-loop.loop-x in
     let q = at-run-in.run_in-h in
     let g = at-start.requires.0 in
-    due-within a.file.now (lends a.names.now a.area.now) a.nodes-1.now a.attributes-1.now a.st g l.nodes-1 l.attributes-1 l.cur-1 l.tree-1
+    due-within a.file.now (lends a.names.now a.area.now) a.nodes.now a.attributes.now a.st g l.nodes l.attributes l.cur l.tree
     (l.invariant.4 g)
     q.result q.new.1.1.1.1.1.0 q.new.1.1.1.1.1.1.0 q.auto.1.1.1.1.1.0 q.auto.1.1.1.1.1.1.0 q.ensures.0
     at-stop2.stop-in-Due-1.given.0.0 at-stop2.stop-in-Due-1.given.1
 
 pub loop-x-smaller : goal.loop-x-smaller
-loop-x-smaller c = let at-stop2 = c in
+loop-x-smaller c =
+    let at-stop2 = c in
     let at-run-in = c in
     let at-loop = c in
     let at-start = c in
@@ -197,14 +218,15 @@ loop-x-smaller c = let at-stop2 = c in
     let l = at-loop.loop-x in
     let q = at-run-in.run_in-h in
     let g = at-start.requires.0 in
-    let less = due-less a.file.now (lends a.names.now a.area.now) a.nodes-1.now a.attributes-1.now a.st g l.nodes-1 l.attributes-1 l.cur-1
-    l.tree-1 (l.invariant.4 g)
+    let less = due-less a.file.now (lends a.names.now a.area.now) a.nodes.now a.attributes.now a.st g l.nodes l.attributes l.cur
+    l.tree (l.invariant.4 g)
     q.result q.new.1.1.1.1.1.0 q.new.1.1.1.1.1.1.0 q.auto.1.1.1.1.1.0 q.auto.1.1.1.1.1.1.0 q.ensures.0
     at-stop2.stop-in-Due-1.given.0.0 at-stop2.stop-in-Due-1.given.1 in
     omega (arith, less, c.pass_in-cur.ensures.low)
 
 pub loop-x-preserved : goal.loop-x-preserved
-loop-x-preserved c = let at-is-due = c in
+loop-x-preserved c =
+    let at-is-due = c in
     let at-kind-index = c in
     let at-stop2 = c in
     let at-run-in = c in
@@ -221,10 +243,10 @@ loop-x-preserved c = let at-is-due = c in
       q.auto.1.1.1.1.1.1.1.0 ∙ l.invariant.2,
       q.auto.1.1.1.1.1.1.1.1.1.1.0 ∙ l.invariant.3,
       λ g.
-          read-passed a.file.now (lends a.names.now a.area.now) a.nodes-1.now a.attributes-1.now a.st g q.new.1.1.1.1.1.0
+          read-passed a.file.now (lends a.names.now a.area.now) a.nodes.now a.attributes.now a.st g q.new.1.1.1.1.1.0
           q.new.1.1.1.1.1.1.0 q.result.cur-1 q.result.tree-1
-          (read_past a.file.now (lends a.names.now a.area.now) a.nodes-1.now a.attributes-1.now a.st g l.nodes-1 l.attributes-1 l.cur-1
-          l.tree-1 (l.invariant.4 g)
+          (read_past a.file.now (lends a.names.now a.area.now) a.nodes.now a.attributes.now a.st g l.nodes l.attributes l.cur
+          l.tree (l.invariant.4 g)
           q.result q.new.1.1.1.1.1.0 q.new.1.1.1.1.1.1.0 q.auto.1.1.1.1.1.0 q.auto.1.1.1.1.1.1.0 q.ensures.0
           s.0.0 s.1 past) p.result p.ensures,
       q.ensures.1,

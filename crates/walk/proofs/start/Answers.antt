@@ -6,19 +6,21 @@ use Rattle.walk.proofs.Opening.{fresh-out, started-asks, advanced-started}
 use Rattle.walk.proofs.start.Goals as goal
 
 pub read_on-requires : goal.read_on-requires
-read_on-requires c = let at-enter = c in
+read_on-requires c =
+    let at-enter = c in
     let at-entered2 = c in
     let at-started = c in
     let at-start = c in
     let a = at-start.args in
     let s = at-started.started in
     let e = sym at-enter.enter-entered.ensures ∙ at-entered2.entered-in-In-1.given.1 in
-    let p = started-asks a.file.now (lends a.names.now a.area.now) a.nodes-1.now a.attributes-1.now a.st at-start.requires.0 at-start.requires.1 e
+    let p = started-asks a.file.now (lends a.names.now a.area.now) a.nodes.now a.attributes.now a.st at-start.requires.0 at-start.requires.1 e
     s.result s.ensures in
     (p.0, p.1, knows-started a.file.now (lends a.names.now a.area.now) _ _ at-start.requires.2.looks-room at-start.requires.2.texts-room a.st at-start.requires.1 at-start.requires.2 _ s.result s.ensures)
 
 pub returns-in-Out : goal.returns-in-Out
-returns-in-Out c = let at-refuse = c in
+returns-in-Out c =
+    let at-refuse = c in
     let at-enter = c in
     let at-entered = c in
     let at-start = c in
@@ -26,13 +28,14 @@ returns-in-Out c = let at-refuse = c in
     let r = at-refuse.refuse in
     let e = sym at-enter.enter-entered.ensures ∙ at-entered.entered-1.given.1 in (
       (λ g.
-          fresh-out a.file.now (lends a.names.now a.area.now) a.nodes-1.now a.attributes-1.now a.st g at-start.requires.1 e
+          fresh-out a.file.now (lends a.names.now a.area.now) a.nodes.now a.attributes.now a.st g at-start.requires.1 e
           r.result r.new.0 r.new.1.0 r.ensures),
       knows-refused a.file.now (lends a.names.now a.area.now) _ _ at-start.requires.2.looks-room at-start.requires.2.texts-room _ _ _ _ _ _ _ r.ensures,
     )
 
 pub returns-in-In : goal.returns-in-In
-returns-in-In c = let at-read-on = c in
+returns-in-In c =
+    let at-read-on = c in
     let at-started = c in
     let at-enter = c in
     let at-entered2 = c in
@@ -41,7 +44,7 @@ returns-in-In c = let at-read-on = c in
     let q = at-read-on.read_on in
     let e = sym at-enter.enter-entered.ensures ∙ at-entered2.entered-in-In-1.given.1 in (
       (λ g.
-          advanced-started a.file.now (lends a.names.now a.area.now) a.nodes-1.now a.attributes-1.now a.st g at-start.requires.1 e
+          advanced-started a.file.now (lends a.names.now a.area.now) a.nodes.now a.attributes.now a.st g at-start.requires.1 e
           at-started.started.result at-started.started.ensures q.result q.new.1.1.1.0 q.new.1.1.1.1.0 q.ensures.0),
       q.ensures.1,
     )

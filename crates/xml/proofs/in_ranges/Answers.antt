@@ -9,16 +9,19 @@ pub loop-i-init : goal.loop-i-init
 loop-i-init c = (omega arith, refl)
 
 pub returns-then-within : goal.returns-then-within
-returns-then-within c = let a = c.args in
+returns-then-within c =
+    let a = c.args in
     let l = c.loop-i in
     sym (hits _ _ _ (in_ranges-step a.rs.now a.v l.i (omega arith)) (sym c.within.ensures ∙ c.if-within.true)) ∙ l.invariant.1
 
 pub loop-i-preserved : goal.loop-i-preserved
-loop-i-preserved c = let a = c.args in
+loop-i-preserved c =
+    let a = c.args in
     let l = c.loop-i in
     (omega arith, sym (misses _ _ _ (in_ranges-step a.rs.now a.v l.i (omega arith)) (sym c.within.ensures ∙ c.if-within.false)) ∙ l.invariant.1)
 
 pub returns : goal.returns
-returns c = let a = c.args in
+returns c =
+    let a = c.args in
     let l = c.loop-i in
     sym (in_ranges-stop a.rs.now a.v l.i c.loop-i-test.false) ∙ l.invariant.1

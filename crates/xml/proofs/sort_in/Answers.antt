@@ -11,11 +11,13 @@ pub returns-then-in_ranges : goal.returns-then-in_ranges
 returns-then-in_ranges c = sym (char_sort-one _ c.if-v-lt128.false (sym c.in_ranges.ensures ∙ c.if-in_ranges.true))
 
 pub returns-then-in_ranges-2 : goal.returns-then-in_ranges-2
-returns-then-in_ranges-2 c = let q = c in
+returns-then-in_ranges-2 c =
+    let q = c in
     let beyond = q.if-v-lt128.false in
     sym (char_sort-two _ beyond (sym q.in_ranges.ensures ∙ q.if-in_ranges.false) (sym c.in_ranges-2.ensures ∙ c.if-in_ranges-2.true))
 
 pub returns : goal.returns
-returns c = let q = c in
+returns c =
+    let q = c in
     let beyond = q.if-v-lt128.false in
     sym (char_sort-none _ beyond (sym q.in_ranges.ensures ∙ q.if-in_ranges.false) (sym c.in_ranges-2.ensures ∙ c.if-in_ranges-2.false))

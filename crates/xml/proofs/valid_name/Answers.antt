@@ -3,7 +3,6 @@ use mathlib.Core.Path.{sym, ◌∙◌}
 use Prim.Native.Nat.{ℕ, ◌-◌, ◌<◌}
 use native.Mathlib.Omega.{arith}
 use lib.ListN.{get_or}
-use borrow.Author.Tests.{not-true, not-false}
 use Rattle.utf.proofs.Turns.{stops, goes}
 use Rattle.xml.proofs.Classes.{classes-right}
 use Rattle.xml.proofs.Names.{valid_name-begins, end-char, valid_name-none}
@@ -16,37 +15,44 @@ pub begins_well-requires : goal.begins_well-requires
 begins_well-requires c = (classes-right, omega arith)
 
 pub returns-then-not-begins_well : goal.returns-then-not-begins_well
-returns-then-not-begins_well c = let a = c.args in
+returns-then-not-begins_well c =
+    let a = c.args in
     let bytes : (k : ℕ) → get_or a.s.now k 0 < 256 = λ k. (c.shared_slice_known-1.given k).fits in
     let begun = valid_name-begins a.utf16 a.s.now (omega arith) bytes in
-    sym (stops _ _ _ begun (sym c.begins_well.ensures ∙ not-true _ c.if-not-begins_well.true))
+    sym (stops _ _ _ begun (sym c.begins_well.ensures ∙ c.if-not-begins_well.true))
 
 pub loop-at-init : goal.loop-at-init
-loop-at-init c = let a = c.args in
+loop-at-init c =
+    let a = c.args in
     let bytes : (k : ℕ) → get_or a.s.now k 0 < 256 = λ k. (c.shared_slice_known-1.given k).fits in
     let begun = valid_name-begins a.utf16 a.s.now (omega arith) bytes in
-    sym (goes _ _ _ begun (sym c.begins_well.ensures ∙ not-false _ c.if-not-begins_well.false))
+    sym (goes _ _ _ begun (sym c.begins_well.ensures ∙ c.if-not-begins_well.false))
 
 pub stretch_at-p-requires : goal.stretch_at-p-requires
 stretch_at-p-requires c = c.loop-at-test.true
 
 pub chars_run-at-requires : goal.chars_run-at-requires
-chars_run-at-requires c = let p = c.stretch_at-p.ensures in
+chars_run-at-requires c =
+    let p = c.stretch_at-p.ensures in
     (classes-right, p.ends, omega (arith, p.farther))
 
 pub returns-then-at-p : goal.returns-then-at-p
-returns-then-at-p c = let q = c in
+returns-then-at-p c =
+    let q = c in
     let r = c.chars_run-at.ensures in
     sym (r.stuck c.if-at-p.true) ∙ r.passed.rest ∙ q.stretch_at-p.ensures.seen.passed.rest ∙ q.loop-at.invariant
 
 pub loop-at-smaller : goal.loop-at-smaller
-loop-at-smaller c = let q = c in
+loop-at-smaller c =
+    let q = c in
     omega (arith, q.stretch_at-p.ensures.farther, c.if-at-p.false, q.loop-at-test.true)
 
 pub loop-at-preserved : goal.loop-at-preserved
-loop-at-preserved c = let q = c in
+loop-at-preserved c =
+    let q = c in
     c.chars_run-at.ensures.passed.rest ∙ q.stretch_at-p.ensures.seen.passed.rest ∙ q.loop-at.invariant
 
 pub returns : goal.returns
-returns c = let a = c.args in
+returns c =
+    let a = c.args in
     sym (end-char a.utf16 a.s.now _ c.loop-at-test.false) ∙ c.loop-at.invariant

@@ -10,5 +10,6 @@ pub overflow_add-result : goal.overflow_add-result
 overflow_add-result c = omega (arith, attributes-fit c.args.s.attribute_count c.stride_of.result (omega arith) (omega arith))
 
 pub returns : goal.returns
-returns c = let fit = attributes-fit c.args.s.attribute_count c.stride_of.result (omega arith) (omega arith) in
+returns c =
+    let fit = attributes-fit c.args.s.attribute_count c.stride_of.result (omega arith) (omega arith) in
     (rw c.stride_of.ensures.0 (omega arith), omega arith)

@@ -5,26 +5,30 @@ use Rattle.xml_elements.proofs.Laws.{turn_of-stop, turn_of-xml, turn_of-foreign-
 use Rattle.xml_elements.proofs.look.Goals as goal
 
 pub returns-then-sort-eq2 : goal.returns-then-sort-eq2
-returns-then-sort-eq2 c = let at-header = c in
+returns-then-sort-eq2 c =
+    let at-header = c in
     let w = sym at-header.header_at-read.ensures ∙ c.read-1.given.1 in
     c.xml_turn.ensures ∙ sym (turn_of-xml at-header.args.l.now w (sym c.sort_of-sort.ensures ∙ c.if-sort-eq2.true))
 
 pub skip_content-used-requires : goal.skip_content-used-requires
-skip_content-used-requires c = let at-header = c in
+skip_content-used-requires c =
+    let at-header = c in
     header_of-long at-header.args.l.now (sym at-header.header_at-read.ensures ∙ c.read-1.given.1)
 
 pub returns-then-sort-eq0 : goal.returns-then-sort-eq0
-returns-then-sort-eq0 c = let at-header = c in
+returns-then-sort-eq0 c =
+    let at-header = c in
     let w = sym at-header.header_at-read.ensures ∙ c.read-1.given.1 in
     let content = c.skip_content-used in
     let l = at-header.args.l.now in
     turn_of-foreign-0 l content.result w (sym c.sort_of-sort.ensures ∙ c.if-sort-eq0.true) content.ensures
 
 pub returns-in-Short : goal.returns-in-Short
-returns-in-Short c = sym (turn_of-stop c.args.l.now (sym c.header_at-read.ensures ∙ c.enum_told-1.given.1))
+returns-in-Short c = sym (turn_of-stop c.args.l.now (sym c.header_at-read.ensures ∙ c.in-Short.is))
 
 pub returns-else-sort-eq0 : goal.returns-else-sort-eq0
-returns-else-sort-eq0 c = let at-header = c in
+returns-else-sort-eq0 c =
+    let at-header = c in
     let w = sym at-header.header_at-read.ensures ∙ c.read-1.given.1 in
     let content = c.skip_content-used in
     let e = c.sort_of-sort.ensures in

@@ -10,20 +10,24 @@ unfolding start_turn
 returns-then-n-lt36 c = search tests
 
 pub returns-then-n-attributes_at : goal.returns-then-n-attributes_at
-returns-then-n-attributes_at c = let at-start = c in
+returns-then-n-attributes_at c =
+    let at-start = c in
     start_turn-gap at-start.args.l.now at-start.start_at-s.result at-start.start_at-s.ensures (omega arith) (omega arith)
 
 pub returns-then-n-attributes_end : goal.returns-then-n-attributes_end
-returns-then-n-attributes_end c = let at-start = c in
+returns-then-n-attributes_end c =
+    let at-start = c in
     let l = at-start.args.l.now in
     start_turn-attributes l at-start.start_at-s.result at-start.start_at-s.ensures (omega arith) (omega arith) (omega arith)
 
 pub returns-then-n-start_len : goal.returns-then-n-start_len
-returns-then-n-start_len c = let at-start = c in
+returns-then-n-start_len c =
+    let at-start = c in
     let l = at-start.args.l.now in
     start_turn-trailing l at-start.start_at-s.result at-start.start_at-s.ensures (omega arith) (omega arith) (omega arith)
 
 pub returns : goal.returns
-returns c = let at-start = c in
+returns c =
+    let at-start = c in
     let l = at-start.args.l.now in
     start_turn-whole l at-start.start_at-s.result at-start.start_at-s.ensures (omega arith) (omega arith)

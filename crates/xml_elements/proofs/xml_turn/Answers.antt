@@ -14,7 +14,8 @@ returns-then-kind-eq383 c = search tests
 
 pub returns-then-kind-eq258 : goal.returns-then-kind-eq258
 unfolding xml_turn
-returns-then-kind-eq258 c = let e = c.start_turn.ensures in
+returns-then-kind-eq258 c =
+    let e = c.start_turn.ensures in
     simp (e, le-ltb _ _ c.if-n-lt16.false, ne_eqb _ _ c.if-kind-eq383.false, eq-eqb _ _ c.if-kind-eq258.true)
 
 pub returns-then-n-lt24 : goal.returns-then-n-lt24

@@ -3,29 +3,33 @@ use Rattle.c_api.proofs.Month.{adds-other-length, adds-other-number, adds-all, a
 use Rattle.c_api.proofs.adding.axml_round_up_add.Goals as goal
 
 pub returns-then-words-ne-PLACES : goal.returns-then-words-ne-PLACES
-returns-then-words-ne-PLACES c = let a = c.args in
-    adds-other-length a.round_up-1.now a.notes.now a.refusal a.note-count a.file-bytes c.if-words-ne-PLACES.true
+returns-then-words-ne-PLACES c =
+    let a = c.args in
+    adds-other-length a.round_up.now a.notes.now a.refusal a.note_count a.file_bytes c.if-words-ne-PLACES.true
 
 pub returns-then-refusal-ge-NUMBERS : goal.returns-then-refusal-ge-NUMBERS
-returns-then-refusal-ge-NUMBERS c = let a = c.args in
-    adds-other-number a.round_up-1.now a.notes.now a.refusal a.note-count a.file-bytes c.if-words-ne-PLACES.false c.if-refusal-ge-NUMBERS.true
+returns-then-refusal-ge-NUMBERS c =
+    let a = c.args in
+    adds-other-number a.round_up.now a.notes.now a.refusal a.note_count a.file_bytes c.if-words-ne-PLACES.false c.if-refusal-ge-NUMBERS.true
 
 pub returns-then-add_where_room : goal.returns-then-add_where_room
-returns-then-add_where_room c = let tried = c in
+returns-then-add_where_room c =
+    let tried = c in
     let shared = tried in
     let counted = shared in
     let second = counted in
     let first = second in
     let a = first.args in
-    adds-all a.round_up-1.now a.notes.now a.refusal a.note-count a.file-bytes first.if-words-ne-PLACES.false second.if-refusal-ge-NUMBERS.false _ _
+    adds-all a.round_up.now a.notes.now a.refusal a.note_count a.file_bytes first.if-words-ne-PLACES.false second.if-refusal-ge-NUMBERS.false _ _
     counted.kinds_in-kinds.ensures shared.share_by-share.ensures _ _ tried.add_where_room.ensures c.if-add_where_room.true
 
 pub returns : goal.returns
-returns c = let tried = c in
+returns c =
+    let tried = c in
     let shared = tried in
     let counted = shared in
     let second = counted in
     let first = second in
     let a = first.args in
-    adds-full a.round_up-1.now a.notes.now a.refusal a.note-count a.file-bytes first.if-words-ne-PLACES.false second.if-refusal-ge-NUMBERS.false _ _
+    adds-full a.round_up.now a.notes.now a.refusal a.note_count a.file_bytes first.if-words-ne-PLACES.false second.if-refusal-ge-NUMBERS.false _ _
     counted.kinds_in-kinds.ensures shared.share_by-share.ensures _ _ tried.add_where_room.ensures c.if-add_where_room.false

@@ -6,21 +6,25 @@ use Rattle.c_api.proofs.Placing.{place-open, place-closed}
 use Rattle.c_api.proofs.content.axml_content.Goals as goal
 
 pub find-f-requires : goal.find-f-requires
-find-f-requires c = let a = c.args in
+find-f-requires c =
+    let a = c.args in
     let e = sym c.open_file-opened.ensures ∙ c.opened-1.given.1 in
     rw c.tables_of-t.ensures (open_of-asks a.file.now (lends a.names.now a.area.now) e)
 
 pub place_of-requires : goal.place_of-requires
-place_of-requires c = let a = c.args in
+place_of-requires c =
+    let a = c.args in
     let e = sym c.open_file-opened.ensures ∙ c.opened-1.given.1 in
     (c.find-f.ensures.inside, rw c.tables_of-t.ensures (open_of-asks a.file.now (lends a.names.now a.area.now) e).fits.short)
 
 pub returns-in-Open : goal.returns-in-Open
-returns-in-Open c = let a = c.args in
+returns-in-Open c =
+    let a = c.args in
     let e = sym c.open_file-opened.ensures ∙ c.opened-1.given.1 in
     place-open a.file.now (lends a.names.now a.area.now) a.index e c.tables_of-t.ensures c.find-f.ensures c.place_of.ensures
 
 pub returns-in-Closed : goal.returns-in-Closed
-returns-in-Closed c = let a = c.args in
-    let e = sym c.open_file-opened.ensures ∙ c.enum_told-1.given.1 in
+returns-in-Closed c =
+    let a = c.args in
+    let e = sym c.open_file-opened.ensures ∙ c.in-Closed.is in
     place-closed a.file.now (lends a.names.now a.area.now) a.index e refl

@@ -12,7 +12,6 @@ use Rattle.common.specs.Complex.{mantissa, radix, mult, Complex}
 use Rattle.common.proofs.Product.{lossless, near, exact}
 use Rattle.common.proofs.value.complex_to_float.Goals as goal
 
-
 -- the table, as MIR has it, by bit patterns
 table : List Float
 unfolding of_bits
@@ -23,7 +22,6 @@ table =
     ∷ of_bits binary64 0x3e00000007510c0e
     ∷ []
 
-
 entry : (ρ : ℕ) → ρ < 4 → get_or table ρ nan ≡ mult ρ
 unfolding table of_bits
 entry zero h = refl
@@ -31,7 +29,6 @@ entry (suc zero) h = refl
 entry (suc (suc zero)) h = refl
 entry (suc (suc (suc zero))) h = refl
 entry (suc (suc (suc (suc ρ)))) h = absurd (let z : ⊥ = omega arith in z)
-
 
 met : (d : ℕ) → d < 2 ^ 32 → Complex d (mul binary64 (of_int binary64 (pos (mantissa d))) (mult (radix d)))
 met d h = record {
@@ -44,6 +41,7 @@ met d h = record {
 
 pub returns : goal.returns
 unfolding table
-returns c = let d = c.args.«data» in
+returns c =
+    let d = c.args.«data» in
     subst (λ (x : Float). Complex d (mul binary64 (of_int binary64 (pos (mantissa d))) x)) (sym (entry (radix d) (omega arith)))
     (met d c.ranges.«data».fits)

@@ -5,7 +5,6 @@ use borrow.Author.Rules.{rules}
 use Rattle.common.specs.ValueType.{value_type_of}
 use Rattle.common.proofs.value.value_type_of.Goals as goal
 
-
 ruleset tests = (ne_eqb, rules)
 
 pub returns-in-0 : goal.returns-in-0

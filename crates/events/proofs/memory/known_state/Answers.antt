@@ -10,7 +10,8 @@ pub known_look-look-requires : goal.known_look-look-requires
 known_look-look-requires c = c.requires
 
 pub returns : goal.returns
-returns c = let a = c.args in
+returns c =
+    let a = c.args in
     let asked = c in
     let k = content_of a.h a.t.now (lends a.names.now a.area.now) a.index.0 in
     (c.state_by.ensures ∙ ap state_by asked.known_look-look.ensures.0 ∙ look_of-state k, asked.known_look-look.ensures.1)

@@ -5,10 +5,12 @@ use Rattle.events.proofs.Remembering.{state-le, look-of}
 use Rattle.events.proofs.memory.look_again.Goals as goal
 
 pub look_by-requires : goal.look_by-requires
-look_by-requires c = let a = c.args in
+look_by-requires c =
+    let a = c.args in
     state-le _ (part_of a.utf16 a.t.now a.area.now a.f) c.state_of_found-state.ensures
 
 pub returns : goal.returns
-returns c = let a = c.args in
+returns c =
+    let a = c.args in
     c.look_by.ensures
     ∙ look-of _ _ (part_of a.utf16 a.t.now a.area.now a.f) c.state_of_found-state.ensures c.found_state-name.ensures

@@ -5,7 +5,8 @@ use Rattle.events.proofs.Remembering.{look-whole}
 use Rattle.events.proofs.memory.look_found.Goals as goal
 
 pub returns-then-found_whole : goal.returns-then-found_whole
-returns-then-found_whole c = let a = c.args in
+returns-then-found_whole c =
+    let a = c.args in
     sym (look-whole (part_of a.utf16 a.t.now a.area.now a.f) (sym c.found_whole.ensures ∙ c.if-found_whole.true))
 
 pub returns : goal.returns

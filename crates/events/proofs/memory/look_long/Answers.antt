@@ -6,37 +6,43 @@ use Rattle.events.specs.Inner.Remembered.{look_of}
 use Rattle.events.proofs.memory.look_long.Goals as goal
 
 pub look_found-requires : goal.look_found-requires
-look_found-requires c = let s = c in
+look_found-requires c =
+    let s = c in
     let a = s.args in
     let i = subst (Inside a.t.now a.area.now) c.f-1.given.1 s.requires.1 in
     i
 
 pub look_pool-requires : goal.look_pool-requires
-look_pool-requires c = let s = c in
+look_pool-requires c =
+    let s = c in
     let a = s.args in
     let i = subst (Inside a.t.now a.area.now) c.f-in-Pool-1.given.1 s.requires.1 in
     (s.requires.0, i, s.requires.2)
 
 pub returns-in-Nothing : goal.returns-in-Nothing
-returns-in-Nothing c = let s = c in
+returns-in-Nothing c =
+    let s = c in
     let a = s.args in
-    let same = ap (λ (x : Found). look_of (part_of a.h.utf16 a.t.now a.area.now x)) (sym c.enum_told-1.given.1) in
+    let same = ap (λ (x : Found). look_of (part_of a.h.utf16 a.t.now a.area.now x)) (sym c.in-Nothing.is) in
     (same, s.requires.2)
 
 pub returns-in-Cut : goal.returns-in-Cut
-returns-in-Cut c = let s = c in
+returns-in-Cut c =
+    let s = c in
     let a = s.args in
-    let same = ap (λ (x : Found). look_of (part_of a.h.utf16 a.t.now a.area.now x)) (sym c.enum_told-in-Cut-1.given.1) in
+    let same = ap (λ (x : Found). look_of (part_of a.h.utf16 a.t.now a.area.now x)) (sym c.in-Cut.is) in
     (same, s.requires.2)
 
 pub returns-in-System : goal.returns-in-System
-returns-in-System c = let s = c in
+returns-in-System c =
+    let s = c in
     let a = s.args in
     let same = ap (λ (x : Found). look_of (part_of a.h.utf16 a.t.now a.area.now x)) (sym c.f-1.given.1) in
     (c.look_found.ensures ∙ same, s.requires.2)
 
 pub returns-in-Pool : goal.returns-in-Pool
-returns-in-Pool c = let s = c in
+returns-in-Pool c =
+    let s = c in
     let a = s.args in
     let same = ap (λ (x : Found). look_of (part_of a.h.utf16 a.t.now a.area.now x)) (sym c.f-in-Pool-1.given.1) in
     (c.look_pool.ensures.0 ∙ same, c.look_pool.ensures.1)

@@ -7,9 +7,11 @@ pub returns-then-look-eq8 : goal.returns-then-look-eq8
 returns-then-look-eq8 c = rw (eq-eqb c.args.look 8 c.if-look-eq8.true)
 
 pub returns-then-look-eq1 : goal.returns-then-look-eq1
-returns-then-look-eq1 c = let n = c.args.look in
+returns-then-look-eq1 c =
+    let n = c.args.look in
     rw (ne_eqb n 8 c.if-look-eq8.false, eq-eqb (n % 2) 1 c.if-look-eq1.true)
 
 pub returns : goal.returns
-returns c = let n = c.args.look in
+returns c =
+    let n = c.args.look in
     rw (ne_eqb n 8 c.if-look-eq8.false, ne_eqb (n % 2) 1 c.if-look-eq1.false)

@@ -8,25 +8,28 @@ pub known_state-state-requires : goal.known_state-state-requires
 known_state-state-requires c = c.requires
 
 pub returns-in-NoText : goal.returns-in-NoText
-returns-in-NoText c = let asked = c in
+returns-in-NoText c =
+    let asked = c in
     let a = asked.args in
     let N = names_in a.mode a.h a.t.now (lends a.names.now a.area.now) in (
-      ap (attribute_by N a.a) (sym c.enum_told-1.given.1 ∙ asked.known_state-state.ensures.0),
+      ap (attribute_by N a.a) (sym c.in-NoText.is ∙ asked.known_state-state.ensures.0),
       asked.known_state-state.ensures.1,
     )
 
 pub returns-in-Invalid : goal.returns-in-Invalid
-returns-in-Invalid c = let asked = c in
+returns-in-Invalid c =
+    let asked = c in
     let a = asked.args in
     let N = names_in a.mode a.h a.t.now (lends a.names.now a.area.now) in (
-      c.invalid_attribute.ensures ∙ ap (attribute_by N a.a) (sym c.enum_told-in-Invalid-1.given.1 ∙ asked.known_state-state.ensures.0),
+      c.invalid_attribute.ensures ∙ ap (attribute_by N a.a) (sym c.in-Invalid.is ∙ asked.known_state-state.ensures.0),
       asked.known_state-state.ensures.1,
     )
 
 pub returns-in-Valid : goal.returns-in-Valid
-returns-in-Valid c = let asked = c in
+returns-in-Valid c =
+    let asked = c in
     let a = asked.args in
     let N = names_in a.mode a.h a.t.now (lends a.names.now a.area.now) in (
-      c.valid_attribute.ensures ∙ ap (attribute_by N a.a) (sym c.enum_told-in-Valid-1.given.1 ∙ asked.known_state-state.ensures.0),
+      c.valid_attribute.ensures ∙ ap (attribute_by N a.a) (sym c.in-Valid.is ∙ asked.known_state-state.ensures.0),
       asked.known_state-state.ensures.1,
     )

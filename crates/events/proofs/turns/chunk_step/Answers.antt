@@ -16,10 +16,10 @@ pub returns-in-Start : goal.returns-in-Start
 returns-in-Start c = c.start_step.ensures ∙ ap (chunk_step c.args.c) (sym c.x-1.given.1)
 
 pub returns-in-End : goal.returns-in-End
-returns-in-End c = c.End-step.ensures ∙ ap (chunk_step c.args.c) (sym c.enum_told-1.given.1)
+returns-in-End c = c.end_step.ensures ∙ ap (chunk_step c.args.c) (sym c.in-End.is)
 
 pub returns-in-Other : goal.returns-in-Other
 returns-in-Other c = c.other_step.ensures ∙ ap (chunk_step c.args.c) (sym c.x-in-Other-1.given.1)
 
 pub returns-in-Last : goal.returns-in-Last
-returns-in-Last c = c.unknown_step.ensures ∙ ap (chunk_step c.args.c) (sym c.enum_told-in-Last-1.given.1)
+returns-in-Last c = c.unknown_step.ensures ∙ ap (chunk_step c.args.c) (sym c.in-Last.is)

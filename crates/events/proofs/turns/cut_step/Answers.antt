@@ -4,29 +4,36 @@ use mathlib.Core.Path.{◌∙◌, sym, ap}
 use Rattle.events.proofs.turns.cut_step.Goals as goal
 
 pub returns-in-CutLine : goal.returns-in-CutLine
-returns-in-CutLine c = let a = c.args in
-    c.Quiet-step.ensures ∙ ap (cut_step a.n a.c) (sym c.enum_told-1.given.1)
+returns-in-CutLine c =
+    let a = c.args in
+    c.quiet_step.ensures ∙ ap (cut_step a.n a.c) (sym c.in-CutLine.is)
 
 pub returns-in-CutHead : goal.returns-in-CutHead
-returns-in-CutHead c = let a = c.args in
-    c.quiet_step-in-CutHead.ensures ∙ ap (cut_step a.n a.c) (sym c.enum_told-in-CutHead-1.given.1)
+returns-in-CutHead c =
+    let a = c.args in
+    c.quiet_step-in-CutHead.ensures ∙ ap (cut_step a.n a.c) (sym c.in-CutHead.is)
 
 pub returns-in-CutGap : goal.returns-in-CutGap
-returns-in-CutGap c = let a = c.args in
+returns-in-CutGap c =
+    let a = c.args in
     c.begin_step.ensures ∙ ap (cut_step a.n a.c) (sym c.x-1.given.1)
 
 pub returns-in-CutAttributes : goal.returns-in-CutAttributes
-returns-in-CutAttributes c = let a = c.args in
+returns-in-CutAttributes c =
+    let a = c.args in
     c.begin_step-in-CutAttributes.ensures ∙ ap (cut_step a.n a.c) (sym c.x-in-CutAttributes-1.given.1)
 
 pub returns-in-CutTrailing : goal.returns-in-CutTrailing
-returns-in-CutTrailing c = let a = c.args in
+returns-in-CutTrailing c =
+    let a = c.args in
     c.begin_step-in-CutTrailing.ensures ∙ ap (cut_step a.n a.c) (sym c.x-in-CutTrailing-1.given.1)
 
 pub returns-in-CutEnd : goal.returns-in-CutEnd
-returns-in-CutEnd c = let a = c.args in
-    c.close_step.ensures ∙ ap (cut_step a.n a.c) (sym c.enum_told-in-CutEnd-1.given.1)
+returns-in-CutEnd c =
+    let a = c.args in
+    c.close_step.ensures ∙ ap (cut_step a.n a.c) (sym c.in-CutEnd.is)
 
 pub returns-in-CutOther : goal.returns-in-CutOther
-returns-in-CutOther c = let a = c.args in
-    c.skip_step.ensures ∙ ap (cut_step a.n a.c) (sym c.enum_told-in-CutOther-1.given.1)
+returns-in-CutOther c =
+    let a = c.args in
+    c.skip_step.ensures ∙ ap (cut_step a.n a.c) (sym c.in-CutOther.is)

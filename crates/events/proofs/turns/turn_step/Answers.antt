@@ -8,7 +8,8 @@ use mathlib.Core.Path.{◌∙◌, sym, ap}
 use Rattle.events.proofs.turns.turn_step.Goals as goal
 
 pub foreign_step-requires : goal.foreign_step-requires
-foreign_step-requires c = let start = c in
+foreign_step-requires c =
+    let start = c in
     let a = start.args in
     let v = c.turn-1.given in
     let e = c.look-turn.ensures ∙ ap turn_of (rest a.b.now a.c.at) in
@@ -16,7 +17,8 @@ foreign_step-requires c = let start = c in
     (q.2, start.requires.1)
 
 pub chunk_step-requires : goal.chunk_step-requires
-chunk_step-requires c = let start = c in
+chunk_step-requires c =
+    let start = c in
     let a = start.args in
     let v = c.turn-in-Met-1.given in
     let e = c.look-turn.ensures ∙ ap turn_of (rest a.b.now a.c.at) in
@@ -24,21 +26,25 @@ chunk_step-requires c = let start = c in
     omega (arith, q.1, start.requires.1)
 
 pub returns-in-Stop : goal.returns-in-Stop
-returns-in-Stop c = let a = c.args in
+returns-in-Stop c =
+    let a = c.args in
     let e = c.look-turn.ensures ∙ ap turn_of (rest a.b.now a.c.at) in
-    c.Quiet-step.ensures ∙ ap (turn_step a.b.now a.c) (sym c.enum_told-1.given.1 ∙ e)
+    c.quiet_step.ensures ∙ ap (turn_step a.b.now a.c) (sym c.in-Stop.is ∙ e)
 
 pub returns-in-Foreign : goal.returns-in-Foreign
-returns-in-Foreign c = let a = c.args in
+returns-in-Foreign c =
+    let a = c.args in
     let e = c.look-turn.ensures ∙ ap turn_of (rest a.b.now a.c.at) in
     c.foreign_step.ensures ∙ ap (turn_step a.b.now a.c) (sym c.turn-1.given.1 ∙ e)
 
 pub returns-in-Met : goal.returns-in-Met
-returns-in-Met c = let a = c.args in
+returns-in-Met c =
+    let a = c.args in
     let e = c.look-turn.ensures ∙ ap turn_of (rest a.b.now a.c.at) in
     c.chunk_step.ensures ∙ ap (turn_step a.b.now a.c) (sym c.turn-in-Met-1.given.1 ∙ e)
 
 pub returns-in-Cut : goal.returns-in-Cut
-returns-in-Cut c = let a = c.args in
+returns-in-Cut c =
+    let a = c.args in
     let e = c.look-turn.ensures ∙ ap turn_of (rest a.b.now a.c.at) in
     c.cut_step.ensures ∙ ap (turn_step a.b.now a.c) (sym c.turn-in-Cut-1.given.1 ∙ e)

@@ -8,18 +8,21 @@ use Rattle.first_value.proofs.Laws.{fit_of-nodes, fit_of-attributes, fit_of-runs
 use Rattle.first_value.proofs.runs.fit_of.Goals as goal
 
 pub returns-then-nodes-node_place : goal.returns-then-nodes-node_place
-returns-then-nodes-node_place c = let a = c.args in
-    let p : length a.nodes.now < node_width * a.node-count = search rules in
-    sym (fit_of-nodes a.nodes.now a.attributes.now a.node-count a.attribute-count p)
+returns-then-nodes-node_place c =
+    let a = c.args in
+    let p : length a.nodes.now < node_width * a.node_count = search rules in
+    sym (fit_of-nodes a.nodes.now a.attributes.now a.node_count a.attribute_count p)
 
 pub returns-then-attributes-attribute_place : goal.returns-then-attributes-attribute_place
-returns-then-attributes-attribute_place c = let a = c.args in
-    let p : node_width * a.node-count ≤ length a.nodes.now = search rules in
-    let q : length a.attributes.now < attribute_width * a.attribute-count = search rules in
-    sym (fit_of-attributes a.nodes.now a.attributes.now a.node-count a.attribute-count p q)
+returns-then-attributes-attribute_place c =
+    let a = c.args in
+    let p : node_width * a.node_count ≤ length a.nodes.now = search rules in
+    let q : length a.attributes.now < attribute_width * a.attribute_count = search rules in
+    sym (fit_of-attributes a.nodes.now a.attributes.now a.node_count a.attribute_count p q)
 
 pub returns : goal.returns
-returns c = let a = c.args in
-    let p : node_width * a.node-count ≤ length a.nodes.now = search rules in
-    let q : attribute_width * a.attribute-count ≤ length a.attributes.now = search rules in
-    c.Runs-Fit.ensures ∙ sym (fit_of-runs a.nodes.now a.attributes.now a.node-count a.attribute-count p q)
+returns c =
+    let a = c.args in
+    let p : node_width * a.node_count ≤ length a.nodes.now = search rules in
+    let q : attribute_width * a.attribute_count ≤ length a.attributes.now = search rules in
+    c.Runs-Fit.ensures ∙ sym (fit_of-runs a.nodes.now a.attributes.now a.node_count a.attribute_count p q)

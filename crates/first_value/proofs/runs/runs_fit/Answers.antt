@@ -11,25 +11,28 @@ pub loop-k-init : goal.loop-k-init
 loop-k-init c = (search rules, sym (rw sub-zero))
 
 pub returns-then-passes : goal.returns-then-passes
-returns-then-passes c = let at_place = c in
+returns-then-passes c =
+    let at_place = c in
     let at-loop = at_place in
     let a = at-loop.args in
     let l = at-loop.loop-k in
     sym
-    (l.invariant.1 ∙ runs_from-unfit a.attribute-count a.node-count a.nodes.now l.k at_place.loop-k-test.true
+    (l.invariant.1 ∙ runs_from-unfit a.attribute_count a.node_count a.nodes.now l.k at_place.loop-k-test.true
     at_place.node_place-at.ensures c.passes.ensures c.if-passes.true)
 
 pub loop-k-preserved : goal.loop-k-preserved
-loop-k-preserved c = let at_place = c in
+loop-k-preserved c =
+    let at_place = c in
     let at-loop = at_place in
     let a = at-loop.args in
     let l = at-loop.loop-k in
     let e =
-    runs_from-next a.attribute-count a.node-count a.nodes.now l.k at_place.loop-k-test.true
+    runs_from-next a.attribute_count a.node_count a.nodes.now l.k at_place.loop-k-test.true
     at_place.node_place-at.ensures c.passes.ensures c.if-passes.false in
     (search rules, l.invariant.1 ∙ e)
 
 pub returns : goal.returns
-returns c = let a = c.args in
+returns c =
+    let a = c.args in
     let l = c.loop-k in
-    sym (l.invariant.1 ∙ runs_from-end a.attribute-count a.node-count a.nodes.now l.k c.loop-k-test.false)
+    sym (l.invariant.1 ∙ runs_from-end a.attribute_count a.node_count a.nodes.now l.k c.loop-k-test.false)

@@ -4,7 +4,6 @@ use Prim.Native.Nat.{◌-◌, ◌%◌}
 use native.Mathlib.Nat.{sub-zero}
 use native.Mathlib.Omega.{arith}
 use mathlib.Core.Path.{refl, sym, ◌∙◌}
-use borrow.Author.Tests.{not-true, not-false}
 use lib.ListN.{length}
 use Rattle.records.specs.Words.{pair_width}
 use Rattle.first_values.proofs.Laws.{pairs_from-bad, pairs_from-next, pairs_from-left, pairs_from-whole, pairs_of-by}
@@ -18,29 +17,33 @@ pub is_pair_inside-requires : goal.is_pair_inside-requires
 is_pair_inside-requires c = omega (arith, c.loop-k.invariant.1, c.loop-k-test.true)
 
 pub returns-then-not-is_pair_inside : goal.returns-then-not-is_pair_inside
-returns-then-not-is_pair_inside c = let l = c.loop-k in
+returns-then-not-is_pair_inside c =
+    let l = c.loop-k in
     let a = c.args in
     pairs_of-by a.pairs.now a.area.now l.invariant.1
     (l.invariant.2 ∙ pairs_from-bad a.area.now (length a.pairs.now % pair_width) _ a.pairs.now l.k c.loop-k-test.true
-    c.is_pair_inside.ensures (not-true _ c.if-not-is_pair_inside.true))
+    c.is_pair_inside.ensures (c.if-not-is_pair_inside.true))
 
 pub loop-k-preserved : goal.loop-k-preserved
-loop-k-preserved c = let l = c.loop-k in
+loop-k-preserved c =
+    let l = c.loop-k in
     let a = c.args in
     let e =
     pairs_from-next a.area.now (length a.pairs.now % pair_width) _ a.pairs.now l.k c.loop-k-test.true
-    c.is_pair_inside.ensures (not-false _ c.if-not-is_pair_inside.false) in
+    c.is_pair_inside.ensures (c.if-not-is_pair_inside.false) in
     (search rules, l.invariant.1, l.invariant.2 ∙ e)
 
 pub returns-then-pairs-ne0 : goal.returns-then-pairs-ne0
-returns-then-pairs-ne0 c = let l = c.loop-k in
+returns-then-pairs-ne0 c =
+    let l = c.loop-k in
     let a = c.args in
     pairs_of-by a.pairs.now a.area.now l.invariant.1
     (l.invariant.2 ∙ pairs_from-left a.area.now (length a.pairs.now % pair_width) _ a.pairs.now l.k c.loop-k-test.false l.invariant.0
     c.if-pairs-ne0.true)
 
 pub returns : goal.returns
-returns c = let l = c.loop-k in
+returns c =
+    let l = c.loop-k in
     let a = c.args in
     pairs_of-by a.pairs.now a.area.now l.invariant.1
     (l.invariant.2 ∙ pairs_from-whole a.area.now (length a.pairs.now % pair_width) _ a.pairs.now l.k c.loop-k-test.false l.invariant.0

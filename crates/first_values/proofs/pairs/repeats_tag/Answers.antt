@@ -10,6 +10,7 @@ pub returns-then-k-eq0 : goal.returns-then-k-eq0
 returns-then-k-eq0 c = λ e. absurd (true≢false (sym e))
 
 pub returns : goal.returns
-returns c = let a = c.args in
+returns c =
+    let a = c.args in
     let p : 1 ≤ a.k = search rules in
     λ e. repeats-before a.pairs.now a.area.now a.k p c.tag_at.ensures c.tag_at-2.ensures c.same_bytes.ensures e

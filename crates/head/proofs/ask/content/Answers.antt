@@ -5,20 +5,23 @@ use Rattle.head.proofs.Questions.{open_of-asks, content-open, content-closed}
 use Rattle.head.proofs.ask.content.Goals as goal
 
 pub content_in-requires : goal.content_in-requires
-content_in-requires c = let s = c in
+content_in-requires c =
+    let s = c in
     let a = s.args in
     let e = sym c.open_file-opened.ensures ∙ c.opened-1.given.1 in
     rw c.tables_of.ensures (open_of-asks a.file.now (lends a.names.now a.area.now) e)
 
 pub returns-in-Open : goal.returns-in-Open
-returns-in-Open c = let s = c in
+returns-in-Open c =
+    let s = c in
     let p5 = c in
     let a = s.args in
     let e = sym p5.open_file-opened.ensures ∙ c.opened-1.given.1 in
     c.content_in.ensures ∙ content-open a.file.now (lends a.names.now a.area.now) a.index.0 e c.tables_of.ensures
 
 pub returns-in-Closed : goal.returns-in-Closed
-returns-in-Closed c = let s = c in
+returns-in-Closed c =
+    let s = c in
     let a = s.args in
-    let e = sym c.open_file-opened.ensures ∙ c.enum_told-1.given.1 in
+    let e = sym c.open_file-opened.ensures ∙ c.in-Closed.is in
     content-closed a.file.now (lends a.names.now a.area.now) a.index.0 e

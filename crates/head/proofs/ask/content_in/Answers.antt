@@ -4,5 +4,6 @@ use Rattle.text.specs.Content.{raw_of}
 use Rattle.head.proofs.ask.content_in.Goals as goal
 
 pub returns : goal.returns
-returns c = let s = c in
+returns c =
+    let s = c in
     c.content_of.ensures s.args.h.utf16 ∙ ap raw_of c.find-f.ensures.same

@@ -6,25 +6,28 @@ use Rattle.head.proofs.Questions.{open_of-asks, reads-open, reads-closed}
 use Rattle.head.proofs.ask.text.Goals as goal
 
 pub text_in-requires : goal.text_in-requires
-text_in-requires c = let s = c in
+text_in-requires c =
+    let s = c in
     let p5 = c in
     let a = s.args in
     let e = sym p5.open_file-opened.ensures ∙ c.opened-1.given.1 in
     rw c.tables_of.ensures (open_of-asks a.file.now (lends a.names.now a.area.now) e)
 
 pub returns-in-Open : goal.returns-in-Open
-returns-in-Open c = let s = c in
+returns-in-Open c =
+    let s = c in
     let p8 = c in
     let p6 = c in
     let a = s.args in
     let e = sym p8.open_file-opened.ensures ∙ p6.opened-1.given.1 in
-    reads-open a.file.now (lends a.names.now a.area.now) a.out-1.now _ a.index.0 e
+    reads-open a.file.now (lends a.names.now a.area.now) a.out.now _ a.index.0 e
     c.tables_of.ensures c.text_in.ensures
 
 pub returns-in-Closed : goal.returns-in-Closed
-returns-in-Closed c = let s = c in
+returns-in-Closed c =
+    let s = c in
     let p7 = c in
     let p5 = c in
     let a = s.args in
     let e = sym p7.open_file-opened.ensures ∙ p5.opened-in-Closed-1.given.1 in
-    reads-closed a.file.now (lends a.names.now a.area.now) a.out-1.now _ a.index.0 e (c.refuse.ensures [])
+    reads-closed a.file.now (lends a.names.now a.area.now) a.out.now _ a.index.0 e (c.refuse.ensures [])

@@ -13,5 +13,6 @@ pub loop-i-preserved : goal.loop-i-preserved
 loop-i-preserved c = (search rules, simp length-set (search rules), fill-next _ _ _ (search rules) c.loop-i.invariant.2)
 
 pub returns : goal.returns
-returns c = let s = c in
+returns c =
+    let s = c in
     fill_end c.loop-i.out s.args.out.now c.loop-i.i (search rules) c.loop-i.invariant.2

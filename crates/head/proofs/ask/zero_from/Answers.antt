@@ -3,5 +3,6 @@ use Rattle.head.proofs.Zeros.{zero-tail}
 use Rattle.head.proofs.ask.zero_from.Goals as goal
 
 pub returns : goal.returns
-returns c = let a = c.args in
-    zero-tail a.out-1.now c.zero_all.new.0 a.from c.zero_all.ensures
+returns c =
+    let a = c.args in
+    zero-tail a.out.now c.zero_all.new.0 a.from c.zero_all.ensures

@@ -5,18 +5,21 @@ use Rattle.items.proofs.RunLaws.{same_first, same_next, end-here, end-last}
 use Rattle.items.proofs.looking.end_of.Goals as goal
 
 pub loop-k-init : goal.loop-k-init
-loop-k-init c = let a = c.args in
+loop-k-init c =
+    let a = c.args in
     (omega arith, omega arith, same_first a.area.now a.items.now a.first)
 
 pub returns-then-not-same_attribute : goal.returns-then-not-same_attribute
-returns-then-not-same_attribute c = let a = c.args in
+returns-then-not-same_attribute c =
+    let a = c.args in
     let l = c.loop-k in
     end-here a.area.now a.items.now a.first l.k l.invariant.1 c.loop-k-test.true
     c.item_at-i.ensures c.item_at-head.ensures
     c.same_attribute.ensures c.if-not-same_attribute.true l.invariant.2
 
 pub loop-k-preserved : goal.loop-k-preserved
-loop-k-preserved c = let a = c.args in
+loop-k-preserved c =
+    let a = c.args in
     let l = c.loop-k in (
       omega arith,
       omega (arith, l.invariant.1),
@@ -26,6 +29,7 @@ loop-k-preserved c = let a = c.args in
     )
 
 pub returns : goal.returns
-returns c = let a = c.args in
+returns c =
+    let a = c.args in
     let l = c.loop-k in
     end-last a.area.now a.items.now a.first l.k l.invariant.1 l.invariant.0 c.loop-k-test.false l.invariant.2

@@ -5,5 +5,6 @@ use Rattle.items.specs.Items.{attribute_of}
 use Rattle.items.proofs.looking.is_named.Goals as goal
 
 pub returns : goal.returns
-returns c = let a = c.args in
+returns c =
+    let a = c.args in
     c.same_bytes.ensures ∙ ap (λ x. eq_bytes x a.name.now) (c.part_of.ensures ∙ ap (attribute_of a.area.now) c.item_at-i.ensures)

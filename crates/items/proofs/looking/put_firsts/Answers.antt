@@ -4,7 +4,8 @@ use Rattle.items.proofs.RunLaws.{place-lt, firsts-none, firsts-all, firsts-step}
 use Rattle.items.proofs.looking.put_firsts.Goals as goal
 
 pub loop-k-init : goal.loop-k-init
-loop-k-init c = let a = c.args in
+loop-k-init c =
+    let a = c.args in
     (omega arith, firsts-none a.area.now a.items.now c.requires)
 
 pub item_at-i-requires : goal.item_at-i-requires
@@ -20,7 +21,8 @@ pub loop-k-smaller : goal.loop-k-smaller
 loop-k-smaller c = omega (arith, c.loop-k-test.true)
 
 pub loop-k-preserved : goal.loop-k-preserved
-loop-k-preserved c = let a = c.args in
+loop-k-preserved c =
+    let a = c.args in
     let l = c.loop-k in (
       omega (arith, l.invariant.0),
       firsts-step a.area.now a.items.now l.firsts l.k c.loop-k-test.true c.item_at-i.ensures c.part_of.ensures
@@ -28,5 +30,6 @@ loop-k-preserved c = let a = c.args in
     )
 
 pub returns : goal.returns
-returns c = let a = c.args in
+returns c =
+    let a = c.args in
     firsts-all a.area.now a.items.now c.loop-k.k c.loop-k-test.false c.loop-k.invariant.1

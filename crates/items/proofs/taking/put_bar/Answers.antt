@@ -6,5 +6,6 @@ pub returns-then-some : goal.returns-then-some
 returns-then-some c = rw c.if-some.true c.put_byte.ensures
 
 pub returns : goal.returns
-returns c = let a = c.args in
-    rw c.if-some.false (wrote_none 1 a.p a.out-1.now)
+returns c =
+    let a = c.args in
+    rw c.if-some.false (wrote_none 1 a.p a.out.now)

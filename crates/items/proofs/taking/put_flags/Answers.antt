@@ -8,18 +8,20 @@ use borrow.Author.Rules.{rules}
 use Rattle.items.proofs.taking.put_flags.Goals as goal
 
 pub loop-k-init : goal.loop-k-init
-loop-k-init c = let a = c.args in (
+loop-k-init c =
+    let a = c.args in (
       refl,
-      going-first a.area.now a.flags (items_from a.items.now a.first (a.end - a.first)) a.p a.out-1.now refl (omega arith),
+      going-first a.area.now a.flags (items_from a.items.now a.first (a.end - a.first)) a.p a.out.now refl (omega arith),
     )
 
 pub item_at-i-requires : goal.item_at-i-requires
 item_at-i-requires c = omega (arith, c.loop-k-test.true, c.requires.1)
 
 pub put_turn-st-requires : goal.put_turn-st-requires
-put_turn-st-requires c = let a = c.args in
+put_turn-st-requires c =
+    let a = c.args in
     let l = c.loop-k in
-    omega (arith, going-near a.area.now a.flags (items_from a.items.now a.first (a.end - a.first)) a.p a.out-1.now l.invariant.1)
+    omega (arith, going-near a.area.now a.flags (items_from a.items.now a.first (a.end - a.first)) a.p a.out.now l.invariant.1)
 
 pub overflow_add-k : goal.overflow_add-k
 overflow_add-k c = omega (arith, c.loop-k-test.true)
@@ -28,19 +30,21 @@ pub loop-k-smaller : goal.loop-k-smaller
 loop-k-smaller c = omega (arith, c.loop-k-test.true)
 
 pub loop-k-preserved : goal.loop-k-preserved
-loop-k-preserved c = let a = c.args in
+loop-k-preserved c =
+    let a = c.args in
     let l = c.loop-k in
     let w = a.items.now in (
       search rules,
-      going_step a.area.now a.flags (items_from w a.first (a.end - a.first)) a.p a.out-1.now (item_at w l.k)
+      going_step a.area.now a.flags (items_from w a.first (a.end - a.first)) a.p a.out.now (item_at w l.k)
           (items_from w (l.k + 1) (a.end - (l.k + 1))) (run_step w l.k a.end c.loop-k-test.true)
           c.item_at-i.ensures l.invariant.1
           c.put_turn-st.ensures,
     )
 
 pub returns : goal.returns
-returns c = let a = c.args in
+returns c =
+    let a = c.args in
     let l = c.loop-k in
     let w = a.items.now in
-    going_done a.area.now a.flags (items_from w a.first (a.end - a.first)) a.p a.out-1.now (run_end w l.k a.end c.loop-k-test.false)
+    going_done a.area.now a.flags (items_from w a.first (a.end - a.first)) a.p a.out.now (run_end w l.k a.end c.loop-k-test.false)
     l.invariant.1

@@ -3,12 +3,14 @@ use Rattle.items.proofs.TurnLaws.{turned-name, turned_none}
 use Rattle.items.proofs.taking.put_turn.Goals as goal
 
 pub returns-then-is_taken : goal.returns-then-is_taken
-returns-then-is_taken c = let a = c.args in
-    turned-name a.area.now a.i a.st a.out-1.now _
+returns-then-is_taken c =
+    let a = c.args in
+    turned-name a.area.now a.i a.st a.out.now _
     c.is_taken.ensures
     c.if-is_taken.true
     c.put_name-at.ensures
 
 pub returns : goal.returns
-returns c = let a = c.args in
-    turned_none a.area.now a.i a.st a.out-1.now a.out-1.now c.is_taken.ensures c.if-is_taken.false
+returns c =
+    let a = c.args in
+    turned_none a.area.now a.i a.st a.out.now a.out.now c.is_taken.ensures c.if-is_taken.false

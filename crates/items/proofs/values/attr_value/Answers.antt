@@ -6,8 +6,9 @@ use Rattle.items.proofs.TurnLaws.{run_step, run_end, spoken-none, spoken-enum, s
 use Rattle.items.proofs.values.attr_value.Goals as goal
 
 pub returns-then-run : goal.returns-then-run
-returns-then-run c = let a = c.args in
-    spoken-none a.area.now a.value a.out-1.now (run_end a.items.now a.run.first a.run.end c.if-run.true)
+returns-then-run c =
+    let a = c.args in
+    spoken-none a.area.now a.value a.out.now (run_end a.items.now a.run.first a.run.end c.if-run.true)
 
 pub item_at-head-requires : goal.item_at-head-requires
 item_at-head-requires c = omega (arith, c.if-run.false, c.requires)
@@ -16,7 +17,8 @@ pub find_value-found-requires : goal.find_value-found-requires
 find_value-found-requires c = c.requires
 
 pub returns-then-head-eq0 : goal.returns-then-head-eq0
-returns-then-head-eq0 c = let a = c.args in
+returns-then-head-eq0 c =
+    let a = c.args in
     let w = a.items.now in
     let i = item_at w a.run.first in
     let js = items_from w (a.run.first + 1) (a.run.end - (a.run.first + 1)) in
@@ -30,7 +32,8 @@ pub put_flags-requires : goal.put_flags-requires
 put_flags-requires c = (omega arith, c.requires)
 
 pub returns : goal.returns
-returns c = let a = c.args in
+returns c =
+    let a = c.args in
     let w = a.items.now in
     let i = item_at w a.run.first in
     let js = items_from w (a.run.first + 1) (a.run.end - (a.run.first + 1)) in

@@ -14,7 +14,8 @@ pub item_at-i-requires : goal.item_at-i-requires
 item_at-i-requires c = omega (arith, c.loop-k-test.true, c.requires)
 
 pub returns-then-i-value : goal.returns-then-i-value
-returns-then-i-value c = let a = c.args in
+returns-then-i-value c =
+    let a = c.args in
     let l = c.loop-k in
     let w = a.items.now in
     let e = run_step w l.k a.end c.loop-k-test.true in
@@ -28,7 +29,8 @@ pub loop-k-smaller : goal.loop-k-smaller
 loop-k-smaller c = omega (arith, c.loop-k-test.true)
 
 pub loop-k-preserved : goal.loop-k-preserved
-loop-k-preserved c = let a = c.args in
+loop-k-preserved c =
+    let a = c.args in
     let l = c.loop-k in
     let w = a.items.now in
     let e = run_step w l.k a.end c.loop-k-test.true in
@@ -37,6 +39,7 @@ loop-k-preserved c = let a = c.args in
 
 pub returns : goal.returns
 unfolding enum_of
-returns c = let a = c.args in
+returns c =
+    let a = c.args in
     let l = c.loop-k in
     sym (l.invariant ∙ ap (enum_of a.value) (run_end a.items.now l.k a.end c.loop-k-test.false))

@@ -6,11 +6,12 @@ use Rattle.items.proofs.TurnLaws.{name-le}
 use Rattle.items.proofs.values.put_enum.Goals as goal
 
 pub returns-in-Named : goal.returns-in-Named
-returns-in-Named c = let a = c.args in
+returns-in-Named c =
+    let a = c.args in
     rw c.found-1.given.1
     (wrote-more c.put_bytes.ensures c.part_of.ensures
     (name-le a.area.now c.found-1.given.0.0 c.part_of.ensures
     (omega arith)))
 
 pub returns-in-Unnamed : goal.returns-in-Unnamed
-returns-in-Unnamed c = rw c.enum_told-1.given.1 (wrote-more c.put_word.ensures refl (omega arith))
+returns-in-Unnamed c = rw c.in-Unnamed.is (wrote-more c.put_word.ensures refl (omega arith))

@@ -25,6 +25,7 @@ returns-then-number-eq3 c = record { number = sym c.if-number-eq3.true; value = 
 
 pub returns : goal.returns
 unfolding refusal_number refusal_value
-returns c = let p = c.requires in
+returns c =
+    let p = c.requires in
     let e = root-last _ _ p c.if-number-ge41.false c.if-number-eq1.false c.if-number-eq2.false c.if-number-eq3.false in
     record { number = e; value = six-plain _ _ p e }

@@ -26,6 +26,7 @@ returns-then-number-eq25 c = record { number = sym c.if-number-eq25.true; value 
 
 pub returns : goal.returns
 unfolding refusal_number refusal_value
-returns c = let e = own-last _ c.requires c.if-number-eq8.false c.if-number-eq9.false
+returns c =
+    let e = own-last _ c.requires c.if-number-eq8.false c.if-number-eq9.false
     c.if-number-eq10.false c.if-number-eq24.false c.if-number-eq25.false in
     record { number = e; value = refl }

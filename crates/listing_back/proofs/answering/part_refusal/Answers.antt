@@ -30,7 +30,8 @@ returns-then-number-eq51 c = record { number = sym c.if-number-eq51.true; value 
 
 pub returns : goal.returns
 unfolding refusal_number refusal_value
-returns c = let p = c.requires in
+returns c =
+    let p = c.requires in
     let e = part-last _ _ p.0 p.1 c.if-number-eq41.false c.if-number-eq42.false
     c.if-number-eq43.false c.if-number-eq44.false c.if-number-eq45.false c.if-number-eq51.false in
     record { number = e; value = refl }

@@ -4,9 +4,7 @@ use native.Mathlib.Omega.{arith}
 use Rattle.listing_back.proofs.Spots.{records-first, records-more, records-stopped, records-done}
 use Rattle.listing_back.proofs.stepping.read_records.Goals as goal
 
-
 record-due-requires : tie.Need-record-due-requires invariant-loop decreases-loop
-
 record-due-requires c κs =
     let s = c.before.before.before.before.loop.invariant.same in
     let z = c.before.before.before.before.loop.invariant.room c.before.if1.false in (
@@ -26,7 +24,8 @@ pub returns-then-spot-ne0 : goal.returns-then-spot-ne0
 returns-then-spot-ne0 c = records-stopped _ _ _ _ _ _ _ _ _ _ _ _ c.loop-k.invariant c.if-spot-ne0.true
 
 pub overflow_add-i : goal.overflow_add-i
-overflow_add-i c = let s = c.loop-k.invariant.room c.if-spot-ne0.false in omega arith
+overflow_add-i c =
+    let s = c.loop-k.invariant.room c.if-spot-ne0.false in omega arith
 
 pub loop-k-preserved : goal.loop-k-preserved
 loop-k-preserved c = records-more _ _ _ _ _ _ _ _ _ _ _ _ _ _ c.loop-k.invariant (omega arith)

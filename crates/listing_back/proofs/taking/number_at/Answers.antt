@@ -1,6 +1,5 @@
 -- `listing_back::taking::number_at` meets its contract.
 use mathlib.Core.Path.{sym, ◌∙◌}
-use borrow.Author.Tests.{not-true, not-false}
 use Rattle.listing_back.proofs.Figures.{number-end, number-zero-at, number-none-at, number-digits-at}
 use Rattle.listing_back.proofs.taking.number_at.Goals as goal
 
@@ -13,9 +12,9 @@ returns-then-b-eq48 c = rw (number-zero-at c.args.text.now c.args.p c.if-b-eq48.
 pub returns-then-not-is_digit : goal.returns-then-not-is_digit
 returns-then-not-is_digit c = rw (number-none-at c.args.text.now
     c.args.p c.if-b-eq48.false
-    (sym c.is_digit.ensures ∙ not-true _ c.if-not-is_digit.true)) c.no_figure-then-not-is_digit.ensures
+    (sym c.is_digit.ensures ∙ c.if-not-is_digit.true)) c.no_figure-then-not-is_digit.ensures
 
 pub returns : goal.returns
 returns c = rw (number-digits-at c.args.text.now
     c.args.p c.if-b-eq48.false
-    (sym c.is_digit.ensures ∙ not-false _ c.if-not-is_digit.false)) c.digits_from.ensures
+    (sym c.is_digit.ensures ∙ c.if-not-is_digit.false)) c.digits_from.ensures

@@ -8,7 +8,8 @@ pub loop-j-init : goal.loop-j-init
 loop-j-init c = take-first _ _ _ _ _ _ c.requires.0 c.begun-f.ensures
 
 pub hold_byte-f-requires : goal.hold_byte-f-requires
-hold_byte-f-requires c = let s = c.loop-j.invariant.same in let f = c.loop-j.invariant.few in (omega arith, omega arith)
+hold_byte-f-requires c =
+    let s = c.loop-j.invariant.same in let f = c.loop-j.invariant.few in (omega arith, omega arith)
 
 pub loop-j-preserved : goal.loop-j-preserved
 loop-j-preserved c = take_more _ _ _ _ _ _ _ _ _ c.loop-j.j (omega arith)

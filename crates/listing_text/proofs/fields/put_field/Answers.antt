@@ -9,7 +9,8 @@ use Rattle.listing_text.proofs.fields.put_field.Goals as goal
 
 pub returns : goal.returns
 unfolding field_text
-returns c = let fourth = c in
+returns c =
+    let fourth = c in
     let third = fourth in
     let second = third in
     let first = second in

@@ -8,29 +8,33 @@ pub attr_value-said-requires : goal.attr_value-said-requires
 attr_value-said-requires c = omega (arith, c.requires.2)
 
 pub is_front-requires : goal.is_front-requires
-is_front-requires c = let p = c.requires in
+is_front-requires c =
+    let p = c.requires in
     let at-attr-value = c.attr_value-said in
     record { some = p.1.some; fits = omega (arith, at-attr-value.auto.0, p.1.fits) }
 
 pub returns-then-said : goal.returns-then-said
-returns-then-said c = let a = c.args in
+returns-then-said c =
+    let a = c.args in
     let at-attr-value = c.attr_value-said in
     let if1 = c.if-said in
     let at-is-front = c.is_front in
     let lent = lends a.names.now a.area.now in
-    λ name found. named-said a.h a.t.now lent a.items.now a.item-area.now name a.kind a.v a.run found
+    λ name found. named-said a.h a.t.now lent a.items.now a.item_area.now name a.kind a.v a.run found
     a.expected.now at-attr-value.ensures if1.true at-is-front.ensures
 
 pub plain_is-requires : goal.plain_is-requires
-plain_is-requires c = let p = c.requires in
+plain_is-requires c =
+    let p = c.requires in
     let at-attr-value = c.attr_value-said in
     (p.0, record { some = p.1.some; fits = omega (arith, at-attr-value.auto.0, p.1.fits) })
 
 pub returns : goal.returns
-returns c = let a = c.args in
+returns c =
+    let a = c.args in
     let at-attr-value = c.attr_value-said in
     let if1 = c.if-said in
     let at-plain-is = c.plain_is in
     let lent = lends a.names.now a.area.now in
-    λ name found. named-plain a.h a.t.now lent a.items.now a.item-area.now name a.kind a.v a.run found
+    λ name found. named-plain a.h a.t.now lent a.items.now a.item_area.now name a.kind a.v a.run found
     a.expected.now at-attr-value.ensures if1.false at-plain-is.ensures

@@ -7,7 +7,8 @@ use Rattle.common.specs.ValueType.{value_type_of}
 use Rattle.main_activities.proofs.says.plain_is.Goals as goal
 
 pub returns-then-is_other : goal.returns-then-is_other
-returns-then-is_other c = let a = c.args in
+returns-then-is_other c =
+    let a = c.args in
     let at-form-of = c.form_of-form in
     let at-is-other = c.is_other in
     let if1 = c.if-is_other in
@@ -16,11 +17,13 @@ returns-then-is_other c = let a = c.args in
     (sym at-is-other.ensures ∙ if1.true)
 
 pub is_string-requires : goal.is_string-requires
-is_string-requires c = let p = c.requires in
+is_string-requires c =
+    let p = c.requires in
     (p.0, p.1.some)
 
 pub returns-then-is_pool : goal.returns-then-is_pool
-returns-then-is_pool c = let a = c.args in
+returns-then-is_pool c =
+    let a = c.args in
     let at-form-of = c.form_of-form in
     let at-is-other = c.is_other in
     let if1 = c.if-is_other in
@@ -33,16 +36,19 @@ returns-then-is_pool c = let a = c.args in
     (sym at-is-pool.ensures ∙ if2.true) at-is-string.ensures
 
 pub put_plain-n-requires : goal.put_plain-n-requires
-put_plain-n-requires c = let p = c.requires in
+put_plain-n-requires c =
+    let p = c.requires in
     p.0
 
 pub is_front-requires : goal.is_front-requires
-is_front-requires c = let p = c.requires in
+is_front-requires c =
+    let p = c.requires in
     let at-put-plain = c.put_plain-n in
     record { some = p.1.some; fits = omega (arith, at-put-plain.ensures.long, p.1.fits) }
 
 pub returns : goal.returns
-returns c = let a = c.args in
+returns c =
+    let a = c.args in
     let at-form-of = c.form_of-form in
     let at-is-other = c.is_other in
     let if1 = c.if-is_other in

@@ -7,38 +7,43 @@ use Rattle.main_activities.proofs.Laws.{from-below, saying, saying-none}
 use Rattle.main_activities.proofs.tests.has_value.Goals as goal
 
 pub find_named-found-requires : goal.find_named-found-requires
-find_named-found-requires c = let p = c.requires in
+find_named-found-requires c =
+    let p = c.requires in
     (p.0, p.1)
 
 pub attribute_at-requires : goal.attribute_at-requires
-attribute_at-requires c = let a = c.args in
+attribute_at-requires c =
+    let a = c.args in
     let at-find-named = c.find_named-found in
     let at-found = c.found-1 in
     let p = c.requires in
-    let w = tree_of a.h a.t.now (lends a.names.now a.area.now) a.items.now a.item-area.now a.nodes.now
+    let w = tree_of a.h a.t.now (lends a.names.now a.area.now) a.items.now a.item_area.now a.nodes.now
     a.attributes.now a.count in
     let q = from-below w a.name.now _ _ (sym at-find-named.ensures ∙ at-found.given.1) in
     omega (arith, q, p.0.inside a.k p.1)
 
 pub value_is-requires : goal.value_is-requires
-value_is-requires c = let p = c.requires in
+value_is-requires c =
+    let p = c.requires in
     (p.0.asks, p.0.good, p.2, p.3)
 
 pub returns-in-At : goal.returns-in-At
-returns-in-At c = let a = c.args in
+returns-in-At c =
+    let a = c.args in
     let at-find-named = c.find_named-found in
     let at-found = c.found-1 in
     let at-attribute-at = c.attribute_at in
     let at-value-is = c.value_is in
-    let w = tree_of a.h a.t.now (lends a.names.now a.area.now) a.items.now a.item-area.now a.nodes.now
+    let w = tree_of a.h a.t.now (lends a.names.now a.area.now) a.items.now a.item_area.now a.nodes.now
     a.attributes.now a.count in
     saying w a.name.now a.expected.now a.k at-find-named.ensures at-found.given.1 at-attribute-at.ensures
     at-value-is.ensures
 
 pub returns-in-NoAttribute : goal.returns-in-NoAttribute
-returns-in-NoAttribute c = let a = c.args in
+returns-in-NoAttribute c =
+    let a = c.args in
     let at-find-named = c.find_named-found in
     let at-enum-told = c.enum_told-1 in
-    let w = tree_of a.h a.t.now (lends a.names.now a.area.now) a.items.now a.item-area.now a.nodes.now
+    let w = tree_of a.h a.t.now (lends a.names.now a.area.now) a.items.now a.item_area.now a.nodes.now
     a.attributes.now a.count in
     saying-none w a.name.now a.expected.now a.k at-find-named.ensures at-enum-told.given.1

@@ -2,50 +2,55 @@
 use mathlib.Core.Path.{sym, ◌∙◌}
 use native.Mathlib.Omega.{arith}
 use Rattle.system_types.specs.Names.{lends}
-use borrow.Author.Tests.{not-true, not-false}
 use Rattle.main_activities.specs.Activities.{tree_of, is_main}
 use Rattle.main_activities.proofs.Laws.{child-other, child-here, main-no, main-yes}
 use Rattle.main_activities.proofs.tests.is_main_child.Goals as goal
 
 pub parent_at-requires : goal.parent_at-requires
-parent_at-requires c = let p = c.requires in
+parent_at-requires c =
+    let p = c.requires in
     omega (arith, p.0.fits, p.1)
 
 pub returns-then-parent_at-p : goal.returns-then-parent_at-p
-returns-then-parent_at-p c = let a = c.args in
+returns-then-parent_at-p c =
+    let a = c.args in
     let if1 = c.if-parent_at-p in
     let at-parent-at = c.parent_at in
-    let w = tree_of a.h a.t.now (lends a.names.now a.area.now) a.items.now a.item-area.now a.nodes.now
+    let w = tree_of a.h a.t.now (lends a.names.now a.area.now) a.items.now a.item_area.now a.nodes.now
     a.attributes.now a.count in
     child-other w a.p a.k (is_main w a.k) (λ e. if1.true (at-parent-at.ensures ∙ e))
 
 pub has_tag-requires : goal.has_tag-requires
-has_tag-requires c = let p = c.requires in
+has_tag-requires c =
+    let p = c.requires in
     (p.0.asks, omega (arith, p.0.fits, p.1))
 
 pub returns-then-not-has_tag : goal.returns-then-not-has_tag
-returns-then-not-has_tag c = let a = c.args in
+returns-then-not-has_tag c =
+    let a = c.args in
     let at-parent-at = c.parent_at in
     let if1 = c.if-parent_at-p in
     let at-has-tag = c.has_tag in
     let if2 = c.if-not-has_tag in
-    let w = tree_of a.h a.t.now (lends a.names.now a.area.now) a.items.now a.item-area.now a.nodes.now
+    let w = tree_of a.h a.t.now (lends a.names.now a.area.now) a.items.now a.item_area.now a.nodes.now
     a.attributes.now a.count in
     child-here w a.p a.k (is_main w a.k) (sym at-parent-at.ensures ∙ if1.false)
-    (main-no w a.k (sym at-has-tag.ensures ∙ not-true _ if2.true))
+    (main-no w a.k (sym at-has-tag.ensures ∙ if2.true))
 
 pub has_value-requires : goal.has_value-requires
-has_value-requires c = let p = c.requires in
+has_value-requires c =
+    let p = c.requires in
     (p.0, p.1, omega arith, omega arith)
 
 pub returns : goal.returns
-returns c = let a = c.args in
+returns c =
+    let a = c.args in
     let at-parent-at = c.parent_at in
     let if1 = c.if-parent_at-p in
     let at-has-tag = c.has_tag in
     let if2 = c.if-not-has_tag in
     let at-has-value = c.has_value in
-    let w = tree_of a.h a.t.now (lends a.names.now a.area.now) a.items.now a.item-area.now a.nodes.now
+    let w = tree_of a.h a.t.now (lends a.names.now a.area.now) a.items.now a.item_area.now a.nodes.now
     a.attributes.now a.count in
     child-here w a.p a.k (is_main w a.k) (sym at-parent-at.ensures ∙ if1.false)
-    (main-yes w a.k (sym at-has-tag.ensures ∙ not-false _ if2.false) at-has-value.ensures)
+    (main-yes w a.k (sym at-has-tag.ensures ∙ if2.false) at-has-value.ensures)

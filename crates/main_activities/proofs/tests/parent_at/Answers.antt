@@ -2,5 +2,6 @@
 use Rattle.main_activities.proofs.tests.parent_at.Goals as goal
 
 pub returns : goal.returns
-returns c = let at-node-place = c.node_place-at in
+returns c =
+    let at-node-place = c.node_place-at in
     rw (← at-node-place.ensures)

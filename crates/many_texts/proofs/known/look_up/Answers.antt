@@ -31,10 +31,10 @@ offset_bounds-ends-place-then-ends-place-gt0 c = omega (arith, c.if-place-ge-KNO
 
 pub bounds-ends-place-then-ends-place-gt0 : goal.bounds-ends-place-then-ends-place-gt0
 bounds-ends-place-then-ends-place-gt0 c = omega (
-      arith,
-      c.if-place-ge-KNOWN.false,
-      c.requires.3.last,
-    )
+  arith,
+  c.if-place-ge-KNOWN.false,
+  c.requires.3.last,
+)
 
 pub overflow_sub-result : goal.overflow_sub-result
 overflow_sub-result c = omega (arith, c.if-ends-place-gt0.true)
@@ -59,15 +59,16 @@ offset_bounds-starts-place-in-At c = omega (arith, c.if-place-ge-KNOWN.false)
 
 pub bounds-starts-place-in-At : goal.bounds-starts-place-in-At
 bounds-starts-place-in-At c = omega (
-      arith,
-      c.if-place-ge-KNOWN.false,
-      c.requires.3.first,
-    )
+  arith,
+  c.if-place-ge-KNOWN.false,
+  c.requires.3.first,
+)
 
 pub overflow_add-ends : goal.overflow_add-ends
-overflow_add-ends c = let a = c.args in
+overflow_add-ends c =
+    let a = c.args in
     let lent = lends a.names.now a.area.now in
-    let g = looks-same a.h a.t.now lent a.items.now a.item-area.now a.index.0 c.looked-1.given.1 c.look-looked.ensures in
+    let g = looks-same a.h a.t.now lent a.items.now a.item_area.now a.index.0 c.looked-1.given.1 c.look-looked.ensures in
     omega (arith, g.run.fits, c.well-formed.1.1.1.1.0)
 
 pub offset_bounds-ends-place-in-At : goal.offset_bounds-ends-place-in-At
@@ -75,25 +76,27 @@ offset_bounds-ends-place-in-At c = omega (arith, c.if-place-ge-KNOWN.false)
 
 pub bounds-ends-place-in-At : goal.bounds-ends-place-in-At
 bounds-ends-place-in-At c = omega (
-      arith,
-      c.if-place-ge-KNOWN.false,
-      c.requires.3.last,
-    )
+  arith,
+  c.if-place-ge-KNOWN.false,
+  c.requires.3.last,
+)
 
 pub returns-in-NoName : goal.returns-in-NoName
-returns-in-NoName c = let a = c.args in
+returns-in-NoName c =
+    let a = c.args in
     let lent = lends a.names.now a.area.now in (
-      looks-same a.h a.t.now lent a.items.now a.item-area.now a.index.0 c.enum_told-1.given.1
+      looks-same a.h a.t.now lent a.items.now a.item_area.now a.index.0 c.in-NoName.is
           c.look-looked.ensures,
       c.requires.3,
     )
 
 pub returns-in-At : goal.returns-in-At
-returns-in-At c = let a = c.args in
+returns-in-At c =
+    let a = c.args in
     let lent = lends a.names.now a.area.now in
-    let g = looks-same a.h a.t.now lent a.items.now a.item-area.now a.index.0 c.looked-1.given.1 c.look-looked.ensures in (
+    let g = looks-same a.h a.t.now lent a.items.now a.item_area.now a.index.0 c.looked-1.given.1 c.look-looked.ensures in (
       g,
-      knows_more a.h a.t.now lent a.items.now a.item-area.now a.starts.now a.ends.now a.index.0 _
+      knows_more a.h a.t.now lent a.items.now a.item_area.now a.starts.now a.ends.now a.index.0 _
           (omega (arith, c.if-place-ge-KNOWN.false)) g
           c.requires.3,
     )

@@ -4,7 +4,8 @@ use Rattle.res_string_pool.proofs.Strings.{split8-by}
 use Rattle.res_string_pool.proofs.content.split_utf8.Goals as goal
 
 pub returns : goal.returns
-returns c = let s = c.args.s.now in
+returns c =
+    let s = c.args.s.now in
     let first = c.width8_at-first in
     let n = c.length8_at-n in
     let next = c.width8_at in

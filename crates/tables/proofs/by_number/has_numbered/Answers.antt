@@ -11,14 +11,16 @@ use Rattle.tables.proofs.Keys.{repeat-end, repeat-same, repeat-other}
 use Rattle.tables.proofs.by_number.has_numbered.Goals as goal
 
 pub is_plain_long-plain-requires : goal.is_plain_long-plain-requires
-is_plain_long-plain-requires c = let at-start = c in
+is_plain_long-plain-requires c =
+    let at-start = c in
     (at-start.requires.1.inside, λ n. ap is_name at-start.requires.1.same ∙ at-start.requires.2 n)
 
 pub loop-i-init : goal.loop-i-init
 loop-i-init c = (omega arith, c.is_plain_long-plain.ensures, c.requires.3, λ _ _ _. refl)
 
 pub is_same-requires : goal.is_same-requires
-is_same-requires c = let v = c.loop-i.invariant in (
+is_same-requires c =
+    let v = c.loop-i.invariant in (
       c.requires.0,
       c.requires.1,
       v.1,
@@ -28,12 +30,14 @@ is_same-requires c = let v = c.loop-i.invariant in (
     )
 
 pub shape_of-numbers-then-is_same : goal.shape_of-numbers-then-is_same
-shape_of-numbers-then-is_same c = let at-is-same = c in
+shape_of-numbers-then-is_same c =
+    let at-is-same = c in
     let at-start = c in
     at-is-same.is_same.ensures.1.room ∙ sym at-start.requires.3.room
 
 pub returns-then-is_same : goal.returns-then-is_same
-returns-then-is_same c = let at-is-same = c in
+returns-then-is_same c =
+    let at-is-same = c in
     let in-loop = c in
     let at-loop = c in
     let at-start = c in
@@ -46,13 +50,14 @@ returns-then-is_same c = let at-is-same = c in
 
 pub overflow_add-i : goal.overflow_add-i
 overflow_add-i c = omega (
-      arith,
-      c.loop-i.invariant.0,
-      c.well-formed.1.1.1.1.0,
-    )
+  arith,
+  c.loop-i.invariant.0,
+  c.well-formed.1.1.1.1.0,
+)
 
 pub loop-i-preserved : goal.loop-i-preserved
-loop-i-preserved c = let a = c.args in let lent = lends a.names.now a.area.now in
+loop-i-preserved c =
+    let a = c.args in let lent = lends a.names.now a.area.now in
     let same = same_name a.h a.t.now lent in (
       omega (arith, c.loop-i.invariant.0, c.loop-i-test.true),
       c.loop-i.invariant.1,
@@ -67,7 +72,8 @@ pub shape_of-numbers : goal.shape_of-numbers
 shape_of-numbers c = c.loop-i.invariant.2.room ∙ sym c.requires.3.room
 
 pub returns : goal.returns
-returns c = let at-start = c in
+returns c =
+    let at-start = c in
     let a = at-start.args in let lent = lends a.names.now a.area.now in
     let same = same_name a.h a.t.now lent in (
       (λ owner kind value. sym (c.loop-i.invariant.3 owner kind value

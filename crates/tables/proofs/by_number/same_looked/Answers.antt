@@ -4,7 +4,8 @@ use Rattle.tables.proofs.Numbering.{same_parts}
 use Rattle.tables.proofs.by_number.same_looked.Goals as goal
 
 pub returns : goal.returns
-returns c = let at-find2 = c in
+returns c =
+    let at-find2 = c in
     let at-find = c in
     let at-start = c in
     let a = at-start.args in let lent = lends a.names.now a.area.now in (

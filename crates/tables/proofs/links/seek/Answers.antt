@@ -12,7 +12,8 @@ use Rattle.tables.proofs.Ways.{sought-none, walks-first, walks-found, walks_next
 use Rattle.tables.proofs.links.seek.Goals as goal
 
 pub returns-then-n-eq0 : goal.returns-then-n-eq0
-returns-then-n-eq0 c = let at-start = c in
+returns-then-n-eq0 c =
+    let at-start = c in
     let a = at-start.args in let lent = lends a.names.now a.area.now in
     let key = key_by a.h a.t.now lent in
     let same = same_name a.h a.t.now lent in
@@ -23,7 +24,8 @@ pub plain_unless-plain-requires : goal.plain_unless-plain-requires
 plain_unless-plain-requires c = c.requires.1.inside
 
 pub loop-h-init : goal.loop-h-init
-loop-h-init c = let a = c.args in let lent = lends a.names.now a.area.now in
+loop-h-init c =
+    let a = c.args in let lent = lends a.names.now a.area.now in
     let key = key_by a.h a.t.now lent in
     let same = same_name a.h a.t.now lent in
     let agree = key-same a.h a.t.now lent a.words.now a.prefix a.name.0 a.ns.0 in (
@@ -34,17 +36,20 @@ loop-h-init c = let a = c.args in let lent = lends a.names.now a.area.now in
     )
 
 pub is_hit-requires : goal.is_hit-requires
-is_hit-requires c = let p = c.requires in
+is_hit-requires c =
+    let p = c.requires in
     let v = c.loop-h.invariant in
     (p.0, p.1, v.0, v.1, omega (arith, v.2.below), omega (arith, v.2.below, p.3))
 
 pub shape_of-numbers-then-is_hit : goal.shape_of-numbers-then-is_hit
-shape_of-numbers-then-is_hit c = let at-is-hit = c in
+shape_of-numbers-then-is_hit c =
+    let at-is-hit = c in
     let at-start = c in
     at-is-hit.is_hit.ensures.1.room ∙ sym at-start.requires.2.room
 
 pub returns-then-is_hit : goal.returns-then-is_hit
-returns-then-is_hit c = let at-is-hit = c in
+returns-then-is_hit c =
+    let at-is-hit = c in
     let at-loop = c in
     let at-start = c in
     let a = at-start.args in let lent = lends a.names.now a.area.now in
@@ -58,18 +63,20 @@ returns-then-is_hit c = let at-is-hit = c in
 
 pub child-c-requires : goal.child-c-requires
 child-c-requires c = omega (
-      arith,
-      c.loop-h.invariant.2.below,
-      c.requires.3,
-    )
+  arith,
+  c.loop-h.invariant.2.below,
+  c.requires.3,
+)
 
 pub shape_of-numbers-then-c-i : goal.shape_of-numbers-then-c-i
-shape_of-numbers-then-c-i c = let at-is-hit = c in
+shape_of-numbers-then-c-i c =
+    let at-is-hit = c in
     let at-start = c in
     at-is-hit.is_hit.ensures.1.room ∙ sym at-start.requires.2.room
 
 pub returns-then-c-i : goal.returns-then-c-i
-returns-then-c-i c = let else2 = c in
+returns-then-c-i c =
+    let else2 = c in
     let at-is-hit = c in
     let at-loop = c in
     let at-start = c in
@@ -83,12 +90,14 @@ returns-then-c-i c = let else2 = c in
     )
 
 pub shape_of-numbers-then-n-c : goal.shape_of-numbers-then-n-c
-shape_of-numbers-then-n-c c = let at-is-hit = c in
+shape_of-numbers-then-n-c c =
+    let at-is-hit = c in
     let at-start = c in
     at-is-hit.is_hit.ensures.1.room ∙ sym at-start.requires.2.room
 
 pub returns-then-n-c : goal.returns-then-n-c
-returns-then-n-c c = let at-child = c in
+returns-then-n-c c =
+    let at-child = c in
     let else2 = c in
     let at-is-hit = c in
     let at-loop = c in
@@ -106,7 +115,8 @@ pub loop-h-smaller : goal.loop-h-smaller
 loop-h-smaller c = omega (arith, c.loop-h.invariant.2.below, c.if-c-i.false, c.if-n-c.false)
 
 pub loop-h-preserved : goal.loop-h-preserved
-loop-h-preserved c = let a = c.args in
+loop-h-preserved c =
+    let a = c.args in
     let lent = lends a.names.now a.area.now in
     let key = key_by a.h a.t.now lent in
     let same = same_name a.h a.t.now lent in

@@ -16,13 +16,15 @@ pub takes-requires : goal.takes-requires
 takes-requires c = c.requires.0
 
 pub enter_at-requires : goal.enter_at-requires
-enter_at-requires c = let at_takes = c in
+enter_at-requires c =
+    let at_takes = c in
     let at-place-of = c in
     let at-start = c in
     let p = at-start.requires in let x = at_takes.takes.ensures c.if-takes.true in (p.0, p.1, p.2, x.0, at-place-of.place_of-p.ensures, x.1)
 
 pub shape_of-numbers-then-takes : goal.shape_of-numbers-then-takes
-shape_of-numbers-then-takes c = let at-enter-at = c in
+shape_of-numbers-then-takes c =
+    let at-enter-at = c in
     let at-start = c in
     at-enter-at.enter_at.ensures.room ∙ sym at-start.requires.2.room
 

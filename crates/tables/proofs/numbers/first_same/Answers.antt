@@ -13,13 +13,15 @@ pub loop-q-init : goal.loop-q-init
 loop-q-init c = (omega arith, λ k l. absurd (let z : ⊥ = omega (arith, l) in z))
 
 pub is_met-requires : goal.is_met-requires
-is_met-requires c = let p = c.requires in (p.0, p.1, p.2, p.3, c.loop-q-test.true)
+is_met-requires c =
+    let p = c.requires in (p.0, p.1, p.2, p.3, c.loop-q-test.true)
 
 pub bounds-numbers-q : goal.bounds-numbers-q
 bounds-numbers-q c = omega (arith, c.requires.3.room, c.loop-q-test.true)
 
 pub returns-then-is_met : goal.returns-then-is_met
-returns-then-is_met c = let at-is-met = c in
+returns-then-is_met c =
+    let at-is-met = c in
     let in-loop = c in
     let at-loop = c in
     let at-start = c in
@@ -27,7 +29,8 @@ returns-then-is_met c = let at-is-met = c in
     first-met a.h a.t.now lent a.numbers.now at-start.requires.3 a.own.0 at-loop.loop-q.q in-loop.loop-q-test.true at-is-met.is_met.ensures c.if-is_met.true
 
 pub loop-q-preserved : goal.loop-q-preserved
-loop-q-preserved c = let a = c.args in let lent = lends a.names.now a.area.now in
+loop-q-preserved c =
+    let a = c.args in let lent = lends a.names.now a.area.now in
     let same = same_name a.h a.t.now lent in (
       omega (arith, c.loop-q-test.true),
       more-false (λ k. met_at same a.numbers.now a.own.0 k)
@@ -35,7 +38,8 @@ loop-q-preserved c = let a = c.args in let lent = lends a.names.now a.area.now i
     )
 
 pub returns : goal.returns
-returns c = let a = c.args in let lent = lends a.names.now a.area.now in
+returns c =
+    let a = c.args in let lent = lends a.names.now a.area.now in
     first-own a.h a.t.now lent a.numbers.now c.requires.3 a.own.0
     c.requires.5 c.requires.4
     (λ q l. c.loop-q.invariant.1 q (omega (arith, l, c.loop-q-test.false)))

@@ -17,26 +17,31 @@ pub bounds-numbers-p-then-numbers-p : goal.bounds-numbers-p-then-numbers-p
 bounds-numbers-p-then-numbers-p c = omega (arith, c.enter.ensures.room, c.place_of-p.ensures)
 
 pub shape_of-numbers-then-numbers-p : goal.shape_of-numbers-then-numbers-p
-shape_of-numbers-then-numbers-p c = let at-enter = c in
+shape_of-numbers-then-numbers-p c =
+    let at-enter = c in
     let at-start = c in
     at-enter.enter.ensures.room ∙ sym at-start.requires.2.room
 
 pub returns-then-numbers-p : goal.returns-then-numbers-p
-returns-then-numbers-p c = let at-place-of = c in
+returns-then-numbers-p c =
+    let at-place-of = c in
     let at-enter = c in
     let at-start = c in
     (at-enter.enter.ensures.number at-place-of.place_of-p.result at-start.args.index.0 at-place-of.place_of-p.ensures c.if-numbers-p.true, at-enter.enter.ensures)
 
 pub hash_found-requires : goal.hash_found-requires
-hash_found-requires c = let at-start = c in
+hash_found-requires c =
+    let at-start = c in
     at-start.requires.1.inside
 
 pub shape_of-numbers : goal.shape_of-numbers
-shape_of-numbers c = let at-enter = c in
+shape_of-numbers c =
+    let at-enter = c in
     let at-start = c in
     at-enter.enter.ensures.room ∙ sym at-start.requires.2.room
 
 pub returns : goal.returns
-returns c = let at-enter = c in
+returns c =
+    let at-enter = c in
     let at-start = c in
     (c.hash_found.ensures ∙ ap (hash_in 0) at-start.requires.1.same, at-enter.enter.ensures)

@@ -14,7 +14,8 @@ pub gives_way-requires : goal.gives_way-requires
 gives_way-requires c = c.requires
 
 pub returns-then-is_found : goal.returns-then-is_found
-returns-then-is_found c = let then3 = c in
+returns-then-is_found c =
+    let then3 = c in
     let at-is-found = c in
     let else1 = c in
     let at-start = c in

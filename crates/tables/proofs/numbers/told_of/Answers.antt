@@ -22,7 +22,8 @@ pub returns-then-b-j : goal.returns-then-b-j
 returns-then-b-j c = λ h t lent k. tt
 
 pub returns-then-a-b : goal.returns-then-a-b
-returns-then-a-b c = let else1 = c in
+returns-then-a-b c =
+    let else1 = c in
     let at-place-of2 = c in
     let at-place-of = c in
     let at-start = c in
@@ -32,7 +33,8 @@ returns-then-a-b c = let else1 = c in
     else1.if-a-i.false c.if-b-j.false c.if-a-b.true
 
 pub returns : goal.returns
-returns c = let else1 = c in
+returns c =
+    let else1 = c in
     let at-place-of2 = c in
     let at-place-of = c in
     let at-start = c in

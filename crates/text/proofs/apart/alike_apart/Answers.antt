@@ -10,7 +10,8 @@ pub returns-then-k-p : goal.returns-then-k-p
 returns-then-k-p c = λ e. absurd (true≢false (sym e))
 
 pub u16_at-requires : goal.u16_at-requires
-u16_at-requires c = let s = c in
+u16_at-requires c =
+    let s = c in
     let a = s.args in
     omega (arith, (alike-room a.h.utf16 a.t.now (a.h.strings + a.h.size) a.p a.k s.requires.1 c.if-k-p.false).0)
 
@@ -18,7 +19,8 @@ pub returns-then-u16_at-k : goal.returns-then-u16_at-k
 returns-then-u16_at-k c = λ e. absurd (true≢false (sym e))
 
 pub bounds-t-p : goal.bounds-t-p
-bounds-t-p c = let at-if1 = c in
+bounds-t-p c =
+    let at-if1 = c in
     let s = at-if1 in
     let a = s.args in
     let end = a.h.strings + a.h.size in
@@ -28,7 +30,8 @@ pub returns-then-t-p : goal.returns-then-t-p
 returns-then-t-p c = λ e. absurd (true≢false (sym e))
 
 pub returns : goal.returns
-returns c = let at-if2 = c in
+returns c =
+    let at-if2 = c in
     let at_unit = at-if2 in
     let at-if1 = at_unit in
     let bytes = at-if1 in

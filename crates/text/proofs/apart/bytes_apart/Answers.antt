@@ -5,12 +5,14 @@ use Rattle.text.proofs.Others.{other_length, other_at, other-slices}
 use Rattle.text.proofs.apart.bytes_apart.Goals as goal
 
 pub returns-then-m-n : goal.returns-then-m-n
-returns-then-m-n c = let s = c in
+returns-then-m-n c =
+    let s = c in
     let a = s.args in
     λ _. other_length a.t.now a.q a.m a.at a.n s.requires.0 s.requires.1 c.if-m-n.true
 
 pub returns-then-t-q : goal.returns-then-t-q
-returns-then-t-q c = let at-if2 = c in
+returns-then-t-q c =
+    let at-if2 = c in
     let at-if1 = at-if2 in
     let s = at-if1 in
     let a = s.args in
@@ -21,6 +23,7 @@ pub returns-then-n-ge-LONG : goal.returns-then-n-ge-LONG
 returns-then-n-ge-LONG c = λ e. absurd (true≢false (sym e))
 
 pub returns : goal.returns
-returns c = let s = c in
+returns c =
+    let s = c in
     let a = s.args in
     λ e. other-slices a.t.now a.q a.m a.at a.n c.same_bytes.ensures e

@@ -9,7 +9,8 @@ use Rattle.text.proofs.Others.{other_text}
 use Rattle.text.proofs.apart.part_apart.Goals as goal
 
 pub bytes_apart-requires : goal.bytes_apart-requires
-bytes_apart-requires c = let a = c.args in (
+bytes_apart-requires c =
+    let a = c.args in (
       c.requires.0,
       inside-pool a.t.now a.area.now c.requires.1
           c.g-1.given.1,
@@ -26,7 +27,8 @@ pub returns-in-System : goal.returns-in-System
 returns-in-System c = λ e. absurd (true≢false (sym e))
 
 pub returns-in-Pool : goal.returns-in-Pool
-returns-in-Pool c = let a = c.args in
+returns-in-Pool c =
+    let a = c.args in
     λ e. other_text a.utf16 a.t.now a.area.now (some a.utf16 (take a.m (drop a.q a.t.now)))
     (λ j. (c.shared_slice_known-1.given j).fits) c.requires.2 c.g-1.given.1
     (record { from = a.q; count = a.m; here = refl; bytes = c.bytes_apart.ensures e })

@@ -14,14 +14,16 @@ pub returns-then-h-index : goal.returns-then-h-index
 returns-then-h-index c = λ e. absurd (true≢false (sym e))
 
 pub place_apart-requires : goal.place_apart-requires
-place_apart-requires c = let at-if2 = c in
+place_apart-requires c =
+    let at-if2 = c in
     let at-if1 = at-if2 in
     let s = at-if1 in
     let l = s.requires.1.ends (omega (arith, at-if2.if-h-index.false, at-if1.if-index-k.false)) in
     (s.requires.0.fits, l.2, search rules)
 
 pub returns : goal.returns
-returns c = let at_offset = c in
+returns c =
+    let at_offset = c in
     let at-if2 = at_offset in
     let at-if1 = at-if2 in
     let bytes = at-if1 in

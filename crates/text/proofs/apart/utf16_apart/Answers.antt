@@ -14,7 +14,8 @@ pub returns-then-end-p-2 : goal.returns-then-end-p-2
 returns-then-end-p-2 c = λ e. absurd (true≢false (sym e))
 
 pub returns : goal.returns
-returns c = let at-if2 = c in
+returns c =
+    let at-if2 = c in
     let at_unit = at-if2 in
     let at-if1 = at_unit in
     let s = at-if1 in

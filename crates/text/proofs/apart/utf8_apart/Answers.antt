@@ -17,7 +17,8 @@ pub returns-then-end-p-2 : goal.returns-then-end-p-2
 returns-then-end-p-2 c = λ e. absurd (true≢false (sym e))
 
 pub returns : goal.returns
-returns c = let at-if3 = c in
+returns c =
+    let at-if3 = c in
     let at-if2 = at-if3 in
     let at-if1 = at-if2 in
     let s = at-if1 in

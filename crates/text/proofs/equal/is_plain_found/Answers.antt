@@ -7,22 +7,26 @@ use Rattle.text.proofs.Plains.{plain-system}
 use Rattle.text.proofs.equal.is_plain_found.Goals as goal
 
 pub overflow_add-at : goal.overflow_add-at
-overflow_add-at c = let s = c in
+overflow_add-at c =
+    let s = c in
     let a = s.args in
     let q = inside-pool a.t.now a.area.now s.requires c.f-1.given.1 in
     omega arith
 
 pub slice_bounds-is_plain-end : goal.slice_bounds-is_plain-end
-slice_bounds-is_plain-end c = let s = c in
+slice_bounds-is_plain-end c =
+    let s = c in
     let a = s.args in
     inside-pool a.t.now a.area.now s.requires c.f-1.given.1
 
 pub returns-in-System : goal.returns-in-System
-returns-in-System c = let s = c in
+returns-in-System c =
+    let s = c in
     let a = s.args in
-    plain-system a.utf16 a.t.now a.area.now s.requires c.enum_told-in-System-1.given.1
+    plain-system a.utf16 a.t.now a.area.now s.requires c.in-System.is
 
 pub returns-in-Pool : goal.returns-in-Pool
-returns-in-Pool c = let s = c in
+returns-in-Pool c =
+    let s = c in
     let a = s.args in
     c.is_plain.ensures ∙ sym (ap plain_in (part_of-pool a.utf16 a.t.now a.area.now c.f-1.given.1))

@@ -6,43 +6,51 @@ use Rattle.text.proofs.Read.{inside-system, inside-pool, part_of-nothing, part_o
 use Rattle.text.proofs.part.content_of.Goals as goal
 
 pub overflow_add-result : goal.overflow_add-result
-overflow_add-result c = let s = c in
+overflow_add-result c =
+    let s = c in
     let a = s.args in
     let q = inside-system a.t.now a.area.now s.requires c.f-1.given.1 in
     omega arith
 
 pub slice_bounds-result-end-in-System : goal.slice_bounds-result-end-in-System
-slice_bounds-result-end-in-System c = let s = c in
+slice_bounds-result-end-in-System c =
+    let s = c in
     let a = s.args in
     inside-system a.t.now a.area.now s.requires c.f-1.given.1
 
 pub overflow_add-result-in-Pool : goal.overflow_add-result-in-Pool
-overflow_add-result-in-Pool c = let s = c in
+overflow_add-result-in-Pool c =
+    let s = c in
     let a = s.args in
     let q = inside-pool a.t.now a.area.now s.requires c.f-in-Pool-1.given.1 in
     omega arith
 
 pub slice_bounds-result-end-in-Pool : goal.slice_bounds-result-end-in-Pool
-slice_bounds-result-end-in-Pool c = let s = c in
+slice_bounds-result-end-in-Pool c =
+    let s = c in
     let a = s.args in
     inside-pool a.t.now a.area.now s.requires c.f-in-Pool-1.given.1
 
 pub returns-in-Nothing : goal.returns-in-Nothing
-returns-in-Nothing c = let s = c in
+returns-in-Nothing c =
+    let s = c in
     let a = s.args in
-    λ w. sym (ap raw_of (part_of-nothing w a.t.now a.area.now c.enum_told-1.given.1))
+    λ w. sym (ap raw_of (part_of-nothing w a.t.now a.area.now c.in-Nothing.is))
 
 pub returns-in-Cut : goal.returns-in-Cut
-returns-in-Cut c = let s = c in
+returns-in-Cut c =
+    let s = c in
     let a = s.args in
-    λ w. sym (ap raw_of (part_of-cut w a.t.now a.area.now c.enum_told-in-Cut-1.given.1))
+    λ w. sym (ap raw_of (part_of-cut w a.t.now a.area.now c.in-Cut.is))
 
 pub returns-in-System : goal.returns-in-System
-returns-in-System c = let s = c in
+returns-in-System c =
+    let s = c in
     let a = s.args in
     λ w. sym (ap raw_of (part_of-system w a.t.now a.area.now c.f-1.given.1))
 
 pub returns-in-Pool : goal.returns-in-Pool
-returns-in-Pool c = let s = c in
+returns-in-Pool c =
+    let s = c in
     let a = s.args in
     λ w. sym (ap raw_of (part_of-pool w a.t.now a.area.now c.f-in-Pool-1.given.1))

@@ -9,47 +9,56 @@ use Rattle.text.proofs.Read.{inside-system, inside-pool, part_of-system, part_of
 use Rattle.text.proofs.part.found_ascii_into.Goals as goal
 
 pub overflow_add-at : goal.overflow_add-at
-overflow_add-at c = let s = c in
+overflow_add-at c =
+    let s = c in
     let a = s.args in
     let q = inside-system a.t.now a.area.now s.requires.0 c.f-1.given.1 in
     omega arith
 
 pub slice_bounds-ascii_into-end : goal.slice_bounds-ascii_into-end
-slice_bounds-ascii_into-end c = let s = c in
+slice_bounds-ascii_into-end c =
+    let s = c in
     let a = s.args in
     inside-system a.t.now a.area.now s.requires.0 c.f-1.given.1
 
 pub ascii_into-requires : goal.ascii_into-requires
-ascii_into-requires c = let s = c in
+ascii_into-requires c =
+    let s = c in
     let a = s.args in
     sym (ap ascii_in (part_of-system a.utf16 a.t.now a.area.now c.f-1.given.1)) ∙ s.requires.2
 
 pub overflow_add-at-in-Pool : goal.overflow_add-at-in-Pool
-overflow_add-at-in-Pool c = let s = c in
+overflow_add-at-in-Pool c =
+    let s = c in
     let a = s.args in
     let q = inside-pool a.t.now a.area.now s.requires.0 c.f-in-Pool-1.given.1 in
     omega arith
 
 pub slice_bounds-ascii_into-end-in-Pool : goal.slice_bounds-ascii_into-end-in-Pool
-slice_bounds-ascii_into-end-in-Pool c = let s = c in
+slice_bounds-ascii_into-end-in-Pool c =
+    let s = c in
     let a = s.args in
     inside-pool a.t.now a.area.now s.requires.0 c.f-in-Pool-1.given.1
 
 pub ascii_into-requires-in-Pool : goal.ascii_into-requires-in-Pool
-ascii_into-requires-in-Pool c = let s = c in
+ascii_into-requires-in-Pool c =
+    let s = c in
     let a = s.args in
     sym (ap ascii_in (part_of-pool a.utf16 a.t.now a.area.now c.f-in-Pool-1.given.1)) ∙ s.requires.2
 
 pub returns-in-Nothing : goal.returns-in-Nothing
-returns-in-Nothing c = let a = c.args in
-    wrote_none a.out-1.now (sym (ap (λ (g : Found). text_in (part_of a.utf16 a.t.now a.area.now g)) c.enum_told-1.given.1))
+returns-in-Nothing c =
+    let a = c.args in
+    wrote_none a.out.now (sym (ap (λ (g : Found). text_in (part_of a.utf16 a.t.now a.area.now g)) c.in-Nothing.is))
 
 pub returns-in-Cut : goal.returns-in-Cut
-returns-in-Cut c = let a = c.args in
-    wrote_none a.out-1.now (sym (ap (λ (g : Found). text_in (part_of a.utf16 a.t.now a.area.now g)) c.enum_told-in-Cut-1.given.1))
+returns-in-Cut c =
+    let a = c.args in
+    wrote_none a.out.now (sym (ap (λ (g : Found). text_in (part_of a.utf16 a.t.now a.area.now g)) c.in-Cut.is))
 
 pub returns-in-System : goal.returns-in-System
-returns-in-System c = let s = c in
+returns-in-System c =
+    let s = c in
     let a = s.args in
     let e = c.f-1.given.1 in
     let q = inside-system a.t.now a.area.now s.requires.0 e in
@@ -58,7 +67,8 @@ returns-in-System c = let s = c in
     Wrote-by _ same (omega (arith, n)) c.ascii_into.ensures
 
 pub returns-in-Pool : goal.returns-in-Pool
-returns-in-Pool c = let s = c in
+returns-in-Pool c =
+    let s = c in
     let a = s.args in
     let same = sym (ap text_in (part_of-pool a.utf16 a.t.now a.area.now c.f-in-Pool-1.given.1)) in
     let short = s.requires.1 in

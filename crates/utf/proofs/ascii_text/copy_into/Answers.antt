@@ -11,5 +11,6 @@ pub put_copy-requires : goal.put_copy-requires
 put_copy-requires c = c.if-out-s.false
 
 pub returns : goal.returns
-returns c = let a = c.args in
-    (refl, c.put_copy.ensures ∙ sym (put_text-whole a.s.now a.out-1.now c.if-out-s.false))
+returns c =
+    let a = c.args in
+    (refl, c.put_copy.ensures ∙ sym (put_text-whole a.s.now a.out.now c.if-out-s.false))

@@ -12,12 +12,14 @@ pub bounds-out-i : goal.bounds-out-i
 bounds-out-i c = omega (arith, c.loop-i.invariant.1.same, c.requires)
 
 pub loop-i-preserved : goal.loop-i-preserved
-loop-i-preserved c = let l = c.loop-i in
+loop-i-preserved c =
+    let l = c.loop-i in
     (omega arith, copied c.args.s.now _ _ l.i _ l.invariant.1 c.loop-i-test.true (omega (arith, l.invariant.1.same, c.requires)) refl)
 
 pub shape_of-out : goal.shape_of-out
 shape_of-out c = c.loop-i.invariant.1.same
 
 pub returns : goal.returns
-returns c = let l = c.loop-i in
+returns c =
+    let l = c.loop-i in
     all-copied _ _ _ l.i l.invariant.1 (omega arith)

@@ -17,7 +17,8 @@ pub loop-at-smaller : goal.loop-at-smaller
 loop-at-smaller c = omega (arith, c.next_of-t.ensures)
 
 pub loop-at-preserved : goal.loop-at-preserved
-loop-at-preserved c = let in-loop = c in
+loop-at-preserved c =
+    let in-loop = c in
     tallied _ _ _ _ _ _ _ in-loop.loop-at.invariant in-loop.loop-at-test.true c.next_of-t.ensures c.bad_mark-n.ensures
 
 pub returns : goal.returns

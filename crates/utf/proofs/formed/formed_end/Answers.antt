@@ -1,7 +1,6 @@
 -- `utf::formed::formed_end` meets its contract, by the place behind the last sequence of its block.
 use mathlib.Core.Path.{sym, ◌∙◌, ap}
 use mathlib.Core.Bool.{not}
-use borrow.Author.Tests.{not-false}
 use Rattle.utf.proofs.Units.{ran-none}
 use Rattle.utf.proofs.Sequences.{not-inner}
 use native.Mathlib.Omega.{arith}
@@ -26,5 +25,6 @@ pub past_inner-requires : goal.past_inner-requires
 past_inner-requires c = omega (arith, c.requires)
 
 pub returns : goal.returns
-returns c = let end = c.past_inner.ensures in
-    rw c.if-utf16.false (c.all_formed.ensures (not-false _ c.if-not-all_formed.false) _ end.0, end.1)
+returns c =
+    let end = c.past_inner.ensures in
+    rw c.if-utf16.false (c.all_formed.ensures (c.if-not-all_formed.false) _ end.0, end.1)

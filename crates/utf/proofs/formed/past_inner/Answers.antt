@@ -2,7 +2,6 @@
 use mathlib.Core.Path.{sym, ◌∙◌, ap}
 use mathlib.Core.Bool.{not}
 use Prim.Native.Nat.{◌-◌}
-use borrow.Author.Tests.{not-false}
 use Rattle.utf.proofs.Scalars.{inside-ends}
 use Rattle.utf.proofs.FormedRuns.{inner-none, inner-more, inner-stop, inner-end}
 use Rattle.utf.proofs.formed.past_inner.Goals as goal
@@ -14,10 +13,11 @@ pub returns-then-not-is_inner : goal.returns-then-not-is_inner
 returns-then-not-is_inner c = inner-stop _ _ _ c.loop-i.invariant (ap not (sym c.is_inner.ensures) ∙ c.if-not-is_inner.true)
 
 pub loop-i-preserved : goal.loop-i-preserved
-loop-i-preserved c = let l = c in
+loop-i-preserved c =
+    let l = c in
     let s = c.args.s.now in
     inner-more s c.args.at l.loop-i.i l.loop-i.invariant c.loop-i-test.true
-    (inside-ends _ _ _ (sym c.is_inner.ensures ∙ not-false _ c.if-not-is_inner.false))
+    (inside-ends _ _ _ (sym c.is_inner.ensures ∙ c.if-not-is_inner.false))
 
 pub returns : goal.returns
 returns c = inner-end _ _ _ c.loop-i.invariant c.loop-i-test.false

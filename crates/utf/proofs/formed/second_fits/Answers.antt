@@ -10,7 +10,8 @@ use native.Mathlib.Omega.{arith}
 use Rattle.utf.proofs.formed.second_fits.Goals as goal
 
 pub returns : goal.returns
-returns c = let b = c.args.b in
+returns c =
+    let b = c.args.b in
     let x = c.args.c in
     λ t.
     let p4 =

@@ -12,5 +12,6 @@ pub returns-then-b-eq0 : goal.returns-then-b-eq0
 returns-then-b-eq0 c = λ e. absurd (true≢false (sym e))
 
 pub returns : goal.returns
-returns c = let a = c.args in
-    λ e w. by_lengths w a.utf16-b a.a.now a.b.now c.if-utf16_b.false c.if-b-eq0.false (ltb-true _ _ e)
+returns c =
+    let a = c.args in
+    λ e w. by_lengths w a.utf16_b a.a.now a.b.now c.if-utf16_b.false c.if-b-eq0.false (ltb-true _ _ e)

@@ -13,7 +13,8 @@ pub bounds-b-i : goal.bounds-b-i
 bounds-b-i c = omega (arith, c.requires)
 
 pub loop-i-preserved : goal.loop-i-preserved
-loop-i-preserved c = let l = c.loop-i in
+loop-i-preserved c =
+    let l = c.loop-i in
     let a = c.args in (
       omega arith,
       rw c.greater-most.ensures
@@ -22,6 +23,7 @@ loop-i-preserved c = let l = c.loop-i in
     )
 
 pub returns : goal.returns
-returns c = let l = c.loop-i in
+returns c =
+    let l = c.loop-i in
     let a = c.args in
     sym (seen_same-end a.a.now a.b.now l.i l.most c.loop-i-test.false c.requires) ∙ l.invariant.1

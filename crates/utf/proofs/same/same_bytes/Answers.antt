@@ -7,7 +7,8 @@ use Rattle.utf.proofs.Equal.{eq_bytes-refl, same-last, same_more, eq_bytes-here,
 use Rattle.utf.proofs.same.same_bytes.Goals as goal
 
 pub returns-then-a-b : goal.returns-then-a-b
-returns-then-a-b c = let a = c.args in
+returns-then-a-b c =
+    let a = c.args in
     sym (eq_bytes-length a.a.now a.b.now c.if-a-b.true)
 
 pub same_blocks-requires : goal.same_blocks-requires
@@ -17,7 +18,8 @@ pub returns-then-a-ge64 : goal.returns-then-a-ge64
 returns-then-a-ge64 c = c.same_blocks.ensures
 
 pub loop-i-init : goal.loop-i-init
-loop-i-init c = let a = c.args in
+loop-i-init c =
+    let a = c.args in
     (omega arith, same-last a.a.now a.b.now c.if-a-b.false)
 
 pub bounds-a-k : goal.bounds-a-k
@@ -27,11 +29,13 @@ pub bounds-b-k : goal.bounds-b-k
 bounds-b-k c = omega (arith, c.loop-i.invariant.0, c.if-a-b.false)
 
 pub returns-then-a-k : goal.returns-then-a-k
-returns-then-a-k c = let a = c.args in
+returns-then-a-k c =
+    let a = c.args in
     sym (eq_bytes-here a.a.now a.b.now (c.loop-i.i - 1) c.if-a-k.true)
 
 pub loop-i-preserved : goal.loop-i-preserved
-loop-i-preserved c = let a = c.args in
+loop-i-preserved c =
+    let a = c.args in
     let l = c.loop-i in (
       omega (arith, l.invariant.0),
       same_more a.a.now a.b.now l.i c.loop-i-test.true l.invariant.0
@@ -39,7 +43,8 @@ loop-i-preserved c = let a = c.args in
     )
 
 pub returns : goal.returns
-returns c = let a = c.args in
+returns c =
+    let a = c.args in
     let l = c.loop-i in
     let zero : l.i ≡ 0 = omega (arith, c.loop-i-test.false) in
     let same : a.a.now ≡ a.b.now = rw zero at l.invariant.1 in

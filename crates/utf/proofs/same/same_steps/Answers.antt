@@ -4,7 +4,6 @@ use mathlib.Core.List.{List}
 use Prim.Native.Nat.{ℕ, ◌-◌}
 use native.Mathlib.Omega.{arith}
 use lib.ListN.{drop}
-use borrow.Author.Tests.{not-true, not-false}
 use Rattle.utf.specs.Text.{steps_of, bytes_of, eq_bytes}
 use Rattle.utf.proofs.Turns.{stops, goes, end-bytes, left-some, left-none}
 use Rattle.utf.proofs.same.same_steps.Goals as goal
@@ -19,18 +18,21 @@ pub both_at-t-requires : goal.both_at-t-requires
 both_at-t-requires c = (c.loop-i-test.true, c.if-b-j.false)
 
 pub returns-then-not-t : goal.returns-then-not-t
-returns-then-not-t c = let q = c in
-    sym (stops _ _ q.both_at-t.result.same q.both_at-t.ensures.bytes (not-true _ c.if-not-t.true)) ∙ q.loop-i.invariant
+returns-then-not-t c =
+    let q = c in
+    sym (stops _ _ q.both_at-t.result.same q.both_at-t.ensures.bytes (c.if-not-t.true)) ∙ q.loop-i.invariant
 
 pub loop-i-smaller : goal.loop-i-smaller
 loop-i-smaller c = omega (arith, c.both_at-t.ensures.later)
 
 pub loop-i-preserved : goal.loop-i-preserved
-loop-i-preserved c = let q = c in
-    sym (goes _ _ q.both_at-t.result.same q.both_at-t.ensures.bytes (not-false _ c.if-not-t.false)) ∙ q.loop-i.invariant
+loop-i-preserved c =
+    let q = c in
+    sym (goes _ _ q.both_at-t.result.same q.both_at-t.ensures.bytes (c.if-not-t.false)) ∙ q.loop-i.invariant
 
 pub returns : goal.returns
-returns c = let a = c.args in
+returns c =
+    let a = c.args in
     let l = c.loop-i in
-    left-none a.utf16-b a.b.now l.j ∙ ap (λ (x : List ℕ). eq_bytes x (bytes_of (steps_of a.utf16-b (drop l.j a.b.now))))
-    (sym (end-bytes a.utf16-a a.a.now l.i c.loop-i-test.false)) ∙ l.invariant
+    left-none a.utf16_b a.b.now l.j ∙ ap (λ (x : List ℕ). eq_bytes x (bytes_of (steps_of a.utf16_b (drop l.j a.b.now))))
+    (sym (end-bytes a.utf16_a a.a.now l.i c.loop-i-test.false)) ∙ l.invariant

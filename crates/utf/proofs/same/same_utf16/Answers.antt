@@ -10,17 +10,20 @@ use Rattle.utf.proofs.Units.{same_bytes, differ-utf16}
 use Rattle.utf.proofs.same.same_utf16.Goals as goal
 
 pub returns-then-same_bytes : goal.returns-then-same_bytes
-returns-then-same_bytes c = let a = c.args in
+returns-then-same_bytes c =
+    let a = c.args in
     sym (same_bytes true a.a.now a.b.now (sym c.same_bytes.ensures ∙ c.if-same_bytes.true))
 
 pub returns-then-is_blank : goal.returns-then-is_blank
-returns-then-is_blank c = let a = c.args in
+returns-then-is_blank c =
+    let a = c.args in
     let said = sym c.is_blank.ensures ∙ c.if-is_blank.true in
     let blank : [] ≡ text_of true a.a.now = eq_bytes-true [] (text_of true a.a.now) said in
     c.is_blank-then-is_blank.ensures ∙ ap (λ (l : List ℕ). eq_bytes l (text_of true a.b.now)) blank
 
 pub returns : goal.returns
-returns c = let q = c in
+returns c =
+    let q = c in
     let a = q.args in
     let in-a : (i : ℕ) → get_or a.a.now i 0 < 256 = λ i. (q.shared_slice_known-1.given i).fits in
     let in_b : (i : ℕ) → get_or a.b.now i 0 < 256 = λ i. (q.shared_slice_known-2-1.given i).fits in

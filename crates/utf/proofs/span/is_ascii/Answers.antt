@@ -11,7 +11,8 @@ pub loop-i-init : goal.loop-i-init
 loop-i-init c = (omega arith, refl)
 
 pub loop-i-preserved : goal.loop-i-preserved
-loop-i-preserved c = let s = c.args.s.now in
+loop-i-preserved c =
+    let s = c.args.s.now in
     let l = c.loop-i in (
       omega arith,
       ⊎_elim
@@ -21,6 +22,7 @@ loop-i-preserved c = let s = c.args.s.now in
     )
 
 pub returns : goal.returns
-returns c = let s = c.args.s.now in
+returns c =
+    let s = c.args.s.now in
     let l = c.loop-i in
     sym (seen_ascii-end s l.i l.most (omega arith)) ∙ l.invariant.1

@@ -14,16 +14,19 @@ pub loop-i-init : goal.loop-i-init
 loop-i-init c = (omega arith, refl)
 
 pub loop-i-preserved : goal.loop-i-preserved
-loop-i-preserved c = let l = c.loop-i in (
+loop-i-preserved c =
+    let l = c.loop-i in (
       omega arith,
       rw (c.greater-high.ensures, c.greater-low.ensures)
           (seen_units-next c.args.s.now l.i l.low l.high (omega arith) ∙ l.invariant.1),
     )
 
 pub returns-then-low-lt128 : goal.returns-then-low-lt128
-returns-then-low-lt128 c = let l = c.loop-i in
+returns-then-low-lt128 c =
+    let l = c.loop-i in
     sym (rw (lt-ltb l.low 128 c.if-low-lt128.true) at (sym l.invariant.1 ∙ seen_units-end c.args.s.now l.i l.low l.high (omega arith)))
 
 pub returns : goal.returns
-returns c = let l = c.loop-i in
+returns c =
+    let l = c.loop-i in
     sym (rw (le-ltb l.low 128 c.if-low-lt128.false) at (sym l.invariant.1 ∙ seen_units-end c.args.s.now l.i l.low l.high (omega arith)))

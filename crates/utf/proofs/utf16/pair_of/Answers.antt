@@ -7,11 +7,13 @@ use Rattle.utf.proofs.utf16.pair_of.Goals as goal
 
 pub returns-then-x-lt55296 : goal.returns-then-x-lt55296
 unfolding pair_of
-returns-then-x-lt55296 c = let u = c.args.u in rw (lt-leb 0xd800 u c.if-x-lt55296.true, lt-leb 0xdc00 u (omega arith))
+returns-then-x-lt55296 c =
+    let u = c.args.u in rw (lt-leb 0xd800 u c.if-x-lt55296.true, lt-leb 0xdc00 u (omega arith))
 
 pub returns-then-x-gt57343 : goal.returns-then-x-gt57343
 unfolding pair_of
-returns-then-x-gt57343 c = let u = c.args.u in
+returns-then-x-gt57343 c =
+    let u = c.args.u in
     rw (le-leb 0xd800 u (omega arith), lt-leb u 0xdbff (omega arith), le-leb 0xdc00 u (omega arith), lt-leb u 0xdfff c.if-x-gt57343.true)
 
 pub returns-then-x-gt56319 : goal.returns-then-x-gt56319

@@ -11,5 +11,6 @@ pub returns-then-s-at-lt2 : goal.returns-then-s-at-lt2
 returns-then-s-at-lt2 c = sym (step16-short c.args.s.now c.args.at (omega arith) (omega arith))
 
 pub returns : goal.returns
-returns c = let a = c.args in
+returns c =
+    let a = c.args in
     rw (step16-at a.s.now a.at (omega arith)) (cc)

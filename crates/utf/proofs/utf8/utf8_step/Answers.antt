@@ -8,5 +8,6 @@ pub returns-then-s-at : goal.returns-then-s-at
 returns-then-s-at c = sym (step8-past c.args.s.now c.args.at c.if-s-at.true)
 
 pub returns : goal.returns
-returns c = let a = c.args in
+returns c =
+    let a = c.args in
     rw (step8-at a.s.now a.at (omega arith)) (cc)

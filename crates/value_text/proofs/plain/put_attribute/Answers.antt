@@ -9,14 +9,16 @@ use Rattle.value_text.proofs.Front.{wrote-part, wrote-attribute}
 use Rattle.value_text.proofs.plain.put_attribute.Goals as goal
 
 pub returns-in-Name : goal.returns-in-Name
-returns-in-Name c = let a = c.args in
+returns-in-Name c =
+    let a = c.args in
     let x = c.name-1.given.0 in
     wrote-attribute a.area.now a.v (sym c.get_type_name-name.ensures
     ∙ c.name-1.given.1)
     (wrote-part a.area.now x.0 x.1.0 (omega arith) c.part_of.ensures c.put_bytes.ensures)
 
 pub returns-in-Missing : goal.returns-in-Missing
-returns-in-Missing c = let a = c.args in
+returns-in-Missing c =
+    let a = c.args in
     wrote-attribute a.area.now a.v (sym c.get_type_name-name.ensures
-    ∙ c.enum_told-1.given.1)
+    ∙ c.in-Missing.is)
     (wrote-more c.put_marked.ensures (ap (λ (m : ℕ). m ∷ hex_text a.v) c.mark_of.ensures) (omega arith))

@@ -6,11 +6,13 @@ use Rattle.value_text.proofs.Front.{wrote-reference}
 use Rattle.value_text.proofs.plain.put_reference.Goals as goal
 
 pub returns-in-Name : goal.returns-in-Name
-returns-in-Name c = let a = c.args in
+returns-in-Name c =
+    let a = c.args in
     wrote-reference a.area.now a.v (sym c.get_type_name-name.ensures
     ∙ c.name-1.given.1) c.put_at.ensures
 
 pub returns-in-Missing : goal.returns-in-Missing
-returns-in-Missing c = let a = c.args in
+returns-in-Missing c =
+    let a = c.args in
     wrote-reference a.area.now a.v (sym c.get_type_name-name.ensures
-    ∙ c.enum_told-1.given.1) (wrote-more c.put_marked.ensures refl (omega arith))
+    ∙ c.in-Missing.is) (wrote-more c.put_marked.ensures refl (omega arith))

@@ -3,7 +3,8 @@ use mathlib.Core.Path.{◌∙◌}
 use Rattle.walk.proofs.ending.finish.Goals as goal
 
 pub returns : goal.returns
-returns c = let at_zero = c in
+returns c =
+    let at_zero = c in
     let at-kept = at_zero in
     let k = at-kept.kept_nodes-k.ensures in
     let a = at-kept.kept_attributes-a.ensures in

@@ -9,7 +9,8 @@ use borrow.Author.Rules.{rules}
 use Rattle.walk.proofs.ending.noted.Goals as goal
 
 pub stored-notes-requires : goal.stored-notes-requires
-stored-notes-requires c = let a = c.args in
+stored-notes-requires c =
+    let a = c.args in
     let e : get_or a.st.notes.counts c.kind_index.result 0 ≡ get_or a.st.notes.counts (kind_index a.x) 0 =
     ap (λ (i : ℕ). get_or a.st.notes.counts i 0) c.kind_index.ensures in
     (omega (arith, c.kind_index.ensures, kind_index-lt a.x), omega (arith, c.requires.0, e), search rules)

@@ -18,12 +18,14 @@ pub returns-then-is_due-2 : goal.returns-then-is_due-2
 returns-then-is_due-2 c = on-here _ _ _ _
 
 pub pass_foreign-requires : goal.pass_foreign-requires
-pass_foreign-requires c = let at-body-of = c in
+pass_foreign-requires c =
+    let at-body-of = c in
     let at-start = at-body-of in
     rw at-body-of.body_of-b.ensures at-start.requires.inside
 
 pub returns-in-AtChunk : goal.returns-in-AtChunk
-returns-in-AtChunk c = let p = c.pass_foreign in
+returns-in-AtChunk c =
+    let p = c.pass_foreign in
     let at_told = c in
     let at-body-of = at_told in
     let at-if2 = at-body-of in

@@ -12,54 +12,60 @@ pub keep-p-requires : goal.keep-p-requires
 keep-p-requires c = c.requires
 
 pub shape_of-numbers-in-NotStored : goal.shape_of-numbers-in-NotStored
-shape_of-numbers-in-NotStored c = let at-keep = c in
+shape_of-numbers-in-NotStored c =
+    let at-keep = c in
     let at-start = c in
     at-keep.keep-p.ensures.1.room ∙ sym at-start.requires.2.room
 
 pub returns-in-NotStored : goal.returns-in-NotStored
-returns-in-NotStored c = let at-keep = c in
+returns-in-NotStored c =
+    let at-keep = c in
     let at-start = c in (
       (let a = at-start.args in
           let q = at-keep.keep-p in
           λ o h l.
           keep_same (by_prefix (same_name a.h a.t.now (lends a.names.now a.area.now)))
-          (key_by a.h a.t.now (lends a.names.now a.area.now)) a.nodes-1.now a.attributes-1.now q.new.1.1.1.1.0
+          (key_by a.h a.t.now (lends a.names.now a.area.now)) a.nodes.now a.attributes.now q.new.1.1.1.1.0
           q.new.1.1.1.1.1.0
-          a.tree o h l a.prefix a.a c.enum_told-1.given.1 (q.ensures.0 l)),
+          a.tree o h l a.prefix a.a c.in-NotStored.is (q.ensures.0 l)),
       at-keep.keep-p.ensures.1,
     )
 
 pub shape_of-numbers-in-Full : goal.shape_of-numbers-in-Full
-shape_of-numbers-in-Full c = let at-keep = c in
+shape_of-numbers-in-Full c =
+    let at-keep = c in
     let at-start = c in
     at-keep.keep-p.ensures.1.room ∙ sym at-start.requires.2.room
 
 pub returns-in-Full : goal.returns-in-Full
-returns-in-Full c = let at-keep = c in
+returns-in-Full c =
+    let at-keep = c in
     let at-start = c in (
       (let a = at-start.args in
           let q = at-keep.keep-p in
           λ o h l.
           keep-full (by_prefix (same_name a.h a.t.now (lends a.names.now a.area.now)))
-          (key_by a.h a.t.now (lends a.names.now a.area.now)) a.nodes-1.now a.attributes-1.now q.new.1.1.1.1.0
+          (key_by a.h a.t.now (lends a.names.now a.area.now)) a.nodes.now a.attributes.now q.new.1.1.1.1.0
           q.new.1.1.1.1.1.0
-          a.tree o h l a.prefix a.a (length q.new.1.1.1.1.1.0) c.enum_told-in-Full-1.given.1 (q.ensures.0 l) q.auto.1.1.1.1.1.0),
+          a.tree o h l a.prefix a.a (length q.new.1.1.1.1.1.0) c.in-Full.is (q.ensures.0 l) q.auto.1.1.1.1.1.0),
       at-keep.keep-p.ensures.1,
     )
 
 pub shape_of-numbers-in-Stored : goal.shape_of-numbers-in-Stored
-shape_of-numbers-in-Stored c = let at-keep = c in
+shape_of-numbers-in-Stored c =
+    let at-keep = c in
     let at-start = c in
     at-keep.keep-p.ensures.1.room ∙ sym at-start.requires.2.room
 
 pub returns-in-Stored : goal.returns-in-Stored
-returns-in-Stored c = let at-keep = c in
+returns-in-Stored c =
+    let at-keep = c in
     let at-start = c in (
       (let a = at-start.args in
           let q = at-keep.keep-p in
           λ o h l.
           keep-stored (by_prefix (same_name a.h a.t.now (lends a.names.now a.area.now)))
-          (key_by a.h a.t.now (lends a.names.now a.area.now)) a.nodes-1.now a.attributes-1.now q.new.1.1.1.1.0
+          (key_by a.h a.t.now (lends a.names.now a.area.now)) a.nodes.now a.attributes.now q.new.1.1.1.1.0
           q.new.1.1.1.1.1.0 a.tree o h l a.prefix a.a c.p-1.given.0.0 c.p-1.given.1 (q.ensures.0 l) q.auto.1.1.1.1.0
           q.auto.1.1.1.1.1.0),
       at-keep.keep-p.ensures.1,

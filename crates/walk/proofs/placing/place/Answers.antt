@@ -8,22 +8,25 @@ use Rattle.system_types.specs.Names.{lends}
 use Rattle.walk.proofs.placing.place.Goals as goal
 
 pub keep_place-requires : goal.keep_place-requires
-keep_place-requires c = let at-e2 = c in
+keep_place-requires c =
+    let at-e2 = c in
     let at-start = c in
     (rw at-e2.e-in-Attribute-1.given.1 at at-start.requires.0, at-start.requires.1, at-start.requires.2)
 
 pub returns-in-Nothing : goal.returns-in-Nothing
-returns-in-Nothing c = let at-start = c in
+returns-in-Nothing c =
+    let at-start = c in
     let a = at-start.args in
     let rule = by_prefix (same_name a.h a.t.now (lends a.names.now a.area.now)) in
     let key = key_by a.h a.t.now (lends a.names.now a.area.now) in (
-      (λ o h l. place-nothing rule key a.nodes-1.now a.attributes-1.now a.tree o a.e-1 h l c.enum_told-1.given.1),
-      not-other a.e-1 _ c.enum_told-1.given.1 tt,
+      (λ o h l. place-nothing rule key a.nodes.now a.attributes.now a.tree o a.e h l c.in-Nothing.is),
+      not-other a.e _ c.in-Nothing.is tt,
       at-start.requires.2,
     )
 
 pub returns-in-Open : goal.returns-in-Open
-returns-in-Open c = let at-open-place = c in
+returns-in-Open c =
+    let at-open-place = c in
     let at-e = c in
     let at-start = c in
     let a = at-start.args in
@@ -31,19 +34,21 @@ returns-in-Open c = let at-open-place = c in
     let e = at-e.e-1.given in
     let rule = by_prefix (same_name a.h a.t.now (lends a.names.now a.area.now)) in
     let key = key_by a.h a.t.now (lends a.names.now a.area.now) in (
-      (λ o h l. place-as rule key a.nodes-1.now a.attributes-1.now a.tree o a.e-1 q.result q.new.0 a.attributes-1.now _ e.1
+      (λ o h l. place-as rule key a.nodes.now a.attributes.now a.tree o a.e q.result q.new.0 a.attributes.now _ e.1
           (q.ensures rule key o h l)),
-      not_end q.result a.e-1 (not-other a.e-1 _ e.1 tt),
+      not_end q.result a.e (not-other a.e _ e.1 tt),
       at-start.requires.2,
     )
 
 pub shape_of-numbers : goal.shape_of-numbers
-shape_of-numbers c = let at-keep-place = c in
+shape_of-numbers c =
+    let at-keep-place = c in
     let at-start = c in
     at-keep-place.keep_place.ensures.1.room ∙ sym at-start.requires.2.room
 
 pub returns-in-Attribute : goal.returns-in-Attribute
-returns-in-Attribute c = let at-keep-place = c in
+returns-in-Attribute c =
+    let at-keep-place = c in
     let at-e2 = c in
     let at-start = c in
     let a = at-start.args in
@@ -52,38 +57,41 @@ returns-in-Attribute c = let at-keep-place = c in
     let rule = by_prefix (same_name a.h a.t.now (lends a.names.now a.area.now)) in
     let key = key_by a.h a.t.now (lends a.names.now a.area.now) in (
       (λ o h l.
-          place-as rule key a.nodes-1.now a.attributes-1.now a.tree o a.e-1 q.result q.new.1.1.1.1.0 q.new.1.1.1.1.1.0 _ e.1
+          place-as rule key a.nodes.now a.attributes.now a.tree o a.e q.result q.new.1.1.1.1.0 q.new.1.1.1.1.1.0 _ e.1
           (q.ensures.0 o h l)),
-      not_end q.result a.e-1 (not-other a.e-1 _ e.1 tt),
+      not_end q.result a.e (not-other a.e _ e.1 tt),
       q.ensures.1,
     )
 
 pub returns-in-LeftOut : goal.returns-in-LeftOut
-returns-in-LeftOut c = let at-start = c in
+returns-in-LeftOut c =
+    let at-start = c in
     let a = at-start.args in
     let e = c.e-in-LeftOut-1.given in
     let rule = by_prefix (same_name a.h a.t.now (lends a.names.now a.area.now)) in
     let key = key_by a.h a.t.now (lends a.names.now a.area.now) in
-    ((λ o h l. place-left rule key a.nodes-1.now a.attributes-1.now a.tree o a.e-1 e.0.0 h l e.1), not-other a.e-1 _ e.1 tt, at-start.requires.2)
+    ((λ o h l. place-left rule key a.nodes.now a.attributes.now a.tree o a.e e.0.0 h l e.1), not-other a.e _ e.1 tt, at-start.requires.2)
 
 pub returns-in-Close : goal.returns-in-Close
-returns-in-Close c = let at-enum-told2 = c in
+returns-in-Close c =
+    let at-enum-told2 = c in
     let at-start = c in
     let a = at-start.args in
     let q = c.close_place in
     let e = at-enum-told2.enum_told-in-Close-1.given in
     let rule = by_prefix (same_name a.h a.t.now (lends a.names.now a.area.now)) in
     let key = key_by a.h a.t.now (lends a.names.now a.area.now) in (
-      (λ o h l. place-as rule key a.nodes-1.now a.attributes-1.now a.tree o a.e-1 q.result a.nodes-1.now a.attributes-1.now _ e.1
+      (λ o h l. place-as rule key a.nodes.now a.attributes.now a.tree o a.e q.result a.nodes.now a.attributes.now _ e.1
           (q.ensures rule key o h l)),
-      not_end q.result a.e-1 (not-other a.e-1 _ e.1 tt),
+      not_end q.result a.e (not-other a.e _ e.1 tt),
       at-start.requires.2,
     )
 
 pub returns-in-Refuse : goal.returns-in-Refuse
-returns-in-Refuse c = let at-start = c in
+returns-in-Refuse c =
+    let at-start = c in
     let a = at-start.args in
     let e = c.e-in-Refuse-1.given in
     let rule = by_prefix (same_name a.h a.t.now (lends a.names.now a.area.now)) in
     let key = key_by a.h a.t.now (lends a.names.now a.area.now) in
-    ((λ o h l. place-refused rule key a.nodes-1.now a.attributes-1.now a.tree o a.e-1 e.0.0 e.1), tt, at-start.requires.2)
+    ((λ o h l. place-refused rule key a.nodes.now a.attributes.now a.tree o a.e e.0.0 e.1), tt, at-start.requires.2)

@@ -8,16 +8,19 @@ use Rattle.walk.proofs.Running.{run-first, fit_of, run-less, run-goes, run-full,
 use Rattle.walk.proofs.placing.run.Goals as goal
 
 pub loop-u-init : goal.loop-u-init
-loop-u-init c = let at-start = c in
+loop-u-init c =
+    let at-start = c in
     (refl, refl, (λ g. run-first _ _ _ _ _ _ _ _ _ g), at-start.requires.1, at-start.requires.2)
 
 pub step_at-s-requires : goal.step_at-s-requires
-step_at-s-requires c = let at-start = c in
+step_at-s-requires c =
+    let at-start = c in
     let l = c.loop-u in
     (let now = (l.invariant.2 at-start.requires.0).now in (now.ready, now.within, l.invariant.3))
 
 pub place-p-requires : goal.place-p-requires
-place-p-requires c = let at-step-at = c in
+place-p-requires c =
+    let at-step-at = c in
     let at-loop = c in
     let at-start = c in
     let a = at-start.args in
@@ -25,12 +28,13 @@ place-p-requires c = let at-step-at = c in
     let s = at-step-at.step_at-s in
     let now = (l.invariant.2 at-start.requires.0).now in (
       asks-for a.mode a.t.now (lends a.names.now a.area.now) a.b.now a.o l.cur s.result now.ready now.within s.ensures.0,
-      fit_of a.mode a.t.now (lends a.names.now a.area.now) a.b.now a.o l.nodes-1 l.attributes-1 l.cur l.grown now,
+      fit_of a.mode a.t.now (lends a.names.now a.area.now) a.b.now a.o l.nodes l.attributes l.cur l.grown now,
       l.invariant.4,
     )
 
 pub loop-u-smaller : goal.loop-u-smaller
-loop-u-smaller c = let at_place = c in
+loop-u-smaller c =
+    let at_place = c in
     let at-step-at = c in
     let at-loop = c in
     let at-start = c in
@@ -39,13 +43,14 @@ loop-u-smaller c = let at_place = c in
     let s = at-step-at.step_at-s in
     let q = at_place.place-p in
     let g = at-start.pre.0 in
-    run-less a.mode a.t.now (lends a.names.now a.area.now) a.b.now a.o a.nodes-1.now a.attributes-1.now a.c a.tree g l.nodes-1 l.attributes-1
+    run-less a.mode a.t.now (lends a.names.now a.area.now) a.b.now a.o a.nodes.now a.attributes.now a.c a.tree g l.nodes l.attributes
     l.cur l.grown (l.invariant.2 g) s.result s.ensures.0 q.new.1.1.1.1.0 q.new.1.1.1.1.1.0 q.auto.1.1.1.1.0
     q.auto.1.1.1.1.1.0
     q.result q.ensures.0 q.ensures.1 c.p-1.given.0.0 c.p-1.given.1
 
 pub loop-u-preserved : goal.loop-u-preserved
-loop-u-preserved c = let at_place = c in
+loop-u-preserved c =
+    let at_place = c in
     let at-step-at = c in
     let at-loop = c in
     let at-start = c in
@@ -56,8 +61,8 @@ loop-u-preserved c = let at_place = c in
       q.auto.1.1.1.1.0 ∙ l.invariant.0,
       q.auto.1.1.1.1.1.0 ∙ l.invariant.1,
       λ g.
-          run-goes a.mode a.t.now (lends a.names.now a.area.now) a.b.now a.o a.nodes-1.now a.attributes-1.now a.c a.tree g l.nodes-1
-          l.attributes-1
+          run-goes a.mode a.t.now (lends a.names.now a.area.now) a.b.now a.o a.nodes.now a.attributes.now a.c a.tree g l.nodes
+          l.attributes
           l.cur l.grown (l.invariant.2 g) s.result s.ensures.0 q.new.1.1.1.1.0 q.new.1.1.1.1.1.0 q.auto.1.1.1.1.0
           q.auto.1.1.1.1.1.0
           q.result q.ensures.0 q.ensures.1 c.p-1.given.0.0 c.p-1.given.1,
@@ -66,17 +71,20 @@ loop-u-preserved c = let at_place = c in
     )
 
 pub shape_of-memory-in-Full : goal.shape_of-memory-in-Full
-shape_of-memory-in-Full c = let at-step-at = c in
+shape_of-memory-in-Full c =
+    let at-step-at = c in
     let at-start = c in
     at-step-at.step_at-s.ensures.1.room ∙ sym at-start.pre.1.room
 
 pub shape_of-numbers-in-Full : goal.shape_of-numbers-in-Full
-shape_of-numbers-in-Full c = let at_place = c in
+shape_of-numbers-in-Full c =
+    let at_place = c in
     let at-start = c in
     at_place.place-p.ensures.2.room ∙ sym at-start.pre.2.room
 
 pub returns-in-Full : goal.returns-in-Full
-returns-in-Full c = let at_place = c in
+returns-in-Full c =
+    let at_place = c in
     let at-step-at = c in
     let at-loop = c in
     let at-start = c in
@@ -85,8 +93,8 @@ returns-in-Full c = let at_place = c in
     let s = at-step-at.step_at-s in
     let q = at_place.place-p in (
       λ g.
-          run-full a.mode a.t.now (lends a.names.now a.area.now) a.b.now a.o a.nodes-1.now a.attributes-1.now a.c a.tree g l.nodes-1
-          l.attributes-1
+          run-full a.mode a.t.now (lends a.names.now a.area.now) a.b.now a.o a.nodes.now a.attributes.now a.c a.tree g l.nodes
+          l.attributes
           l.cur l.grown (l.invariant.2 g) s.result s.ensures.0 q.new.1.1.1.1.0 q.new.1.1.1.1.1.0 q.auto.1.1.1.1.0
           q.auto.1.1.1.1.1.0
           q.result q.ensures.0 q.ensures.1 c.p-in-Full-1.given.0.0 l.grown c.p-in-Full-1.given.1,
@@ -95,17 +103,20 @@ returns-in-Full c = let at_place = c in
     )
 
 pub shape_of-memory-in-Due : goal.shape_of-memory-in-Due
-shape_of-memory-in-Due c = let at-step-at = c in
+shape_of-memory-in-Due c =
+    let at-step-at = c in
     let at-start = c in
     at-step-at.step_at-s.ensures.1.room ∙ sym at-start.pre.1.room
 
 pub shape_of-numbers-in-Due : goal.shape_of-numbers-in-Due
-shape_of-numbers-in-Due c = let at_place = c in
+shape_of-numbers-in-Due c =
+    let at_place = c in
     let at-start = c in
     at_place.place-p.ensures.2.room ∙ sym at-start.pre.2.room
 
 pub returns-in-Due : goal.returns-in-Due
-returns-in-Due c = let at_place = c in
+returns-in-Due c =
+    let at_place = c in
     let at-step-at = c in
     let at-loop = c in
     let at-start = c in
@@ -114,8 +125,8 @@ returns-in-Due c = let at_place = c in
     let s = at-step-at.step_at-s in
     let q = at_place.place-p in (
       λ g.
-          run-due a.mode a.t.now (lends a.names.now a.area.now) a.b.now a.o a.nodes-1.now a.attributes-1.now a.c a.tree g l.nodes-1
-          l.attributes-1
+          run-due a.mode a.t.now (lends a.names.now a.area.now) a.b.now a.o a.nodes.now a.attributes.now a.c a.tree g l.nodes
+          l.attributes
           l.cur l.grown (l.invariant.2 g) s.result s.ensures.0 q.new.1.1.1.1.0 q.new.1.1.1.1.1.0 q.auto.1.1.1.1.0
           q.auto.1.1.1.1.1.0
           q.result q.ensures.0 q.ensures.1 c.p-in-Due-1.given.0.0 c.p-in-Due-1.given.1,
@@ -124,17 +135,20 @@ returns-in-Due c = let at_place = c in
     )
 
 pub shape_of-memory-in-Finished : goal.shape_of-memory-in-Finished
-shape_of-memory-in-Finished c = let at-step-at = c in
+shape_of-memory-in-Finished c =
+    let at-step-at = c in
     let at-start = c in
     at-step-at.step_at-s.ensures.1.room ∙ sym at-start.pre.1.room
 
 pub shape_of-numbers-in-Finished : goal.shape_of-numbers-in-Finished
-shape_of-numbers-in-Finished c = let at_place = c in
+shape_of-numbers-in-Finished c =
+    let at_place = c in
     let at-start = c in
     at_place.place-p.ensures.2.room ∙ sym at-start.pre.2.room
 
 pub returns-in-Finished : goal.returns-in-Finished
-returns-in-Finished c = let at_place = c in
+returns-in-Finished c =
+    let at_place = c in
     let at-step-at = c in
     let at-loop = c in
     let at-start = c in
@@ -143,11 +157,11 @@ returns-in-Finished c = let at_place = c in
     let s = at-step-at.step_at-s in
     let q = at_place.place-p in (
       λ g.
-          run-finished a.mode a.t.now (lends a.names.now a.area.now) a.b.now a.o a.nodes-1.now a.attributes-1.now a.c a.tree g l.nodes-1
-          l.attributes-1
+          run-finished a.mode a.t.now (lends a.names.now a.area.now) a.b.now a.o a.nodes.now a.attributes.now a.c a.tree g l.nodes
+          l.attributes
           l.cur l.grown (l.invariant.2 g) s.result s.ensures.0 q.new.1.1.1.1.0 q.new.1.1.1.1.1.0 q.auto.1.1.1.1.0
           q.auto.1.1.1.1.1.0
-          q.result q.ensures.0 q.ensures.1 c.enum_told-1.given.1,
+          q.result q.ensures.0 q.ensures.1 c.in-Finished.is,
       s.ensures.1,
       q.ensures.2,
     )

@@ -15,96 +15,100 @@ use Rattle.walk.proofs.Chains.{far-of, front-le, front-found, front-near, front-
 use Rattle.walk.proofs.tree.keep.Goals as goal
 
 pub returns-then-n-eq0 : goal.returns-then-n-eq0
-returns-then-n-eq0 c = let at-start = c in
+returns-then-n-eq0 c =
+    let at-start = c in
     ((λ l. record { there = λ n. absurd (n c.if-n-eq0.true); nodes = refl; attributes = refl }), at-start.requires.2)
 
 pub overflow_sub-used : goal.overflow_sub-used
 overflow_sub-used c = omega (
-      arith,
-      c.attribute_place-used.ensures,
-      c.attribute_place-from.ensures,
-      c.requires.1.sized.first,
-    )
+  arith,
+  c.attribute_place-used.ensures,
+  c.attribute_place-from.ensures,
+  c.requires.1.sized.first,
+)
 
 pub overflow_sub-nodes : goal.overflow_sub-nodes
 overflow_sub-nodes c = omega (arith, c.node_place.ensures, c.requires.1.sized.nodes-1)
 
 pub overflow_sub-used-2 : goal.overflow_sub-used-2
 overflow_sub-used-2 c = omega (
-      arith,
-      c.attribute_place-used.ensures,
-      c.attribute_place-from.ensures,
-      c.requires.1.sized.first,
-    )
+  arith,
+  c.attribute_place-used.ensures,
+  c.attribute_place-from.ensures,
+  c.requires.1.sized.first,
+)
 
 pub overflow_add-from : goal.overflow_add-from
 overflow_add-from c = omega (
-      arith,
-      front-le c.is_far-far.result _ _ c.front_of-front.result c.is_far-far.ensures c.front_of-front.ensures,
-      c.attribute_place-used.ensures,
-      c.attribute_place-from.ensures,
-      c.requires.1.sized.first,
-      c.requires.1.sized.attributes-1,
-      c.requires.1.many,
-    )
+  arith,
+  front-le c.is_far-far.result _ _ c.front_of-front.result c.is_far-far.ensures c.front_of-front.ensures,
+  c.attribute_place-used.ensures,
+  c.attribute_place-from.ensures,
+  c.requires.1.sized.first,
+  c.requires.1.sized.attributes-1,
+  c.requires.1.many,
+)
 
 pub offset_bounds-attributes-from : goal.offset_bounds-attributes-from
 offset_bounds-attributes-from c = omega (
-      arith,
-      front-le c.is_far-far.result _ _ c.front_of-front.result c.is_far-far.ensures c.front_of-front.ensures,
-      c.attribute_place-used.ensures,
-      c.attribute_place-from.ensures,
-      c.requires.1.sized.first,
-      c.requires.1.sized.attributes-1,
-      c.requires.1.many,
-    )
+  arith,
+  front-le c.is_far-far.result _ _ c.front_of-front.result c.is_far-far.ensures c.front_of-front.ensures,
+  c.attribute_place-used.ensures,
+  c.attribute_place-from.ensures,
+  c.requires.1.sized.first,
+  c.requires.1.sized.attributes-1,
+  c.requires.1.many,
+)
 
 pub slice_bounds-has-count : goal.slice_bounds-has-count
 slice_bounds-has-count c = omega (
-      arith,
-      front-le c.is_far-far.result _ _ c.front_of-front.result c.is_far-far.ensures c.front_of-front.ensures,
-      c.attribute_place-used.ensures,
-      c.attribute_place-from.ensures,
-      c.requires.1.sized.first,
-      c.requires.1.sized.attributes-1,
-      c.requires.1.many,
-    )
+  arith,
+  front-le c.is_far-far.result _ _ c.front_of-front.result c.is_far-far.ensures c.front_of-front.ensures,
+  c.attribute_place-used.ensures,
+  c.attribute_place-from.ensures,
+  c.requires.1.sized.first,
+  c.requires.1.sized.attributes-1,
+  c.requires.1.many,
+)
 
 pub slice_bounds-has-start : goal.slice_bounds-has-start
 slice_bounds-has-start c = omega (
-      arith,
-      front-le c.is_far-far.result _ _ c.front_of-front.result c.is_far-far.ensures
-          c.front_of-front.ensures,
-      c.attribute_place-used.ensures,
-      c.attribute_place-from.ensures,
-      c.requires.1.sized.first,
-      c.requires.1.sized.attributes-1,
-      c.requires.1.many,
-    )
+  arith,
+  front-le c.is_far-far.result _ _ c.front_of-front.result c.is_far-far.ensures
+      c.front_of-front.ensures,
+  c.attribute_place-used.ensures,
+  c.attribute_place-from.ensures,
+  c.requires.1.sized.first,
+  c.requires.1.sized.attributes-1,
+  c.requires.1.many,
+)
 
 pub slice_bounds-has-end : goal.slice_bounds-has-end
 slice_bounds-has-end c = omega (
-      arith,
-      front-le c.is_far-far.result _ _ c.front_of-front.result c.is_far-far.ensures
-          c.front_of-front.ensures,
-      c.attribute_place-used.ensures,
-      c.attribute_place-from.ensures,
-      c.requires.1.sized.first,
-      c.requires.1.sized.attributes-1,
-      c.requires.1.many,
-    )
+  arith,
+  front-le c.is_far-far.result _ _ c.front_of-front.result c.is_far-far.ensures
+      c.front_of-front.ensures,
+  c.attribute_place-used.ensures,
+  c.attribute_place-from.ensures,
+  c.requires.1.sized.first,
+  c.requires.1.sized.attributes-1,
+  c.requires.1.many,
+)
 
 pub has-requires : goal.has-requires
-has-requires c = let at-start = c in
+has-requires c =
+    let at-start = c in
     let p = at-start.requires in (p.0.0, p.0.1, p.2)
 
 pub shape_of-numbers-then-has : goal.shape_of-numbers-then-has
-shape_of-numbers-then-has c = let at_has = c in
+shape_of-numbers-then-has c =
+    let at_has = c in
     let at-start = c in
     at_has.has.ensures.1.room ∙ sym at-start.requires.2.room
 
 pub returns-then-has : goal.returns-then-has
-returns-then-has c = let at_has = c in
+returns-then-has c =
+    let at_has = c in
     let at-front-of = c in
     let at-is-far = c in
     let at-attribute-place2 = c in
@@ -112,7 +116,7 @@ returns-then-has c = let at_has = c in
     let at-start = c in (
       (let s = at-start in let a = s.args in let lent = lends a.names.now a.area.now in let same = same_name a.h a.t.now lent in let
           key = key_by a.h a.t.now lent in λ l. record {
-            there = λ _. front-found a.nodes-1.now a.attributes-1.now a.tree s.requires.1.sized (by_prefix same)
+            there = λ _. front-found a.nodes.now a.attributes.now a.tree s.requires.1.sized (by_prefix same)
                 (new_words a.tree a.prefix a.a) _ _ _ _ _ at-attribute-place.attribute_place-from.ensures
                 at-attribute-place2.attribute_place-used.ensures refl at-is-far.is_far-far.result at_has.has.result at-is-far.is_far-far.ensures
                 at-front-of.front_of-front.ensures (at_has.has.ensures.0 (a.tree.nodes-1 - 1) a.a.data_type a.a.«data») c.if-has.true;
@@ -124,12 +128,13 @@ returns-then-has c = let at_has = c in
     )
 
 pub keep_far-requires : goal.keep_far-requires
-keep_far-requires c = let s = c in
+keep_far-requires c =
+    let s = c in
     let a = s.args in (
       s.pre.0.0,
       s.pre.1,
-      far-of a.nodes-1.now a.attributes-1.now a.tree
-          (c.attribute_place-used.result - c.attribute_place-from.result) (length a.nodes-1.now -
+      far-of a.nodes.now a.attributes.now a.tree
+          (c.attribute_place-used.result - c.attribute_place-from.result) (length a.nodes.now -
           c.node_place.result)
           c.if-n-eq0.false s.pre.1.sized (omega (
             arith,
@@ -145,12 +150,14 @@ keep_far-requires c = let s = c in
     )
 
 pub shape_of-numbers-then-far : goal.shape_of-numbers-then-far
-shape_of-numbers-then-far c = let at-keep-far = c in
+shape_of-numbers-then-far c =
+    let at-keep-far = c in
     let at-start = c in
     at-keep-far.keep_far.ensures.1.room ∙ sym at-start.pre.2.room
 
 pub returns-then-far : goal.returns-then-far
-returns-then-far c = let at-keep-far = c in
+returns-then-far c =
+    let at-keep-far = c in
     let then3 = c in
     let else2 = c in
     let at_has = c in
@@ -161,7 +168,7 @@ returns-then-far c = let at-keep-far = c in
     let at-start = c in (
       (let s = at-start in let a = s.args in let lent = lends a.names.now a.area.now in let same = same_name a.h a.t.now lent in let
           key = key_by a.h a.t.now lent in at-keep-far.keep_far.ensures.0
-          (front-first a.nodes-1.now a.attributes-1.now a.tree s.pre.1.sized (by_prefix same) (new_words a.tree a.prefix a.a) _ _ _ 0
+          (front-first a.nodes.now a.attributes.now a.tree s.pre.1.sized (by_prefix same) (new_words a.tree a.prefix a.a) _ _ _ 0
           _ at-attribute-place.attribute_place-from.ensures at-attribute-place2.attribute_place-used.ensures refl at-is-far.is_far-far.result
           at_has.has.result false then3.if-far.true at-front-of.front_of-front.ensures
           (at_has.has.ensures.0 (a.tree.nodes-1 - 1) a.a.data_type a.a.«data») else2.if-has.false)),
@@ -170,13 +177,14 @@ returns-then-far c = let at-keep-far = c in
 
 pub overflow_sub-attributes : goal.overflow_sub-attributes
 overflow_sub-attributes c = omega (
-      arith,
-      c.attribute_place-used.ensures,
-      c.requires.1.sized.attributes-1,
-    )
+  arith,
+  c.attribute_place-used.ensures,
+  c.requires.1.sized.attributes-1,
+)
 
 pub shape_of-numbers-then-attributes-used-lt-ATTRIBUTE_WORDS : goal.shape_of-numbers-then-attributes-used-lt-ATTRIBUTE_WORDS
-shape_of-numbers-then-attributes-used-lt-ATTRIBUTE_WORDS c = let at_has = c in
+shape_of-numbers-then-attributes-used-lt-ATTRIBUTE_WORDS c =
+    let at_has = c in
     let at-start = c in
     at_has.has.ensures.1.room ∙ sym at-start.pre.2.room
 
@@ -185,7 +193,7 @@ returns-then-attributes-used-lt-ATTRIBUTE_WORDS c = (
   (let s = c in let a = s.args in let lent = lends a.names.now a.area.now in let same =
       same_name a.h a.t.now lent in let key = key_by a.h a.t.now lent in λ l. record {
         some = c.if-n-eq0.false;
-        new = front-near a.nodes-1.now a.attributes-1.now a.tree s.pre.1.sized (by_prefix same)
+        new = front-near a.nodes.now a.attributes.now a.tree s.pre.1.sized (by_prefix same)
             (new_words a.tree a.prefix a.a) _ _ _ 0 _
             c.attribute_place-from.ensures c.attribute_place-used.ensures refl c.is_far-far.result
             c.has.result false c.if-far.false
@@ -214,7 +222,8 @@ store-requires c = (
 )
 
 pub shape_of-numbers : goal.shape_of-numbers
-shape_of-numbers c = let at_has = c in
+shape_of-numbers c =
+    let at_has = c in
     let at-start = c in
     at_has.has.ensures.1.room ∙ sym at-start.pre.2.room
 
@@ -222,14 +231,14 @@ pub returns : goal.returns
 returns c = (
   (let s = c in let a = s.args in let
       lent = lends a.names.now a.area.now in let same = same_name a.h a.t.now lent in let key = key_by a.h a.t.now lent in let
-      room : attribute_width * a.tree.attributes-1 + attribute_width ≤ length a.attributes-1.now = omega (
+      room : attribute_width * a.tree.attributes-1 + attribute_width ≤ length a.attributes.now = omega (
         arith,
         c.if-attributes-used-lt-ATTRIBUTE_WORDS.false,
         c.attribute_place-used.ensures,
       ) in let q = c.store in let w = q.ensures in λ l.
       record {
         some = c.if-n-eq0.false;
-        new = front-near a.nodes-1.now a.attributes-1.now a.tree
+        new = front-near a.nodes.now a.attributes.now a.tree
             s.pre.1.sized (by_prefix same) (new_words a.tree a.prefix a.a) _ _ _ 0 _
             c.attribute_place-from.ensures
             c.attribute_place-used.ensures refl
@@ -242,14 +251,14 @@ returns c = (
         tree = w.tree;
         attributes =
             w.attributes-1;
-        nodes = counted-nodes a.nodes-1.now a.attributes-1.now q.new.0 q.new.1.0 a.tree q.result a.prefix
+        nodes = counted-nodes a.nodes.now a.attributes.now q.new.0 q.new.1.0 a.tree q.result a.prefix
             a.a s.pre.1.sized (pos_of_ne-zero
             c.if-n-eq0.false) room w;
-        chained = chained-near a.nodes-1.now a.attributes-1.now q.new.0
+        chained = chained-near a.nodes.now a.attributes.now q.new.0
             q.new.1.0 a.tree q.result a.prefix a.a s.pre.1.sized
             (pos_of_ne-zero c.if-n-eq0.false) room w key
             (c.attribute_place-used.result -
-            c.attribute_place-from.result) (length a.nodes-1.now -
+            c.attribute_place-from.result) (length a.nodes.now -
             c.node_place.result) (omega (
               arith,
               c.attribute_place-used.ensures,

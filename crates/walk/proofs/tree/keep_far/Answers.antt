@@ -13,34 +13,36 @@ use Rattle.walk.proofs.Chains.{behind-room, count-is, count-seen, link-room, far
 use Rattle.walk.proofs.tree.keep_far.Goals as goal
 
 pub key_of-key-requires : goal.key_of-key-requires
-key_of-key-requires c = let at-start = c in
+key_of-key-requires c =
+    let at-start = c in
     (at-start.requires.0, c.find-g.ensures, at-start.requires.3)
 
 pub slice_bounds-seek-count : goal.slice_bounds-seek-count
 slice_bounds-seek-count c = omega (
-      arith,
-      c.attribute_place-from.ensures,
-      c.attribute_place-used.ensures,
-      c.requires.2.many,
-    )
+  arith,
+  c.attribute_place-from.ensures,
+  c.attribute_place-used.ensures,
+  c.requires.2.many,
+)
 
 pub slice_bounds-seek-start : goal.slice_bounds-seek-start
 slice_bounds-seek-start c = omega (
-      arith,
-      c.attribute_place-from.ensures,
-      c.attribute_place-used.ensures,
-      c.requires.2.many,
-    )
+  arith,
+  c.attribute_place-from.ensures,
+  c.attribute_place-used.ensures,
+  c.requires.2.many,
+)
 
 pub slice_bounds-seek-end : goal.slice_bounds-seek-end
 slice_bounds-seek-end c = omega (
-      arith,
-      c.attribute_place-used.ensures,
-      c.requires.1.sized.attributes-1,
-    )
+  arith,
+  c.attribute_place-used.ensures,
+  c.requires.1.sized.attributes-1,
+)
 
 pub seek-e-requires : goal.seek-e-requires
-seek-e-requires c = let at-key-of = c in
+seek-e-requires c =
+    let at-key-of = c in
     let at-find = c in
     let at-node-place = c in
     let at-attribute-place2 = c in
@@ -51,18 +53,20 @@ seek-e-requires c = let at-key-of = c in
       s.requires.0,
       at-find.find-g.ensures,
       at-key-of.key_of-key.ensures.1,
-      behind-room a.nodes-1.now a.attributes-1.now a.tree s.requires.1.sized
+      behind-room a.nodes.now a.attributes.now a.tree s.requires.1.sized
           s.requires.2 _ _ _ (ap (λ (k : ℕ). k + front_words) at-attribute-place.attribute_place-from.ensures)
           at-attribute-place2.attribute_place-used.ensures at-node-place.node_place-free.ensures,
     )
 
 pub shape_of-numbers-then-e : goal.shape_of-numbers-then-e
-shape_of-numbers-then-e c = let at-seek = c in
+shape_of-numbers-then-e c =
+    let at-seek = c in
     let at-start = c in
     at-seek.seek-e.ensures.1.room ∙ sym at-start.pre.3.room
 
 pub returns-then-e : goal.returns-then-e
-returns-then-e c = let at-seek = c in
+returns-then-e c =
+    let at-seek = c in
     let at-key-of = c in
     let at-node-place = c in
     let at-attribute-place2 = c in
@@ -70,7 +74,7 @@ returns-then-e c = let at-seek = c in
     let at-start = c in (
       (let s = at-start in let a = s.args in let lent = lends a.names.now a.area.now in let same = same_name a.h a.t.now lent in let
           key = key_by a.h a.t.now lent in λ none l. record {
-            there = λ _. far-repeat a.nodes-1.now a.attributes-1.now a.tree s.pre.1.sized s.pre.2 key same a.prefix a.a _ _ _
+            there = λ _. far-repeat a.nodes.now a.attributes.now a.tree s.pre.1.sized s.pre.2 key same a.prefix a.a _ _ _
                 at-key-of.key_of-key.result at-seek.seek-e.result true (ap (λ (k : ℕ). k + front_words) at-attribute-place.attribute_place-from.ensures)
                 at-attribute-place2.attribute_place-used.ensures at-node-place.node_place-free.ensures l at-seek.seek-e.ensures.0
                 at-key-of.key_of-key.ensures.0 none c.if-e.true;
@@ -82,13 +86,14 @@ returns-then-e c = let at-seek = c in
 
 pub overflow_sub-attributes : goal.overflow_sub-attributes
 overflow_sub-attributes c = omega (
-      arith,
-      c.attribute_place-used.ensures,
-      c.requires.1.sized.attributes-1,
-    )
+  arith,
+  c.attribute_place-used.ensures,
+  c.requires.1.sized.attributes-1,
+)
 
 pub shape_of-numbers-then-attributes-used-lt-ATTRIBUTE_WORDS : goal.shape_of-numbers-then-attributes-used-lt-ATTRIBUTE_WORDS
-shape_of-numbers-then-attributes-used-lt-ATTRIBUTE_WORDS c = let at-seek = c in
+shape_of-numbers-then-attributes-used-lt-ATTRIBUTE_WORDS c =
+    let at-seek = c in
     let at-start = c in
     at-seek.seek-e.ensures.1.room ∙ sym at-start.pre.3.room
 
@@ -97,7 +102,7 @@ returns-then-attributes-used-lt-ATTRIBUTE_WORDS c = (
   (let s = c in let a = s.args in let lent = lends a.names.now
       a.area.now in let same = same_name a.h a.t.now lent in let key = key_by a.h a.t.now lent in λ none l. record {
         some = λ z. omega (arith, s.pre.2.some);
-        new = far-repeat a.nodes-1.now a.attributes-1.now a.tree s.pre.1.sized s.pre.2
+        new = far-repeat a.nodes.now a.attributes.now a.tree s.pre.1.sized s.pre.2
             key same a.prefix a.a _ _ _
             c.key_of-key.result
             c.seek-e.result false
@@ -129,51 +134,52 @@ store-u-requires c = (
 
 pub offset_bounds-nodes-free-2 : goal.offset_bounds-nodes-free-2
 offset_bounds-nodes-free-2 c = omega (
-      arith,
-      c.node_place-free.ensures,
-      c.requires.1.many,
-    )
+  arith,
+  c.node_place-free.ensures,
+  c.requires.1.many,
+)
 
 pub slice_bounds-link-count : goal.slice_bounds-link-count
 slice_bounds-link-count c = omega (
-      arith,
-      c.node_place-free.ensures,
-      c.requires.1.sized.nodes-1,
-      c.store-u.auto.0,
-    )
+  arith,
+  c.node_place-free.ensures,
+  c.requires.1.sized.nodes-1,
+  c.store-u.auto.0,
+)
 
 pub slice_bounds-link-start : goal.slice_bounds-link-start
 slice_bounds-link-start c = omega (
-      arith,
-      c.node_place-free.ensures,
-      c.requires.1.sized.nodes-1,
-      c.store-u.auto.0,
-    )
+  arith,
+  c.node_place-free.ensures,
+  c.requires.1.sized.nodes-1,
+  c.store-u.auto.0,
+)
 
 pub overflow_sub-used : goal.overflow_sub-used
 overflow_sub-used c = omega (
-      arith,
-      c.attribute_place-from.ensures,
-      c.attribute_place-used.ensures,
-      c.requires.2.many,
-    )
+  arith,
+  c.attribute_place-from.ensures,
+  c.attribute_place-used.ensures,
+  c.requires.2.many,
+)
 
 pub link-requires : goal.link-requires
-link-requires c = let s = c in
+link-requires c =
+    let s = c in
     let a = s.args in
     let h = s.pre.1.sized in
     let far = s.pre.2 in
     let ef = ap (λ (k : ℕ). k + front_words)
     c.attribute_place-from.ensures in
     let eu = c.attribute_place-used.ensures in
-    let seen = count-seen a.nodes-1.now a.attributes-1.now a.tree h far _ _ ef eu in (
-      link-room a.nodes-1.now a.attributes-1.now a.tree h far c.store-u.new.0 _ _ _
+    let seen = count-seen a.nodes.now a.attributes.now a.tree h far _ _ ef eu in (
+      link-room a.nodes.now a.attributes.now a.tree h far c.store-u.new.0 _ _ _
           c.store-u.auto.0 ef eu
           c.node_place-free.ensures,
       omega (
         arith,
-        count-is a.nodes-1.now
-            a.attributes-1.now a.tree h far _ _ ef eu,
+        count-is a.nodes.now
+            a.attributes.now a.tree h far _ _ ef eu,
         s.pre.1.many,
       ),
       λ pos. (let n =
@@ -183,7 +189,8 @@ link-requires c = let s = c in
     )
 
 pub shape_of-numbers : goal.shape_of-numbers
-shape_of-numbers c = let at-seek = c in
+shape_of-numbers c =
+    let at-seek = c in
     let at-start = c in
     at-seek.seek-e.ensures.1.room ∙ sym at-start.pre.3.room
 
@@ -193,15 +200,15 @@ returns c = (
       a.t.now lent in let key = key_by a.h a.t.now lent in let h = s.pre.1.sized in let far = s.pre.2 in let ef = ap
       (λ (k : ℕ). k + front_words) c.attribute_place-from.ensures in let eu =
       c.attribute_place-used.ensures in let room :
-      attribute_width * a.tree.attributes-1 + attribute_width ≤ length a.attributes-1.now = omega (
+      attribute_width * a.tree.attributes-1 + attribute_width ≤ length a.attributes.now = omega (
         arith,
         c.if-attributes-used-lt-ATTRIBUTE_WORDS.false,
         c.attribute_place-used.ensures,
       ) in let q =
-      c.store-u in let seen = count-seen a.nodes-1.now a.attributes-1.now
+      c.store-u in let seen = count-seen a.nodes.now a.attributes.now
       a.tree h far _ _ ef eu in let w = q.ensures in λ none l. record {
         some = λ z. omega (arith, far.some);
-        new = far-repeat a.nodes-1.now a.attributes-1.now a.tree s.pre.1.sized s.pre.2 key
+        new = far-repeat a.nodes.now a.attributes.now a.tree s.pre.1.sized s.pre.2 key
             same a.prefix a.a _ _ _ c.key_of-key.result
             c.seek-e.result
             false (ap (λ (k : ℕ). k + front_words)
@@ -214,16 +221,16 @@ returns c = (
         room = room;
         tree = w.tree;
         attributes = w.attributes-1;
-        nodes = linked-nodes a.nodes-1.now a.attributes-1.now q.last.0 q.last.1.0 a.tree q.result
+        nodes = linked-nodes a.nodes.now a.attributes.now q.last.0 q.last.1.0 a.tree q.result
             a.prefix a.a h far.some room w far key _ c.link.new.0
             c.node_place-free.ensures;
         chained = chained-far
-            a.nodes-1.now a.attributes-1.now q.last.0 q.last.1.0 a.tree q.result a.prefix a.a h far.some room w far key _
+            a.nodes.now a.attributes.now q.last.0 q.last.1.0 a.tree q.result a.prefix a.a h far.some room w far key _
             c.link.new.0
-            c.node_place-free.ensures _ _ l (count-is a.nodes-1.now
-            a.attributes-1.now a.tree h far _ _ ef eu)
+            c.node_place-free.ensures _ _ l (count-is a.nodes.now
+            a.attributes.now a.tree h far _ _ ef eu)
             c.key_of-key.ensures.0 (c.link.ensures
-            (λ pos. ends-here a.nodes-1.now a.attributes-1.now q.last.0 q.last.1.0 a.tree q.result a.prefix a.a h far.some
+            (λ pos. ends-here a.nodes.now a.attributes.now q.last.0 q.last.1.0 a.tree q.result a.prefix a.a h far.some
             room w far key _ c.link.new.0
             c.node_place-free.ensures _ _ _ _ _ seen
             (c.seek-e.ensures.0.ends c.if-e.false

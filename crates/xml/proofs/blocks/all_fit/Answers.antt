@@ -13,7 +13,8 @@ unfolding all_fit
 loop-k-init c = (omega arith, refl)
 
 pub loop-k-preserved : goal.loop-k-preserved
-loop-k-preserved c = let l = c.loop-k in
+loop-k-preserved c =
+    let l = c.loop-k in
     let a = c.args in
     let s = a.s.now in
     let x = bool_byte-is c.fits2.result ∙ ap (λ (b : Bool). cond {A = ℕ} b 1 0) c.fits2.ensures in (
@@ -25,7 +26,8 @@ loop-k-preserved c = let l = c.loop-k in
     )
 
 pub returns : goal.returns
-returns c = let a = c.args in
+returns c =
+    let a = c.args in
     let l = c.loop-k in
     let k : l.k ≡ a.n = omega arith in
     let s = a.s.now in

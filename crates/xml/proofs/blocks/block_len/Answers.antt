@@ -12,7 +12,8 @@ pub all_fit-requires : goal.all_fit-requires
 all_fit-requires c = omega (arith, c.type_size.ensures, size_of-le c.args.form)
 
 pub returns-then-all_fit : goal.returns-then-all_fit
-returns-then-all_fit c = let size = c.type_size in
+returns-then-all_fit c =
+    let size = c.type_size in
     let known = c.shared_slice_known-1 in
     let start = c in
     let a = start.args in
@@ -21,5 +22,6 @@ returns-then-all_fit c = let size = c.type_size in
     seen-block a.form a.s.now a.at _ size.ensures start.requires bytes fits
 
 pub returns : goal.returns
-returns c = let a = c.args in
+returns c =
+    let a = c.args in
     (seen_nothing (in_utf16 a.form) a.s.now a.at, omega arith)

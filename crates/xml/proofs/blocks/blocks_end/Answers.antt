@@ -14,7 +14,8 @@ pub returns-then-n-eq0 : goal.returns-then-n-eq0
 returns-then-n-eq0 c = c.loop-i.invariant
 
 pub loop-i-preserved : goal.loop-i-preserved
-loop-i-preserved c = let l = c in
+loop-i-preserved c =
+    let l = c in
     let a = l.args in
     let block = c.block_len-n.ensures in
     let seen = rw c.form_at.ensures at block.0 in

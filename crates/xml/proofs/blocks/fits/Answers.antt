@@ -4,24 +4,26 @@ use Rattle.xml.proofs.blocks.fits.Goals as goal
 
 pub returns-in-AsciiUnits : goal.returns-in-AsciiUnits
 unfolding fits_at
-returns-in-AsciiUnits c = rw (c.enum_told-1.given.1, ← c.ascii_low.ensures) c.choose.ensures
+returns-in-AsciiUnits c = rw (c.in-AsciiUnits.is, ← c.ascii_low.ensures) c.choose.ensures
 
 pub returns-in-FarUnits : goal.returns-in-FarUnits
 unfolding fits_at
-returns-in-FarUnits c = rw (c.enum_told-in-FarUnits-1.given.1, ← c.far_high.ensures) c.choose-in-FarUnits.ensures
+returns-in-FarUnits c = rw (c.in-FarUnits.is, ← c.far_high.ensures) c.choose-in-FarUnits.ensures
 
 pub returns-in-Ascii : goal.returns-in-Ascii
 unfolding fits_at
-returns-in-Ascii c = rw c.enum_told-in-Ascii-1.given.1 c.ascii_low-in-Ascii.ensures
+returns-in-Ascii c = rw c.in-Ascii.is c.ascii_low-in-Ascii.ensures
 
 pub returns-in-Pairs : goal.returns-in-Pairs
 unfolding fits_at
-returns-in-Pairs c = let t = c in
+returns-in-Pairs c =
+    let t = c in
     rw (t.enum_told-in-Pairs-1.given.1, ← t.is_trail.ensures, ← c.pair_lead.ensures) c.choose-in-Pairs.ensures
 
 pub returns-in-Triples : goal.returns-in-Triples
 unfolding fits_at
-returns-in-Triples c = let t = c in
+returns-in-Triples c =
+    let t = c in
     rw (
       t.enum_told-in-Triples-1.given.1,
       ← t.triple_lead.ensures,

@@ -4,16 +4,16 @@ use Rattle.xml.specs.Inner.Blocks.{size_of}
 use Rattle.xml.proofs.blocks.size_of.Goals as goal
 
 pub returns-in-AsciiUnits : goal.returns-in-AsciiUnits
-returns-in-AsciiUnits c = sym (ap size_of c.enum_told-1.given.1)
+returns-in-AsciiUnits c = sym (ap size_of c.in-AsciiUnits.is)
 
 pub returns-in-FarUnits : goal.returns-in-FarUnits
-returns-in-FarUnits c = sym (ap size_of c.enum_told-in-FarUnits-1.given.1)
+returns-in-FarUnits c = sym (ap size_of c.in-FarUnits.is)
 
 pub returns-in-Ascii : goal.returns-in-Ascii
-returns-in-Ascii c = sym (ap size_of c.enum_told-in-Ascii-1.given.1)
+returns-in-Ascii c = sym (ap size_of c.in-Ascii.is)
 
 pub returns-in-Pairs : goal.returns-in-Pairs
-returns-in-Pairs c = sym (ap size_of c.enum_told-in-Pairs-1.given.1)
+returns-in-Pairs c = sym (ap size_of c.in-Pairs.is)
 
 pub returns-in-Triples : goal.returns-in-Triples
-returns-in-Triples c = sym (ap size_of c.enum_told-in-Triples-1.given.1)
+returns-in-Triples c = sym (ap size_of c.in-Triples.is)

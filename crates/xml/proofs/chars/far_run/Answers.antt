@@ -3,7 +3,6 @@ use mathlib.Core.Path.{sym, ◌∙◌}
 use mathlib.Core.Bool.{true}
 use Prim.Native.Nat.{ℕ, ◌-◌, ◌<◌}
 use native.Mathlib.Omega.{arith}
-use borrow.Author.Tests.{not-false}
 use lib.ListN.{get_or}
 use Rattle.xml.proofs.Names.{seen_none, seen-on}
 use Rattle.xml.proofs.SeenChars.{seen-far}
@@ -19,12 +18,13 @@ pub returns-then-not-far_high : goal.returns-then-not-far_high
 returns-then-not-far_high c = c.loop-i.invariant
 
 pub loop-i-preserved : goal.loop-i-preserved
-loop-i-preserved c = let q = c in
+loop-i-preserved c =
+    let q = c in
     let start = q in
     let s = start.args.s.now in
     let i = q.loop-i.i in
     let bytes : (k : ℕ) → get_or s k 0 < 256 = λ k. (c.shared_slice_known-in-loop-i-1.given k).fits in
-    let far = sym c.far_high.ensures ∙ not-false _ c.if-not-far_high.false in
+    let far = sym c.far_high.ensures ∙ c.if-not-far_high.false in
     let unit = seen-far s i (omega (arith, c.loop-i-test.true, start.requires)) bytes far in
     seen-on true s start.args.at i _ q.loop-i.invariant unit
 

@@ -3,7 +3,6 @@ use Prim.Native.Nat.{ℕ, ◌-◌, ◌<◌}
 use mathlib.Core.Path.{sym, ◌∙◌}
 use mathlib.Core.Bool.{false, true≢false}
 use lib.ListN.{get_or}
-use borrow.Author.Tests.{not-false}
 use Rattle.xml.proofs.Names.{seen_none, seen-on, whole-seen}
 use native.Mathlib.Omega.{arith}
 use Rattle.xml.proofs.chars.is_seen_name.Goals as goal
@@ -24,18 +23,21 @@ pub returns-then-at-p : goal.returns-then-at-p
 returns-then-at-p c = λ e. absurd (true≢false (sym e))
 
 pub loop-at-smaller : goal.loop-at-smaller
-loop-at-smaller c = let q = c in
+loop-at-smaller c =
+    let q = c in
     omega (arith, q.stretch_at-p.ensures.farther, c.if-at-p.false, q.loop-at-test.true)
 
 pub loop-at-preserved : goal.loop-at-preserved
-loop-at-preserved c = let q = c in
+loop-at-preserved c =
+    let q = c in
     let far = seen-on _ _ _ _ _ q.loop-at.invariant q.stretch_at-p.ensures.seen in
     seen-on _ _ _ _ _ far c.utf8_run-at.ensures
 
 pub returns : goal.returns
-returns c = let begun = c in
+returns c =
+    let begun = c in
     let start = begun in
     let s = start.args.s.now in
     let bytes : (k : ℕ) → get_or s k 0 < 256 = λ k. (begun.shared_slice_known-2-1.given k).fits in
-    let begins = sym begun.utf8_begins.ensures ∙ not-false _ c.if-not-utf8_begins.false in
+    let begins = sym begun.utf8_begins.ensures ∙ c.if-not-utf8_begins.false in
     λ e. whole-seen s _ start.requires.1 bytes begins c.loop-at.invariant c.loop-at-test.false

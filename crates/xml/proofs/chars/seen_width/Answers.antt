@@ -9,18 +9,21 @@ pub overflow_cast-k : goal.overflow_cast-k
 overflow_cast-k c = omega (arith, c.shared_slice_known-3-1.given c.args.at)
 
 pub bounds-classes-b : goal.bounds-classes-b
-bounds-classes-b c = let start = c in
+bounds-classes-b c =
+    let start = c in
     omega (arith, c.shared_slice_known-3-1.given start.args.at, start.requires.0.size)
 
 pub returns-then-k-eq3 : goal.returns-then-k-eq3
 returns-then-k-eq3 c = c.wide_width.ensures
 
 pub returns-then-k-eq0 : goal.returns-then-k-eq0
-returns-then-k-eq0 c = let a = c.args in
+returns-then-k-eq0 c =
+    let a = c.args in
     (seen_nothing false a.s.now a.at, omega arith)
 
 pub returns : goal.returns
-returns c = let start = c in
+returns c =
+    let start = c in
     let s = start.args.s.now in
     let at = start.args.at in
     let known = c.shared_slice_known-3-1 in

@@ -19,7 +19,8 @@ pub overflow_add-u : goal.overflow_add-u
 overflow_add-u c = omega (arith, c.shared_slice_known-then-s-ge2-2-1.given 0, c.shared_slice_known-then-s-ge2-2-1.given 1)
 
 pub returns-then-u-lt128 : goal.returns-then-u-lt128
-returns-then-u-lt128 c = let q = c in
+returns-then-u-lt128 c =
+    let q = c in
     let s = q.args.s.now in
     let bytes : (k : ℕ) → get_or s k 0 < 256 = λ k. (c.shared_slice_known-then-s-ge2-2-1.given k).fits in
     let ascii = c.if-u-lt128.true in

@@ -18,11 +18,13 @@ pub overflow_mul-u : goal.overflow_mul-u
 overflow_mul-u c = omega (arith, c.shared_slice_known-then-high-ne27-1.given (c.args.at + 1))
 
 pub overflow_add-u : goal.overflow_add-u
-overflow_add-u c = let at = c.args.at in
+overflow_add-u c =
+    let at = c.args.at in
     omega (arith, c.shared_slice_known-then-high-ne27-1.given at, c.shared_slice_known-then-high-ne27-1.given (at + 1))
 
 pub returns-then-high-ne27 : goal.returns-then-high-ne27
-returns-then-high-ne27 c = let q = c in
+returns-then-high-ne27 c =
+    let q = c in
     let a = q.args in
     let s = a.s.now in
     let bytes : (k : ℕ) → get_or s k 0 < 256 = λ k. (c.shared_slice_known-then-high-ne27-1.given k).fits in
@@ -31,9 +33,11 @@ returns-then-high-ne27 c = let q = c in
     told true s a.at _ 2 _ true took c.sort_in.ensures
 
 pub returns-then-t : goal.returns-then-t
-returns-then-t c = let t = c.next_of-t.ensures in
+returns-then-t c =
+    let t = c.next_of-t.ensures in
     told true _ _ _ _ _ true (rw c.if-t.true at t) c.sort_in-then-t.ensures
 
 pub returns : goal.returns
-returns c = let t = c.next_of-t.ensures in
+returns c =
+    let t = c.next_of-t.ensures in
     told true _ _ _ _ 0 false (rw c.if-t.false at t) refl

@@ -21,7 +21,8 @@ pub overflow_mul-u : goal.overflow_mul-u
 overflow_mul-u c = omega (arith, c.shared_slice_known-in-loop-i-1.given (c.loop-i.i + 1))
 
 pub overflow_add-u-in-loop-i : goal.overflow_add-u-in-loop-i
-overflow_add-u-in-loop-i c = let i = c.loop-i.i in
+overflow_add-u-in-loop-i c =
+    let i = c.loop-i.i in
     omega (arith, c.shared_slice_known-in-loop-i-1.given i, c.shared_slice_known-in-loop-i-1.given (i + 1))
 
 pub returns-then-u-ge128 : goal.returns-then-u-ge128
@@ -34,7 +35,8 @@ pub returns-then-k-eq0 : goal.returns-then-k-eq0
 returns-then-k-eq0 c = c.loop-i.invariant
 
 pub loop-i-preserved : goal.loop-i-preserved
-loop-i-preserved c = let q = c in
+loop-i-preserved c =
+    let q = c in
     let s = q.args.s.now in
     let i = q.loop-i.i in
     let bytes : (k : ℕ) → get_or s k 0 < 256 = λ k. (c.shared_slice_known-in-loop-i-1.given k).fits in

@@ -11,7 +11,8 @@ pub loop-i-init : goal.loop-i-init
 loop-i-init c = c.clear_end-i.ensures
 
 pub utf8_width-w-requires : goal.utf8_width-w-requires
-utf8_width-w-requires c = let start = c in
+utf8_width-w-requires c =
+    let start = c in
     (start.requires.0, omega (arith, c.loop-i-test.true, start.requires.1))
 
 pub returns-then-w-eq0 : goal.returns-then-w-eq0

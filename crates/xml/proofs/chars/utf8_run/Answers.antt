@@ -8,7 +8,8 @@ pub loop-i-init : goal.loop-i-init
 loop-i-init c = seen_none _ _ _
 
 pub seen_width-w-requires : goal.seen_width-w-requires
-seen_width-w-requires c = let start = c in
+seen_width-w-requires c =
+    let start = c in
     (start.requires.0, omega (arith, c.loop-i-test.true, start.requires.1))
 
 pub returns-then-w-eq0 : goal.returns-then-w-eq0

@@ -7,21 +7,26 @@ use native.Mathlib.Omega.{arith}
 use Rattle.xml.proofs.chars.wide_width.Goals as goal
 
 pub returns-then-s-at-lt2 : goal.returns-then-s-at-lt2
-returns-then-s-at-lt2 c = let a = c.args in
+returns-then-s-at-lt2 c =
+    let a = c.args in
     (seen_nothing false a.s.now a.at, omega arith)
 
 pub returns-then-is_pair : goal.returns-then-is_pair
-returns-then-is_pair c = let a = c.args in
+returns-then-is_pair c =
+    let a = c.args in
     (seen-pair a.s.now a.at (omega arith) (sym c.is_pair.ensures ∙ c.if-is_pair.true), omega arith)
 
 pub returns-then-s-at-lt3 : goal.returns-then-s-at-lt3
-returns-then-s-at-lt3 c = let a = c.args in
+returns-then-s-at-lt3 c =
+    let a = c.args in
     (seen_nothing false a.s.now a.at, omega arith)
 
 pub returns-then-is_triple : goal.returns-then-is_triple
-returns-then-is_triple c = let a = c.args in
+returns-then-is_triple c =
+    let a = c.args in
     (seen-triple a.s.now a.at (omega arith) (sym c.is_triple.ensures ∙ c.if-is_triple.true), omega arith)
 
 pub returns : goal.returns
-returns c = let a = c.args in
+returns c =
+    let a = c.args in
     (seen_nothing false a.s.now a.at, omega arith)

@@ -1,7 +1,6 @@
 -- `xml::clear::clear_end` meets its contract. Invariant: what was passed is chars (`Passed`). Measure: the bytes left before `to`.
 use mathlib.Core.Bool.{false}
 use Prim.Native.Nat.{◌-◌}
-use borrow.Author.Tests.{not-false}
 use Rattle.xml.proofs.Names.{passed_on}
 use Rattle.xml.proofs.ClearPlaces.{none_passed}
 use native.Mathlib.Omega.{arith}
@@ -26,9 +25,10 @@ pub overflow_add-i : goal.overflow_add-i
 overflow_add-i c = omega (arith, c.if-s-i-lt67.false, c.loop-i-test.true, c.requires)
 
 pub loop-i-preserved : goal.loop-i-preserved
-loop-i-preserved c = let l = c in
+loop-i-preserved c =
+    let l = c in
     let a = c.args in
-    passed_on false a.s.now a.at l.loop-i.i _ l.loop-i.invariant (c.block_clear.ensures (not-false _ c.if-not-block_clear.false))
+    passed_on false a.s.now a.at l.loop-i.i _ l.loop-i.invariant (c.block_clear.ensures (c.if-not-block_clear.false))
 
 pub returns : goal.returns
 returns c = passed_on false _ _ _ _ c.loop-i.invariant c.past_trails.ensures

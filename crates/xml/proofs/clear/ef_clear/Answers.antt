@@ -12,7 +12,8 @@ use native.Mathlib.Omega.{arith}
 use Rattle.xml.proofs.clear.ef_clear.Goals as goal
 
 pub returns : goal.returns
-returns c = let x = c.args.c in
+returns c =
+    let x = c.args.c in
     let y = c.args.d in
     let v : ℕ = 0xef % 16 * 4096 + x % 64 * 64 + y % 64 in
     λ t e.

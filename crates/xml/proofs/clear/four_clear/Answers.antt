@@ -12,7 +12,8 @@ use native.Mathlib.Omega.{arith}
 use Rattle.xml.proofs.clear.four_clear.Goals as goal
 
 pub returns : goal.returns
-returns c = let a = c.args in
+returns c =
+    let a = c.args in
     let b = a.b in
     let x = a.c in
     let y = a.d in

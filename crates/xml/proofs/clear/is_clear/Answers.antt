@@ -3,7 +3,8 @@ use Rattle.utf.proofs.Either.{or4}
 use Rattle.xml.proofs.clear.is_clear.Goals as goal
 
 pub returns-then-near : goal.returns-then-near
-returns-then-near c = let a = c.args in
+returns-then-near c =
+    let a = c.args in
     λ t.
     or4 c.lead_clear.result c.two_clear.result c.three_clear.result c.four_clear.result t
     (λ f. c.lead_clear.ensures f a.c a.d a.e)
@@ -12,4 +13,5 @@ returns-then-near c = let a = c.args in
     (λ f. c.four_clear.ensures f)
 
 pub returns : goal.returns
-returns c = let a = c.args in λ t. c.lead_clear-2.ensures t a.c a.d a.e
+returns c =
+    let a = c.args in λ t. c.lead_clear-2.ensures t a.c a.d a.e

@@ -10,7 +10,8 @@ use native.Mathlib.Omega.{arith}
 use Rattle.xml.proofs.clear.lead_clear.Goals as goal
 
 pub returns : goal.returns
-returns c = let b = c.args.b in
+returns c =
+    let b = c.args.b in
     λ t x y z.
     let all =
     rw (

@@ -10,7 +10,8 @@ use native.Mathlib.Omega.{arith}
 use Rattle.xml.proofs.clear.two_clear.Goals as goal
 
 pub returns : goal.returns
-returns c = let b = c.args.b in
+returns c =
+    let b = c.args.b in
     let x = c.args.c in
     λ t y z.
     or3 (eqb b _ && (eqb x _ || not (is_trail x))) ((eqb b _ && not (eqb x _)) && not (eqb x _)) (eqb b _ && not (eqb x _)) (rw c.is_trail.ensures at t)

@@ -12,7 +12,8 @@ pub loop-k-init : goal.loop-k-init
 loop-k-init c = units-first _ _
 
 pub loop-k-preserved : goal.loop-k-preserved
-loop-k-preserved c = let start = c in
+loop-k-preserved c =
+    let start = c in
     let l = c.loop-k in
     let s = start.args.s.now in
     let at = start.args.at in
@@ -27,6 +28,7 @@ loop-k-preserved c = let start = c in
     c.if-x-least.branch
 
 pub returns : goal.returns
-returns c = let a = c.args in
+returns c =
+    let a = c.args in
     let l = c.loop-k in
     λ t. units-all a.s.now a.at l.least l.k l.invariant (eqb-true l.least 1 t) (omega arith)

@@ -12,7 +12,8 @@ use native.Mathlib.Omega.{arith}
 use Rattle.xml.proofs.units.is_unit.Goals as goal
 
 pub returns : goal.returns
-returns c = let b = c.args.b in
+returns c =
+    let b = c.args.b in
     let x = c.args.c in
     let byte : b < 256 = search rules in
     λ t.

@@ -12,7 +12,8 @@ use native.Mathlib.Omega.{arith}
 use Rattle.xml.proofs.units.latin_unit.Goals as goal
 
 pub returns : goal.returns
-returns c = let b = c.args.b in
+returns c =
+    let b = c.args.b in
     let byte : b < 256 = search rules in
     λ t.
     or3 (ascii_low b) (eqb b _) ((leb _ b && not (eqb b _)) && not (eqb b _)) (rw c.ascii_low.ensures at t)

@@ -15,7 +15,8 @@ use native.Mathlib.Omega.{arith}
 use Rattle.xml.proofs.units.low_unit.Goals as goal
 
 pub returns : goal.returns
-returns c = let b = c.args.b in
+returns c =
+    let b = c.args.b in
     let x = c.args.c in
     let byte : b < 256 = search rules in
     let m = c.latin_unit in

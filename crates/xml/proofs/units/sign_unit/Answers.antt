@@ -13,7 +13,8 @@ use native.Mathlib.Omega.{arith}
 use Rattle.xml.proofs.units.sign_unit.Goals as goal
 
 pub returns : goal.returns
-returns c = let b = c.args.b in
+returns c =
+    let b = c.args.b in
     let x = c.args.c in
     let byte : b < 256 = search rules in
     λ t.

@@ -1,7 +1,6 @@
 -- `xml::units::units_end` meets its contract. Invariant: what was passed is chars, and sound (`Seen`). Measure: the bytes left before `to`.
 use mathlib.Core.Bool.{true}
 use Prim.Native.Nat.{◌-◌}
-use borrow.Author.Tests.{not-false}
 use Rattle.xml.proofs.Names.{seen_none, seen-on}
 use native.Mathlib.Omega.{arith}
 use Rattle.xml.proofs.units.units_end.Goals as goal
@@ -25,9 +24,10 @@ pub overflow_add-i : goal.overflow_add-i
 overflow_add-i c = omega (arith, c.if-s-i-lt64.false, c.loop-i-test.true, c.requires)
 
 pub loop-i-preserved : goal.loop-i-preserved
-loop-i-preserved c = let l = c in
+loop-i-preserved c =
+    let l = c in
     let a = c.args in
-    seen-on true a.s.now a.at l.loop-i.i _ l.loop-i.invariant (c.all_units.ensures (not-false _ c.if-not-all_units.false))
+    seen-on true a.s.now a.at l.loop-i.i _ l.loop-i.invariant (c.all_units.ensures (c.if-not-all_units.false))
 
 pub returns : goal.returns
 returns c = c.loop-i.invariant
