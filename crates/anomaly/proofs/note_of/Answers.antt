@@ -62,47 +62,47 @@ made-requires-in-DamagedElementName c = search rules
 
 pub returns-in-StringPoolGarbageChunk : goal.returns-in-StringPoolGarbageChunk
 unfolding note_of
-returns-in-StringPoolGarbageChunk c = rw c.x-1.given.1 c.made.ensures
+returns-in-StringPoolGarbageChunk c = rw c.in-StringPoolGarbageChunk.is c.made.ensures
 
 pub returns-in-StringCountMismatch : goal.returns-in-StringCountMismatch
 unfolding note_of
-returns-in-StringCountMismatch c = rw c.x-in-StringCountMismatch-1.given.1 c.made-in-StringCountMismatch.ensures
+returns-in-StringCountMismatch c = rw c.in-StringCountMismatch.is c.made-in-StringCountMismatch.ensures
 
 pub returns-in-StringOffsetsOutOfBounds : goal.returns-in-StringOffsetsOutOfBounds
 unfolding note_of
-returns-in-StringOffsetsOutOfBounds c = rw c.x-in-StringOffsetsOutOfBounds-1.given.1 c.made-in-StringOffsetsOutOfBounds.ensures
+returns-in-StringOffsetsOutOfBounds c = rw c.in-StringOffsetsOutOfBounds.is c.made-in-StringOffsetsOutOfBounds.ensures
 
 pub returns-in-NonXmlChunk : goal.returns-in-NonXmlChunk
 unfolding note_of
-returns-in-NonXmlChunk c = rw c.x-in-NonXmlChunk-1.given.1 c.made-in-NonXmlChunk.ensures
+returns-in-NonXmlChunk c = rw c.in-NonXmlChunk.is c.made-in-NonXmlChunk.ensures
 
 pub returns-in-XmlNodeHeaderSize : goal.returns-in-XmlNodeHeaderSize
 unfolding note_of
-returns-in-XmlNodeHeaderSize c = rw c.x-in-XmlNodeHeaderSize-1.given.1 c.made-in-XmlNodeHeaderSize.ensures
+returns-in-XmlNodeHeaderSize c = rw c.in-XmlNodeHeaderSize.is c.made-in-XmlNodeHeaderSize.ensures
 
 pub returns-in-UnknownChunk : goal.returns-in-UnknownChunk
 unfolding note_of
-returns-in-UnknownChunk c = rw c.x-in-UnknownChunk-1.given.1 c.made-in-UnknownChunk.ensures
+returns-in-UnknownChunk c = rw c.in-UnknownChunk.is c.made-in-UnknownChunk.ensures
 
 pub returns-in-AttributeStartShifted : goal.returns-in-AttributeStartShifted
 unfolding note_of
-returns-in-AttributeStartShifted c = rw c.x-in-AttributeStartShifted-1.given.1 c.made-in-AttributeStartShifted.ensures
+returns-in-AttributeStartShifted c = rw c.in-AttributeStartShifted.is c.made-in-AttributeStartShifted.ensures
 
 pub returns-in-AttributeSizeMismatch : goal.returns-in-AttributeSizeMismatch
 unfolding note_of
-returns-in-AttributeSizeMismatch c = rw c.x-in-AttributeSizeMismatch-1.given.1 c.made-in-AttributeSizeMismatch.ensures
+returns-in-AttributeSizeMismatch c = rw c.in-AttributeSizeMismatch.is c.made-in-AttributeSizeMismatch.ensures
 
 pub returns-in-ElementTrailingBytes : goal.returns-in-ElementTrailingBytes
 unfolding note_of
-returns-in-ElementTrailingBytes c = rw c.x-in-ElementTrailingBytes-1.given.1 c.made-in-ElementTrailingBytes.ensures
+returns-in-ElementTrailingBytes c = rw c.in-ElementTrailingBytes.is c.made-in-ElementTrailingBytes.ensures
 
 pub returns-in-InvalidElementName : goal.returns-in-InvalidElementName
 unfolding note_of
-returns-in-InvalidElementName c = rw c.x-in-InvalidElementName-1.given.1 c.made-in-InvalidElementName.ensures
+returns-in-InvalidElementName c = rw c.in-InvalidElementName.is c.made-in-InvalidElementName.ensures
 
 pub returns-in-InvalidAttributeName : goal.returns-in-InvalidAttributeName
 unfolding note_of
-returns-in-InvalidAttributeName c = rw c.x-in-InvalidAttributeName-1.given.1 c.made-in-InvalidAttributeName.ensures
+returns-in-InvalidAttributeName c = rw c.in-InvalidAttributeName.is c.made-in-InvalidAttributeName.ensures
 
 pub returns-in-TruncatedXml : goal.returns-in-TruncatedXml
 unfolding note_of
@@ -110,8 +110,8 @@ returns-in-TruncatedXml c = rw c.in-TruncatedXml.is c.made-in-TruncatedXml.ensur
 
 pub returns-in-UnclosedElements : goal.returns-in-UnclosedElements
 unfolding note_of
-returns-in-UnclosedElements c = rw c.x-in-UnclosedElements-1.given.1 c.made-in-UnclosedElements.ensures
+returns-in-UnclosedElements c = rw c.in-UnclosedElements.is c.made-in-UnclosedElements.ensures
 
 pub returns-in-DamagedElementName : goal.returns-in-DamagedElementName
 unfolding note_of
-returns-in-DamagedElementName c = rw c.x-in-DamagedElementName-1.given.1 c.made-in-DamagedElementName.ensures
+returns-in-DamagedElementName c = rw c.in-DamagedElementName.is c.made-in-DamagedElementName.ensures

@@ -77,4 +77,4 @@ returns-in-TableStagedAlias c = rw c.in-TableStagedAlias.is
 
 pub returns-in-Unknown : goal.returns-in-Unknown
 unfolding header_type_number
-returns-in-Unknown c = rw c.t-1.given.1
+returns-in-Unknown c = rw c.in-Unknown.is

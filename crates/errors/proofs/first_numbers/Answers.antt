@@ -4,8 +4,8 @@ use Rattle.errors.proofs.first_numbers.Goals as goal
 
 pub returns-in-Found : goal.returns-in-Found
 unfolding first_numbers_of
-returns-in-Found c = rw (c.a-1.given.1, ← c.flag.ensures)
+returns-in-Found c = rw (c.in-Found.is, ← c.flag.ensures)
 
 pub returns-in-Refused : goal.returns-in-Refused
 unfolding first_numbers_of
-returns-in-Refused c = rw (c.a-in-Refused-1.given.1, ← c.refusal_number.ensures, ← c.refusal_value.ensures)
+returns-in-Refused c = rw (c.in-Refused.is, ← c.refusal_number.ensures, ← c.refusal_value.ensures)

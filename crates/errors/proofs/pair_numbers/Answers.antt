@@ -4,8 +4,8 @@ use Rattle.errors.proofs.pair_numbers.Goals as goal
 
 pub returns-in-Answered : goal.returns-in-Answered
 unfolding pair_numbers_of
-returns-in-Answered c = rw c.a-1.given.1
+returns-in-Answered c = rw c.in-Answered.is
 
 pub returns-in-Refused : goal.returns-in-Refused
 unfolding pair_numbers_of
-returns-in-Refused c = rw (c.a-in-Refused-1.given.1, ← c.refusal_number.ensures, ← c.refusal_value.ensures)
+returns-in-Refused c = rw (c.in-Refused.is, ← c.refusal_number.ensures, ← c.refusal_value.ensures)

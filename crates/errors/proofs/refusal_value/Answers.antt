@@ -22,7 +22,7 @@ overflow_cast-result-in-ModeError c = search rules
 
 pub returns-in-TooSmallError : goal.returns-in-TooSmallError
 unfolding refusal_value
-returns-in-TooSmallError c = rw c.r-1.given.1
+returns-in-TooSmallError c = rw c.in-TooSmallError.is
 
 pub returns-in-TooLargeError : goal.returns-in-TooLargeError
 unfolding refusal_value
@@ -30,7 +30,7 @@ returns-in-TooLargeError c = rw c.in-TooLargeError.is
 
 pub returns-in-HeaderSizeError : goal.returns-in-HeaderSizeError
 unfolding refusal_value
-returns-in-HeaderSizeError c = rw c.r-in-HeaderSizeError-1.given.1
+returns-in-HeaderSizeError c = rw c.in-HeaderSizeError.is
 
 pub returns-in-MissingRoot : goal.returns-in-MissingRoot
 unfolding refusal_value
@@ -38,23 +38,23 @@ returns-in-MissingRoot c = rw c.in-MissingRoot.is
 
 pub returns-in-SystemNamesError : goal.returns-in-SystemNamesError
 unfolding refusal_value
-returns-in-SystemNamesError c = rw c.r-in-SystemNamesError-1.given.1
+returns-in-SystemNamesError c = rw c.in-SystemNamesError.is
 
 pub returns-in-NodesFull : goal.returns-in-NodesFull
 unfolding refusal_value
-returns-in-NodesFull c = rw c.r-in-NodesFull-1.given.1
+returns-in-NodesFull c = rw c.in-NodesFull.is
 
 pub returns-in-AttributesFull : goal.returns-in-AttributesFull
 unfolding refusal_value
-returns-in-AttributesFull c = rw c.r-in-AttributesFull-1.given.1
+returns-in-AttributesFull c = rw c.in-AttributesFull.is
 
 pub returns-in-NotesFull : goal.returns-in-NotesFull
 unfolding refusal_value
-returns-in-NotesFull c = rw c.r-in-NotesFull-1.given.1
+returns-in-NotesFull c = rw c.in-NotesFull.is
 
 pub returns-in-TextShort : goal.returns-in-TextShort
 unfolding refusal_value
-returns-in-TextShort c = rw c.r-in-TextShort-1.given.1
+returns-in-TextShort c = rw c.in-TextShort.is
 
 pub returns-in-NothingFound : goal.returns-in-NothingFound
 unfolding refusal_value
@@ -62,39 +62,39 @@ returns-in-NothingFound c = rw c.in-NothingFound.is
 
 pub returns-in-TablesError : goal.returns-in-TablesError
 unfolding refusal_value
-returns-in-TablesError c = rw c.r-in-TablesError-1.given.1
+returns-in-TablesError c = rw c.in-TablesError.is
 
 pub returns-in-ItemsError : goal.returns-in-ItemsError
 unfolding refusal_value
-returns-in-ItemsError c = rw c.r-in-ItemsError-1.given.1
+returns-in-ItemsError c = rw c.in-ItemsError.is
 
 pub returns-in-NoPlainText : goal.returns-in-NoPlainText
 unfolding refusal_value
-returns-in-NoPlainText c = rw c.r-in-NoPlainText-1.given.1
+returns-in-NoPlainText c = rw c.in-NoPlainText.is
 
 pub returns-in-ModeError : goal.returns-in-ModeError
 unfolding refusal_value
-returns-in-ModeError c = rw c.r-in-ModeError-1.given.1
+returns-in-ModeError c = rw c.in-ModeError.is
 
 pub returns-in-PairsError : goal.returns-in-PairsError
 unfolding refusal_value
-returns-in-PairsError c = rw c.r-in-PairsError-1.given.1
+returns-in-PairsError c = rw c.in-PairsError.is
 
 pub returns-in-AnswersFull : goal.returns-in-AnswersFull
 unfolding refusal_value
-returns-in-AnswersFull c = rw c.r-in-AnswersFull-1.given.1
+returns-in-AnswersFull c = rw c.in-AnswersFull.is
 
 pub returns-in-ListingMalformed : goal.returns-in-ListingMalformed
 unfolding refusal_value
-returns-in-ListingMalformed c = rw c.r-in-ListingMalformed-1.given.1
+returns-in-ListingMalformed c = rw c.in-ListingMalformed.is
 
 pub returns-in-ListingNumber : goal.returns-in-ListingNumber
 unfolding refusal_value
-returns-in-ListingNumber c = rw c.r-in-ListingNumber-1.given.1
+returns-in-ListingNumber c = rw c.in-ListingNumber.is
 
 pub returns-in-ListingOrder : goal.returns-in-ListingOrder
 unfolding refusal_value
-returns-in-ListingOrder c = rw c.r-in-ListingOrder-1.given.1
+returns-in-ListingOrder c = rw c.in-ListingOrder.is
 
 pub returns-in-NotesOff : goal.returns-in-NotesOff
 unfolding refusal_value
@@ -102,7 +102,7 @@ returns-in-NotesOff c = rw c.in-NotesOff.is
 
 pub returns-in-ListFull : goal.returns-in-ListFull
 unfolding refusal_value
-returns-in-ListFull c = rw c.r-in-ListFull-1.given.1
+returns-in-ListFull c = rw c.in-ListFull.is
 
 pub returns-in-RoundUpFull : goal.returns-in-RoundUpFull
 unfolding refusal_value
@@ -110,28 +110,28 @@ returns-in-RoundUpFull c = rw c.in-RoundUpFull.is
 
 pub returns-in-StringPoolGarbage : goal.returns-in-StringPoolGarbage
 unfolding refusal_value
-returns-in-StringPoolGarbage c = rw c.r-in-StringPoolGarbage-1.given.1
+returns-in-StringPoolGarbage c = rw c.in-StringPoolGarbage.is
 
 pub returns-in-StringPoolHeader : goal.returns-in-StringPoolHeader
 unfolding refusal_value
-returns-in-StringPoolHeader c = rw c.r-in-StringPoolHeader-1.given.1
+returns-in-StringPoolHeader c = rw c.in-StringPoolHeader.is
 
 pub returns-in-StringPoolOffsets : goal.returns-in-StringPoolOffsets
 unfolding refusal_value
-returns-in-StringPoolOffsets c = rw c.r-in-StringPoolOffsets-1.given.1
+returns-in-StringPoolOffsets c = rw c.in-StringPoolOffsets.is
 
 pub returns-in-StringPoolStyles : goal.returns-in-StringPoolStyles
 unfolding refusal_value
-returns-in-StringPoolStyles c = rw c.r-in-StringPoolStyles-1.given.1
+returns-in-StringPoolStyles c = rw c.in-StringPoolStyles.is
 
 pub returns-in-StringPoolData : goal.returns-in-StringPoolData
 unfolding refusal_value
-returns-in-StringPoolData c = rw c.r-in-StringPoolData-1.given.1
+returns-in-StringPoolData c = rw c.in-StringPoolData.is
 
 pub returns-in-ResourceMapHeader : goal.returns-in-ResourceMapHeader
 unfolding refusal_value
-returns-in-ResourceMapHeader c = rw c.r-in-ResourceMapHeader-1.given.1
+returns-in-ResourceMapHeader c = rw c.in-ResourceMapHeader.is
 
 pub returns-in-ResourceMapIds : goal.returns-in-ResourceMapIds
 unfolding refusal_value
-returns-in-ResourceMapIds c = rw c.r-in-ResourceMapIds-1.given.1
+returns-in-ResourceMapIds c = rw c.in-ResourceMapIds.is

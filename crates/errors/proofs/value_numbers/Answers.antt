@@ -4,8 +4,8 @@ use Rattle.errors.proofs.value_numbers.Goals as goal
 
 pub returns-in-Value : goal.returns-in-Value
 unfolding value_numbers_of
-returns-in-Value c = rw (c.a-1.given.1, ← c.state_number.ensures, ← c.replaced_number.ensures)
+returns-in-Value c = rw (c.in-Value.is, ← c.state_number.ensures, ← c.replaced_number.ensures)
 
 pub returns-in-Refused : goal.returns-in-Refused
 unfolding value_numbers_of
-returns-in-Refused c = rw (c.a-in-Refused-1.given.1, ← c.refusal_number.ensures, ← c.refusal_value.ensures)
+returns-in-Refused c = rw (c.in-Refused.is, ← c.refusal_number.ensures, ← c.refusal_value.ensures)

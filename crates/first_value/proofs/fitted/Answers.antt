@@ -5,4 +5,4 @@ pub returns-in-Fitting : goal.returns-in-Fitting
 returns-in-Fitting c = rw c.in-Fitting.is
 
 pub returns-in-Unfit : goal.returns-in-Unfit
-returns-in-Unfit c = rw c.fit-1.given.1
+returns-in-Unfit c = rw c.in-Unfit.is

@@ -7,12 +7,12 @@ use Rattle.first_value.proofs.open_tables.Goals as goal
 pub returns-in-Open : goal.returns-in-Open
 returns-in-Open c =
     let a = c.args in
-    let e = sym c.open_file-opened.ensures ∙ c.opened-1.given.1 in
+    let e = sym c.open_file-opened.ensures ∙ c.in-Open.is in
     shared-open a.file.now (lends a.names.now a.area.now) a.nodes.now a.attributes.now a.node_count a.attribute_count e
     c.fit_of.ensures c.fitted.ensures
 
 pub returns-in-Closed : goal.returns-in-Closed
 returns-in-Closed c =
     let a = c.args in
-    let e = sym c.open_file-opened.ensures ∙ c.opened-in-Closed-1.given.1 in
+    let e = sym c.open_file-opened.ensures ∙ c.in-Closed.is in
     shared-closed a.file.now (lends a.names.now a.area.now) a.nodes.now a.attributes.now a.node_count a.attribute_count e

@@ -34,7 +34,7 @@ pub returns-in-Run : goal.returns-in-Run
 returns-in-Run c =
     let a = c.args in
     value-run a.h a.t.now (lends a.names.now a.area.now) a.name.now a.attributes.now
-    c.node-1.given.1 c.attribute_place.ensures c.find_value.ensures
+    c.in-Run.is c.attribute_place.ensures c.find_value.ensures
 
 pub returns-in-NoNode : goal.returns-in-NoNode
 returns-in-NoNode c = rw c.in-NoNode.is

@@ -39,6 +39,6 @@ returns-in-Bad c =
     let at_names = c in
     let at_cap = at_names in
     let a = at_cap.args in
-    let bad = sym at_names.check_names-read.ensures ∙ c.read-1.given.1 in
+    let bad = sym at_names.check_names-read.ensures ∙ c.in-Bad.is in
     entered-names a.file.now (lends a.names.now a.area.now) (terms_of a.asker) at_cap.if-file-gt-FILE_LIMIT.false
     (sym at_cap.keeps_none.ensures ∙ at_cap.if-keeps_none.false) bad

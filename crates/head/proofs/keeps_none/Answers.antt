@@ -5,4 +5,4 @@ pub returns-in-Question : goal.returns-in-Question
 returns-in-Question c = rw c.in-Question.is
 
 pub returns-in-Reading : goal.returns-in-Reading
-returns-in-Reading c = rw c.asker-1.given.1
+returns-in-Reading c = rw c.in-Reading.is

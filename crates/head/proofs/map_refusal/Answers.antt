@@ -2,7 +2,7 @@
 use Rattle.head.proofs.map_refusal.Goals as goal
 
 pub returns-in-MapHeader : goal.returns-in-MapHeader
-returns-in-MapHeader c = rw c.e-1.given.1
+returns-in-MapHeader c = rw c.in-MapHeader.is
 
 pub returns-in-MapIds : goal.returns-in-MapIds
-returns-in-MapIds c = rw c.e-in-MapIds-1.given.1
+returns-in-MapIds c = rw c.in-MapIds.is

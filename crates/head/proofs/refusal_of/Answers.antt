@@ -2,13 +2,13 @@
 use Rattle.head.proofs.refusal_of.Goals as goal
 
 pub returns-in-TooSmall : goal.returns-in-TooSmall
-returns-in-TooSmall c = rw c.e-1.given.1
+returns-in-TooSmall c = rw c.in-TooSmall.is
 
 pub returns-in-HeaderSize : goal.returns-in-HeaderSize
-returns-in-HeaderSize c = rw c.e-in-HeaderSize-1.given.1
+returns-in-HeaderSize c = rw c.in-HeaderSize.is
 
 pub returns-in-PoolShort : goal.returns-in-PoolShort
-returns-in-PoolShort c = rw c.e-in-PoolShort-1.given.1 c.pool_refusal.ensures
+returns-in-PoolShort c = rw c.in-PoolShort.is c.pool_refusal.ensures
 
 pub returns-in-MapShort : goal.returns-in-MapShort
-returns-in-MapShort c = rw c.e-in-MapShort-1.given.1 c.map_refusal.ensures
+returns-in-MapShort c = rw c.in-MapShort.is c.map_refusal.ensures

@@ -18,28 +18,28 @@ pub returns-in-GarbageShort : goal.returns-in-GarbageShort
 returns-in-GarbageShort c =
     let a = c.args in
     c.pool_short.ensures ∙ tables_of-cut a.t.now c.pool_of-read.ensures _ Skipped
-    c.end-1.given.1 c.begins_at.ensures refl
+    c.in-GarbageShort.is c.begins_at.ensures refl
 
 pub returns-in-HeaderShort : goal.returns-in-HeaderShort
 returns-in-HeaderShort c =
     let a = c.args in
     c.pool_short-in-HeaderShort.ensures ∙ tables_of-cut a.t.now c.pool_of-read.ensures _ Header
-    c.end-in-HeaderShort-1.given.1 c.begins_at-in-HeaderShort.ensures refl
+    c.in-HeaderShort.is c.begins_at-in-HeaderShort.ensures refl
 
 pub returns-in-OffsetsShort : goal.returns-in-OffsetsShort
 returns-in-OffsetsShort c =
     let a = c.args in
     c.pool_short-in-OffsetsShort.ensures ∙ tables_of-cut a.t.now c.pool_of-read.ensures _ Offsets
-    c.end-in-OffsetsShort-1.given.1 c.begins_at-in-OffsetsShort.ensures refl
+    c.in-OffsetsShort.is c.begins_at-in-OffsetsShort.ensures refl
 
 pub returns-in-StylesShort : goal.returns-in-StylesShort
 returns-in-StylesShort c =
     let a = c.args in
     c.pool_short-in-StylesShort.ensures ∙ tables_of-cut a.t.now c.pool_of-read.ensures _ Styles
-    c.end-in-StylesShort-1.given.1 c.begins_at-in-StylesShort.ensures refl
+    c.in-StylesShort.is c.begins_at-in-StylesShort.ensures refl
 
 pub returns-in-DataShort : goal.returns-in-DataShort
 returns-in-DataShort c =
     let a = c.args in
     c.pool_short-in-DataShort.ensures ∙ tables_of-cut a.t.now c.pool_of-read.ensures _ Data
-    c.end-in-DataShort-1.given.1 c.begins_at-in-DataShort.ensures refl
+    c.in-DataShort.is c.begins_at-in-DataShort.ensures refl

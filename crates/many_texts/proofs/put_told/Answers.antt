@@ -6,7 +6,7 @@ use Rattle.many_texts.proofs.Going.{puts-told, puts-no-name, puts-no-text}
 use Rattle.many_texts.proofs.put_told.Goals as goal
 
 pub returns-in-Shown : goal.returns-in-Shown
-returns-in-Shown c = puts-told c.told-1.given.1 c.put_shown.ensures
+returns-in-Shown c = puts-told c.in-Shown.is c.put_shown.ensures
 
 pub returns-in-NoName : goal.returns-in-NoName
 unfolding refusal_number

@@ -9,7 +9,7 @@ pub texts_in-requires : goal.texts_in-requires
 texts_in-requires c =
     let a = c.args in
     let lent = lends a.names.now a.area.now in
-    let e = sym c.open_file-opened.ensures ∙ c.opened-1.given.1 in
+    let e = sym c.open_file-opened.ensures ∙ c.in-requires.is in
     rw c.tables_of.ensures (open_of-asks a.file.now lent e)
 
 pub returns-in-Open : goal.returns-in-Open
@@ -17,7 +17,7 @@ returns-in-Open c =
     let a = c.args in
     let lent = lends a.names.now a.area.now in
     let e = sym c.open_file-opened.ensures ∙
-    c.opened-1.given.1 in
+    c.in-Open.is in
     texts-open a.file.now lent a.indices.now a.out.now a.answers.now e
     c.tables_of.ensures c.texts_in.ensures
 
@@ -26,5 +26,5 @@ returns-in-Closed c =
     let a = c.args in
     let lent = lends a.names.now a.area.now in
     let e = sym c.open_file-opened.ensures ∙
-    c.opened-in-Closed-1.given.1 in
+    c.in-Closed.is in
     texts-closed a.file.now lent a.indices.now a.out.now a.answers.now e c.refuse.ensures

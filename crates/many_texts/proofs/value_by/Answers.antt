@@ -49,7 +49,7 @@ returns-in-At c =
     let a = c.args in
     let lent = lends a.names.now a.area.now in
     let g = looks-same a.h a.t.now lent a.items.now a.item_area.now a.a.name.0
-    c.looked-1.given.1
+    c.in-At.is
     c.look_up-looked.ensures.0 in
     let name = text_in (content_of a.h a.t.now lent a.a.name.0) in (
       value-run a.h a.t.now lent a.items.now a.item_area.now a.a

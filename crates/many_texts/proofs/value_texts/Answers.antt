@@ -16,7 +16,7 @@ pub values_in-requires : goal.values_in-requires
 values_in-requires c =
     let a = c.args in
     let lent = lends a.names.now a.area.now in
-    let e = sym c.open_known-opened.ensures ∙ c.opened-1.given.1 in
+    let e = sym c.open_known-opened.ensures ∙ c.in-requires.is in
     let o = opens a.file.now lent a.items.now a.item_area.now e in
     (rw c.tables_of.ensures o.asks, o.good, c.put_firsts.ensures)
 

@@ -4,7 +4,7 @@ use Rattle.relist.specs.Inner.Judged.{verdict_of}
 use Rattle.relist.proofs.verdict_of.Goals as goal
 
 pub returns-in-Text : goal.returns-in-Text
-returns-in-Text c = c.told.ensures ∙ sym (ap verdict_of c.answer-1.given.1)
+returns-in-Text c = c.told.ensures ∙ sym (ap verdict_of c.in-Text.is)
 
 pub returns-in-Refused : goal.returns-in-Refused
 returns-in-Refused c = c.told-in-Refused.ensures ∙ sym (ap verdict_of c.in-Refused.is)

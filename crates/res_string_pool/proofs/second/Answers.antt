@@ -19,5 +19,5 @@ returns-in-Short c =
 pub returns-in-Whole : goal.returns-in-Whole
 returns-in-Whole c =
     let a = c.args in
-    let w = sym c.header_at-read.ensures ∙ c.read-1.given.1 in
+    let w = sym c.header_at-read.ensures ∙ c.in-Whole.is in
     c.pool_from.ensures ∙ sym (second_by-whole a.garbage a.at a.m.now w)

@@ -21,5 +21,5 @@ returns-in-Short c =
 
 pub returns-in-Whole : goal.returns-in-Whole
 returns-in-Whole c =
-    let whole = sym c.header_at-read.ensures ∙ c.read-1.given.1 in
+    let whole = sym c.header_at-read.ensures ∙ c.in-Whole.is in
     c.ids_of.ensures ∙ sym (map_of-of-whole c.args.s.now whole)

@@ -8,4 +8,4 @@ returns-in-Added c = rw c.in-Added.is
 
 pub returns-in-Refused : goal.returns-in-Refused
 unfolding add_numbers
-returns-in-Refused c = rw (c.answer-1.given.1, ← c.refusal_number.ensures, ← c.refusal_value.ensures)
+returns-in-Refused c = rw (c.in-Refused.is, ← c.refusal_number.ensures, ← c.refusal_value.ensures)

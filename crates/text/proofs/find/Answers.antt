@@ -23,11 +23,11 @@ returns-in-System c =
     let s = c in
     let a = s.args in
     content_of-system a.h a.t.now (lends a.names.now a.area.now) a.index.0 a.h.utf16 _ refl
-    (rw (← c.named-1.given.1) c.find_system-named.ensures)
+    (rw (← c.in-System.is) c.find_system-named.ensures)
 
 pub returns-in-Pool : goal.returns-in-Pool
 returns-in-Pool c =
     let s = c in
     let a = s.args in
     content_of-system a.h a.t.now (lends a.names.now a.area.now) a.index.0 a.h.utf16 _ refl
-    (rw (← c.named-in-Pool-1.given.1) c.find_system-named.ensures)
+    (rw (← c.in-Pool.is) c.find_system-named.ensures)

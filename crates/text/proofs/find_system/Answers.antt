@@ -42,5 +42,5 @@ returns-in-Name c =
     let a = s.args in
     let id = map-slice a.h a.t.now a.index.0 s.requires.fits p5.id_at-id.ensures in
     system-name a.h a.t.now (lends a.names.now a.area.now) a.index.0 p7.if-h-index.false id
-    (sym c.get_type_name-name.ensures ∙ c.name-1.given.1)
+    (sym c.get_type_name-name.ensures ∙ c.in-Name.is)
     (c.stripped.ensures a.h.utf16 a.t.now)

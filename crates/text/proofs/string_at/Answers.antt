@@ -16,7 +16,7 @@ overflow_add-result-in-Content c =
     let s = c in
     let p5 = c in
     let a = s.args in
-    let e = sym c.split_string-split.ensures ∙ c.split-1.given.1 in
+    let e = sym c.split_string-split.ensures ∙ c.in-Content.is in
     let q = string-pool-le a.utf16 a.t.now a.strings a.size a.o s.requires p5.if-size-o.false
     (data-slice a.utf16 a.t.now a.strings a.size a.o e) in
     omega arith
@@ -34,6 +34,6 @@ returns-in-Content c =
     let s = c in
     let p5 = c in
     let a = s.args in
-    let e = sym c.split_string-split.ensures ∙ c.split-1.given.1 in
+    let e = sym c.split_string-split.ensures ∙ c.in-Content.is in
     λ area. string-pool a.utf16 a.t.now a.strings a.size a.o s.requires area _ _ p5.if-size-o.false
     (data-slice a.utf16 a.t.now a.strings a.size a.o e)

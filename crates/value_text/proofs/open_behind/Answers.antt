@@ -5,4 +5,4 @@ pub returns-in-Good : goal.returns-in-Good
 returns-in-Good c = rw c.in-Good.is c.head_of.ensures
 
 pub returns-in-Bad : goal.returns-in-Bad
-returns-in-Bad c = rw c.read-1.given.1
+returns-in-Bad c = rw c.in-Bad.is

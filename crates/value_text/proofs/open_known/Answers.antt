@@ -12,10 +12,10 @@ returns-in-In c =
     let a = c.args in
     let lent = lends a.names.now a.area.now in
     open_in a.file.now lent a.items.now a.item_area.now
-    (sym c.enter-entered.ensures ∙ c.entered-1.given.1) c.check_known.ensures c.open_behind.ensures
+    (sym c.enter-entered.ensures ∙ c.in-In.is) c.check_known.ensures c.open_behind.ensures
 
 pub returns-in-Out : goal.returns-in-Out
 returns-in-Out c =
     let a = c.args in
     let lent = lends a.names.now a.area.now in
-    open-out a.file.now lent a.items.now a.item_area.now (sym c.enter-entered.ensures ∙ c.entered-in-Out-1.given.1)
+    open-out a.file.now lent a.items.now a.item_area.now (sym c.enter-entered.ensures ∙ c.in-Out.is)

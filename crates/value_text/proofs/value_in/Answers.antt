@@ -8,7 +8,7 @@ pub returns-in-Shown : goal.returns-in-Shown
 returns-in-Shown c =
     let a = c.args in
     gives-shown (length a.out.now) a.a.kind c.value_into-told.ensures
-    c.told-1.given.1 c.settle.ensures
+    c.in-Shown.is c.settle.ensures
 
 pub returns-in-NoName : goal.returns-in-NoName
 returns-in-NoName c =

@@ -8,7 +8,7 @@ pub value_in-requires : goal.value_in-requires
 value_in-requires c =
     let a = c.args in
     let lent = lends a.names.now a.area.now in
-    let e = sym c.open_value-opened.ensures ∙ c.opened-1.given.1 in
+    let e = sym c.open_value-opened.ensures ∙ c.in-requires.is in
     let o = opens a.file.now lent a.items.now a.item_area.now e in
     (rw c.tables_of.ensures o.asks, o.good)
 
@@ -17,7 +17,7 @@ returns-in-Open c =
     let a = c.args in
     let lent = lends a.names.now a.area.now in
     let e = sym c.open_value-opened.ensures
-    ∙ c.opened-1.given.1 in
+    ∙ c.in-Open.is in
     reads-open a.file.now lent a.items.now a.item_area.now a.out.now _ a.attribute e
     c.tables_of.ensures c.value_in.ensures
 
@@ -26,5 +26,5 @@ returns-in-Closed c =
     let a = c.args in
     let lent = lends a.names.now a.area.now in
     let e = sym c.open_value-opened.ensures
-    ∙ c.opened-in-Closed-1.given.1 in
+    ∙ c.in-Closed.is in
     reads-closed a.file.now lent a.items.now a.item_area.now a.out.now _ a.attribute e c.refuse.ensures

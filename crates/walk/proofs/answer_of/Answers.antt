@@ -10,4 +10,4 @@ pub returns-in-Reading : goal.returns-in-Reading
 returns-in-Reading c = λ a e. absurd (reading-clears a (sym c.in-Reading.is ∙ e))
 
 pub returns-in-Clearing : goal.returns-in-Clearing
-returns-in-Clearing c = λ a e. clearing-same (sym c.stage-1.given.1 ∙ e)
+returns-in-Clearing c = λ a e. clearing-same (sym c.in-Clearing.is ∙ e)

@@ -20,7 +20,7 @@ place_of-requires c =
 pub returns-in-Open : goal.returns-in-Open
 returns-in-Open c =
     let a = c.args in
-    let e = sym c.open_file-opened.ensures ∙ c.opened-1.given.1 in
+    let e = sym c.open_file-opened.ensures ∙ c.in-Open.is in
     place-open a.file.now (lends a.names.now a.area.now) a.index e c.tables_of-t.ensures c.find-f.ensures c.place_of.ensures
 
 pub returns-in-Closed : goal.returns-in-Closed

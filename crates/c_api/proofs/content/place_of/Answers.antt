@@ -17,7 +17,7 @@ pub returns-in-Cut : goal.returns-in-Cut
 returns-in-Cut c = rw c.in-Cut.is
 
 pub returns-in-System : goal.returns-in-System
-returns-in-System c = rw c.f-1.given.1
+returns-in-System c = rw c.in-System.is
 
 pub returns-in-Pool : goal.returns-in-Pool
-returns-in-Pool c = rw c.f-in-Pool-1.given.1
+returns-in-Pool c = rw c.in-Pool.is

@@ -69,4 +69,4 @@ returns-in-ColorRgb4 c = rw c.in-ColorRgb4.is
 
 pub returns-in-Unknown : goal.returns-in-Unknown
 unfolding value_type_number
-returns-in-Unknown c = rw c.t-1.given.1
+returns-in-Unknown c = rw c.in-Unknown.is

@@ -37,12 +37,12 @@ pub returns-in-System : goal.returns-in-System
 returns-in-System c =
     let s = c in
     let a = s.args in
-    let same = ap (λ (x : Found). look_of (part_of a.h.utf16 a.t.now a.area.now x)) (sym c.f-1.given.1) in
+    let same = ap (λ (x : Found). look_of (part_of a.h.utf16 a.t.now a.area.now x)) (sym c.in-System.is) in
     (c.look_found.ensures ∙ same, s.requires.2)
 
 pub returns-in-Pool : goal.returns-in-Pool
 returns-in-Pool c =
     let s = c in
     let a = s.args in
-    let same = ap (λ (x : Found). look_of (part_of a.h.utf16 a.t.now a.area.now x)) (sym c.f-in-Pool-1.given.1) in
+    let same = ap (λ (x : Found). look_of (part_of a.h.utf16 a.t.now a.area.now x)) (sym c.in-Pool.is) in
     (c.look_pool.ensures.0 ∙ same, c.look_pool.ensures.1)

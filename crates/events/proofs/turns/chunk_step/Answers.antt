@@ -13,13 +13,13 @@ pub unknown_step-requires : goal.unknown_step-requires
 unknown_step-requires c = rw c.enum_told-in-Last-1.given.1 at c.requires
 
 pub returns-in-Start : goal.returns-in-Start
-returns-in-Start c = c.start_step.ensures ∙ ap (chunk_step c.args.c) (sym c.x-1.given.1)
+returns-in-Start c = c.start_step.ensures ∙ ap (chunk_step c.args.c) (sym c.in-Start.is)
 
 pub returns-in-End : goal.returns-in-End
 returns-in-End c = c.end_step.ensures ∙ ap (chunk_step c.args.c) (sym c.in-End.is)
 
 pub returns-in-Other : goal.returns-in-Other
-returns-in-Other c = c.other_step.ensures ∙ ap (chunk_step c.args.c) (sym c.x-in-Other-1.given.1)
+returns-in-Other c = c.other_step.ensures ∙ ap (chunk_step c.args.c) (sym c.in-Other.is)
 
 pub returns-in-Last : goal.returns-in-Last
 returns-in-Last c = c.unknown_step.ensures ∙ ap (chunk_step c.args.c) (sym c.in-Last.is)

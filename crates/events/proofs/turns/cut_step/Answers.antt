@@ -16,17 +16,17 @@ returns-in-CutHead c =
 pub returns-in-CutGap : goal.returns-in-CutGap
 returns-in-CutGap c =
     let a = c.args in
-    c.begin_step.ensures ∙ ap (cut_step a.n a.c) (sym c.x-1.given.1)
+    c.begin_step.ensures ∙ ap (cut_step a.n a.c) (sym c.in-CutGap.is)
 
 pub returns-in-CutAttributes : goal.returns-in-CutAttributes
 returns-in-CutAttributes c =
     let a = c.args in
-    c.begin_step-in-CutAttributes.ensures ∙ ap (cut_step a.n a.c) (sym c.x-in-CutAttributes-1.given.1)
+    c.begin_step-in-CutAttributes.ensures ∙ ap (cut_step a.n a.c) (sym c.in-CutAttributes.is)
 
 pub returns-in-CutTrailing : goal.returns-in-CutTrailing
 returns-in-CutTrailing c =
     let a = c.args in
-    c.begin_step-in-CutTrailing.ensures ∙ ap (cut_step a.n a.c) (sym c.x-in-CutTrailing-1.given.1)
+    c.begin_step-in-CutTrailing.ensures ∙ ap (cut_step a.n a.c) (sym c.in-CutTrailing.is)
 
 pub returns-in-CutEnd : goal.returns-in-CutEnd
 returns-in-CutEnd c =

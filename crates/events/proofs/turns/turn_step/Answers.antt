@@ -35,16 +35,16 @@ pub returns-in-Foreign : goal.returns-in-Foreign
 returns-in-Foreign c =
     let a = c.args in
     let e = c.look-turn.ensures ∙ ap turn_of (rest a.b.now a.c.at) in
-    c.foreign_step.ensures ∙ ap (turn_step a.b.now a.c) (sym c.turn-1.given.1 ∙ e)
+    c.foreign_step.ensures ∙ ap (turn_step a.b.now a.c) (sym c.in-Foreign.is ∙ e)
 
 pub returns-in-Met : goal.returns-in-Met
 returns-in-Met c =
     let a = c.args in
     let e = c.look-turn.ensures ∙ ap turn_of (rest a.b.now a.c.at) in
-    c.chunk_step.ensures ∙ ap (turn_step a.b.now a.c) (sym c.turn-in-Met-1.given.1 ∙ e)
+    c.chunk_step.ensures ∙ ap (turn_step a.b.now a.c) (sym c.in-Met.is ∙ e)
 
 pub returns-in-Cut : goal.returns-in-Cut
 returns-in-Cut c =
     let a = c.args in
     let e = c.look-turn.ensures ∙ ap turn_of (rest a.b.now a.c.at) in
-    c.cut_step.ensures ∙ ap (turn_step a.b.now a.c) (sym c.turn-in-Cut-1.given.1 ∙ e)
+    c.cut_step.ensures ∙ ap (turn_step a.b.now a.c) (sym c.in-Cut.is ∙ e)

@@ -8,7 +8,7 @@ pub content_in-requires : goal.content_in-requires
 content_in-requires c =
     let s = c in
     let a = s.args in
-    let e = sym c.open_file-opened.ensures ∙ c.opened-1.given.1 in
+    let e = sym c.open_file-opened.ensures ∙ c.in-requires.is in
     rw c.tables_of.ensures (open_of-asks a.file.now (lends a.names.now a.area.now) e)
 
 pub returns-in-Open : goal.returns-in-Open
@@ -16,7 +16,7 @@ returns-in-Open c =
     let s = c in
     let p5 = c in
     let a = s.args in
-    let e = sym p5.open_file-opened.ensures ∙ c.opened-1.given.1 in
+    let e = sym p5.open_file-opened.ensures ∙ c.in-Open.is in
     c.content_in.ensures ∙ content-open a.file.now (lends a.names.now a.area.now) a.index.0 e c.tables_of.ensures
 
 pub returns-in-Closed : goal.returns-in-Closed

@@ -10,7 +10,7 @@ text_in-requires c =
     let s = c in
     let p5 = c in
     let a = s.args in
-    let e = sym p5.open_file-opened.ensures ∙ c.opened-1.given.1 in
+    let e = sym p5.open_file-opened.ensures ∙ c.in-requires.is in
     rw c.tables_of.ensures (open_of-asks a.file.now (lends a.names.now a.area.now) e)
 
 pub returns-in-Open : goal.returns-in-Open

@@ -8,7 +8,7 @@ use Rattle.items.proofs.values.put_enum.Goals as goal
 pub returns-in-Named : goal.returns-in-Named
 returns-in-Named c =
     let a = c.args in
-    rw c.found-1.given.1
+    rw c.in-Named.is
     (wrote-more c.put_bytes.ensures c.part_of.ensures
     (name-le a.area.now c.found-1.given.0.0 c.part_of.ensures
     (omega arith)))

@@ -94,7 +94,7 @@ pub returns-in-At : goal.returns-in-At
 returns-in-At c =
     let a = c.args in
     let lent = lends a.names.now a.area.now in
-    let g = looks-same a.h a.t.now lent a.items.now a.item_area.now a.index.0 c.looked-1.given.1 c.look-looked.ensures in (
+    let g = looks-same a.h a.t.now lent a.items.now a.item_area.now a.index.0 c.in-At.is c.look-looked.ensures in (
       g,
       knows_more a.h a.t.now lent a.items.now a.item_area.now a.starts.now a.ends.now a.index.0 _
           (omega (arith, c.if-place-ge-KNOWN.false)) g

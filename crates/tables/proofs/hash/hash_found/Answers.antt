@@ -15,18 +15,18 @@ slice_bounds-hash_of-end c =
 
 pub overflow_add-at-in-Pool : goal.overflow_add-at-in-Pool
 overflow_add-at-in-Pool c =
-    let s = c in let q = inside-pool s.args.t.now s.args.area.now s.requires c.f-in-Pool-1.given.1 in omega arith
+    let s = c in let q = inside-pool s.args.t.now s.args.area.now s.requires c.in-Pool.is in omega arith
 
 pub slice_bounds-hash_of-end-in-Pool : goal.slice_bounds-hash_of-end-in-Pool
 slice_bounds-hash_of-end-in-Pool c =
-    let s = c in inside-pool s.args.t.now s.args.area.now s.requires c.f-in-Pool-1.given.1
+    let s = c in inside-pool s.args.t.now s.args.area.now s.requires c.in-Pool.is
 
 pub returns-in-System : goal.returns-in-System
 returns-in-System c =
     let a = c.args in
-    c.hash_of.ensures ∙ sym (ap (hash_in a.seed) (part_of-system a.utf16 a.t.now a.area.now c.f-1.given.1))
+    c.hash_of.ensures ∙ sym (ap (hash_in a.seed) (part_of-system a.utf16 a.t.now a.area.now c.in-System.is))
 
 pub returns-in-Pool : goal.returns-in-Pool
 returns-in-Pool c =
     let a = c.args in
-    c.hash_of-in-Pool.ensures ∙ sym (ap (hash_in a.seed) (part_of-pool a.utf16 a.t.now a.area.now c.f-in-Pool-1.given.1))
+    c.hash_of-in-Pool.ensures ∙ sym (ap (hash_in a.seed) (part_of-pool a.utf16 a.t.now a.area.now c.in-Pool.is))

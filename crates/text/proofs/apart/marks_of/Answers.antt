@@ -35,4 +35,4 @@ returns-in-Pool c =
     let s = c in
     let a = s.args in
     marked-pool a.t.now (lends a.names.now a.area.now) a.h a.g _ (c.if-not-plain.false) s.requires.2
-    c.g-1.given.1 c.pool_marks.ensures
+    c.in-Pool.is c.pool_marks.ensures

@@ -22,4 +22,4 @@ pub returns-in-System : goal.returns-in-System
 returns-in-System c = λ e. absurd (true≢false (sym e))
 
 pub returns-in-Pool : goal.returns-in-Pool
-returns-in-Pool c = λ e. rw c.f-1.given.1 (c.part_apart.ensures e)
+returns-in-Pool c = λ e. rw c.in-Pool.is (c.part_apart.ensures e)

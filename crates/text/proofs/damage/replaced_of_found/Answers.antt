@@ -37,4 +37,4 @@ returns-in-Pool c =
     let s = c in
     let a = s.args in
     c.replaced_in_part.ensures
-    ∙ sym (ap (λ (x : Content). replaced_count (damage_in x)) (part_of-pool a.utf16 a.t.now a.area.now c.f-1.given.1))
+    ∙ sym (ap (λ (x : Content). replaced_count (damage_in x)) (part_of-pool a.utf16 a.t.now a.area.now c.in-Pool.is))

@@ -31,4 +31,4 @@ returns-in-Pool c =
     let s = c in
     let a = s.args in
     c.state_of.ensures
-    ∙ sym (ap (λ (x : Content). state_number (damage_in x)) (part_of-pool a.utf16 a.t.now a.area.now c.f-1.given.1))
+    ∙ sym (ap (λ (x : Content). state_number (damage_in x)) (part_of-pool a.utf16 a.t.now a.area.now c.in-Pool.is))

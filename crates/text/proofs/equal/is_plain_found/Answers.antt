@@ -17,7 +17,7 @@ pub slice_bounds-is_plain-end : goal.slice_bounds-is_plain-end
 slice_bounds-is_plain-end c =
     let s = c in
     let a = s.args in
-    inside-pool a.t.now a.area.now s.requires c.f-1.given.1
+    inside-pool a.t.now a.area.now s.requires c.in-end.is
 
 pub returns-in-System : goal.returns-in-System
 returns-in-System c =
@@ -29,4 +29,4 @@ pub returns-in-Pool : goal.returns-in-Pool
 returns-in-Pool c =
     let s = c in
     let a = s.args in
-    c.is_plain.ensures ∙ sym (ap plain_in (part_of-pool a.utf16 a.t.now a.area.now c.f-1.given.1))
+    c.is_plain.ensures ∙ sym (ap plain_in (part_of-pool a.utf16 a.t.now a.area.now c.in-Pool.is))

@@ -21,32 +21,32 @@ pub slice_bounds-same_part-end-in-System : goal.slice_bounds-same_part-end-in-Sy
 slice_bounds-same_part-end-in-System c =
     let s = c in
     let a = s.args in
-    inside-system a.t.now a.area.now s.requires.1 c.g-1.given.1
+    inside-system a.t.now a.area.now s.requires.1 c.in-System.is
 
 pub same_part-requires-in-System : goal.same_part-requires-in-System
 same_part-requires-in-System c =
     let s = c in
     let a = s.args in
-    (s.requires.0, known-system a.t.now a.area.now s.requires.1 c.g-1.given.1)
+    (s.requires.0, known-system a.t.now a.area.now s.requires.1 c.in-System.is)
 
 pub overflow_add-at-in-Pool : goal.overflow_add-at-in-Pool
 overflow_add-at-in-Pool c =
     let s = c in
     let a = s.args in
-    let q = inside-pool a.t.now a.area.now s.requires.1 c.g-in-Pool-1.given.1 in
+    let q = inside-pool a.t.now a.area.now s.requires.1 c.in-Pool.is in
     omega arith
 
 pub slice_bounds-same_part-end-in-Pool : goal.slice_bounds-same_part-end-in-Pool
 slice_bounds-same_part-end-in-Pool c =
     let s = c in
     let a = s.args in
-    inside-pool a.t.now a.area.now s.requires.1 c.g-in-Pool-1.given.1
+    inside-pool a.t.now a.area.now s.requires.1 c.in-Pool.is
 
 pub same_part-requires-in-Pool : goal.same_part-requires-in-Pool
 same_part-requires-in-Pool c =
     let s = c in
     let a = s.args in
-    (s.requires.0, known-pool a.utf16 a.t.now a.area.now a.plain s.requires.2 c.g-in-Pool-1.given.1)
+    (s.requires.0, known-pool a.utf16 a.t.now a.area.now a.plain s.requires.2 c.in-Pool.is)
 
 pub returns-in-Nothing : goal.returns-in-Nothing
 returns-in-Nothing c =
@@ -69,11 +69,11 @@ returns-in-System c =
     let s = c in
     let a = s.args in
     c.same_part-in-System.ensures ∙ sym (ap (same_text (part_of a.utf16 a.t.now a.area.now a.f))
-    (part_of-system a.utf16 a.t.now a.area.now c.g-1.given.1))
+    (part_of-system a.utf16 a.t.now a.area.now c.in-System.is))
 
 pub returns-in-Pool : goal.returns-in-Pool
 returns-in-Pool c =
     let s = c in
     let a = s.args in
     c.same_part-in-Pool.ensures ∙ sym (ap (same_text (part_of a.utf16 a.t.now a.area.now a.f))
-    (part_of-pool a.utf16 a.t.now a.area.now c.g-in-Pool-1.given.1))
+    (part_of-pool a.utf16 a.t.now a.area.now c.in-Pool.is))

@@ -17,20 +17,20 @@ pub slice_bounds-same_known-end-in-System : goal.slice_bounds-same_known-end-in-
 slice_bounds-same_known-end-in-System c =
     let s = c in
     let a = s.args in
-    inside-system a.t.now a.area.now s.requires.0 c.f-1.given.1
+    inside-system a.t.now a.area.now s.requires.0 c.in-System.is
 
 pub overflow_add-at-in-Pool : goal.overflow_add-at-in-Pool
 overflow_add-at-in-Pool c =
     let s = c in
     let a = s.args in
-    let q = inside-pool a.t.now a.area.now s.requires.0 c.f-in-Pool-1.given.1 in
+    let q = inside-pool a.t.now a.area.now s.requires.0 c.in-Pool.is in
     omega arith
 
 pub slice_bounds-same_known-end-in-Pool : goal.slice_bounds-same_known-end-in-Pool
 slice_bounds-same_known-end-in-Pool c =
     let s = c in
     let a = s.args in
-    inside-pool a.t.now a.area.now s.requires.0 c.f-in-Pool-1.given.1
+    inside-pool a.t.now a.area.now s.requires.0 c.in-Pool.is
 
 pub returns-in-Cut : goal.returns-in-Cut
 returns-in-Cut c =
@@ -45,11 +45,11 @@ returns-in-System c =
     let s = c in
     let a = s.args in
     c.same_known-in-System.ensures ∙ sym (ap (λ (p : Content). is_text p (text_of a.utf16_s a.s.now))
-    (part_of-system a.utf16 a.t.now a.area.now c.f-1.given.1))
+    (part_of-system a.utf16 a.t.now a.area.now c.in-System.is))
 
 pub returns-in-Pool : goal.returns-in-Pool
 returns-in-Pool c =
     let s = c in
     let a = s.args in
     c.same_known-in-Pool.ensures ∙ sym (ap (λ (p : Content). is_text p (text_of a.utf16_s a.s.now))
-    (part_of-pool a.utf16 a.t.now a.area.now c.f-in-Pool-1.given.1))
+    (part_of-pool a.utf16 a.t.now a.area.now c.in-Pool.is))

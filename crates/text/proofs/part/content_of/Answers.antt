@@ -16,20 +16,20 @@ pub slice_bounds-result-end-in-System : goal.slice_bounds-result-end-in-System
 slice_bounds-result-end-in-System c =
     let s = c in
     let a = s.args in
-    inside-system a.t.now a.area.now s.requires c.f-1.given.1
+    inside-system a.t.now a.area.now s.requires c.in-System.is
 
 pub overflow_add-result-in-Pool : goal.overflow_add-result-in-Pool
 overflow_add-result-in-Pool c =
     let s = c in
     let a = s.args in
-    let q = inside-pool a.t.now a.area.now s.requires c.f-in-Pool-1.given.1 in
+    let q = inside-pool a.t.now a.area.now s.requires c.in-Pool.is in
     omega arith
 
 pub slice_bounds-result-end-in-Pool : goal.slice_bounds-result-end-in-Pool
 slice_bounds-result-end-in-Pool c =
     let s = c in
     let a = s.args in
-    inside-pool a.t.now a.area.now s.requires c.f-in-Pool-1.given.1
+    inside-pool a.t.now a.area.now s.requires c.in-Pool.is
 
 pub returns-in-Nothing : goal.returns-in-Nothing
 returns-in-Nothing c =
@@ -47,10 +47,10 @@ pub returns-in-System : goal.returns-in-System
 returns-in-System c =
     let s = c in
     let a = s.args in
-    λ w. sym (ap raw_of (part_of-system w a.t.now a.area.now c.f-1.given.1))
+    λ w. sym (ap raw_of (part_of-system w a.t.now a.area.now c.in-System.is))
 
 pub returns-in-Pool : goal.returns-in-Pool
 returns-in-Pool c =
     let s = c in
     let a = s.args in
-    λ w. sym (ap raw_of (part_of-pool w a.t.now a.area.now c.f-in-Pool-1.given.1))
+    λ w. sym (ap raw_of (part_of-pool w a.t.now a.area.now c.in-Pool.is))

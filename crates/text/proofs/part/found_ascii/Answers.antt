@@ -27,4 +27,4 @@ returns-in-System c =
 pub returns-in-Pool : goal.returns-in-Pool
 returns-in-Pool c =
     let a = c.args in
-    c.is_ascii_text.ensures ∙ sym (ap ascii_in (part_of-pool a.utf16 a.t.now a.area.now c.f-1.given.1))
+    c.is_ascii_text.ensures ∙ sym (ap ascii_in (part_of-pool a.utf16 a.t.now a.area.now c.in-Pool.is))

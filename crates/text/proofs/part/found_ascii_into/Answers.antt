@@ -31,20 +31,20 @@ pub overflow_add-at-in-Pool : goal.overflow_add-at-in-Pool
 overflow_add-at-in-Pool c =
     let s = c in
     let a = s.args in
-    let q = inside-pool a.t.now a.area.now s.requires.0 c.f-in-Pool-1.given.1 in
+    let q = inside-pool a.t.now a.area.now s.requires.0 c.in-Pool.is in
     omega arith
 
 pub slice_bounds-ascii_into-end-in-Pool : goal.slice_bounds-ascii_into-end-in-Pool
 slice_bounds-ascii_into-end-in-Pool c =
     let s = c in
     let a = s.args in
-    inside-pool a.t.now a.area.now s.requires.0 c.f-in-Pool-1.given.1
+    inside-pool a.t.now a.area.now s.requires.0 c.in-Pool.is
 
 pub ascii_into-requires-in-Pool : goal.ascii_into-requires-in-Pool
 ascii_into-requires-in-Pool c =
     let s = c in
     let a = s.args in
-    sym (ap ascii_in (part_of-pool a.utf16 a.t.now a.area.now c.f-in-Pool-1.given.1)) ∙ s.requires.2
+    sym (ap ascii_in (part_of-pool a.utf16 a.t.now a.area.now c.in-Pool.is)) ∙ s.requires.2
 
 pub returns-in-Nothing : goal.returns-in-Nothing
 returns-in-Nothing c =
@@ -60,7 +60,7 @@ pub returns-in-System : goal.returns-in-System
 returns-in-System c =
     let s = c in
     let a = s.args in
-    let e = c.f-1.given.1 in
+    let e = c.in-System.is in
     let q = inside-system a.t.now a.area.now s.requires.0 e in
     let n = text_in-system a.utf16 a.t.now a.area.now s.requires.0 e in
     let same = sym (ap text_in (part_of-system a.utf16 a.t.now a.area.now e)) in
@@ -70,6 +70,6 @@ pub returns-in-Pool : goal.returns-in-Pool
 returns-in-Pool c =
     let s = c in
     let a = s.args in
-    let same = sym (ap text_in (part_of-pool a.utf16 a.t.now a.area.now c.f-in-Pool-1.given.1)) in
+    let same = sym (ap text_in (part_of-pool a.utf16 a.t.now a.area.now c.in-Pool.is)) in
     let short = s.requires.1 in
     Wrote-by _ same (text_of-held a.utf16 _ same (simp (length-take, length-drop) (omega arith))) c.ascii_into-in-Pool.ensures

@@ -25,14 +25,14 @@ pub overflow_add-at-in-Pool : goal.overflow_add-at-in-Pool
 overflow_add-at-in-Pool c =
     let s = c in
     let a = s.args in
-    let q = inside-pool a.t.now a.area.now s.requires.0 c.f-in-Pool-1.given.1 in
+    let q = inside-pool a.t.now a.area.now s.requires.0 c.in-Pool.is in
     omega arith
 
 pub slice_bounds-text_into-end-in-Pool : goal.slice_bounds-text_into-end-in-Pool
 slice_bounds-text_into-end-in-Pool c =
     let s = c in
     let a = s.args in
-    inside-pool a.t.now a.area.now s.requires.0 c.f-in-Pool-1.given.1
+    inside-pool a.t.now a.area.now s.requires.0 c.in-Pool.is
 
 pub returns-in-Nothing : goal.returns-in-Nothing
 returns-in-Nothing c =

@@ -22,25 +22,25 @@ pub overflow_add-at-in-Pool : goal.overflow_add-at-in-Pool
 overflow_add-at-in-Pool c =
     let s = c in
     let a = s.args in
-    let q = inside-pool a.t.now a.area.now s.requires c.f-in-Pool-1.given.1 in
+    let q = inside-pool a.t.now a.area.now s.requires c.in-Pool.is in
     omega arith
 
 pub slice_bounds-valid_name-end-in-Pool : goal.slice_bounds-valid_name-end-in-Pool
 slice_bounds-valid_name-end-in-Pool c =
     let s = c in
     let a = s.args in
-    inside-pool a.t.now a.area.now s.requires c.f-in-Pool-1.given.1
+    inside-pool a.t.now a.area.now s.requires c.in-Pool.is
 
 pub returns-in-System : goal.returns-in-System
 returns-in-System c =
     let s = c in
     let a = s.args in
     c.state_of.ensures ∙ ap valid_by c.valid_name.ensures ∙ sym
-    (ap state_in (part_of-system a.utf16 a.t.now a.area.now c.f-1.given.1))
+    (ap state_in (part_of-system a.utf16 a.t.now a.area.now c.in-System.is))
 
 pub returns-in-Pool : goal.returns-in-Pool
 returns-in-Pool c =
     let s = c in
     let a = s.args in
     c.state_of-in-Pool.ensures ∙ ap valid_by c.valid_name-in-Pool.ensures ∙ sym
-    (ap state_in (part_of-pool a.utf16 a.t.now a.area.now c.f-in-Pool-1.given.1))
+    (ap state_in (part_of-pool a.utf16 a.t.now a.area.now c.in-Pool.is))

@@ -23,25 +23,25 @@ pub overflow_add-at-in-Pool : goal.overflow_add-at-in-Pool
 overflow_add-at-in-Pool c =
     let s = c in
     let a = s.args in
-    let q = inside-pool a.t.now a.area.now s.requires c.f-in-Pool-1.given.1 in
+    let q = inside-pool a.t.now a.area.now s.requires c.in-Pool.is in
     omega arith
 
 pub slice_bounds-whole_name-end-in-Pool : goal.slice_bounds-whole_name-end-in-Pool
 slice_bounds-whole_name-end-in-Pool c =
     let s = c in
     let a = s.args in
-    inside-pool a.t.now a.area.now s.requires c.f-in-Pool-1.given.1
+    inside-pool a.t.now a.area.now s.requires c.in-Pool.is
 
 pub returns-in-System : goal.returns-in-System
 returns-in-System c =
     let s = c in
     let a = s.args in
     c.whole_name.ensures ∙ whole-some _ _ ∙ sym
-    (ap whole_name (part_of-system a.utf16 a.t.now a.area.now c.f-1.given.1))
+    (ap whole_name (part_of-system a.utf16 a.t.now a.area.now c.in-System.is))
 
 pub returns-in-Pool : goal.returns-in-Pool
 returns-in-Pool c =
     let s = c in
     let a = s.args in
     c.whole_name-in-Pool.ensures ∙ whole-some _ _ ∙ sym
-    (ap whole_name (part_of-pool a.utf16 a.t.now a.area.now c.f-in-Pool-1.given.1))
+    (ap whole_name (part_of-pool a.utf16 a.t.now a.area.now c.in-Pool.is))

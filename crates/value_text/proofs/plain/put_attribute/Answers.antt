@@ -13,7 +13,7 @@ returns-in-Name c =
     let a = c.args in
     let x = c.name-1.given.0 in
     wrote-attribute a.area.now a.v (sym c.get_type_name-name.ensures
-    ∙ c.name-1.given.1)
+    ∙ c.in-Name.is)
     (wrote-part a.area.now x.0 x.1.0 (omega arith) c.part_of.ensures c.put_bytes.ensures)
 
 pub returns-in-Missing : goal.returns-in-Missing

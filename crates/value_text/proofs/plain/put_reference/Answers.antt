@@ -9,7 +9,7 @@ pub returns-in-Name : goal.returns-in-Name
 returns-in-Name c =
     let a = c.args in
     wrote-reference a.area.now a.v (sym c.get_type_name-name.ensures
-    ∙ c.name-1.given.1) c.put_at.ensures
+    ∙ c.in-Name.is) c.put_at.ensures
 
 pub returns-in-Missing : goal.returns-in-Missing
 returns-in-Missing c =

@@ -66,7 +66,7 @@ returns-in-Stored c =
           λ o h l.
           keep-stored (by_prefix (same_name a.h a.t.now (lends a.names.now a.area.now)))
           (key_by a.h a.t.now (lends a.names.now a.area.now)) a.nodes.now a.attributes.now q.new.1.1.1.1.0
-          q.new.1.1.1.1.1.0 a.tree o h l a.prefix a.a c.p-1.given.0.0 c.p-1.given.1 (q.ensures.0 l) q.auto.1.1.1.1.0
+          q.new.1.1.1.1.1.0 a.tree o h l a.prefix a.a c.p-1.given.0.0 c.in-Stored.is (q.ensures.0 l) q.auto.1.1.1.1.0
           q.auto.1.1.1.1.1.0),
       at-keep.keep-p.ensures.1,
     )

@@ -97,7 +97,7 @@ returns-in-Full c =
           l.attributes
           l.cur l.grown (l.invariant.2 g) s.result s.ensures.0 q.new.1.1.1.1.0 q.new.1.1.1.1.1.0 q.auto.1.1.1.1.0
           q.auto.1.1.1.1.1.0
-          q.result q.ensures.0 q.ensures.1 c.p-in-Full-1.given.0.0 l.grown c.p-in-Full-1.given.1,
+          q.result q.ensures.0 q.ensures.1 c.p-in-Full-1.given.0.0 l.grown c.in-Full.is,
       s.ensures.1,
       q.ensures.2,
     )
@@ -129,7 +129,7 @@ returns-in-Due c =
           l.attributes
           l.cur l.grown (l.invariant.2 g) s.result s.ensures.0 q.new.1.1.1.1.0 q.new.1.1.1.1.1.0 q.auto.1.1.1.1.0
           q.auto.1.1.1.1.1.0
-          q.result q.ensures.0 q.ensures.1 c.p-in-Due-1.given.0.0 c.p-in-Due-1.given.1,
+          q.result q.ensures.0 q.ensures.1 c.p-in-Due-1.given.0.0 c.in-Due.is,
       s.ensures.1,
       q.ensures.2,
     )
