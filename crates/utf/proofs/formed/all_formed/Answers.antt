@@ -22,12 +22,12 @@ loop-k-preserved c =
     let x = c.is_formed-x in
     let inside : at + l.k < length s = omega (arith, start.requires.0, turn) in
     elim c.if-x-least.branch [
-      then-x-least w ↦
-        rw w.least-is (formed-put n s at l.least l.k _ x.result (bool_byte-is x.result) l.invariant turn w.if-x-least.true)
-    | else-x-least w ↦
-        rw w.least-is
-        (formed-kept n s at l.least l.k _ x.result (bool_byte-is x.result) l.invariant turn w.if-x-least.false
-        (λ t. placed-turn s bytes at (at + l.k) inside (x.ensures t)))
+      | then-x-least w ↦
+          rw w.least-is (formed-put n s at l.least l.k _ x.result (bool_byte-is x.result) l.invariant turn w.if-x-least.true)
+      | else-x-least w ↦
+          rw w.least-is
+          (formed-kept n s at l.least l.k _ x.result (bool_byte-is x.result) l.invariant turn w.if-x-least.false
+          (λ t. placed-turn s bytes at (at + l.k) inside (x.ensures t)))
     ]
 
 pub returns : goal.returns

@@ -1,7 +1,7 @@
 -- `utf::same::same_steps` meets its contract. Invariant: what is left of the two texts is the same or not as they are. Measure: what is left of a.
 use mathlib.Core.Path.{refl, sym, ap, ◌∙◌}
 use mathlib.Core.List.{List}
-use Prim.Native.Nat.{ℕ, ◌-◌}
+use Prim.Native.Nat.{ℕ}
 use native.Mathlib.Omega.{arith}
 use borrow.Author.Tests.{not-true, not-false}
 use lib.ListN.{drop}

@@ -15,8 +15,8 @@ loop-i-preserved c =
     let l = c.loop-i in (
       omega arith,
       elim c.if-most-b.branch [
-        then-most-b w ↦ rw w.most-is (seen_ascii-put s l.i l.most (omega arith) w.if-most-b.true ∙ l.invariant.1)
-      | else-most-b w ↦ rw w.most-is (seen_ascii-kept s l.i l.most (omega arith) w.if-most-b.false ∙ l.invariant.1)
+        | then-most-b w ↦ rw w.most-is (seen_ascii-put s l.i l.most (omega arith) w.if-most-b.true ∙ l.invariant.1)
+        | else-most-b w ↦ rw w.most-is (seen_ascii-kept s l.i l.most (omega arith) w.if-most-b.false ∙ l.invariant.1)
       ],
     )
 

@@ -16,8 +16,8 @@ loop-i-preserved c =
     let e = c.surrogate_mark-x.ensures in (
       omega arith,
       elim c.if-most-x.branch [
-        then-most-x w ↦ rw w.most-is (seen_basic-put s l.i l.most c.surrogate_mark-x.result (omega arith) e w.if-most-x.true ∙ l.invariant.1)
-      | else-most-x w ↦ rw w.most-is (seen_basic-kept s l.i l.most c.surrogate_mark-x.result (omega arith) e w.if-most-x.false ∙ l.invariant.1)
+        | then-most-x w ↦ rw w.most-is (seen_basic-put s l.i l.most c.surrogate_mark-x.result (omega arith) e w.if-most-x.true ∙ l.invariant.1)
+        | else-most-x w ↦ rw w.most-is (seen_basic-kept s l.i l.most c.surrogate_mark-x.result (omega arith) e w.if-most-x.false ∙ l.invariant.1)
       ],
     )
 
