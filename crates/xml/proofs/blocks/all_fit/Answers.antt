@@ -20,8 +20,8 @@ loop-k-preserved c =
     let x = bool_byte-is c.fits-x.result ∙ ap (λ (b : Bool). cond {A = ℕ} b 1 0) c.fits-x.ensures in (
       omega arith,
       elim c.if-x-least.branch [
-        then-x-least w ↦ rw w.least-is (least-put a.form s a.at l.k l.least _ l.invariant.1 x w.if-x-least.true)
-      | else-x-least w ↦ rw w.least-is (least_kept a.form s a.at l.k l.least _ l.invariant.1 x w.if-x-least.false)
+        | then-x-least w ↦ rw w.least-is (least-put a.form s a.at l.k l.least _ l.invariant.1 x w.if-x-least.true)
+        | else-x-least w ↦ rw w.least-is (least_kept a.form s a.at l.k l.least _ l.invariant.1 x w.if-x-least.false)
       ],
     )
 

@@ -22,12 +22,12 @@ loop-k-preserved c =
     let inside : at + l.k < length s = omega (arith, start.requires, turn) in
     let x = c.is_clear-x in
     elim c.if-x-least.branch [
-      then-x-least w ↦
-        rw w.least-is (places-put s at l.least l.k _ x.result (bool_byte-is x.result) l.invariant turn w.if-x-least.true)
-    | else-x-least w ↦
-        rw w.least-is
-        (places-kept s at l.least l.k _ x.result (bool_byte-is x.result) l.invariant turn w.if-x-least.false
-        (λ t. clear-passes s bytes (at + l.k) inside (x.ensures t)))
+      | then-x-least w ↦
+          rw w.least-is (places-put s at l.least l.k _ x.result (bool_byte-is x.result) l.invariant turn w.if-x-least.true)
+      | else-x-least w ↦
+          rw w.least-is
+          (places-kept s at l.least l.k _ x.result (bool_byte-is x.result) l.invariant turn w.if-x-least.false
+          (λ t. clear-passes s bytes (at + l.k) inside (x.ensures t)))
     ]
 
 pub returns : goal.returns

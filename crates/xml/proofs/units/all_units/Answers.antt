@@ -21,11 +21,11 @@ loop-k-preserved c =
     let turn : l.k < 32 = omega (arith, c.loop-k-test.true) in
     let x = c.is_unit-x in
     elim c.if-x-least.branch [
-      then-x-least w ↦
-        rw w.least-is (units-put s at l.least l.k _ x.result (bool_byte-is x.result) l.invariant turn w.if-x-least.true)
-    | else-x-least w ↦
-        rw w.least-is
-        (units-kept s at l.least l.k _ x.result (bool_byte-is x.result) l.invariant turn start.requires bytes w.if-x-least.false (λ t. x.ensures t))
+      | then-x-least w ↦
+          rw w.least-is (units-put s at l.least l.k _ x.result (bool_byte-is x.result) l.invariant turn w.if-x-least.true)
+      | else-x-least w ↦
+          rw w.least-is
+          (units-kept s at l.least l.k _ x.result (bool_byte-is x.result) l.invariant turn start.requires bytes w.if-x-least.false (λ t. x.ensures t))
     ]
 
 pub returns : goal.returns
