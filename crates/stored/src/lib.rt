@@ -1,6 +1,8 @@
 // What the programs with stored cases share (replay, text_cases): words and parts of the data, how many answers were right, and the text of that.
 //
 // Mirrors nothing of the Rust. The data are made by oracle/cases.py; every number in them is a word of 4 bytes. Definitions: specs/Inner/Data.antt.
+#![tactic(auto)]
+
 ghost use Rattle.std.specs.Prelude.{◌≡◌, slice_index};
 ghost use Rattle.digits.specs.Written.{Wrote};
 ghost use Rattle.stored.specs.Inner.Data.{word_at, part_in, room_for, loaded, bumped, tallied, group_text, Leads};
