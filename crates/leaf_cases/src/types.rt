@@ -112,7 +112,13 @@ fn value_types() -> Types {
 
 pub(crate) fn print_types(rt: &impl Print) -> io::Result<()> {
     let h = header_types();
-    println!(rt; "header types {} named {} xml {}", h.back, h.named, h.picked)?;
+    println!(rt;
+        "header types {} named {} xml {}",
+        h.back, h.named, h.picked
+    )?;
     let v = value_types();
-    println!(rt; "value types {} named {} references {}", v.back, v.named, v.picked)
+    println!(rt;
+        "value types {} named {} references {}",
+        v.back, v.named, v.picked
+    )
 }
