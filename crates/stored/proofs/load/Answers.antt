@@ -9,7 +9,7 @@ loop-n-init c = (search rules, search rules, refl, filled_none _ _)
 pub returns-then-words-n : goal.returns-then-words-n
 returns-then-words-n c =
     let l = c.loop-n in
-    (search rules, filled-whole _ _ l.n l.invariant.3 (omega arith))
+    record { count = omega arith; table = filled-whole _ _ l.n l.invariant.3 (omega arith) }
 
 pub loop-n-preserved : goal.loop-n-preserved
 loop-n-preserved c =
@@ -19,4 +19,4 @@ loop-n-preserved c =
 pub returns : goal.returns
 returns c =
     let l = c.loop-n in
-    (search rules, filled-whole _ _ l.n l.invariant.3 (omega arith))
+    record { count = omega arith; table = filled-whole _ _ l.n l.invariant.3 (omega arith) }
