@@ -1,17 +1,17 @@
 -- Laws of specs/Items.antt, for this crate and those above. No contract cites this file.
 -- In order: the items before one (`back-..`, `isNew-..`, `stands-..`); a name (`isName-..`); a good item (`isGood-..`); the table item
 -- by item (`rule-..`). What the rule says of all items of an attribute: proofs/Together.antt.
-use Prim.Native.Nat.{ℕ, zero, suc, ◌+◌, ◌-◌, ◌*◌, ◌/◌, ◌%◌, ◌≤◌, ◌<◌}
+use Prim.Native.Nat.{ℕ, zero, suc, ◌+◌, ◌-◌, ◌/◌, ◌%◌, ◌≤◌, ◌<◌}
 use native.Mathlib.Omega.{arith}
 use native.Mathlib.Nat.{sub-zero}
 use native.Mathlib.Numerals.{add-one, sub-one}
-use mathlib.Core.Path.{◌≡◌, refl, sym, ap, ◌∙◌}
-use mathlib.Core.List.{List, [], ◌∷◌}
+use mathlib.Core.Path.{◌≡◌, refl, sym, ◌∙◌}
+use mathlib.Core.List.{List, []}
 use mathlib.Core.Bool.{Bool, true, false, cond, not, ◌&&◌}
 use borrow.Author.Tests.{lt-leb, le-leb, eq-eqb, ne_eqb}
-use lib.ListN.{length, take, drop, get_or, length-drop, drop_of_length-le}
+use lib.ListN.{length, take, drop, length-drop, drop_of_length-le}
 use lib.Seq.{take_all}
-use lib.Dec.{leb, eqb}
+use lib.Dec.{eqb}
 use Rattle.records.specs.Words.{item_width}
 use Rattle.utf.specs.Plain.{is_ascii}
 use Rattle.utf.proofs.Ascii.{is_ascii-drop, is_ascii-take}
