@@ -1,5 +1,5 @@
 -- `stored::load` meets its contract. Invariant: the first n words stand at the front, and the rest is as it was. Measure: the places left.
-use Rattle.std.proofs.Common.{◌-◌, refl, arith, rules}
+use Rattle.std.proofs.Common.{refl, arith, rules}
 use Rattle.stored.proofs.Laws.{filled_none, filled-step, filled-whole}
 use Rattle.stored.proofs.load.Goals as goal
 

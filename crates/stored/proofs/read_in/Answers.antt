@@ -1,5 +1,5 @@
 -- `stored::read_in` meets its contract: a read puts its bytes behind those that are there.
-use Rattle.std.proofs.Common.{arith, rules}
+use Rattle.std.proofs.Common.{rules}
 use Rattle.stored.proofs.Reading.{came-more}
 use Rattle.stored.proofs.read_in.Goals as goal
 
