@@ -7,12 +7,12 @@ use native.Mathlib.Nat.{min-le_left}
 use native.Mathlib.Numerals.{add-one}
 use mathlib.Core.Path.{◌≡◌, refl, sym, ◌∙◌, ap}
 use mathlib.Core.List.{List, [], ◌∷◌, Sublistᴰ}
-use mathlib.Core.Bool.{Bool, true, false, cond}
+use mathlib.Core.Bool.{Bool, true, false}
 use borrow.Author.Tests.{ltb-true, ltb-false, lt-ltb, le-ltb, eqb-true, eqb-false, eq-eqb}
 use lib.ListN.{length, take, get_or, set, replicate, length-set, length-take}
 use lib.Seq.{take-nil, get_or-set_same, get_or-set_other}
-use lib.Dec.{ltb, eqb}
-use Rattle.anomaly.specs.Note.{kinds, kind_index, kind_number, kind_numbers}
+use lib.Dec.{eqb}
+use Rattle.anomaly.specs.Note.{kinds, kind_index}
 use Rattle.anomaly.specs.Kept.{is_due, counted, none, kept_from, kept_notes, of_kind}
 use Rattle.anomaly.specs.declared.ResAnomaly.{ResAnomaly}
 use Rattle.anomaly.specs.declared.ResAnomaly.TheVariants.{StringPoolGarbageChunk, StringCountMismatch, StringOffsetsOutOfBounds, NonXmlChunk}

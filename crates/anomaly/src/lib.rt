@@ -4,6 +4,8 @@
 // name of an element, is ours.
 // Definitions: specs/Note.antt, specs/Kept.antt.
 // Differs from the Rust: names are string indices; the cap is an argument; the notes go to a lent table, so `Notes` holds how many there are.
+#![tactic(auto)]
+
 ghost use Rattle.std.specs.Prelude.{◌≡◌, ◌<◌, get_or};
 ghost use Rattle.anomaly.specs.Note.{made, note_of, kinds, kind_index};
 ghost use Rattle.anomaly.specs.Kept.{is_due, no_notes, stored_in};

@@ -4,6 +4,8 @@
 // Definitions: specs/Sort.antt, specs/Inner/Run.antt; the walk down a list of bytes that a run is, and every walk above: specs/Walk.antt;
 // bare headers, which a run passes eight at once: specs/Inner/HeaderOnly.antt.
 // Differs from the Rust: `skip_run` starts at the first chunk's header and not behind it, and gives a position, not how many were passed.
+#![tactic(auto)]
+
 ghost use Rattle.std.specs.Prelude.{◌≡◌, cond, ◌+◌, ◌-◌, ◌≤◌, length, drop};
 ghost use Rattle.chunk.specs.Sort.{is_xml, chunk_sort, content_size};
 ghost use Rattle.chunk.specs.Inner.Run.{run_used, skip_run};

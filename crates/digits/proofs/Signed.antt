@@ -12,7 +12,7 @@ use lib.IntN.{ℤ, pos, negsuc}
 use mir.Syntax.{w32}
 use mir.Val.{to_z}
 use Rattle.digits.proofs.Back.{number_from, minus, signed_of}
-use Rattle.digits.specs.Digits.{digits, decimal, signed, signed_text}
+use Rattle.digits.specs.Digits.{decimal, signed, signed_text}
 use Rattle.digits.proofs.Decimal.{get_d-digits-digit, decimal-back}
 
 signed_of-plain : (l : List ℕ) → 45 < get_or l 0 0 → signed_of l ≡ pos (number_from 0 l)

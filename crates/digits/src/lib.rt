@@ -3,6 +3,8 @@
 // No file of the Rust prints numbers. What is printed: docs/FORMAT.md, L2. Definitions: specs/Digits.antt (the texts), specs/Written.antt (`Wrote`).
 // Each `put` takes the place reached so far, writes what lies within the buffer, and answers the place behind its text, so that the last place is
 // the length of the whole text whether it fits or not. The bounds on places only keep their sums from wrapping: a text is far shorter.
+#![tactic(auto)]
+
 ghost use Rattle.std.specs.Prelude.{◌≡◌, [], ◌∷◌, ◌+◌, ◌≤◌, ◌<◌, length, replicate};
 ghost use Rattle.digits.specs.Digits.{digits, decimal, signed_text, hex_digit, hex_digits, hex_text};
 ghost use Rattle.digits.specs.Written.{Wrote};

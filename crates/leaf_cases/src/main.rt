@@ -2,13 +2,16 @@
 //
 // Standard input holds a line for each stored answer: the number, 8 hexadecimal digits, and the bits of the Rust's
 // `complex_to_float` of it, 16 digits (apk-info 13770539b8). What is printed is how many agree, and how many there are.
+#![tactic(auto)]
+
 mod numbers;
 mod types;
 
 ghost use Rattle.std.specs.Prelude.{◌+◌, ◌≤◌, ◌<◌, length};
 
 use common::complex_to_float;
-use libc::{STDIN_FILENO, STDOUT_FILENO};
+use std::io;
+use stored::read_in;
 
 // 1 for a yes, 0 for a no.
 pub(crate) fn one(b: bool) -> u32
@@ -98,25 +101,13 @@ fn complex_tally(s: &[u8]) -> Tally
     Tally { right, all }
 }
 
-// ---- printing
-
-pub(crate) fn print(name: &[u8], n: u32) {
-    io::write_all(STDOUT_FILENO, name);
-    io::print_decimal(STDOUT_FILENO, n as u64);
-}
-
-pub(crate) fn print_end() {
-    io::write_all(STDOUT_FILENO, b"\n");
-}
-
-fn main() {
-    let mut file = io::large_buffer();
-    let n = io::read_full(STDIN_FILENO, &mut file);
+// What came in, against what is computed, and then the rest of the report.
+fn main(rt: HostRuntime) -> io::Result<()> {
+    let mut file = [0u8; 65536];
+    let n = read_in(&mut rt.stdin(), &mut file)?;
     let t = complex_tally(&file[..n]);
-    print(b"complex ", t.right);
-    print(b" of ", t.all);
-    print_end();
-    types::print_types();
-    numbers::print_notes();
-    numbers::print_refusals();
+    println!(rt; "complex {} of {}", t.right, t.all)?;
+    types::print_types(&rt)?;
+    numbers::print_notes(&rt)?;
+    numbers::print_refusals(&rt)
 }

@@ -1,12 +1,13 @@
 // The types of chunks and of values over all numbers below 65,536: what comes back, what has a name, what is picked out.
 ghost use Rattle.std.specs.Prelude.{◌≤◌};
 
-use crate::{one, print, print_end};
+use crate::one;
 use chunk::is_xml_node;
 use common::{
     ResChunkHeader, ResourceHeaderType, ResourceValueType, header_type_number, header_type_of,
     is_reference, value_type_number, value_type_of,
 };
+use std::io;
 
 fn is_named_header(t: ResourceHeaderType) -> bool {
     match t {
@@ -109,15 +110,15 @@ fn value_types() -> Types {
     }
 }
 
-pub(crate) fn print_types() {
+pub(crate) fn print_types(rt: &impl Print) -> io::Result<()> {
     let h = header_types();
-    print(b"header types ", h.back);
-    print(b" named ", h.named);
-    print(b" xml ", h.picked);
-    print_end();
+    println!(rt;
+        "header types {} named {} xml {}",
+        h.back, h.named, h.picked
+    )?;
     let v = value_types();
-    print(b"value types ", v.back);
-    print(b" named ", v.named);
-    print(b" references ", v.picked);
-    print_end();
+    println!(rt;
+        "value types {} named {} references {}",
+        v.back, v.named, v.picked
+    )
 }

@@ -4,6 +4,8 @@
 // Definitions: specs/Listing.antt (lines and their text), specs/Keys.antt, specs/Printed.antt (the answer and the buffer).
 // One pass: each `put` takes the place reached so far, writes what lies within the buffer, and answers the place behind its text (crate `digits`),
 // so that the last place is the length of the whole text whether it fits or not.
+#![tactic(auto)]
+
 mod fields;
 
 ghost use Rattle.std.specs.Prelude.{◌≡◌, ◌+◌, ◌*◌, ◌≤◌, ◌<◌, length, drop, get_or};

@@ -3,6 +3,8 @@
 //
 // Mirrors nothing of the Rust's, whose tree has vectors and structs of its own. docs/FORMAT.md, B2, B9, B11, B12, N4, V3, M1, M4, L1.
 // A further word of a record is its width, its place and its parameter here; who stores the record gives the word, and nobody else changes.
+#![tactic(auto)]
+
 ghost use Rattle.std.specs.Prelude.{◌≡◌, ◌++◌, ◌+◌, ◌*◌, ◌≤◌, length, drop, take};
 ghost use Rattle.records.specs.Words.{node_width, attribute_width, node_words, attribute_words};
 

@@ -1,5 +1,5 @@
 // What was asked for and what was right, in one table of numbers: two for each group, and the sets of names.
-use libc::STDOUT_FILENO;
+use std::io;
 use stored::{count_at, put_group, tally};
 
 // Groups 0 to 63 are the readings with that refusal, 64 to 127 the first values; 0 and 64 are those that are not refused.
@@ -29,65 +29,62 @@ pub(crate) fn tally_refusal(counts: &mut [u32], groups: usize, refusal: u32, rig
 
 // ---- the report
 
-fn say(s: &[u8]) {
-    io::write_all(STDOUT_FILENO, s);
-}
-
-fn print_group(label: &[u8], counts: &[u32], group: usize) {
+fn print_group(rt: &impl Print, label: &str, counts: &[u32], group: usize) -> io::Result<()> {
     let mut line = [0u8; 25];
     let n = put_group(&mut line, counts, group);
-    say(label);
-    say(&line[..n]);
+    rt.print(label)?;
+    rt.write_all(&line[..n])
 }
 
-fn print_readings(counts: &[u32]) {
-    print_group(b"readings ", counts, READINGS);
-    print_group(b"  done ", counts, 0);
-    print_group(b"  refusal 1, too small: ", counts, 1);
-    print_group(b"  refusal 3, header size: ", counts, 3);
-    print_group(b"  refusal 6, no root: ", counts, 6);
-    print_group(b"  refusal 7, system names: ", counts, 7);
-    print_group(b"  refusal 8, nodes full: ", counts, 8);
-    print_group(b"  refusal 9, attributes full: ", counts, 9);
-    print_group(b"  refusal 10, notes full: ", counts, 10);
-    print_group(b"  refusal 16, mode: ", counts, 16);
-    print_group(b"  refusal 27, a cap of 0: ", counts, 27);
-    print_group(b"  refusal 41, skipped garbage: ", counts, 41);
+fn print_readings(rt: &impl Print, counts: &[u32]) -> io::Result<()> {
+    print_group(rt, "readings ", counts, READINGS)?;
+    print_group(rt, "  done ", counts, 0)?;
+    print_group(rt, "  refusal 1, too small: ", counts, 1)?;
+    print_group(rt, "  refusal 3, header size: ", counts, 3)?;
+    print_group(rt, "  refusal 6, no root: ", counts, 6)?;
+    print_group(rt, "  refusal 7, system names: ", counts, 7)?;
+    print_group(rt, "  refusal 8, nodes full: ", counts, 8)?;
+    print_group(rt, "  refusal 9, attributes full: ", counts, 9)?;
+    print_group(rt, "  refusal 10, notes full: ", counts, 10)?;
+    print_group(rt, "  refusal 16, mode: ", counts, 16)?;
+    print_group(rt, "  refusal 27, a cap of 0: ", counts, 27)?;
+    print_group(rt, "  refusal 41, skipped garbage: ", counts, 41)?;
     print_group(
-        b"  refusal 42, the pool's headers and numbers: ",
+        rt,
+        "  refusal 42, the pool's headers and numbers: ",
         counts,
         42,
-    );
-    print_group(b"  refusal 43, offsets: ", counts, 43);
-    print_group(b"  refusal 44, styles: ", counts, 44);
-    print_group(b"  refusal 45, string data: ", counts, 45);
-    print_group(b"  refusal 51, the map's header: ", counts, 51);
-    print_group(b"  refusal 52, ids: ", counts, 52);
-    print_group(b"readings listed ", counts, LISTED);
+    )?;
+    print_group(rt, "  refusal 43, offsets: ", counts, 43)?;
+    print_group(rt, "  refusal 44, styles: ", counts, 44)?;
+    print_group(rt, "  refusal 45, string data: ", counts, 45)?;
+    print_group(rt, "  refusal 51, the map's header: ", counts, 51)?;
+    print_group(rt, "  refusal 52, ids: ", counts, 52)?;
+    print_group(rt, "readings listed ", counts, LISTED)
 }
 
-fn print_firsts(counts: &[u32]) {
-    print_group(b"first values ", counts, FIRSTS);
-    print_group(b"  found ", counts, FIRST);
-    print_group(b"  refusal 1, too small: ", counts, FIRST + 1);
-    print_group(b"  refusal 3, header size: ", counts, FIRST + 3);
-    print_group(b"  refusal 7, system names: ", counts, FIRST + 7);
-    print_group(b"  refusal 12, nothing found: ", counts, FIRST + 12);
-    print_group(b"  refusal 13, tables: ", counts, FIRST + 13);
+fn print_firsts(rt: &impl Print, counts: &[u32]) -> io::Result<()> {
+    print_group(rt, "first values ", counts, FIRSTS)?;
+    print_group(rt, "  found ", counts, FIRST)?;
+    print_group(rt, "  refusal 1, too small: ", counts, FIRST + 1)?;
+    print_group(rt, "  refusal 3, header size: ", counts, FIRST + 3)?;
+    print_group(rt, "  refusal 7, system names: ", counts, FIRST + 7)?;
+    print_group(rt, "  refusal 12, nothing found: ", counts, FIRST + 12)?;
+    print_group(rt, "  refusal 13, tables: ", counts, FIRST + 13)?;
     print_group(
-        b"  refusal 42, the pool's headers and numbers: ",
+        rt,
+        "  refusal 42, the pool's headers and numbers: ",
         counts,
         FIRST + 42,
-    );
-    print_group(b"  refusal 51, the map's header: ", counts, FIRST + 51);
+    )?;
+    print_group(rt, "  refusal 51, the map's header: ", counts, FIRST + 51)
 }
 
-pub(crate) fn print_counts(counts: &[u32]) {
-    say(b"sets of names ");
-    io::print_decimal(STDOUT_FILENO, count_at(counts, SETS) as u64);
-    say(b"\n");
-    print_readings(counts);
-    print_firsts(counts);
-    print_group(b"names ", counts, NAMES);
-    print_group(b"complex values ", counts, COMPLEX);
+pub(crate) fn print_counts(rt: &impl Print, counts: &[u32]) -> io::Result<()> {
+    let sets = count_at(counts, SETS);
+    println!(rt; "sets of names {sets}")?;
+    print_readings(rt, counts)?;
+    print_firsts(rt, counts)?;
+    print_group(rt, "names ", counts, NAMES)?;
+    print_group(rt, "complex values ", counts, COMPLEX)
 }

@@ -4,6 +4,8 @@
 // which a covered function cannot lend. `axml::read` itself runs under `axml::read_listed`, wherever its names, cap and places answer the same.
 // A reading is right where its numbers and every word of the three lent tables are. What is printed is how many answers are right, and how
 // many were asked for.
+#![tactic(auto)]
+
 mod count;
 mod question;
 mod reading;
@@ -13,7 +15,8 @@ ghost use Rattle.std.specs.Prelude.{◌≡◌, length};
 
 use question::{judge_complex, judge_first, judge_name};
 use reading::judge_reading;
-use stored::{bump, load, part, word};
+use std::{fs, io};
+use stored::{bump, load, part, read_in, word};
 
 // ---- the walk through the data
 
@@ -154,21 +157,15 @@ fn space() -> [u8; 1048576]
 }
 
 // Replays the data and prints the counts.
-fn report(data: &[u8]) {
+fn report(rt: &impl Print, data: &[u8]) -> io::Result<()> {
     let mut counts = [0u32; 267];
     replay(data, &mut counts);
-    count::print_counts(&counts);
+    count::print_counts(rt, &counts)
 }
 
-fn main() {
-    let path: &[u8] = b"cases";
-    let fd = os::open_read(path);
-    if fd < 0 {
-        os::fail(path);
-        return;
-    }
+fn main(rt: HostRuntime) -> io::Result<()> {
+    let mut file = fs::open(&rt, "cases")?;
     let mut data = space();
-    let n = io::read_full(fd, &mut data);
-    libc::close(fd);
-    report(&data[..n]);
+    let n = read_in(&mut file, &mut data)?;
+    report(&rt, &data[..n])
 }

@@ -4,7 +4,7 @@
 --   id_of     id i of the bytes behind its header
 --
 -- A header of any type stands for it. The ids follow its 8 bytes directly, also where its header size says otherwise.
-use Rattle.std.specs.Prelude.{ℕ, ◌+◌, ◌-◌, ◌*◌, ◌/◌, List, cond, length, ltb}
+use Rattle.std.specs.Prelude.{ℕ, ◌-◌, ◌*◌, ◌/◌, List, cond, length, ltb}
 use Rattle.field.specs.Le.{u32le}
 use Rattle.common.specs.Header.{header_of}
 use Rattle.common.specs.declared.ResChunkHeader.{ResChunkHeader}

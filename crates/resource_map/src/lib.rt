@@ -2,6 +2,8 @@
 //
 // Mirrors structs/xml_elements.rs (apk-info 13770539b8): `XMLResourceMap::parse`. Answers: `MapRead`, how many ids or which part
 // ran out. Definitions: specs/Map.antt. Differs from the Rust: the ids stay in the file, and one is read when it is asked for.
+#![tactic(auto)]
+
 ghost use Rattle.std.specs.Prelude.{◌≡◌, ◌+◌, ◌*◌, ◌≤◌, length};
 ghost use Rattle.resource_map.specs.Map.{ids_in, ids_by, map_of, id_of};
 

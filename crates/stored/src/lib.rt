@@ -1,14 +1,38 @@
 // What the programs with stored cases share (replay, text_cases): words and parts of the data, how many answers were right, and the text of that.
 //
 // Mirrors nothing of the Rust. The data are made by oracle/cases.py; every number in them is a word of 4 bytes. Definitions: specs/Inner/Data.antt.
-ghost use Rattle.std.specs.Prelude.{◌≡◌, slice_index};
+#![tactic(auto)]
+
+ghost use Rattle.std.specs.Prelude.{◌≡◌, ◌<◌, length, take, slice_index, IfOk};
+ghost use Rattle.std.specs.Io.{ReadsAtMost};
+ghost use Rattle.std.specs.Io.KnownBytes.{Consumes, IsAtEnd};
 ghost use Rattle.digits.specs.Written.{Wrote};
 ghost use Rattle.stored.specs.Inner.Data.{word_at, part_in, room_for, loaded, bumped, tallied, group_text, Leads};
 
 use digits::{put_byte, put_bytes, put_word};
 use field::u32_at;
+use std::io;
+use std::io::Read;
 
 // ---- the data
+
+// Reads until the room is full or the input ends; how many bytes came, at the front of the room.
+// Ruled out: an end that is told before there is one, and bytes that came and are not among those told.
+pub fn read_in<R: Read>(reader: &mut R, room: &mut [u8]) -> io::Result<usize>
+    ensures bound { ReadsAtMost result room.new }
+    ensures bytes { IfOk result (λ n. Consumes (R.remaining reader.old) (R.remaining reader.new) (take n room.new)) }
+    ensures end { IfOk result (λ n. n < length room.new → IsAtEnd (R.remaining reader.new)) }
+{
+    let mut n: usize = 0;
+    while n < room.len() {
+        let more = reader.read(&mut room[n..])?;
+        if more == 0 {
+            return Ok(n);
+        }
+        n += more;
+    }
+    Ok(n)
+}
 
 // Word i of a part; 0 behind its last whole word.
 // Ruled out: the word that begins at byte i, and the bytes behind the last whole word read as one.

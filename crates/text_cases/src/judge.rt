@@ -1,6 +1,5 @@
 // One question of the data: it is asked again, and what comes back is held to what is stored.
 use crate::count;
-use check::same;
 use common::StringIndex;
 use errors::{TextNumbers, text_numbers};
 use head::{content, text};
@@ -65,7 +64,7 @@ fn is_right(a: TextNumbers, out: &[u8], w: Wanted, want: &[u8]) -> bool {
     if out.len() < n {
         return false;
     }
-    if !same(&out[0..n], want) {
+    if &out[0..n] != want {
         return false;
     }
     is_zero(&out[n..])
@@ -145,7 +144,7 @@ fn holds<'a>(
     index: StringIndex,
     want: &[u8],
 ) -> bool {
-    same(content(file, names, area, index), want)
+    content(file, names, area, index) == want
 }
 
 // A question is 44 bytes: the file's number, index, room, refusal, value, state, how many were replaced, then the places of text and content.

@@ -3,13 +3,16 @@
 // Each text is asked for with the room that is stored, in a buffer that is just right, and in one that is a byte short. A text is
 // right where its length, its state, its bytes and the zeros behind it are, a refusal where its number, its value and a buffer of zeros are.
 // What is printed is how many answers are right, and how many were asked for: of each refusal, of the texts, and so on.
+#![tactic(auto)]
+
 mod count;
 mod judge;
 
 ghost use Rattle.std.specs.Prelude.{◌≡◌, length};
 
 use judge::judge;
-use stored::{bump, load, part};
+use std::{fs, io};
+use stored::{bump, load, part, read_in};
 
 // ---- the walk through the data
 
@@ -71,7 +74,7 @@ fn replay(data: &[u8], counts: &mut [u32]) {
     let sets = part(data, data, 0);
     let files = part(data, data, 2);
     let mut names = [0u32; 8400];
-    let mut out = io::buffer();
+    let mut out = [0u8; 4096];
     replay_sets(data, files, sets, &mut names, &mut out, counts);
 }
 
@@ -83,21 +86,15 @@ fn space() -> [u8; 1572864]
 }
 
 // Replays the data and prints the counts.
-fn report(data: &[u8]) {
+fn report(rt: &impl Print, data: &[u8]) -> io::Result<()> {
     let mut counts = [0u32; 134];
     replay(data, &mut counts);
-    count::print_counts(&counts);
+    count::print_counts(rt, &counts)
 }
 
-fn main() {
-    let path: &[u8] = b"questions";
-    let fd = os::open_read(path);
-    if fd < 0 {
-        os::fail(path);
-        return;
-    }
+fn main(rt: HostRuntime) -> io::Result<()> {
+    let mut file = fs::open(&rt, "questions")?;
     let mut data = space();
-    let n = io::read_full(fd, &mut data);
-    libc::close(fd);
-    report(&data[..n]);
+    let n = read_in(&mut file, &mut data)?;
+    report(&rt, &data[..n])
 }

@@ -3,13 +3,17 @@
 // For each text: its length and bytes as UTF-8 against the answer, its state and how many characters were replaced, whether it is a name, and
 // whether it is the same as the text before it.
 // A group of texts is one line with counts; every count of wrong answers is 0 in the file `stdout`, to which the run is held.
+#![tactic(auto)]
+
 mod published;
 
 ghost use Rattle.std.specs.Prelude.{◌≡◌, ◌≤◌, ◌<◌, length};
 ghost use Rattle.unicode_cases.specs.Inner.Lies.{Lies};
 
 use field::u16_at;
-use libc::STDOUT_FILENO;
+use std::rt::Files;
+use std::{fs, io};
+use stored::read_in;
 use utf::{replaced_of, same_text, state_of, text_into, text_len};
 use xml::valid_name;
 
@@ -71,7 +75,7 @@ fn text_right(utf16: bool, s: &[u8], want: &[u8]) -> bool {
     if m != n {
         return false;
     }
-    check::same(&out[..n], want)
+    &out[..n] == want
 }
 
 // Whether the text of s has this state, with so many U+FFFD put in.
@@ -182,55 +186,45 @@ fn walk(file: &[u8]) -> Tally {
 
 // ---- the report
 
-fn say(s: &[u8]) {
-    io::write_all(STDOUT_FILENO, s);
-}
-
-fn report(label: &[u8], t: Tally) {
-    say(label);
-    say(b": ");
-    io::print_decimal(STDOUT_FILENO, t.texts);
-    say(b" texts; wrong: ");
-    io::print_decimal(STDOUT_FILENO, t.wrong_texts);
-    say(b" texts, ");
-    io::print_decimal(STDOUT_FILENO, t.wrong_states);
-    say(b" states, ");
-    io::print_decimal(STDOUT_FILENO, t.wrong_names);
-    say(b" names, ");
-    io::print_decimal(STDOUT_FILENO, t.wrong_pairs);
-    say(b" comparisons\n");
+fn report(rt: &impl Print, label: &str, t: Tally) -> io::Result<()> {
+    println!(rt;
+        "{label}: {} texts; wrong: {} texts, {} states, {} names, {} comparisons",
+        t.texts, t.wrong_texts, t.wrong_states, t.wrong_names, t.wrong_pairs
+    )
 }
 
 // The vectors of one file, which has at most 262,144 bytes.
-fn vectors(path: &[u8], label: &[u8]) {
-    let fd = os::open_read(path);
-    if fd < 0 {
-        os::fail(path);
-        return;
-    }
+fn vectors<R: Files + Print>(rt: &R, path: &str, label: &str) -> io::Result<()> {
+    let mut file = fs::open(rt, path)?;
     let mut space = [0u8; 262144];
-    let n = io::read_full(fd, &mut space);
-    libc::close(fd);
-    report(label, walk(&space[..n]));
+    let n = read_in(&mut file, &mut space)?;
+    report(rt, label, walk(&space[..n]))
 }
 
-fn main() {
-    report(b"Unicode, chapter 3", published::unicode());
-    report(b"names of XML and of the Rust", published::names());
+fn main(rt: HostRuntime) -> io::Result<()> {
+    report(&rt, "Unicode, chapter 3", published::unicode())?;
+    report(&rt, "names of XML and of the Rust", published::names())?;
     vectors(
-        b"pairs-0",
-        b"UTF-8, first bytes 00 to 7F with every second byte",
-    );
+        &rt,
+        "pairs-0",
+        "UTF-8, first bytes 00 to 7F with every second byte",
+    )?;
     vectors(
-        b"pairs-1",
-        b"UTF-8, first bytes 80 to FF with every second byte",
-    );
+        &rt,
+        "pairs-1",
+        "UTF-8, first bytes 80 to FF with every second byte",
+    )?;
     vectors(
-        b"sequences",
-        b"UTF-8, first bytes C0 to FF with every second byte, then 80 80",
-    );
-    vectors(b"utf8", b"UTF-8 made at random");
-    vectors(b"utf16", b"UTF-16 made at random");
-    vectors(b"both", b"UTF-8 beside UTF-16");
-    vectors(b"names", b"every boundary of a range of names, and ASCII");
+        &rt,
+        "sequences",
+        "UTF-8, first bytes C0 to FF with every second byte, then 80 80",
+    )?;
+    vectors(&rt, "utf8", "UTF-8 made at random")?;
+    vectors(&rt, "utf16", "UTF-16 made at random")?;
+    vectors(&rt, "both", "UTF-8 beside UTF-16")?;
+    vectors(
+        &rt,
+        "names",
+        "every boundary of a range of names, and ASCII",
+    )
 }

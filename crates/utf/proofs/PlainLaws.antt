@@ -2,7 +2,7 @@
 use mathlib.Core.Path.{◌≡◌, refl, sym, ap, ◌∙◌}
 use mathlib.Core.Bool.{Bool, true, false, cond, beq, true≢false}
 use mathlib.Core.List.{List, [], ◌∷◌, ◌++◌}
-use Prim.Native.Nat.{ℕ, zero, suc, ◌+◌, ◌-◌, max, ◌<◌}
+use Prim.Native.Nat.{ℕ, zero, suc, ◌-◌, max, ◌<◌}
 use borrow.Author.Tests.{not-true}
 use lib.ListN.{get_or, take}
 use Rattle.utf.specs.declared.Step.TheVariants.{Scalar, Bad}

@@ -5,19 +5,17 @@ use mathlib.Core.Bool.{Bool, true, false, cond, true≢false}
 use mathlib.Core.List.{List, [], ◌∷◌, ◌++◌}
 use Prim.Native.Nat.{ℕ, suc, ◌+◌, ◌<◌, max}
 use native.Mathlib.Omega.{arith}
-use lib.ListN.{length, get_or, drop}
-use Rattle.utf.specs.declared.Step.{Step}
-use Rattle.utf.specs.declared.Step.TheVariants.{Scalar}
+use lib.ListN.{get_or, drop}
 use Rattle.utf.specs.Utf8.{is_scalar, table37, longest, any_whole, encode, step8}
 use Rattle.utf.specs.Utf16.{spell_all}
-use Rattle.utf.specs.Text.{width_of, sound_of, steps_after, steps_of, values_of, all_sound, bad_count, is_sound, refused, text_of, utf16_of}
+use Rattle.utf.specs.Text.{width_of, steps_after, steps_of, values_of, all_sound, bad_count, is_sound, refused, text_of, utf16_of}
 use Rattle.utf.specs.Text.{Damage, whole, replaced, unpaired, cut, damage_of, state_number, replaced_count}
 use Rattle.utf.proofs.Sound8.{step8-is, step8-sound, step8-width}
 use Rattle.utf.proofs.Steps.{steps_of-step, steps_of-encode}
 use Rattle.utf.proofs.Turns.{text_of-refused}
 use Rattle.utf.proofs.Laws.{text_of-whole, text_of-sound, text_of-values, damage_of-replaced}
 use Rattle.utf.proofs.Units.{whole-units}
-use Rattle.utf.proofs.BadSteps.{state-whole, state-utf16, state-utf8, replaced-utf8, bad_count-le}
+use Rattle.utf.proofs.BadSteps.{state-whole, state-utf16, state-utf8, replaced-utf8}
 
 -- ---- state 0
 

@@ -2,6 +2,8 @@
 //
 // Mirrors what the Rust takes from std: String::from_utf8_lossy, char::decode_utf16 (any error is the empty text), and `==` of two texts.
 // Definitions: specs/Text.antt over specs/Utf8.antt and specs/Utf16.antt. `utf16` is UTF-16, and otherwise the bytes are UTF-8.
+#![tactic(auto)]
+
 pub mod ascii_text;
 pub mod damage;
 pub mod formed;

@@ -5,6 +5,8 @@
 // are chars of a name are passed, and what is left is decoded; whole blocks are passed at once, of one sort of chars (blocks.rt), in UTF-16 of any units
 // that are chars by themselves (units.rt), and in UTF-8 of any bytes at which no name ends (clear.rt).
 // Differs from the Rust: a text in UTF-16 is read as it stands, and ill-formed UTF-8 is read as U+FFFD.
+#![tactic(auto)]
+
 pub mod blocks;
 pub mod chars;
 pub mod clear;

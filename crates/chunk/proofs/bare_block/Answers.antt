@@ -1,5 +1,5 @@
 -- `chunk::bare_block` meets its contract. Invariant: all eight are bare if there is no doubt yet and the rest is. Measure: the headers left.
-use Prim.Native.Nat.{◌+◌, ◌-◌, ◌*◌}
+use Prim.Native.Nat.{◌+◌, ◌*◌}
 use native.Mathlib.Omega.{arith}
 use native.Mathlib.Nat.{add-zero}
 use mathlib.Core.Path.{sym, ◌∙◌}

@@ -1,5 +1,4 @@
 -- `chunk::skip_bare` meets its contract. Invariant: the run from `at` ends where the run from p does. Measure: the bytes behind p.
-use Prim.Native.Nat.{◌-◌}
 use native.Mathlib.Omega.{arith}
 use mathlib.Core.Path.{refl, sym, ◌∙◌}
 use borrow.Author.Rules.{rules}

@@ -1,6 +1,6 @@
 -- `chunk::skip_run` meets its contract. Invariant: the run from `at` ends where the run from p does. Measure: the bytes behind p.
 -- Where blocks are tried again is no matter of the contract: `retry` stands in no invariant.
-use Prim.Native.Nat.{ℕ, ◌+◌, ◌-◌, ◌<◌}
+use Prim.Native.Nat.{ℕ, ◌+◌, ◌<◌}
 use native.Mathlib.Omega.{arith}
 use mathlib.Core.Path.{◌≡◌, refl, sym, ◌∙◌}
 use borrow.Author.Rules.{rules}

@@ -1,6 +1,5 @@
 -- `digits::put_bytes` meets its contract. Invariant: the first i bytes are written, and the others are left. Measure: those left.
 use mathlib.Core.Path.{refl}
-use Prim.Native.Nat.{◌-◌}
 use native.Mathlib.Omega.{arith}
 use borrow.Author.Rules.{rules}
 use lib.ListN.{length}

@@ -1,7 +1,6 @@
 -- `digits::zero` meets its contract. Invariant: the first i bytes are 0 and the others as they were. Measure: the bytes left.
 use mathlib.Core.Path.{◌≡◌, refl, ◌∙◌}
 use mathlib.Core.List.{append-nil}
-use Prim.Native.Nat.{◌-◌}
 use native.Mathlib.Omega.{arith}
 use lib.Seq.{drop-length}
 use borrow.Author.Rules.{rules}

@@ -10,16 +10,13 @@ use Rattle.digits.proofs.Written.{left-first, left-piece, left-none}
 use Rattle.listing_text.proofs.Turns.{note_lines-stop, note_lines-short, note_lines-step}
 use Rattle.listing_text.proofs.put_notes.Goals as goal
 
-length-notes : (c : goal.Start invariant-loop decreases-loop) → length c.args.t4 ≡ listed_notes
-length-notes c = c.well-formed.1.1.1.0.1.0.1
-
 pub loop-k-init : goal.loop-k-init
 loop-k-init c = (search rules, search rules, search rules, refl, rw sub-zero (left-first _ _ _))
 
 pub returns-then-i-ge-LISTED_NOTES : goal.returns-then-i-ge-LISTED_NOTES
 returns-then-i-ge-LISTED_NOTES c =
     let l = c.loop-k in
-    left-none (128 * listed_notes) l.invariant.4 (note_lines-short l.k _ l.i _ (omega (arith, length-notes c))) (omega arith)
+    left-none (128 * listed_notes) l.invariant.4 (note_lines-short l.k _ l.i _ (omega arith)) (omega arith)
 
 pub loop-k-preserved : goal.loop-k-preserved
 loop-k-preserved c =
@@ -28,11 +25,11 @@ loop-k-preserved c =
     let start = at-loop in
     let a = start.args in
     let l = at-loop.loop-k in
-    let turn = note_lines-step l.k a.count l.i a.t4 (record { kind = 0; a = 0; b = 0 }) (search rules) (omega (arith, length-notes start)) in
+    let turn = note_lines-step l.k a.count l.i a.notes (record { kind = 0; a = 0; b = 0 }) (search rules) (omega arith) in
     (search rules, search rules, search rules, search rules, left-piece l.invariant.4 turn call.put_note-at.ensures)
 
 pub returns : goal.returns
 returns c =
     let a = c.args in
     let l = c.loop-k in
-    left-none (128 * listed_notes) l.invariant.4 (note_lines-stop l.k a.count l.i a.t4 (search rules)) (omega arith)
+    left-none (128 * listed_notes) l.invariant.4 (note_lines-stop l.k a.count l.i a.notes (search rules)) (omega arith)

@@ -10,7 +10,7 @@ use Rattle.resource_map.proofs.map_of.Goals as goal
 pub overflow_sub-s : goal.overflow_sub-s
 overflow_sub-s c =
     let s = c.args.s.now in
-    let whole = sym c.header_at-read.ensures ∙ c.read-1.given.1 in
+    let whole = sym c.header_at-read.ensures ∙ c.in-Whole.is in
     let long : 8 ≤ length s = header_of-long s whole in
     omega arith
 

@@ -17,7 +17,7 @@ pub loop-i-preserved : goal.loop-i-preserved
 loop-i-preserved c =
     let l = c.loop-i in
     let s = c.args.s.now in
-    let bytes : (i : ℕ) → get_or s i 0 < 256 = λ i. (c.shared_slice_known-1.given i).fits in
+    let bytes : (i : ℕ) → get_or s i 0 < 256 = λ i. (c.type_inv.s i).fits in
     let e = sym c.is_single.ensures ∙ c.if-not-is_single.false in
     (ran-block _ s _ l.i (l.i + 64 - l.i) l.invariant.0 (omega arith) bytes e (omega arith), omega arith)
 

@@ -1,5 +1,4 @@
 -- `utf::bytes_into` meets its contract. Invariant: what is written and what is left make the whole (`Written`). Measure: the bytes left.
-use Prim.Native.Nat.{◌-◌}
 use native.Mathlib.Omega.{arith}
 use Rattle.utf.proofs.Filled.{none_written, fitting, written, all-written}
 use Rattle.utf.proofs.bytes_into.Goals as goal

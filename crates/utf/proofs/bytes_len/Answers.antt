@@ -1,5 +1,4 @@
 -- `utf::bytes_len` meets its contract. Invariant: what is counted and what is left make the whole (`Counted`). Measure: the bytes left.
-use Prim.Native.Nat.{◌-◌}
 use native.Mathlib.Omega.{arith}
 use Rattle.utf.proofs.Filled.{none-counted, counted, counted-past, all-counted}
 use Rattle.utf.proofs.bytes_len.Goals as goal

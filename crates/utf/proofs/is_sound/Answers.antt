@@ -1,6 +1,5 @@
 -- `utf::is_sound` meets its contract. Invariant: what was passed is sound (`Ran`). Measure: the bytes left.
 use mathlib.Core.Path.{sym, ◌∙◌}
-use Prim.Native.Nat.{◌-◌}
 use native.Mathlib.Omega.{arith}
 use Rattle.utf.proofs.Turns.{end-sound}
 use Rattle.utf.proofs.Units.{ran-none, ran-join}

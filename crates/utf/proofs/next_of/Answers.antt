@@ -12,6 +12,6 @@ returns-then-b-lt128 c =
 pub returns : goal.returns
 returns c =
     let a = c.args in
-    let bytes : (i : ℕ) → get_or a.s.now i 0 < 256 = λ i. (c.shared_slice_known-1.given i).fits in
+    let bytes : (i : ℕ) → get_or a.s.now i 0 < 256 = λ i. (c.type_inv.s i).fits in
     took a.utf16 a.s.now a.at _ _ _ c.step_at.result c.requires bytes
     c.step_at.ensures c.taken_of.ensures

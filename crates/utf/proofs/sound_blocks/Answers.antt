@@ -1,5 +1,4 @@
 -- `utf::sound_blocks` meets its contract. Invariant: what was passed is sound (`Ran`), and lies inside. Measure: the bytes left.
-use Prim.Native.Nat.{◌-◌}
 use Rattle.utf.proofs.Units.{ran-join}
 use native.Mathlib.Omega.{arith}
 use Rattle.utf.proofs.sound_blocks.Goals as goal

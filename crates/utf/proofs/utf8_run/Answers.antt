@@ -1,5 +1,4 @@
 -- `utf::utf8_run` meets its contract. Invariant: what was passed is sound (`Ran`). Measure: the bytes left before `end`.
-use Prim.Native.Nat.{◌-◌}
 use native.Mathlib.Omega.{arith}
 use Rattle.utf.proofs.Units.{ran-none, ran-ascii}
 use Rattle.utf.proofs.utf8_run.Goals as goal

@@ -1,6 +1,5 @@
 -- `xml::in_ranges` meets its contract. Invariant: v is in the ranges left where it is in any. Measure: the numbers left.
 use mathlib.Core.Path.{refl, sym, ◌∙◌}
-use Prim.Native.Nat.{◌-◌}
 use native.Mathlib.Omega.{arith}
 use Rattle.xml.proofs.Ranges.{in_ranges-step, in_ranges-stop, hits, misses}
 use Rattle.xml.proofs.in_ranges.Goals as goal

@@ -1,6 +1,6 @@
 -- `xml::valid_name` meets its contract. Invariant: what is left are chars where the text is a name. Measure: the bytes left.
 use mathlib.Core.Path.{sym, ◌∙◌}
-use Prim.Native.Nat.{ℕ, ◌-◌, ◌<◌}
+use Prim.Native.Nat.{ℕ, ◌<◌}
 use native.Mathlib.Omega.{arith}
 use lib.ListN.{get_or}
 use Rattle.utf.proofs.Turns.{stops, goes}
@@ -17,14 +17,14 @@ begins_well-requires c = (classes-right, omega arith)
 pub returns-then-not-begins_well : goal.returns-then-not-begins_well
 returns-then-not-begins_well c =
     let a = c.args in
-    let bytes : (k : ℕ) → get_or a.s.now k 0 < 256 = λ k. (c.shared_slice_known-1.given k).fits in
+    let bytes : (k : ℕ) → get_or a.s.now k 0 < 256 = λ k. (c.type_inv.s k).fits in
     let begun = valid_name-begins a.utf16 a.s.now (omega arith) bytes in
     sym (stops _ _ _ begun (sym c.begins_well.ensures ∙ c.if-not-begins_well.true))
 
 pub loop-at-init : goal.loop-at-init
 loop-at-init c =
     let a = c.args in
-    let bytes : (k : ℕ) → get_or a.s.now k 0 < 256 = λ k. (c.shared_slice_known-1.given k).fits in
+    let bytes : (k : ℕ) → get_or a.s.now k 0 < 256 = λ k. (c.type_inv.s k).fits in
     let begun = valid_name-begins a.utf16 a.s.now (omega arith) bytes in
     sym (goes _ _ _ begun (sym c.begins_well.ensures ∙ c.if-not-begins_well.false))
 

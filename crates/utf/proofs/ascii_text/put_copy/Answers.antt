@@ -1,5 +1,4 @@
 -- `utf::ascii_text::put_copy` meets its contract. Invariant: the first i bytes stand in the buffer (`Copied`). Measure: the bytes left.
-use Prim.Native.Nat.{◌-◌}
 use mathlib.Core.Path.{refl}
 use native.Mathlib.Omega.{arith}
 use Rattle.utf.proofs.AsciiText.{none-copied, copied, all-copied}

@@ -1,6 +1,5 @@
 -- `utf::ascii_text::put_lows` meets its contract. Invariant: the low bytes of the first i units stand in the buffer (`Copied`).
 -- Measure: the units left.
-use Prim.Native.Nat.{◌-◌}
 use native.Mathlib.Omega.{arith}
 use Rattle.utf.proofs.AsciiText.{low_bytes-length, none-copied, copied-low, all-copied}
 use Rattle.utf.proofs.ascii_text.put_lows.Goals as goal

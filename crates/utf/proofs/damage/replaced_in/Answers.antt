@@ -1,5 +1,4 @@
 -- `utf::damage::replaced_in` meets its contract. Invariant: what is counted and what is left make the whole (`Tallied`). Measure: the bytes left.
-use Prim.Native.Nat.{◌-◌}
 use native.Mathlib.Omega.{arith}
 use Rattle.utf.proofs.BadSteps.{none-tallied, tallied, all-tallied, mark-le}
 use Rattle.utf.proofs.damage.replaced_in.Goals as goal

@@ -1,6 +1,5 @@
 -- `utf::same::same_block` meets its contract. Invariant: the greatest mark so far and the bytes left say what all the bytes say
 -- (proofs/SameBlocks.antt). Measure: the bytes left.
-use Prim.Native.Nat.{◌-◌}
 use mathlib.Core.Path.{refl, sym, ◌∙◌}
 use native.Mathlib.Omega.{arith}
 use Rattle.utf.proofs.SameBlocks.{seen_same-next, seen_same-end}

@@ -1,6 +1,6 @@
 -- `utf::same::same_bytes` meets its contract. Invariant: from a place on the bytes are the same. Measure: the bytes before it.
 use mathlib.Core.Path.{◌≡◌}
-use Prim.Native.Nat.{◌-◌, ◌≤◌}
+use Prim.Native.Nat.{◌≤◌}
 use lib.ListN.{length, drop}
 use Rattle.utf.proofs.same.same_bytes.Given as goal
 

@@ -25,7 +25,7 @@ pub returns : goal.returns
 returns c =
     let q = c in
     let a = q.args in
-    let in-a : (i : ℕ) → get_or a.a.now i 0 < 256 = λ i. (q.shared_slice_known-1.given i).fits in
-    let in_b : (i : ℕ) → get_or a.b.now i 0 < 256 = λ i. (q.shared_slice_known-2-1.given i).fits in
+    let in-a : (i : ℕ) → get_or a.a.now i 0 < 256 = λ i. (c.type_inv.a i).fits in
+    let in_b : (i : ℕ) → get_or a.b.now i 0 < 256 = λ i. (c.type_inv.b i).fits in
     sym (differ-utf16 a.a.now a.b.now in-a in_b (sym q.same_bytes.ensures ∙ c.if-same_bytes.false)
     (sym c.is_blank.ensures ∙ c.if-is_blank.false))

@@ -1,6 +1,5 @@
 -- `utf::span::is_ascii_units` meets its contract. Invariant: the greatest low byte and the greatest high byte so far, and the units left, say
 -- what all the units say (proofs/AsciiText.antt). Measure: the units left.
-use Prim.Native.Nat.{◌-◌}
 use mathlib.Core.Path.{refl, sym, ◌∙◌}
 use native.Mathlib.Omega.{arith}
 use borrow.Author.Tests.{lt-ltb, le-ltb}

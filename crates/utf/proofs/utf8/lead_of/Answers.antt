@@ -1,9 +1,6 @@
 -- `utf::utf8::lead_of` meets its contract: each way out is one row.
 use Rattle.utf.proofs.Tests.{tests}
 use Rattle.utf.specs.Inner.Lead.{lead_of}
-use Rattle.utf.proofs.utf8.lead_of.Reads as reads
-use Rattle.utf.proofs.utf8.lead_of.Lts as lts
-use Rattle.utf.proofs.utf8.row.Reads as row_reads
 use Rattle.utf.proofs.utf8.lead_of.Goals as goal
 
 -- src/utf8.rt:31:9

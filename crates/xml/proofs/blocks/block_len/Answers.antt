@@ -9,17 +9,14 @@ use native.Mathlib.Omega.{arith}
 use Rattle.xml.proofs.blocks.block_len.Goals as goal
 
 pub all_fit-requires : goal.all_fit-requires
-all_fit-requires c = omega (arith, c.type_size.ensures, size_of-le c.args.form)
+all_fit-requires c = omega (arith, c.size_of-n.ensures, size_of-le c.args.form)
 
 pub returns-then-all_fit : goal.returns-then-all_fit
 returns-then-all_fit c =
-    let size = c.type_size in
-    let known = c.shared_slice_known-1 in
-    let start = c in
-    let a = start.args in
-    let bytes : (k : ℕ) → get_or a.s.now k 0 < 256 = λ k. (known.given k).fits in
+    let a = c.args in
+    let bytes : (k : ℕ) → get_or a.s.now k 0 < 256 = λ k. (c.type_inv.s k).fits in
     let fits = sym c.all_fit.ensures ∙ c.if-all_fit.true in
-    seen-block a.form a.s.now a.at _ size.ensures start.requires bytes fits
+    seen-block a.form a.s.now a.at _ c.size_of-n.ensures c.requires bytes fits
 
 pub returns : goal.returns
 returns c =

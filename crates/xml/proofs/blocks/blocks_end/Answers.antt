@@ -1,5 +1,4 @@
 -- `xml::blocks::blocks_end` meets its contract. Invariant: what was passed is chars, and sound (`Seen`). Measure: the bytes left.
-use Prim.Native.Nat.{◌-◌}
 use Rattle.xml.proofs.Names.{seen_none, seen-on}
 use native.Mathlib.Omega.{arith}
 use Rattle.xml.proofs.blocks.blocks_end.Goals as goal

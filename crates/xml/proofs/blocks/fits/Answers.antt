@@ -17,16 +17,14 @@ returns-in-Ascii c = rw c.in-Ascii.is c.ascii_low-in-Ascii.ensures
 pub returns-in-Pairs : goal.returns-in-Pairs
 unfolding fits_at
 returns-in-Pairs c =
-    let t = c in
-    rw (t.enum_told-in-Pairs-1.given.1, ← t.is_trail.ensures, ← c.pair_lead.ensures) c.choose-in-Pairs.ensures
+    rw (c.in-Pairs.is, ← c.is_trail.ensures, ← c.pair_lead.ensures) c.choose-in-Pairs.ensures
 
 pub returns-in-Triples : goal.returns-in-Triples
 unfolding fits_at
 returns-in-Triples c =
-    let t = c in
     rw (
-      t.enum_told-in-Triples-1.given.1,
-      ← t.triple_lead.ensures,
+      c.in-Triples.is,
+      ← c.triple_lead.ensures,
       ← c.triple_second.ensures,
       ← c.is_trail-in-Triples.ensures,
       ← c.choose-in-Triples.ensures,

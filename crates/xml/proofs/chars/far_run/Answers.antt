@@ -1,7 +1,7 @@
 -- `xml::chars::far_run` meets its contract. Invariant: what was passed is chars, and sound (`Seen`). Measure: the bytes left before the last.
 use mathlib.Core.Path.{sym, ◌∙◌}
 use mathlib.Core.Bool.{true}
-use Prim.Native.Nat.{ℕ, ◌-◌, ◌<◌}
+use Prim.Native.Nat.{ℕ, ◌<◌}
 use native.Mathlib.Omega.{arith}
 use lib.ListN.{get_or}
 use Rattle.xml.proofs.Names.{seen_none, seen-on}
@@ -23,7 +23,7 @@ loop-i-preserved c =
     let start = q in
     let s = start.args.s.now in
     let i = q.loop-i.i in
-    let bytes : (k : ℕ) → get_or s k 0 < 256 = λ k. (c.shared_slice_known-in-loop-i-1.given k).fits in
+    let bytes : (k : ℕ) → get_or s k 0 < 256 = λ k. (c.type_inv.s k).fits in
     let far = sym c.far_high.ensures ∙ c.if-not-far_high.false in
     let unit = seen-far s i (omega (arith, c.loop-i-test.true, start.requires)) bytes far in
     seen-on true s start.args.at i _ q.loop-i.invariant unit

@@ -1,7 +1,7 @@
 -- `xml::chars::is_seen_name` meets its contract. Invariant: what was passed is chars, and sound (`Seen`). Measure: the bytes left.
-use Prim.Native.Nat.{ℕ, ◌-◌, ◌<◌}
+use Prim.Native.Nat.{ℕ, ◌<◌}
 use mathlib.Core.Path.{sym, ◌∙◌}
-use mathlib.Core.Bool.{false, true≢false}
+use mathlib.Core.Bool.{true≢false}
 use lib.ListN.{get_or}
 use Rattle.xml.proofs.Names.{seen_none, seen-on, whole-seen}
 use native.Mathlib.Omega.{arith}
@@ -38,6 +38,6 @@ returns c =
     let begun = c in
     let start = begun in
     let s = start.args.s.now in
-    let bytes : (k : ℕ) → get_or s k 0 < 256 = λ k. (begun.shared_slice_known-2-1.given k).fits in
+    let bytes : (k : ℕ) → get_or s k 0 < 256 = λ k. (begun.type_inv.s k).fits in
     let begins = sym begun.utf8_begins.ensures ∙ c.if-not-utf8_begins.false in
     λ e. whole-seen s _ start.requires.1 bytes begins c.loop-at.invariant c.loop-at-test.false

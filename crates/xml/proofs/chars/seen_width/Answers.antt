@@ -6,12 +6,12 @@ use native.Mathlib.Omega.{arith}
 use Rattle.xml.proofs.chars.seen_width.Goals as goal
 
 pub overflow_cast-k : goal.overflow_cast-k
-overflow_cast-k c = omega (arith, c.shared_slice_known-3-1.given c.args.at)
+overflow_cast-k c = omega (arith, c.type_inv.s c.args.at)
 
 pub bounds-classes-b : goal.bounds-classes-b
 bounds-classes-b c =
     let start = c in
-    omega (arith, c.shared_slice_known-3-1.given start.args.at, start.requires.0.size)
+    omega (arith, c.type_inv.s start.args.at, start.requires.0.size)
 
 pub returns-then-k-eq3 : goal.returns-then-k-eq3
 returns-then-k-eq3 c = c.wide_width.ensures
@@ -26,6 +26,5 @@ returns c =
     let start = c in
     let s = start.args.s.now in
     let at = start.args.at in
-    let known = c.shared_slice_known-3-1 in
-    let class = start.requires.0.right (get_or s at 0) (omega (arith, known.given at)) in
+    let class = start.requires.0.right (get_or s at 0) (omega (arith, c.type_inv.s at)) in
     (seen-ascii s at _ start.requires.1 class c.if-k-eq0.false c.if-k-eq3.false, omega arith)

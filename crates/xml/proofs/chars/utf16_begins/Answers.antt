@@ -7,22 +7,22 @@ use Rattle.xml.proofs.Names.{told-unit, told-begins}
 use Rattle.xml.proofs.chars.utf16_begins.Goals as goal
 
 pub overflow_cast-u : goal.overflow_cast-u
-overflow_cast-u c = omega (arith, c.shared_slice_known-then-s-ge2-1.given 0)
+overflow_cast-u c = omega (arith, c.type_inv.s 0)
 
 pub overflow_cast-u-then-s-ge2 : goal.overflow_cast-u-then-s-ge2
-overflow_cast-u-then-s-ge2 c = omega (arith, c.shared_slice_known-then-s-ge2-2-1.given 1)
+overflow_cast-u-then-s-ge2 c = omega (arith, c.type_inv.s 1)
 
 pub overflow_mul-u : goal.overflow_mul-u
-overflow_mul-u c = omega (arith, c.shared_slice_known-then-s-ge2-2-1.given 1)
+overflow_mul-u c = omega (arith, c.type_inv.s 1)
 
 pub overflow_add-u : goal.overflow_add-u
-overflow_add-u c = omega (arith, c.shared_slice_known-then-s-ge2-2-1.given 0, c.shared_slice_known-then-s-ge2-2-1.given 1)
+overflow_add-u c = omega (arith, c.type_inv.s 0, c.type_inv.s 1)
 
 pub returns-then-u-lt128 : goal.returns-then-u-lt128
 returns-then-u-lt128 c =
     let q = c in
     let s = q.args.s.now in
-    let bytes : (k : ℕ) → get_or s k 0 < 256 = λ k. (c.shared_slice_known-then-s-ge2-2-1.given k).fits in
+    let bytes : (k : ℕ) → get_or s k 0 < 256 = λ k. (c.type_inv.s k).fits in
     let ascii = c.if-u-lt128.true in
     let class = q.requires.0.right (get_or s 0 0 + get_or s 1 0 * 256) (omega (arith, ascii)) in
     told-begins true s _ 2 (told-unit s 0 _ c.if-s-ge2.true bytes ascii class)

@@ -1,5 +1,4 @@
 -- `xml::chars::utf16_chars` meets its contract. Invariant: what was passed is chars (`Passed`). Measure: the bytes left before `to`.
-use Prim.Native.Nat.{◌-◌}
 use Rattle.xml.proofs.Names.{passed_on, passed-more, reached-to, reached-none}
 use native.Mathlib.Omega.{arith}
 use Rattle.xml.proofs.chars.utf16_chars.Goals as goal

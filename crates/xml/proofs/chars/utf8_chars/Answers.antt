@@ -1,5 +1,4 @@
 -- `xml::chars::utf8_chars` meets its contract. Invariant: what was passed is chars (`Passed`). Measure: the bytes left before `to`.
-use Prim.Native.Nat.{◌-◌}
 use Rattle.xml.proofs.Names.{passed_on, reached-to, reached-stuck}
 use native.Mathlib.Omega.{arith}
 use Rattle.xml.proofs.chars.utf8_chars.Goals as goal

@@ -1,5 +1,4 @@
 -- `xml::chars::utf8_run` meets its contract. Invariant: what was passed is chars, and sound (`Seen`). Measure: the bytes left before `to`.
-use Prim.Native.Nat.{◌-◌}
 use Rattle.xml.proofs.Names.{seen_none, seen-on}
 use native.Mathlib.Omega.{arith}
 use Rattle.xml.proofs.chars.utf8_run.Goals as goal

@@ -1,12 +1,12 @@
 -- `xml::clear::all_clear` meets its contract. Invariant: where the least answer so far is 1, the places so far are passed. Measure: the places left.
-use mathlib.Core.Logic.{⊎_elim}
-use Prim.Native.Nat.{ℕ, ◌+◌, ◌-◌, ◌<◌}
+use Prim.Native.Nat.{ℕ, ◌+◌, ◌<◌}
 use lib.ListN.{length, get_or}
 use borrow.Author.Tests.{eqb-true}
 use Rattle.xml.proofs.Passing.{bool_byte-is}
 use Rattle.xml.proofs.ClearPlaces.{places-first, places-put, places-kept, places-all, clear-passes}
 use native.Mathlib.Omega.{arith}
 use Rattle.xml.proofs.clear.all_clear.Goals as goal
+use Rattle.xml.proofs.clear.all_clear.Goals.{then-x-least, else-x-least}
 
 pub loop-k-init : goal.loop-k-init
 loop-k-init c = places-first _ _
@@ -17,13 +17,18 @@ loop-k-preserved c =
     let l = c.loop-k in
     let s = start.args.s.now in
     let at = start.args.at in
-    let bytes : (i : ℕ) → get_or s i 0 < 256 = λ i. (c.shared_slice_known-in-loop-k-4-1.given i).fits in
+    let bytes : (i : ℕ) → get_or s i 0 < 256 = λ i. (c.type_inv.s i).fits in
     let turn : l.k < 64 = omega (arith, c.loop-k-test.true) in
     let inside : at + l.k < length s = omega (arith, start.requires, turn) in
-    ⊎_elim
-    (λ w. rw w.1 (places-put s at l.least l.k _ c.is_clear-x.result (bool_byte-is c.is_clear-x.result) l.invariant turn w.0.taken))
-    (λ w. rw w.1 (places-kept s at l.least l.k _ c.is_clear-x.result (bool_byte-is c.is_clear-x.result) l.invariant turn w.0.left (λ t. clear-passes s bytes (at + l.k) inside (c.is_clear-x.ensures t))))
-    c.if-x-least.branch
+    let x = c.is_clear-x in
+    elim c.if-x-least.branch [
+      | then-x-least w ↦
+          rw w.least-is (places-put s at l.least l.k _ x.result (bool_byte-is x.result) l.invariant turn w.if-x-least.true)
+      | else-x-least w ↦
+          rw w.least-is
+          (places-kept s at l.least l.k _ x.result (bool_byte-is x.result) l.invariant turn w.if-x-least.false
+          (λ t. clear-passes s bytes (at + l.k) inside (x.ensures t)))
+    ]
 
 pub returns : goal.returns
 returns c =

@@ -1,6 +1,5 @@
 -- `xml::clear::clear_end` meets its contract. Invariant: what was passed is chars (`Passed`). Measure: the bytes left before `to`.
 use mathlib.Core.Bool.{false}
-use Prim.Native.Nat.{◌-◌}
 use Rattle.xml.proofs.Names.{passed_on}
 use Rattle.xml.proofs.ClearPlaces.{none_passed}
 use native.Mathlib.Omega.{arith}

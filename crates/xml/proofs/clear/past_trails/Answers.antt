@@ -1,7 +1,7 @@
 -- `xml::clear::past_trails` meets its contract. Invariant: what was passed is chars (`Passed`). Measure: the bytes left.
 use mathlib.Core.Path.{sym, ◌∙◌}
 use mathlib.Core.Bool.{false}
-use Prim.Native.Nat.{ℕ, ◌-◌, ◌<◌}
+use Prim.Native.Nat.{ℕ, ◌<◌}
 use lib.ListN.{get_or}
 use Rattle.xml.proofs.Names.{passed_on}
 use Rattle.xml.proofs.SeenChars.{trail-ends}
@@ -18,7 +18,7 @@ pub loop-i-preserved : goal.loop-i-preserved
 loop-i-preserved c =
     let l = c in
     let s = c.args.s.now in
-    let bytes : (k : ℕ) → get_or s k 0 < 256 = λ k. (c.shared_slice_known-in-loop-i-1.given k).fits in
+    let bytes : (k : ℕ) → get_or s k 0 < 256 = λ k. (c.type_inv.s k).fits in
     let trail = trail-ends _ (sym c.is_trail.ensures ∙ c.if-not-is_trail.false) in
     passed_on false s c.args.at l.loop-i.i _ l.loop-i.invariant (trail-passes s bytes l.loop-i.i trail)
 

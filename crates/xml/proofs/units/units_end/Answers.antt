@@ -1,6 +1,5 @@
 -- `xml::units::units_end` meets its contract. Invariant: what was passed is chars, and sound (`Seen`). Measure: the bytes left before `to`.
 use mathlib.Core.Bool.{true}
-use Prim.Native.Nat.{◌-◌}
 use Rattle.xml.proofs.Names.{seen_none, seen-on}
 use native.Mathlib.Omega.{arith}
 use Rattle.xml.proofs.units.units_end.Goals as goal
