@@ -108,26 +108,26 @@ module _ (N : Names) (o : Opened) (t b : List ℕ) (c : Cursor) where
       let f = met-there b c.at Last e w.inside in
       made N o t b c AtChunk _ (goes refl) (met-on Last e w.inside) (moved (c.at + 16) 2 w (omega arith) f.1) (omega (arith, f.1))
 
-  cut_step : (x : CutChunk) → turn_of (drop c.at b) ≡ Cut x → Here o b c AtChunk → SteppedBy N o t b c AtChunk (cut_step (length b) c x)
+  cut-step : (x : CutChunk) → turn_of (drop c.at b) ≡ Cut x → Here o b c AtChunk → SteppedBy N o t b c AtChunk (cut_step (length b) c x)
   unfolding pending from_gap from_size from_trailing
-  cut_step CutLine e w = made N o t b c AtChunk _ (goes refl) (cut-end CutLine e w.inside) (stays N o t b c AtChunk AtShort w tt) (omega arith)
-  cut_step CutHead e w = made N o t b c AtChunk _ (goes refl) (cut-end CutHead e w.inside) (stays N o t b c AtChunk AtShort w tt) (omega arith)
-  cut_step (CutGap s) e w =
+  cut-step CutLine e w = made N o t b c AtChunk _ (goes refl) (cut-end CutLine e w.inside) (stays N o t b c AtChunk AtShort w tt) (omega arith)
+  cut-step CutHead e w = made N o t b c AtChunk _ (goes refl) (cut-end CutHead e w.inside) (stays N o t b c AtChunk AtShort w tt) (omega arith)
+  cut-step (CutGap s) e w =
       let f = cut-there b c.at (CutGap s) e w.inside in
       made N o t b c AtChunk _ (goes refl) (cut-end (CutGap s) e w.inside)
       (begun s 0 w f.1 (λ z. absurd (let y : ⊥ = omega arith in y))) (omega arith)
-  cut_step (CutAttributes s) e w =
+  cut-step (CutAttributes s) e w =
       let f = cut-there b c.at (CutAttributes s) e w.inside in
       made N o t b c AtChunk _ (goes refl) (cut-end (CutAttributes s) e w.inside)
       (begun s 1 w f.1 (λ z. absurd (let y : ⊥ = omega arith in y))) (omega arith)
-  cut_step (CutTrailing s) e w =
+  cut-step (CutTrailing s) e w =
       let f = cut-there b c.at (CutTrailing s) e w.inside in
       made N o t b c AtChunk _ (goes refl) (cut-end (CutTrailing s) e w.inside)
       (begun s 2 w f.1 (λ z. absurd (let y : ⊥ = omega arith in y))) (omega arith)
-  cut_step CutEnd e w =
+  cut-step CutEnd e w =
       let f = cut-there b c.at CutEnd e w.inside in
       made N o t b c AtChunk _ (goes refl) (cut_on CutEnd e w.inside) (closed (length b) w w.inside (omega arith)) (omega (arith, f.1))
-  cut_step CutOther e w =
+  cut-step CutOther e w =
       let f = cut-there b c.at CutOther e w.inside in
       made N o t b c AtChunk _ (goes refl) (cut_on CutOther e w.inside) (moved (length b) 2 w w.inside (omega arith)) (omega (arith, f.1))
 
@@ -139,4 +139,4 @@ module _ (N : Names) (o : Opened) (t b : List ℕ) (c : Cursor) where
       go Stop e = made N o t b c AtChunk _ (goes refl) (events_on-stop N (drop c.at b) (spot_of c) e) (stays N o t b c AtChunk AtLast w tt) (omega arith)
       go (Foreign k a n) e = foreign-step k a n e w
       go (Met x) e = met-step x e w
-      go (Cut x) e = cut_step x e w
+      go (Cut x) e = cut-step x e w

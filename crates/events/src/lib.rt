@@ -5,6 +5,8 @@
 // That the steps make what the file makes, one by one and to the end, is the law `stepped` (proofs/Steps.antt).
 // In moves.rt: where the cursor goes; in notes.rt: notes that a test lets pass; in turns.rt: a chunk; in naming.rt: elements and attributes;
 // in memory.rt: names that were looked at.
+#![tactic(auto)]
+
 ghost use Rattle.std.specs.Prelude.{◌≡◌, ◌+◌, ◌≤◌, ◌<◌};
 ghost use Rattle.system_types.specs.Names.{lends};
 ghost use Rattle.events.specs.Events.{names_in};

@@ -3,6 +3,8 @@
 // Mirrors axml.rs (apk-info 13770539b8), `get_attribute_value`, without resolving references. Answers: `FirstAnswer`.
 // Definitions: specs/Question.antt. Differs from the Rust: the tree is two lent tables, which may hold any words, so they are looked at
 // before they are searched; head and names are checked again at each call.
+#![tactic(auto)]
+
 pub mod called;
 pub mod once;
 pub mod runs;

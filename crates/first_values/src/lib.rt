@@ -3,6 +3,8 @@
 //
 // Mirrors axml.rs (apk-info 13770539b8), `get_attribute_value`, called once for each pair. Answers: `ManyAnswer`, and a lent list of words.
 // Definitions: specs/Pairs.antt, over those of the single question (crate first_value), which answers each pair.
+#![tactic(auto)]
+
 pub mod pairs;
 
 ghost use Rattle.std.specs.Prelude.{◌≡◌, List, ◌++◌, ◌+◌, ◌*◌, ◌/◌, ◌≤◌, length, take, drop};

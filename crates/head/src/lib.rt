@@ -3,6 +3,8 @@
 // Mirrors axml.rs (apk-info 13770539b8), `AXML::new` up to the tree. Answers: `Opened`, what the head says and what is amiss with it;
 // `Entered`, that or the first check that fails; `OpenRead`, the head or the first refusal. Definitions: specs/Head.antt,
 // specs/Entry.antt, specs/Ask.antt.
+#![tactic(auto)]
+
 pub mod ask;
 
 ghost use Rattle.std.specs.Prelude.{◌≡◌, cond, ◌+◌, ◌-◌, ◌*◌, ◌≤◌, min, length, drop};

@@ -2,10 +2,10 @@
 -- In order: `count_ones` is the sum of the bits (`ones-sum`); a taken value's bits are apart from what is then left (`bit_sum-apart`), and
 -- there is one at least (`bit_sum-some`); the taken values and what is left make the data again (`taken-sum`); nothing is uncovered
 -- exactly where the taken values make the whole data (`uncovered-none`, `uncovered-whole`).
-use Prim.Native.Nat.{ℕ, zero, suc, ◌+◌, ◌-◌, ◌*◌, ◌/◌, ◌%◌, ◌^◌, ◌≤◌, ◌<◌, min}
-use mathlib.Core.Path.{◌≡◌, refl, sym, ap, ◌∙◌}
+use Prim.Native.Nat.{ℕ, zero, suc, ◌+◌, ◌-◌, ◌*◌, ◌/◌, ◌%◌, ◌^◌, ◌≤◌, ◌<◌}
+use mathlib.Core.Path.{◌≡◌, refl, ap, ◌∙◌}
 use mathlib.Core.List.{List, [], ◌∷◌}
-use mathlib.Core.Bool.{Bool, true, false, not, ◌&&◌}
+use mathlib.Core.Bool.{Bool, true, false, not}
 use native.Mathlib.Omega.{arith}
 use native.Mathlib.Nat.{pow-suc}
 use borrow.Author.Tests.{eqb-true, eqb-false, not-true, eq-eqb, ne_eqb}
@@ -14,7 +14,7 @@ use lib.Count.{ones, ones_in, ones_step}
 use lib.Bits.{bit_and, bit_xor, and_step, and_comm, and_le_r, xor_add_and}
 use Rattle.utf.proofs.Tables.{both_true}
 use Rattle.items.specs.declared.Item.{Item}
-use Rattle.items.specs.Flags.{takes, left_after, taken, left_of, bit_sum, uncovered, sum_of}
+use Rattle.items.specs.Flags.{takes, taken, left_of, bit_sum, uncovered, sum_of}
 
 -- ---- the sum of the bits
 

@@ -1,17 +1,17 @@
 -- Laws of specs/Items.antt, for this crate and those above. No contract cites this file.
 -- In order: the items before one (`back-..`, `isNew-..`, `stands-..`); a name (`isName-..`); a good item (`isGood-..`); the table item
 -- by item (`rule-..`). What the rule says of all items of an attribute: proofs/Together.antt.
-use Prim.Native.Nat.{ℕ, zero, suc, ◌+◌, ◌-◌, ◌*◌, ◌/◌, ◌%◌, ◌≤◌, ◌<◌}
+use Prim.Native.Nat.{ℕ, zero, suc, ◌+◌, ◌-◌, ◌/◌, ◌%◌, ◌≤◌, ◌<◌}
 use native.Mathlib.Omega.{arith}
 use native.Mathlib.Nat.{sub-zero}
 use native.Mathlib.Numerals.{add-one, sub-one}
-use mathlib.Core.Path.{◌≡◌, refl, sym, ap, ◌∙◌}
-use mathlib.Core.List.{List, [], ◌∷◌}
+use mathlib.Core.Path.{◌≡◌, refl, sym, ◌∙◌}
+use mathlib.Core.List.{List, []}
 use mathlib.Core.Bool.{Bool, true, false, cond, not, ◌&&◌}
-use borrow.Author.Tests.{not-true, not-false, lt-leb, le-leb, eq-eqb, ne_eqb}
-use lib.ListN.{length, take, drop, get_or, length-drop, drop_of_length-le}
+use borrow.Author.Tests.{lt-leb, le-leb, eq-eqb, ne_eqb}
+use lib.ListN.{length, take, drop, length-drop, drop_of_length-le}
 use lib.Seq.{take_all}
-use lib.Dec.{leb, eqb}
+use lib.Dec.{eqb}
 use Rattle.records.specs.Words.{item_width}
 use Rattle.utf.specs.Plain.{is_ascii}
 use Rattle.utf.proofs.Ascii.{is_ascii-drop, is_ascii-take}
@@ -174,18 +174,18 @@ module _ (area w : List ℕ) (end : ItemsRead) (n : ℕ) where
       → k < n
       → i ≡ item_at w k
       → b ≡ is_good area (back_to w k) i
-      → not b ≡ true
+      → b ≡ false
       → Bad k ≡ said_from k
-  rule-bad k {i} {b} p q e t = let f = not-true b t in sym (rule-step k p ∙ rw (← q, ← e, f))
+  rule-bad k {i} {b} p q e f = sym (rule-step k p ∙ rw (← q, ← e, f))
 
   pub rule-next
       : (k : ℕ) {i : Item} {b : Bool}
       → k < n
       → i ≡ item_at w k
       → b ≡ is_good area (back_to w k) i
-      → not b ≡ false
+      → b ≡ true
       → said_from k ≡ said_from (k + 1)
-  rule-next k {i} {b} p q e t = let f = not-false b t in rule-step k p ∙ rw (← q, ← e, f)
+  rule-next k {i} {b} p q e f = rule-step k p ∙ rw (← q, ← e, f)
 
 -- the whole items, and then whether words remain
 module _ (area w : List ℕ) where

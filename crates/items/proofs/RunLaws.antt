@@ -4,11 +4,11 @@
 use Prim.Native.Nat.{ℕ, zero, suc, ◌+◌, ◌-◌, ◌*◌, ◌/◌, ◌%◌, ◌≤◌, ◌<◌}
 use mathlib.Core.Path.{◌≡◌, refl, sym, ap, ◌∙◌}
 use mathlib.Core.List.{List, [], ◌∷◌}
-use mathlib.Core.Bool.{Bool, true, false, cond, not, ◌&&◌, true≢false}
+use mathlib.Core.Bool.{Bool, true, false, cond, ◌&&◌, true≢false}
 use native.Mathlib.Omega.{arith}
 use native.Mathlib.Nat.{sub-zero}
 use native.Mathlib.Numerals.{add-one}
-use borrow.Author.Tests.{lt-ltb, le-ltb, eqb-true, eqb-false, not-true, not-false}
+use borrow.Author.Tests.{lt-ltb, le-ltb, eqb-true, eqb-false}
 use lib.ListN.{length, get_or, set, length-set}
 use lib.Seq.{get_or-set_same, get_or-set_other}
 use lib.Dec.{eqb, ltb}
@@ -237,7 +237,7 @@ module _ (area w : List ℕ) (first : ℕ) where
       i ≡ item_at w k →
       head ≡ item_at w first →
       b ≡ same_attribute area i head →
-      not b ≡ false →
+      b ≡ true →
       same_to area w first k →
       same_to area w first (k + 1)
   same_next k {i} {head} {b} e h q t s j p r = go (eqb j k) refl
@@ -245,7 +245,7 @@ module _ (area w : List ℕ) (first : ℕ) where
       go : (c : Bool) → eqb j k ≡ c → attribute_of area (item_at w j) ≡ attribute_of area (item_at w first)
       go true z =
           let a : j ≡ k = eqb-true j k z in
-          let m = eq_bytes-true (attribute_of area i) (attribute_of area head) (sym q ∙ not-false b t) in
+          let m = eq_bytes-true (attribute_of area i) (attribute_of area head) (sym q ∙ t) in
           ap (λ (x : ℕ). attribute_of area (item_at w x)) a ∙ ap (attribute_of area) (sym e) ∙ m ∙ ap (attribute_of area) h
       go false z = s j p (lt (eqb-false j k z))
         where
@@ -259,11 +259,11 @@ module _ (area w : List ℕ) (first : ℕ) where
       i ≡ item_at w k →
       head ≡ item_at w first →
       b ≡ same_attribute area i head →
-      not b ≡ true →
+      b ≡ false →
       same_to area w first k →
       EndOf area w first k
   end-here k {i} {head} {b} p l e h q t s =
-      let m = eq_bytes-false (attribute_of area i) (attribute_of area head) (sym q ∙ not-true b t) in
+      let m = eq_bytes-false (attribute_of area i) (attribute_of area head) (sym q ∙ t) in
       record {
         fits = omega arith;
         behind = p;

@@ -1,24 +1,22 @@
 -- What the rule of specs/Items.antt says of a table that keeps it. No contract cites this file.
 -- In order: every item is good (`good-at`), so that its attribute's name is ASCII (`good-ascii`); items of one attribute stand together
 -- and have one kind (`together`).
-use Prim.Native.Nat.{ℕ, zero, suc, ◌+◌, ◌-◌, ◌/◌, ◌≤◌, ◌<◌}
+use Prim.Native.Nat.{ℕ, zero, suc, ◌+◌, ◌/◌, ◌≤◌, ◌<◌}
 use native.Mathlib.Omega.{arith}
-use native.Mathlib.Numerals.{add-one, sub-one}
+use native.Mathlib.Numerals.{add-one}
 use mathlib.Core.Path.{◌≡◌, refl, sym, ap, ◌∙◌}
-use mathlib.Core.List.{List, [], ◌∷◌}
+use mathlib.Core.List.{List}
 use mathlib.Core.Bool.{Bool, true, false, cond, not, ◌&&◌}
 use borrow.Author.Tests.{eqb-true, ltb-true, ltb-false, not-true}
 use lib.ListN.{length}
 use lib.Dec.{leb, eqb, ltb}
 use Rattle.records.specs.Words.{item_width}
 use Rattle.utf.specs.Plain.{is_ascii}
-use Rattle.utf.specs.Text.{eq_bytes}
 use Rattle.utf.proofs.Tables.{both_true}
 use Rattle.utf.proofs.Equal.{eq_bytes-true, eq_bytes-false}
 use Rattle.items.specs.declared.Item.{Item}
-use Rattle.items.specs.declared.ItemsRead.{ItemsRead}
 use Rattle.items.specs.declared.ItemsRead.TheVariants.{Good, Bad}
-use Rattle.items.specs.Items.{item_at, part_in, attribute_of, same_attribute, is_name, is_new, stands, is_good, end_of, table_of}
+use Rattle.items.specs.Items.{item_at, attribute_of, same_attribute, is_name, is_new, stands, is_good, end_of, table_of}
 use Rattle.items.specs.Inner.Back.{back_to}
 use Rattle.items.proofs.Laws.{said_from, rule-step, table-first}
 

@@ -8,7 +8,7 @@ use mathlib.Core.Bool.{Bool, true, false, cond, ◌||◌}
 use native.Mathlib.Omega.{arith}
 use native.Mathlib.Numerals.{add-one}
 use borrow.Author.Tests.{eq-eqb, ne_eqb}
-use lib.ListN.{length, take, drop, length-append, length-take}
+use lib.ListN.{length, length-take}
 use lib.Bits.{bit_xor}
 use Rattle.digits.specs.Written.{Wrote}
 use Rattle.digits.proofs.Written.{wrote_none, wrote-more, wrote-append, Left, left-first, left-piece, left-none}
@@ -16,9 +16,9 @@ use Rattle.items.specs.declared.Item.{Item}
 use Rattle.items.specs.declared.Flags.{Flags}
 use Rattle.items.specs.declared.Said.{Said}
 use Rattle.items.specs.declared.EnumFound.{EnumFound}
-use Rattle.items.specs.declared.EnumFound.TheVariants.{Named, Unnamed}
+use Rattle.items.specs.declared.EnumFound.TheVariants.{Named}
 use Rattle.items.specs.Items.{item_at, items_from, part_in, item_name_of, enum_of}
-use Rattle.items.specs.Flags.{takes, left_after, taken, left_of, bit_sum, uncovered, bar, joined_from, joined}
+use Rattle.items.specs.Flags.{takes, left_after, taken, left_of, bit_sum, bar, joined_from, joined}
 use Rattle.items.specs.Values.{enum_text, flag_text, is_said, said, attr_text, uncovered_of}
 use Rattle.items.specs.Inner.Turns.{is_some, Turned, Put, Spoken}
 use Rattle.items.proofs.FlagLaws.{bit_sum-le, bit_sum-some, bit_sum-apart, takes-true}

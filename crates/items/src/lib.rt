@@ -3,6 +3,8 @@
 // Mirrors structs/attrs_manifest.rs (apk-info 13770539b8): `get_attr_value`. Answers: `ItemsRead`, `EnumFound`.
 // Definitions: specs/Items.antt, specs/Flags.antt, specs/Values.antt. Differs from the Rust: there the table is compiled in, here it is six words an item
 // over an area of bytes.
+#![tactic(auto)]
+
 pub mod looking;
 pub mod taking;
 pub mod values;

@@ -3,6 +3,8 @@
 // No file of the Rust reads a listing. docs/FORMAT.md, L7 to L9. Definitions: specs/Back.antt, specs/Due.antt, specs/Forms.antt.
 // One pass over the bytes: a line is held against the form that is due, byte by byte, and a number is taken behind each `=` (taking.rt). Only a
 // line that is not the one due is looked at again, to tell its fault (stepping.rt).
+#![tactic(auto)]
+
 mod answering;
 mod opening;
 mod stepping;

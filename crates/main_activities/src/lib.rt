@@ -3,6 +3,8 @@
 // Mirrors axml.rs (apk-info 13770539b8), `get_main_activities`. Answers: `MainAnswer`, how many there are, or a refusal.
 // Definitions: specs/Activities.antt. Differs from the Rust: the tree is two lent tables, which may hold any words, so a child is told by the
 // order of the records too (docs/FORMAT.md, S2), and one pass over the nodes answers, each function going on where the one that it called stopped.
+#![tactic(auto)]
+
 pub mod says;
 pub mod tests;
 

@@ -3,6 +3,8 @@
 // Mirrors nothing of the Rust's, which makes a string of its own for each value. Answers: `ManyTexts`, how many there are and the bytes of
 // all their texts, or why there are none; the answer to each question is six words. Names, items and head are checked once for all of
 // them. Definitions: specs/Many.antt.
+#![tactic(auto)]
+
 pub mod known;
 
 ghost use Rattle.std.specs.Prelude.{◌≡◌, cond, List, [], ◌++◌, ◌+◌, ◌-◌, ◌*◌, ◌/◌, ◌≤◌, ◌<◌, min, ℕ, length, take, drop, replicate, ltb, leb};

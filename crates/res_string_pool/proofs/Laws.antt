@@ -2,7 +2,7 @@
 -- In order: the pool from its header on (`pool_from-parts`), behind garbage (`behind_garbage-parts`), the whole (`pool_of-parts`,
 -- `pool_of-fits`, `pool_of-behind`). Not here: the cases (proofs/Ends.antt), the offsets (proofs/Offsets.antt), that a complete
 -- pool looks at nothing behind itself (proofs/Append.antt).
-use Prim.Native.Nat.{ℕ, ◌+◌, ◌-◌, ◌*◌, ◌≤◌, ◌<◌}
+use Prim.Native.Nat.{ℕ, ◌+◌, ◌-◌, ◌*◌, ◌≤◌}
 use native.Mathlib.Omega.{arith}
 use mathlib.Core.Path.{◌≡◌, refl, sym, ap, ◌∙◌}
 use mathlib.Core.List.{List}

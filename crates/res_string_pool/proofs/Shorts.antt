@@ -1,10 +1,10 @@
 -- Laws of specs/Pool.antt: of a pool that is short, the bytes from the short part on can go, and it is short there with none left. No contract cites this file.
 -- In order: how many bytes are left and what is short with none (`left_of`, `none_left`), which part runs out (`end_of-cut`), the pool from its header on
 -- (`pool_from-cut`), behind garbage (`behind_garbage-cut`), the whole (`pool_of-left`, `pool_of-cut`).
-use Prim.Native.Nat.{ℕ, ◌+◌, ◌-◌, ◌*◌, ◌≤◌, ◌<◌}
+use Prim.Native.Nat.{ℕ, ◌+◌, ◌-◌, ◌*◌, ◌≤◌}
 use native.Mathlib.Omega.{arith}
 use mathlib.Core.Path.{◌≡◌, refl, sym, ap, ◌∙◌}
-use mathlib.Core.List.{List, [], ◌∷◌, ◌++◌}
+use mathlib.Core.List.{List, [], ◌++◌}
 use mathlib.Core.Bool.{Bool, true, false}
 use borrow.Author.Tests.{ltb-true, ltb-false, eqb-true, eqb-false}
 use lib.ListN.{length, drop, length-append, length-drop, drop_of_length-le}
@@ -17,7 +17,7 @@ use Rattle.common.proofs.Laws.{header_here, header_of-whole, header_of-long, hea
 use Rattle.common.specs.declared.ResChunkHeader.{ResChunkHeader}
 use Rattle.common.specs.declared.HeaderRead.{HeaderRead}
 use Rattle.common.specs.declared.HeaderRead.TheVariants.{Whole, Short}
-use Rattle.res_string_pool.specs.Pool.{count_of, no_garbage, unread, numbered, end_of, pool_from, second_by, behind_garbage, pool_of}
+use Rattle.res_string_pool.specs.Pool.{count_of, no_garbage, unread, end_of, pool_from, behind_garbage, pool_of}
 use Rattle.res_string_pool.specs.declared.Garbage.{Garbage}
 use Rattle.res_string_pool.specs.declared.PoolEnd.{PoolEnd}
 use Rattle.res_string_pool.specs.declared.PoolEnd.TheVariants.{Complete, GarbageShort, HeaderShort, OffsetsShort, StylesShort, DataShort}

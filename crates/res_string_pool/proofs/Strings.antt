@@ -1,9 +1,9 @@
 -- Laws of specs/Content.antt, for the functions and for the crates above. No contract cites this file.
 -- In order: the cases of a length (`width8-..`, `length8-..`, `split16-..`); a content lies in its list, with its closing bytes
 -- (`split_of-fits`, `split_of-closed`); UTF-16 content is whole units (`split_of-utf16`).
-use Prim.Native.Nat.{ℕ, ◌+◌, ◌-◌, ◌*◌, ◌%◌, ◌≤◌, ◌<◌}
+use Prim.Native.Nat.{ℕ, ◌+◌, ◌*◌, ◌%◌, ◌≤◌, ◌<◌}
 use native.Mathlib.Omega.{arith}
-use mathlib.Core.Path.{◌≡◌, refl, sym, ◌∙◌}
+use mathlib.Core.Path.{◌≡◌, refl, sym}
 use mathlib.Core.List.{List}
 use mathlib.Core.Bool.{Bool, true, false}
 use borrow.Author.Tests.{leb-true, leb-false, le-leb, lt-leb}

@@ -3,6 +3,8 @@
 // Mirrors structs/res_string_pool.rs (apk-info 13770539b8): `ResStringPoolHeader::parse`, `StringPool::parse`.
 // Answers: `PoolRead`, the pool and whether all of it is there or which part ran out. Definitions: specs/Pool.antt.
 // Differs from the Rust: the data is not shortened to the last used byte (docs/DIFFERENCES.md), which changes no text.
+#![tactic(auto)]
+
 ghost use Rattle.std.specs.Prelude.{◌≡◌, ◌+◌, ◌-◌, ◌*◌, ◌/◌, ◌≤◌, ◌<◌, length};
 ghost use Rattle.records.specs.Limits.{file_limit};
 ghost use Rattle.common.specs.Header.{header_of};

@@ -13,8 +13,8 @@ use mathlib.Core.List.{List, [], ◌∷◌, ◌++◌}
 use mathlib.Core.Bool.{Bool, true, false, cond, ◌&&◌, true≢false}
 use borrow.Author.Tests.{le-leb, leb-false, eq-eqb}
 use lib.ListN.{length, get_or, set, replicate}
-use lib.Dec.{leb, eqb}
-use Rattle.errors.specs.Refusal.{refusal_number, refusal_value, numbers_of}
+use lib.Dec.{leb}
+use Rattle.errors.specs.Refusal.{refusal_number, numbers_of}
 use Rattle.errors.specs.declared.Refusal.{Refusal}
 use Rattle.errors.specs.declared.Refusal.TheVariants.{RoundUpFull}
 use Rattle.errors.specs.declared.ReadAnswer.TheVariants.{Refused}
@@ -26,7 +26,6 @@ use Rattle.round_up.specs.declared.AddNumbers.{AddNumbers}
 use Rattle.round_up.specs.declared.RoundUp.{RoundUp}
 use Rattle.round_up.specs.RoundUp.{places, largest, refused_from, refused_share, share_by, share_of, sums, has_room, added_of, full_of, added_to, add_numbers}
 use Rattle.round_up.specs.History.{File, share_in, next, after, is_added, NoneFull, added_in}
-use Rattle.round_up.proofs.Laws.{and_left, and_right}
 use Rattle.round_up.proofs.Order.{added-room, room-added}
 
 -- ---- a file that was added

@@ -1,6 +1,6 @@
 -- Laws of `sums` and `has_room` (specs/RoundUp.antt), for the two loops and for what follows of a history. No contract cites this file.
 -- In order: lengths; one place; the end and the turns of the loops.
-use Prim.Native.Nat.{ℕ, zero, suc, ◌+◌, ◌-◌, ◌≤◌, ◌<◌}
+use Prim.Native.Nat.{ℕ, suc, ◌+◌, ◌-◌, ◌≤◌, ◌<◌}
 use native.Mathlib.Omega.{arith}
 use native.Mathlib.Numerals.{add-one}
 use mathlib.Core.Path.{◌≡◌, refl, sym, ◌∙◌, ap}

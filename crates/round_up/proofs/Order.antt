@@ -2,7 +2,7 @@
 --
 --   sums-swap, has_room-swap   two shares added in either order: the same counts, and room in both or in none
 --   order_same                where none of the files meets 29, none does in any other order, and the round-up is the same
-use Prim.Native.Nat.{ℕ, ◌+◌, ◌≤◌}
+use Prim.Native.Nat.{ℕ, ◌+◌}
 use native.Mathlib.Omega.{arith}
 use mathlib.Core.Path.{◌≡◌, refl, sym, ◌∙◌, ap, subst}
 use mathlib.Core.List.{List, [], ◌∷◌}
@@ -11,7 +11,6 @@ use mathlib.Core.Bool.{Bool, true, false, cond, ◌&&◌, true≢false}
 use borrow.Author.Tests.{le-leb, leb-true}
 use lib.Dec.{leb}
 use Rattle.round_up.specs.declared.Added.{Added}
-use Rattle.round_up.specs.declared.AddAnswer.{AddAnswer}
 use Rattle.round_up.specs.declared.AddAnswer.TheVariants as add
 use Rattle.round_up.specs.declared.RoundUp.{RoundUp}
 use Rattle.round_up.specs.RoundUp.{largest, sums, has_room, added_of, full_of, added_to}

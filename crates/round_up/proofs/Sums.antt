@@ -8,18 +8,16 @@ use native.Mathlib.Omega.{arith}
 use mathlib.Core.Path.{◌≡◌, refl, sym, ◌∙◌, ap}
 use mathlib.Core.List.{List, [], ◌∷◌, ◌++◌}
 use mathlib.Core.Bool.{Bool, true, false, cond}
-use lib.ListN.{length, get_or, set, drop, replicate, length-append, length-drop, length-set}
+use lib.ListN.{length, set, drop, replicate, length-drop}
 use lib.Seq.{drop-set-lt, drop-append_seam}
-use lib.Dec.{eqb}
 use Rattle.errors.specs.Refusal.{refusal_number, numbers_of}
 use Rattle.errors.specs.declared.ReadAnswer.{ReadAnswer}
 use Rattle.errors.specs.declared.ReadAnswer.TheVariants.{Done, Refused}
 use Rattle.errors.proofs.Laws.{refusal_number-le, refusal_number-some}
-use Rattle.round_up.specs.declared.AddAnswer.TheVariants as add
 use Rattle.round_up.specs.declared.RoundUp.{RoundUp}
 use Rattle.round_up.specs.RoundUp.{classes, places, grid_from, refused_from, empty_round_up, grid_of, row_of, cells_of, class_of, head_of}
 use Rattle.round_up.specs.RoundUp.{refused_share, share_by, share_of, sums, has_room, added_of, full_of, added_to}
-use Rattle.round_up.specs.History.{File, share_in, next, after, is_added, added_in, total, kept_by, kept_of, kept_in}
+use Rattle.round_up.specs.History.{File, share_in, next, after, is_added, added_in, total, kept_by, kept_in}
 use Rattle.round_up.proofs.Laws.{sums-length}
 use Rattle.round_up.proofs.Shares.{class_of-lt, share_by-length}
 

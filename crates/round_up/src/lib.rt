@@ -3,6 +3,8 @@
 // Mirrors nothing of the Rust's. A round-up goes in by value and comes back: with the file added, or as it was where a count would pass
 // 4,294,967,295 (refusal 29). It is the sum of what each file adds, so that the order of files changes nothing.
 // Definitions: specs/RoundUp.antt, specs/Kinds.antt. What holds of a history of files: specs/History.antt, proofs/Sums.antt, Order.antt, Told.antt.
+#![tactic(auto)]
+
 ghost use Rattle.std.specs.Prelude.{◌≡◌, ℕ, ◌<◌, min, true, length, get_or};
 ghost use Rattle.round_up.specs.RoundUp.{empty_round_up, files_read, refused_by, notes_of};
 ghost use Rattle.round_up.specs.RoundUp.{class_of, read_share, refused_share, share_by, share_of};

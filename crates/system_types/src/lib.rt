@@ -3,6 +3,8 @@
 // Mirrors structs/system_types.rs (apk-info 13770539b8): `get_type_name`. Answers: `NamesRead`, `Lookup`. Definitions: specs/Names.antt.
 // Differs from the Rust: there the table is compiled in, here it is three words a name over an area of bytes; and a name is
 // answered whole, so that leaving out `android:attr/` is a question of its own.
+#![tactic(auto)]
+
 ghost use Rattle.std.specs.Prelude.{◌≡◌, ◌+◌, ◌/◌, ◌<◌, ◌≤◌, true, false, length, if◌then◌else◌, nat_lt};
 ghost use Rattle.system_types.specs.Names.{lends, is_good, names_of, name_by_id, system_name, starts_with, without, android_attr};
 ghost use Rattle.system_types.specs.Names.{Rising};

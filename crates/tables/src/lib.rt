@@ -3,6 +3,8 @@
 // Stands for the vectors of axml.rs (apk-info 13770539b8), and `has` for its `HashSet` of attribute names: it compares with each record, and links.rt
 // finds its way among many.
 // Definitions: records/specs/Repeats.antt. Differs from the Rust: names are compared where they lie, by text, and nothing is copied.
+#![tactic(auto)]
+
 pub mod by_number;
 pub mod hash;
 pub mod links;

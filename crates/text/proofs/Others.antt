@@ -12,7 +12,7 @@ use lib.ListN.{length, take, drop, get_or, length-drop}
 use lib.Seq.{get_or-take, get_or-drop, length-take-le, drop-drop}
 use lib.Dec.{eqb, ltb}
 use Rattle.field.specs.Le.{u8le, u16le, u32le}
-use Rattle.utf.specs.Text.{text_of, eq_bytes}
+use Rattle.utf.specs.Text.{eq_bytes}
 use Rattle.utf.specs.Plain.{is_plain}
 use Rattle.utf.proofs.Equal.{eq_bytes-length, eq_bytes-here}
 use Rattle.utf.proofs.PlainLaws.{plain-same}

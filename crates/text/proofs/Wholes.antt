@@ -2,12 +2,11 @@
 -- and a string that is cut are empty texts (`unpaired-empty`, `state-cut`).
 use Prim.Native.Nat.{ℕ}
 use native.Mathlib.Omega.{arith}
-use mathlib.Core.Path.{◌≡◌, refl, sym}
+use mathlib.Core.Path.{◌≡◌, refl}
 use mathlib.Core.List.{List, []}
 use mathlib.Core.Bool.{Bool, true, false}
 use lib.ListN.{take, drop}
 use Rattle.utf.specs.Text.{is_sound, text_of, damage_of, state_number, replaced_count}
-use Rattle.utf.specs.Plain.{is_ascii}
 use Rattle.utf.proofs.Laws.{is_sound-ascii}
 use Rattle.utf.proofs.Ascii.{is_ascii-at}
 use Rattle.utf.proofs.Turns.{text_of-refused}

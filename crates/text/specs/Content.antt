@@ -11,7 +11,7 @@
 --   android_uri  the Android namespace; is_android whether a text is this
 --
 -- t is the bytes behind the file's header; places in it are those of `Head`. Laws: proofs/Laws.antt.
-use Rattle.std.specs.Prelude.{ℕ, ◌+◌, List, [], ◌∷◌, Bool, true, false, cond, ◌&&◌, length, take, drop, ltb}
+use Rattle.std.specs.Prelude.{ℕ, List, [], ◌∷◌, Bool, true, false, cond, ◌&&◌, length, take, drop, ltb}
 use Rattle.utf.specs.Text.{text_of, eq_bytes, Damage, damage_of, cut as cut_text, whole}
 use Rattle.utf.specs.Plain.{is_plain}
 use Rattle.xml.specs.NCName.{valid_name}

@@ -2,6 +2,8 @@
 //
 // Mirrors structs/res_string_pool.rs (apk-info 13770539b8): `get`, `get_with_resources`, `contains_with_resources`.
 // A text is never copied: the code answers where it lies (`Found`). Definitions: specs/Content.antt, specs/Inner/Found.antt.
+#![tactic(auto)]
+
 pub mod apart;
 pub mod damage;
 pub mod equal;

@@ -3,6 +3,8 @@
 // Mirrors structs/common.rs (apk-info 13770539b8), `to_string` without resources of its own, and axml.rs where it asks `get_attr_value`
 // first. Answers: `ValueAnswer`, length and state of the text and the bits that no name covers, or a refusal. Definitions: specs/Value.antt.
 // Differs from the Rust: float, dimension and fraction have no text here (docs/DIFFERENCES.md).
+#![tactic(auto)]
+
 pub mod plain;
 
 ghost use Rattle.std.specs.Prelude.{◌≡◌, true, List, ◌/◌, ◌≤◌, ◌<◌, length, replicate};

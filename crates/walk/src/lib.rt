@@ -4,6 +4,8 @@
 // passes chunks that change nothing, ending.rt ends a reading. Definitions: specs/Reading.antt and specs/Settle.antt say what comes back,
 // the others what the code does on its way.
 // Differs from the Rust: tables are lent and have limited room, and the reading stops at each note for the caller to write it.
+#![tactic(auto)]
+
 pub mod ending;
 pub mod passing;
 pub mod placing;

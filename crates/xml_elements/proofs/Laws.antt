@@ -20,7 +20,7 @@ use Rattle.chunk.specs.Inner.Run.{run_used}
 use Rattle.chunk.proofs.Laws.{foreign_len-le, foreign_len-lt, run_used-short, run_used-same, run_used-other}
 use Rattle.xml_elements.specs.declared.XmlStartElement.{XmlStartElement}
 use Rattle.xml_elements.specs.declared.Chunk.{Chunk}
-use Rattle.xml_elements.specs.declared.Chunk.TheVariants.{Start, End, Other, Last}
+use Rattle.xml_elements.specs.declared.Chunk.TheVariants.{Start}
 use Rattle.xml_elements.specs.declared.CutChunk.{CutChunk}
 use Rattle.xml_elements.specs.declared.CutChunk.TheVariants.{CutLine, CutHead, CutGap, CutAttributes, CutTrailing, CutEnd, CutOther}
 use Rattle.xml_elements.specs.declared.Turn.{Turn}

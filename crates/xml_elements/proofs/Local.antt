@@ -8,7 +8,7 @@ use mathlib.Core.Bool.{Bool, true, false, cond}
 use borrow.Author.Tests.{le-ltb, eqb-true, eqb-false}
 use lib.ListN.{length, length-append}
 use lib.Dec.{ltb, eqb}
-use Rattle.field.specs.Le.{u8le, u16le, u32le}
+use Rattle.field.specs.Le.{u16le, u32le}
 use Rattle.field.proofs.Laws.{u8le-append, u16le-append, u32le-append}
 use Rattle.common.specs.Header.{header_of}
 use Rattle.common.specs.declared.ResChunkHeader.{ResChunkHeader}

@@ -3,6 +3,8 @@
 // Mirrors structs/xml_elements.rs (apk-info 13770539b8): `XMLHeader`, `XmlStartElement::parse`, `XmlAttributeElement::parse`; and the tests of
 // axml.rs that come before a chunk is read. Answers: `Turn`. Definitions: specs/Chunk.antt (docs/FORMAT.md, W1 to W3, W6 to W19).
 // Differs from the Rust: attributes are not gathered in a list, they are read where they stand once the whole chunk is known to be there.
+#![tactic(auto)]
+
 ghost use Rattle.std.specs.Prelude.{◌≡◌, ◌+◌, ◌-◌, ◌*◌, ◌≤◌, ◌<◌, length};
 ghost use Rattle.xml_elements.specs.Chunk.{start_of, stride_of, attributes_at, attributes_end, trailing_of, start_len, attribute_at};
 ghost use Rattle.xml_elements.specs.Chunk.{start_turn, xml_turn, turn_of};

@@ -197,10 +197,10 @@ module _ (N : Names) where
 pub events-depth : (d : ℕ) (es : List Event) → depth_from d es ≡ depth_behind d (event_marks es)
 events-depth d [] = refl
 events-depth d (Nothing ∷ es) = events-depth d es
-events-depth d (Open name fixed line ∷ es) = events-depth _ es
+events-depth d (Open name fixed line ∷ es) = events-depth (d + 1) es
 events-depth d (Attribute p a ∷ es) = events-depth d es
 events-depth d (LeftOut n ∷ es) = events-depth d es
-events-depth d (Close ∷ es) = events-depth _ es
+events-depth d (Close ∷ es) = events-depth (d - 1) es
 events-depth d (Note x ∷ es) = events-depth d es
 events-depth d (Refuse x ∷ es) = events-depth d es
 events-depth d (Finish ∷ es) = events-depth d es

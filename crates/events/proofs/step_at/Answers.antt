@@ -7,22 +7,22 @@ use Rattle.events.proofs.step_at.Goals as goal
 pub offsets_step-requires : goal.offsets_step-requires
 offsets_step-requires c =
     let start = c in
-    offsets-asked start.requires.0 start.requires.1 c.enum_told-in-AtOffsets-1.given.1
+    offsets-asked start.requires.0 start.requires.1 c.in-AtOffsets.is
 
 pub name_step-requires : goal.name_step-requires
 name_step-requires c =
     let start = c in
-    (name-asked start.requires.0 start.requires.1 c.enum_told-in-AtName-1.given.1, start.requires.2)
+    (name-asked start.requires.0 start.requires.1 c.in-AtName.is, start.requires.2)
 
 pub named_step-requires : goal.named_step-requires
 named_step-requires c =
     let start = c in
-    (named-asked start.requires.0 start.requires.1 c.enum_told-in-AtNamed-1.given.1, start.requires.2)
+    (named-asked start.requires.0 start.requires.1 c.in-AtNamed.is, start.requires.2)
 
 pub attribute_step-requires : goal.attribute_step-requires
 attribute_step-requires c =
     let start = c in
-    (attribute-asked start.requires.0 start.requires.1 c.enum_told-in-AtAttribute-1.given.1, start.requires.2)
+    (attribute-asked start.requires.0 start.requires.1 c.in-AtAttribute.is, start.requires.2)
 
 pub returns-in-AtGarbage : goal.returns-in-AtGarbage
 returns-in-AtGarbage c =
@@ -72,12 +72,12 @@ returns-in-AtShort c =
 pub returns-in-AtName : goal.returns-in-AtName
 returns-in-AtName c =
     let asked = c in
-    (asked.name_step.ensures.0 ∙ step_of-at _ _ _ _ _ asked.enum_told-in-AtName-1.given.1, asked.name_step.ensures.1)
+    (asked.name_step.ensures.0 ∙ step_of-at _ _ _ _ _ asked.in-AtName.is, asked.name_step.ensures.1)
 
 pub returns-in-AtNamed : goal.returns-in-AtNamed
 returns-in-AtNamed c =
     let asked = c in
-    (asked.named_step.ensures.0 ∙ step_of-at _ _ _ _ _ asked.enum_told-in-AtNamed-1.given.1, asked.named_step.ensures.1)
+    (asked.named_step.ensures.0 ∙ step_of-at _ _ _ _ _ asked.in-AtNamed.is, asked.named_step.ensures.1)
 
 pub returns-in-AtOpen : goal.returns-in-AtOpen
 returns-in-AtOpen c =
@@ -92,7 +92,7 @@ returns-in-AtLead c =
 pub returns-in-AtAttribute : goal.returns-in-AtAttribute
 returns-in-AtAttribute c =
     let asked = c in
-    (asked.attribute_step.ensures.0 ∙ step_of-at _ _ _ _ _ asked.enum_told-in-AtAttribute-1.given.1, asked.attribute_step.ensures.1)
+    (asked.attribute_step.ensures.0 ∙ step_of-at _ _ _ _ _ asked.in-AtAttribute.is, asked.attribute_step.ensures.1)
 
 pub returns-in-AtLast : goal.returns-in-AtLast
 returns-in-AtLast c =

@@ -38,7 +38,7 @@ loop-k-preserved c =
     let told = c.is_tagged_once in
     let e = find_node-next a.h a.t.now (lends a.names.now a.area.now) a.tag.now a.count a.nodes.now l.k test.true
     place.ensures told.ensures.same c.if-is_tagged_once.false in
-    (search rules, l.invariant.1 ∙ e, told.ensures.others-1, told.auto.1.1.1.1.1.0 ∙ l.invariant.3)
+    (search rules, l.invariant.1 ∙ e, told.ensures.others, told.auto.others ∙ l.invariant.3)
 
 pub returns : goal.returns
 returns c =

@@ -8,7 +8,7 @@ use Rattle.first_value.proofs.first_value.Goals as goal
 pub value_in-requires : goal.value_in-requires
 value_in-requires c =
     let a = c.args in
-    let e = sym c.open_tables-opened.ensures ∙ c.in-requires.is in
+    let e = sym c.open_tables-opened.ensures ∙ c.in-Open.is in
     let s = shared-opens a.file.now (lends a.names.now a.area.now) a.nodes.now a.attributes.now a.node_count a.attribute_count e in
     (rw c.tables_of.ensures (open_of-asks a.file.now (lends a.names.now a.area.now) s.opens), s.fits)
 

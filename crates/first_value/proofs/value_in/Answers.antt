@@ -20,4 +20,4 @@ value_of-requires c =
     )
 
 pub returns : goal.returns
-returns c = rw (← c.find_node-node.ensures) c.value_of_lem.ensures
+returns c = rw (← c.find_node-node.ensures) c.value_of.ensures

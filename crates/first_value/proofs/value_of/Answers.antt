@@ -3,32 +3,40 @@ use Rattle.first_value.proofs.Search.{value-run}
 use Rattle.first_value.proofs.Laws.{rest-words}
 use Rattle.system_types.specs.Names.{lends}
 use Rattle.records.specs.Words.{attribute_width}
+use Rattle.first_value.specs.declared.NodeFound.{NodeFound}
+use Rattle.first_value.specs.declared.NodeFound.TheVariants.{Run}
+use Rattle.first_value.specs.Inner.Run.{RunFits}
 use lib.ListN.{length}
-use Prim.Native.Nat.{◌+◌, ◌*◌, ◌≤◌}
+use mathlib.Core.List.{List}
+use mathlib.Core.Path.{◌≡◌}
+use Prim.Native.Nat.{ℕ, ◌+◌, ◌*◌, ◌≤◌}
 use native.Mathlib.Omega.{arith}
 use Rattle.first_value.proofs.value_of.Goals as goal
 
 -- the attributes of the node end in the table
 inside
-    : (c : tie.After-attribute-place)
-    → c.attribute_place.result + attribute_width * c.node-1.given.0.1.0
-    ≤ length c.args.attributes.now
-inside c =
-    let s = c in
-    let n = c in
-    let p = s.requires.1.inside n.node-1.given.0.0 n.node-1.given.0.1.0 n.node-1.given.1 in
-    omega (arith, p, c.attribute_place.ensures)
+    : (ats : List ℕ) (node : NodeFound) (first number place : ℕ)
+    → RunFits ats node
+    → node ≡ Run first number
+    → place ≡ attribute_width * first
+    → place + attribute_width * number ≤ length ats
+inside ats node first number place f e i = omega (arith, f.inside first number e)
 
 pub slice_bounds-find_value-count : goal.slice_bounds-find_value-count
-slice_bounds-find_value-count c = omega (arith, inside c)
+slice_bounds-find_value-count c =
+    omega (arith, inside c.args.attributes.now c.args.node _ _ _ c.requires.1 c.in-Run.is c.attribute_place.ensures)
 
 pub slice_bounds-find_value-start : goal.slice_bounds-find_value-start
-slice_bounds-find_value-start c = omega (arith, inside c)
+slice_bounds-find_value-start c =
+    omega (arith, inside c.args.attributes.now c.args.node _ _ _ c.requires.1 c.in-Run.is c.attribute_place.ensures)
 
 pub find_value-requires : goal.find_value-requires
 find_value-requires c =
-    let s = c in
-    (s.requires.0, rest-words s.args.attributes.now c.attribute_place.result _ (inside c))
+    (
+      c.requires.0,
+      rest-words c.args.attributes.now c.attribute_place.result _
+          (inside c.args.attributes.now c.args.node _ _ _ c.requires.1 c.in-Run.is c.attribute_place.ensures),
+    )
 
 pub returns-in-Run : goal.returns-in-Run
 returns-in-Run c =

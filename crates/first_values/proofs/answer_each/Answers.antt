@@ -49,12 +49,6 @@ put_answer-requires c =
     let e = answers-long ask a.pair_area.now a.pairs.now a.answers.now l.answers l.k (omega (arith, s.requires.3, test)) l.invariant.1 in
     omega (arith, e, s.requires.3, test)
 
-pub overflow_add-k : goal.overflow_add-k
-overflow_add-k c =
-    let test = c in
-    let s = c in
-    omega (arith, test.loop-k-test.true, s.well-formed.1.1.1.1.1.1.1.1.1.1.1.0)
-
 pub loop-k-preserved : goal.loop-k-preserved
 loop-k-preserved c =
     let a = c.args in
@@ -63,7 +57,7 @@ loop-k-preserved c =
     let find = finds_in a.h a.t.now (lends a.names.now a.area.now) a.nodes.now a.node_count in
     let node = c.node_for-node.ensures in
     let name = c.name_at.ensures in
-    let value = c.value_of_lem.ensures in
+    let value = c.value_of-value.ensures in
     let numbers = c.first_numbers.ensures in
     let ws =
     answer-words a.h a.t.now (lends a.names.now a.area.now) a.nodes.now a.node_count a.attributes.now a.pairs.now

@@ -11,7 +11,7 @@ pub answer_pairs-requires : goal.answer_pairs-requires
 answer_pairs-requires c =
     let s = c in
     let a = s.args in
-    let e = sym c.read_pairs-read.ensures ∙ c.read-1.given.1 in
+    let e = sym c.read_pairs-read.ensures ∙ c.in-Whole.is in
     let n = pairs_of-count a.pairs.now a.pair_area.now e in
     (s.requires.0, s.requires.1, omega (arith, n))
 
@@ -20,12 +20,10 @@ returns-in-Whole c =
     let a = c.args in
     let ask = asks_in a.h a.t.now (lends a.names.now a.area.now) a.nodes.now a.node_count a.attributes.now in
     let read = c.read_pairs-read in
-    let told = c.read-1 in
-    gives_whole ask a.pairs.now a.pair_area.now (length a.answers.now) _ read.ensures told.given.1 c.answer_pairs.ensures
+    gives_whole ask a.pairs.now a.pair_area.now (length a.answers.now) _ read.ensures c.in-Whole.is c.answer_pairs.ensures
 
 pub returns-in-Bad : goal.returns-in-Bad
 returns-in-Bad c =
     let a = c.args in
     let read = c.read_pairs-read in
-    let told = c.read-in-Bad-1 in
-    gives-bad a.pairs.now a.pair_area.now _ (length a.answers.now) _ read.ensures told.given.1 (c.refuse.ensures _)
+    gives-bad a.pairs.now a.pair_area.now _ (length a.answers.now) _ read.ensures c.in-Bad.is (c.refuse.ensures _)

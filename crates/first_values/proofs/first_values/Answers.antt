@@ -9,7 +9,7 @@ use Rattle.first_values.proofs.first_values.Goals as goal
 pub answers_in-requires : goal.answers_in-requires
 answers_in-requires c =
     let a = c.args in
-    let e = sym c.open_tables-opened.ensures ∙ c.in-requires.is in
+    let e = sym c.open_tables-opened.ensures ∙ c.in-Open.is in
     let s = shared-opens a.file.now (lends a.names.now a.area.now) a.nodes.now a.attributes.now a.node_count a.attribute_count e in
     (rw c.tables_of.ensures (open_of-asks a.file.now (lends a.names.now a.area.now) s.opens), s.fits)
 

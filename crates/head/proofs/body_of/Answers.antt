@@ -12,4 +12,4 @@ pub returns : goal.returns
 returns c =
     let s = c in
     let a = s.args in
-    body_in-by a.file.now a.h c.head_len-n.result-1 c.head_len-n.ensures
+    body_in-by a.file.now a.h c.head_len-n.result c.head_len-n.ensures

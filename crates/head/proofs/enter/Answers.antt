@@ -28,7 +28,7 @@ returns-in-Good c =
     let at_names = at_told in
     let at_cap = at_names in
     let a = at_cap.args in
-    let good = sym at_names.check_names-read.ensures ∙ at_told.enum_told-1.given.1 in
+    let good = sym at_names.check_names-read.ensures ∙ c.in-Good.is in
     c.enter_in.ensures
     ∙ ap (λ (m : ℕ). cond (is_mode m) (In (opened_of a.file.now)) (Out (ModeError m))) c.mode_of.ensures
     ∙ entered-good a.file.now (lends a.names.now a.area.now) (terms_of a.asker) at_cap.if-file-gt-FILE_LIMIT.false

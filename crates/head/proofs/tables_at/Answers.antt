@@ -7,7 +7,7 @@ use Rattle.head.proofs.tables_at.Goals as goal
 pub mapped-requires : goal.mapped-requires
 mapped-requires c =
     let s = c in
-    (pool-fits s.args.t.now c.pool_of-read.ensures c.enum_told-1.given.1, s.requires)
+    (pool-fits s.args.t.now c.pool_of-read.ensures c.in-Complete.is, s.requires)
 
 pub returns-in-Complete : goal.returns-in-Complete
 returns-in-Complete c =

@@ -1,5 +1,5 @@
 -- `items::check_each` meets its contract. Invariant: the items from k on say what all of them say. Measure: the items left.
-use Prim.Native.Nat.{◌-◌, ◌/◌}
+use Prim.Native.Nat.{◌/◌}
 use mathlib.Core.Path.{◌≡◌, sym, ap, ◌∙◌}
 use native.Mathlib.Omega.{arith}
 use lib.ListN.{length}

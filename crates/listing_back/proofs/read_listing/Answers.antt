@@ -8,16 +8,16 @@ read_tables-end-requires c = c.read_head-h.ensures
 
 pub settle-requires : goal.settle-requires
 settle-requires c = λ z. used-fits _ _ _ _ c.node_place.ensures
-    (c.read_tables-end.ensures.nodes-1.0 z)
-    c.read_tables-end.ensures.nodes-1.1
+    (c.read_tables-end.ensures.nodes.0 z)
+    c.read_tables-end.ensures.nodes.1
 
 pub settle-requires-2 : goal.settle-requires-2
 settle-requires-2 c = λ z. used-fits _ _ _ _ c.attribute_place.ensures
-    (c.read_tables-end.ensures.attributes-1.0 z) c.read_tables-end.ensures.attributes-1.1
+    (c.read_tables-end.ensures.attributes.0 z) c.read_tables-end.ensures.attributes.1
 
 pub settle-requires-3 : goal.settle-requires-3
-settle-requires-3 c = λ z. used-fits _ _ _ _ refl (c.read_tables-end.ensures.notes-1.0 z)
-    c.read_tables-end.ensures.notes-1.1
+settle-requires-3 c = λ z. used-fits _ _ _ _ refl (c.read_tables-end.ensures.notes.0 z)
+    c.read_tables-end.ensures.notes.1
 
 pub refused-requires : goal.refused-requires
 refused-requires c = all_own c.read_tables-end.ensures c.if-fault-ne0.true

@@ -11,7 +11,7 @@ pub read_records-a-requires : goal.read_records-a-requires
 unfolding equals_in form_at forms_of form_text
 read_records-a-requires c = (
   spot-inside c.args.text.now c.args.h _
-      c.spot_of_lem.ensures c.requires.inside,
+      c.spot_of.ensures c.requires.inside,
   search rules,
   refl,
   search rules,
@@ -43,7 +43,7 @@ shape_of-notes c = c.read_records-c.ensures.same
 
 pub returns : goal.returns
 returns c = all_read _ _ _ _ _ _ _ _ _ _ _ _ _
-    c.spot_of_lem.ensures c.requires
+    c.spot_of.ensures c.requires
     c.read_records-a.ensures
     c.read_records-b.ensures
     c.read_records-c.ensures c.read_end.ensures

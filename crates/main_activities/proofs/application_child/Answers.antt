@@ -7,13 +7,6 @@ use Rattle.main_activities.proofs.Laws.{within-start}
 use Rattle.main_activities.proofs.Lists.{child-none, child-untagged, child-application}
 use Rattle.main_activities.proofs.application_child.Goals as goal
 
--- GONE overflow-add-t16
---
--- add-t16 : tie.Need-overflow-add-t16
--- add-t16 c =
---     let p = c.before.before.before.before.before.before.before.before.before.before.requires in
---     omega (arith, p.1)
-
 pub parent_at-requires : goal.parent_at-requires
 parent_at-requires c =
     let p = c.requires in

@@ -6,13 +6,6 @@ use Rattle.main_activities.specs.Activities.{tree_of, is_filter}
 use Rattle.main_activities.proofs.Laws.{within-start, child-other, child-here, filter-no, filter-yes}
 use Rattle.main_activities.proofs.filter_child.Goals as goal
 
--- GONE overflow-add-t15
---
--- add-t15 : tie.Need-overflow-add-t15
--- add-t15 c =
---     let p = c.before.before.before.before.before.before.before.before.before.requires in
---     omega (arith, p.1)
-
 pub parent_at-requires : goal.parent_at-requires
 parent_at-requires c =
     let p = c.requires in

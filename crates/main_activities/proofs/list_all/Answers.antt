@@ -37,7 +37,7 @@ loop-k-preserved c =
     let w = tree_of a.h a.t.now (lends a.names.now a.area.now) a.items.now a.item_area.now a.nodes.now
     a.attributes.now a.count in (
       all-step w l.k l.list l.found _ _ test.true at-application-child.ensures.0 at-application-child.ensures.1 l.invariant.0,
-      at-application-child.auto.1.1.1.1.1.1.1.1.0 ∙ l.invariant.1,
+      at-application-child.auto.list ∙ l.invariant.1,
     )
 
 pub shape_of-list : goal.shape_of-list

@@ -15,4 +15,4 @@ returns c =
     let at-settle = c.settle in
     let w = tree_of a.h a.t.now (lends a.names.now a.area.now) a.items.now a.item_area.now a.nodes.now
     a.attributes.now a.count in
-    rw (← at-list-all.auto.1.1.1.1.1.1.1.1.0) (at-settle.ensures (main_activities w) at-list-all.ensures)
+    rw (← at-list-all.auto.list) (at-settle.ensures (main_activities w) at-list-all.ensures)

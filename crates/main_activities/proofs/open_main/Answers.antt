@@ -8,10 +8,10 @@ pub returns-in-Open : goal.returns-in-Open
 returns-in-Open c =
     let a = c.args in
     let at-open-value = c.open_value-opened in
-    let at-opened = c.opened-1 in
+    let at-opened = c.in-Open in
     let at-fit-of = c.fit_of in
     let at-fitted = c.fitted in
-    let e = sym at-open-value.ensures ∙ at-opened.given.1 in
+    let e = sym at-open-value.ensures ∙ at-opened.is in
     open_in a.file.now (lends a.names.now a.area.now) a.items.now a.item_area.now a.nodes.now
     a.attributes.now a.node_count
     a.attribute_count e at-fit-of.ensures at-fitted.ensures
@@ -20,8 +20,8 @@ pub returns-in-Closed : goal.returns-in-Closed
 returns-in-Closed c =
     let a = c.args in
     let at-open-value = c.open_value-opened in
-    let at-opened2 = c.opened-in-Closed-1 in
-    let e = sym at-open-value.ensures ∙ at-opened2.given.1 in
+    let at-opened2 = c.in-Closed in
+    let e = sym at-open-value.ensures ∙ at-opened2.is in
     open-out a.file.now (lends a.names.now a.area.now) a.items.now a.item_area.now a.nodes.now
     a.attributes.now a.node_count
     a.attribute_count e

@@ -21,17 +21,17 @@ returns-in-At c =
     let at-put-number = c.put_number in
     let if1 = c.if-not-yes in
     let at-find-named = c.find_named-name in
-    let at_name = c.name-1 in
+    let at_name = c.in-At in
     let w = tree_of a.h a.t.now (lends a.names.now a.area.now) a.items.now a.item_area.now a.nodes.now
     a.attributes.now a.count in
-    λ z after h. at-put-number.ensures z after (given-at w a.k (if1.false) at-find-named.ensures at_name.given.1 h)
+    λ z after h. at-put-number.ensures z after (given-at w a.k (if1.false) at-find-named.ensures at_name.is h)
 
 pub returns-in-NoAttribute : goal.returns-in-NoAttribute
 returns-in-NoAttribute c =
     let a = c.args in
     let if1 = c.if-not-yes in
     let at-find-named = c.find_named-name in
-    let at-enum-told = c.enum_told-1 in
+    let at-enum-told = c.in-NoAttribute in
     let w = tree_of a.h a.t.now (lends a.names.now a.area.now) a.items.now a.item_area.now a.nodes.now
     a.attributes.now a.count in
-    λ z after h. given-none w a.k (if1.false) at-find-named.ensures at-enum-told.given.1 h
+    λ z after h. given-none w a.k (if1.false) at-find-named.ensures at-enum-told.is h

@@ -76,7 +76,7 @@ loop-k-preserved c =
       listing_step w a.p l.k l.list l.found _ _ test.true (omega (arith, at-parent-at.ensures, if1.false))
           at-activity-child.ensures.0 at-activity-child.ensures.1
           at-put-given.ensures l.invariant.0,
-      at-put-given.auto.1.1.1.1.1.1.1.1.0 ∙ l.invariant.1,
+      at-put-given.auto.list ∙ l.invariant.1,
     )
 
 pub shape_of-list : goal.shape_of-list

@@ -9,11 +9,11 @@ use Rattle.many_texts.proofs.put_shown.Goals as goal
 
 pub overflow_cast-at : goal.overflow_cast-at
 overflow_cast-at c =
-    let a = c.args in omega (arith, leb-true (a.at + a.n) most_bytes (sym c.is_is_word.ensures ∙ c.if-is_word.true))
+    let a = c.args in omega (arith, leb-true (a.at + a.n) most_bytes (sym c.is_word.ensures ∙ c.if-is_word.true))
 
 pub overflow_cast-n : goal.overflow_cast-n
 overflow_cast-n c =
-    let a = c.args in omega (arith, leb-true (a.at + a.n) most_bytes (sym c.is_is_word.ensures ∙ c.if-is_word.true))
+    let a = c.args in omega (arith, leb-true (a.at + a.n) most_bytes (sym c.is_word.ensures ∙ c.if-is_word.true))
 
 pub returns-then-is_word : goal.returns-then-is_word
 returns-then-is_word c =
@@ -26,5 +26,5 @@ returns-then-is_word c =
 pub returns : goal.returns
 returns c =
     let a = c.args in
-    let past = leb-false (a.at + a.n) most_bytes (sym c.is_is_word.ensures ∙ c.if-is_word.false) in
+    let past = leb-false (a.at + a.n) most_bytes (sym c.is_word.ensures ∙ c.if-is_word.false) in
     λ s e. puts-past a.k a.at a.n _ s a.answers.now past e c.behind-next.ensures

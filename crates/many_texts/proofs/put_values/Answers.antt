@@ -36,7 +36,7 @@ pub put_told-at-requires : goal.put_told-at-requires
 put_told-at-requires c = omega (
   arith,
   c.loop-k.invariant.2.utf16,
-  c.pre.4,
+  c.requires.4,
   c.loop-k-test.true,
 )
 

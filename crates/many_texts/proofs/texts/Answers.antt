@@ -9,7 +9,7 @@ pub texts_in-requires : goal.texts_in-requires
 texts_in-requires c =
     let a = c.args in
     let lent = lends a.names.now a.area.now in
-    let e = sym c.open_file-opened.ensures ∙ c.in-requires.is in
+    let e = sym c.open_file-opened.ensures ∙ c.in-Open.is in
     rw c.tables_of.ensures (open_of-asks a.file.now lent e)
 
 pub returns-in-Open : goal.returns-in-Open

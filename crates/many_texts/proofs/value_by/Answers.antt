@@ -27,9 +27,9 @@ pub named_into-requires : goal.named_into-requires
 named_into-requires c =
     let a = c.args in
     let lent = lends a.names.now a.area.now in
-    let g = looks-same a.h a.t.now lent a.items.now a.item_area.now a.a.name.0 c.looked-1.given.1
+    let g = looks-same a.h a.t.now lent a.items.now a.item_area.now a.a.name.0 c.in-At.is
     c.look_up-looked.ensures.0 in (
-      c.pre.0,
+      c.requires.0,
       g.run.fits,
     )
 

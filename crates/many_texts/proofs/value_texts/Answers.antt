@@ -16,7 +16,7 @@ pub values_in-requires : goal.values_in-requires
 values_in-requires c =
     let a = c.args in
     let lent = lends a.names.now a.area.now in
-    let e = sym c.open_known-opened.ensures ∙ c.in-requires.is in
+    let e = sym c.open_known-opened.ensures ∙ c.in-Open.is in
     let o = opens a.file.now lent a.items.now a.item_area.now e in
     (rw c.tables_of.ensures o.asks, o.good, c.put_firsts.ensures)
 
@@ -24,16 +24,14 @@ pub returns-in-Open : goal.returns-in-Open
 returns-in-Open c =
     let a = c.args in
     let lent = lends a.names.now a.area.now in
-    let p8 = c in
-    let e = sym p8.open_known-opened.ensures ∙ p8.opened-1.given.1 in
+    let e = sym c.open_known-opened.ensures ∙ c.in-Open.is in
     values-open a.file.now lent a.items.now a.item_area.now a.attributes.now a.out.now a.answers.now a.attribute_count e
-    p8.tables_of.ensures c.values_in.ensures
+    c.tables_of.ensures c.values_in.ensures
 
 pub returns-in-Closed : goal.returns-in-Closed
 returns-in-Closed c =
     let a = c.args in
     let lent = lends a.names.now a.area.now in
-    let p8 = c in
-    let e = sym p8.open_known-opened.ensures ∙ p8.opened-in-Closed-1.given.1 in
+    let e = sym c.open_known-opened.ensures ∙ c.in-Closed.is in
     values-closed a.file.now lent a.items.now a.item_area.now a.attributes.now a.out.now a.answers.now a.attribute_count e
     c.refuse.ensures

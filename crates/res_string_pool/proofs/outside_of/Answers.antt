@@ -1,12 +1,12 @@
 -- `res_string_pool::outside_of` meets its contract. Invariant: k counts the offsets outside among the first i. Measure: n - i.
-use Prim.Native.Nat.{◌-◌, ◌/◌}
+use Prim.Native.Nat.{◌/◌}
 use mathlib.Core.Path.{◌≡◌, refl}
-use mathlib.Core.Logic.{⊎_elim}
 use native.Mathlib.Omega.{arith}
 use lib.ListN.{length}
 use Rattle.res_string_pool.specs.Pool.{outside_of, offset_of}
 use Rattle.res_string_pool.proofs.Offsets.{outside_of-out, outside_of-in, outside_of-le}
 use Rattle.res_string_pool.proofs.outside_of.Goals as goal
+use Rattle.res_string_pool.proofs.outside_of.Goals.{then-size-to_usize, else-size-to_usize}
 
 -- ---- entering
 pub loop-i-init : goal.loop-i-init
@@ -24,10 +24,10 @@ loop-i-preserved c =
     let a = c.args in
     let l = c.loop-i in (
       omega arith,
-      ⊎_elim
-          (λ w. omega (arith, outside_of-out a.o.now a.size l.i (omega arith)))
-          (λ w. omega (arith, outside_of-in a.o.now a.size l.i (omega arith)))
-          c.if-size-to_usize.branch,
+      elim c.if-size-to_usize.branch [
+        | then-size-to_usize w ↦ omega (arith, outside_of-out a.o.now a.size l.i (omega arith))
+        | else-size-to_usize w ↦ omega (arith, outside_of-in a.o.now a.size l.i (omega arith))
+      ],
     )
 
 -- ---- leaving

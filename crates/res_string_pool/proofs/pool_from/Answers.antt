@@ -19,11 +19,11 @@ returns c =
     a.h
     a.m.now
     p.result
-    c.end_of_lem.result
+    c.end_of-end.result
     c.to_usize.result
     c.to_usize-2.result
     c.if-m-lt28.false
     p.ensures
     c.to_usize.ensures
     styles
-    c.end_of_lem.ensures
+    c.end_of-end.ensures

@@ -7,7 +7,7 @@ use Rattle.res_string_pool.proofs.second.Goals as goal
 
 pub pool_from-requires : goal.pool_from-requires
 pool_from-requires c =
-    let w = sym c.header_at-read.ensures ∙ c.read-1.given.1 in
+    let w = sym c.header_at-read.ensures ∙ c.in-Whole.is in
     (header_of-long c.args.m.now w, search rules)
 
 pub returns-in-Short : goal.returns-in-Short

@@ -11,7 +11,7 @@ share_by-share-requires c = rw c.read_numbers-numbers.ensures (number_lt _)
 
 pub add_where_room-requires : goal.add_where_room-requires
 add_where_room-requires c =
-    let a : length c.args.round_up.counts-1 ≡ places = search rules in
+    let a : length c.args.round_up.counts ≡ places = search rules in
     let b : length c.share_by-share.result ≡ places = search rules in
     a ∙ sym b
 

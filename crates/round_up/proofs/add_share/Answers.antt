@@ -1,5 +1,5 @@
 -- `round_up::add_share` meets its contract. Invariant: those before i are summed, and the others stand as they were. Measure: the counts left.
-use Prim.Native.Nat.{◌-◌, ◌+◌}
+use Prim.Native.Nat.{◌+◌}
 use lib.ListN.{get_or, length-set}
 use Rattle.round_up.proofs.Laws.{adding-first, adding-next, adding-last, has_room-here}
 use native.Mathlib.Omega.{arith}

@@ -1,5 +1,4 @@
 -- `round_up::has_room` meets its contract. Invariant: whether all have room is whether those from i on have. Measure: the counts left.
-use Prim.Native.Nat.{◌-◌}
 use mathlib.Core.Path.{sym, ◌∙◌}
 use native.Mathlib.Omega.{arith}
 use Rattle.round_up.proofs.Laws.{has_room-past, has_room-next, has_room-end}

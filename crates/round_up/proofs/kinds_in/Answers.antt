@@ -1,7 +1,7 @@
 -- `round_up::kinds_in` meets its contract. Invariant: the counts are those of the first i notes. Measure: the notes left.
 use Rattle.round_up.specs.Kinds.{kinds_from, how_many, tally}
 use mathlib.Core.Path.{◌≡◌, refl, ◌∙◌, ap}
-use Prim.Native.Nat.{ℕ, ◌-◌}
+use Prim.Native.Nat.{ℕ}
 use native.Mathlib.Omega.{arith}
 use Rattle.round_up.specs.RoundUp.{kinds}
 use Rattle.round_up.proofs.Tallies.{kinds_from-length, tally-le, kinds-turn}

@@ -1,8 +1,9 @@
 -- `system_types::all_keep` meets its contract. Invariant: if the entries seen keep what is asked at the end, those left say what all
 -- say (proofs/Pass.antt, `Seen`). Measure: the entries left.
-use Rattle.std.proofs.Common.{◌-◌, ◌*◌, get_or, ⊎_elim, arith}
+use Rattle.std.proofs.Common.{◌*◌, get_or, arith}
 use Rattle.system_types.proofs.Pass.{seen_first, seen-falls, seen-rises, Seen-done}
 use Rattle.system_types.proofs.all_keep.Goals as goal
+use Rattle.system_types.proofs.all_keep.Goals.{then-id-last, else-id-last}
 
 pub loop-k-init : goal.loop-k-init
 loop-k-init c =
@@ -20,8 +21,13 @@ loop-k-preserved c =
     let name = e.ensures in
     let falls = seen-falls area names l.k (get_or names (3 * l.k) 0) g.result (omega arith) in
     let rises = seen-rises area names l.k l.falls l.last l.most e.result g.result ascii (omega arith) l.invariant.1 name in
-    let least = g.ensures in
-    (omega arith, ⊎_elim (λ w. rw w.1 falls) (λ w. rw w.1 (rises least.0 least.1 w.0.left)) c.if-id-last.branch)
+    let least = g.ensures in (
+      omega arith,
+      elim c.if-id-last.branch [
+        | then-id-last w ↦ rw w.falls-is falls
+        | else-id-last w ↦ rw w.falls-is (rises least.0 least.1 w.if-id-last.false)
+      ],
+    )
 
 pub returns : goal.returns
 returns c =

@@ -1,6 +1,6 @@
 -- `system_types::check_each` meets its contract. Invariant: what the entries left say is what all of them say. Measure: the
 -- entries left.
-use Rattle.std.proofs.Common.{◌≡◌, ◌-◌, ◌*◌, ◌<◌, ◌≤◌, length, drop, sym, refl, ◌∙◌, arith, length-drop}
+use Rattle.std.proofs.Common.{◌≡◌, ◌*◌, ◌<◌, ◌≤◌, length, drop, not, sym, ap, refl, ◌∙◌, arith, length-drop}
 use Rattle.system_types.proofs.Laws.{names_from-refused, names_from-passed, names_from-stop, names_from-left}
 use Rattle.system_types.proofs.check_each.Goals as goal
 
@@ -15,7 +15,7 @@ returns-then-not-is_good c =
     let a = c.args in
     let l = c.loop-k in
     let g = c.is_good in
-    names_from-refused a.area.now l.last a.names.now l.k (omega arith) g.result _ g.ensures c.if-not-is_good.true l.invariant.1
+    names_from-refused a.area.now l.last a.names.now l.k (omega arith) g.result _ g.ensures (ap not c.if-not-is_good.true) l.invariant.1
 
 pub loop-k-preserved : goal.loop-k-preserved
 loop-k-preserved c =
@@ -24,7 +24,7 @@ loop-k-preserved c =
     let g = c.is_good in
     let area = a.area.now in
     let names = a.names.now in
-    (omega arith, names_from-passed area l.last names l.k (omega arith) g.result _ g.ensures c.if-not-is_good.false l.invariant.1)
+    (omega arith, names_from-passed area l.last names l.k (omega arith) g.result _ g.ensures (ap not c.if-not-is_good.false) l.invariant.1)
 
 pub returns-then-names-ne0 : goal.returns-then-names-ne0
 returns-then-names-ne0 c =

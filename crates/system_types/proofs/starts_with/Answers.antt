@@ -1,6 +1,6 @@
 -- `system_types::starts_with` meets its contract. Invariant: what is left of both begins as both do. Measure: what is left of the
 -- prefix.
-use Rattle.std.proofs.Common.{◌-◌, sym, refl, ◌∙◌, arith}
+use Rattle.std.proofs.Common.{sym, refl, ◌∙◌, arith}
 use Rattle.system_types.proofs.Prefix.{starts_with-short, starts_with-step, starts_with-differs, starts_with-end}
 use Rattle.system_types.proofs.starts_with.Goals as goal
 

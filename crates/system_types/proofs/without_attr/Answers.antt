@@ -22,4 +22,4 @@ pub returns-then-starts_with : goal.returns-then-starts_with
 returns-then-starts_with c =
     let s = c.args.s.now in
     let h : length (drop 13 s) ≤ length s - 13 = le_of_eq (length-drop 13 s) in
-    rw (begins c, take_all (length s - 13) (drop 13 s) h)
+    rw (sym c.starts_with.ensures ∙ c.if-starts_with.true, take_all (length s - 13) (drop 13 s) h)

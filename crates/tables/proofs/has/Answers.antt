@@ -3,7 +3,6 @@
 -- Invariant: no record before i is one, whichever index the wanted text was found for; what is known of it. Measure: the words left.
 use Prim.Native.Nat.{◌-◌}
 use mathlib.Core.Path.{refl, sym, ◌∙◌, ap}
-use mathlib.Core.Logic.{⊎_elim}
 use native.Mathlib.Nat.{sub-zero}
 use native.Mathlib.Omega.{arith}
 use Rattle.records.specs.Words.{attribute_words}
@@ -14,6 +13,7 @@ use Rattle.text.proofs.Plains.{known_of}
 use Rattle.tables.proofs.Keys.{repeat-end, repeat-found, repeat-prefix, repeat-name, same-found, space-any}
 use borrow.Author.Rules.{rules}
 use Rattle.tables.proofs.has.Goals as goal
+use Rattle.tables.proofs.has.Goals.{then-words-i+else-same_as_known, else-words-i}
 
 pub returns-then-words-lt-ATTRIBUTE_WORDS : goal.returns-then-words-lt-ATTRIBUTE_WORDS
 returns-then-words-lt-ATTRIBUTE_WORDS c =
@@ -58,26 +58,6 @@ marks_of-marks-requires c =
 pub loop-i-init : goal.loop-i-init
 loop-i-init c = (omega arith, known_of c.is_plain_name-plain.ensures, λ _ _ _ _ _ _. refl)
 
-pub overflow_add-i : goal.overflow_add-i
-overflow_add-i c = omega (arith, c.loop-i.invariant.0, c.well-formed.1.1.1.1.0)
-
-pub offset_bounds-words-i : goal.offset_bounds-words-i
-offset_bounds-words-i c = omega (arith, c.loop-i.invariant.0, c.well-formed.1.1.1.1.0)
-
-pub overflow_add-other : goal.overflow_add-other
-overflow_add-other c = omega (
-  arith,
-  c.loop-i.invariant.0,
-  c.well-formed.1.1.1.1.0,
-)
-
-pub offset_bounds-words-i-then-words-i : goal.offset_bounds-words-i-then-words-i
-offset_bounds-words-i-then-words-i c = omega (
-  arith,
-  c.loop-i.invariant.0,
-  c.well-formed.1.1.1.1.0,
-)
-
 pub same_as_known-requires : goal.same_as_known-requires
 same_as_known-requires c =
     let at-loop = c in
@@ -107,13 +87,6 @@ returns-then-same_as_known c =
       at-start.requires.2,
     )
 
-pub overflow_add-i-in-loop-i : goal.overflow_add-i-in-loop-i
-overflow_add-i-in-loop-i c = omega (
-  arith,
-  c.loop-i.invariant.0,
-  c.well-formed.1.1.1.1.0,
-)
-
 pub loop-i-preserved : goal.loop-i-preserved
 loop-i-preserved c =
     let in-loop = c in
@@ -127,11 +100,10 @@ loop-i-preserved c =
       at-loop.loop-i.invariant.1,
       λ n ns owner kind value wanted.
           (at-loop.loop-i.invariant.2 n ns owner kind value wanted
-          ∙ ⊎_elim
-          (λ w. repeat-name same owner a.prefix n kind value ns a.words.now i far w.0.taken
-          (same-found a.h a.t.now lent _ n _ wanted _ _ w.2.ensures w.3.left))
-          (λ w. repeat-prefix same owner a.prefix n kind value ns a.words.now i far w.left)
-          c.if-words-i.branch),
+          ∙ elim c.if-words-i.branch [
+              then-words-i+else-same_as_known w ↦ repeat-name same owner a.prefix n kind value ns a.words.now i far w.if-words-i.true
+                  (same-found a.h a.t.now lent _ n _ wanted _ _ w.same_as_known.ensures w.if-same_as_known.false)
+            | else-words-i w ↦ repeat-prefix same owner a.prefix n kind value ns a.words.now i far w.if-words-i.false ]),
     )
 
 pub returns : goal.returns

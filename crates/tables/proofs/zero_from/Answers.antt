@@ -6,4 +6,4 @@ pub returns : goal.returns
 returns c =
     let at-start = c in
     let a = at-start.args in
-    zero-tail a.words.now c.zero_all.new.0 a.from at-start.requires c.zero_all.ensures
+    zero-tail a.words.now c.zero_all.new.words a.from at-start.requires c.zero_all.ensures

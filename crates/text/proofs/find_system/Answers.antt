@@ -22,7 +22,7 @@ stripped-requires c =
     let s = c in
     let a = s.args in
     let q = system_name-of-good (lends a.names.now a.area.now) c.id_at-id.result.0 _ _ s.requires.good
-    (sym c.get_type_name-name.ensures ∙ c.name-1.given.1) in
+    (sym c.get_type_name-name.ensures ∙ c.in-Name.is) in
     (q.0, q.2)
 
 pub returns-in-Missing : goal.returns-in-Missing

@@ -1,5 +1,4 @@
 -- `text::string_at` meets its contract: by the offset and the split (`string-outside`, `string-cut`, `string-pool`).
-use Prim.Native.Nat.{◌-◌}
 use native.Mathlib.Omega.{arith}
 use mathlib.Core.Path.{sym, ◌∙◌}
 use Rattle.text.proofs.Parts.{string-outside, string-cut, string-pool, string-pool-le, data-slice}

@@ -1,5 +1,4 @@
 -- `text::stripped` meets its contract: what is left of a name is its end (`stripped-stands`).
-use Prim.Native.Nat.{◌-◌}
 use mathlib.Core.Path.{ap, ◌∙◌}
 use lib.ListN.{length, take, drop}
 use Rattle.system_types.specs.Names.{without, android_attr}

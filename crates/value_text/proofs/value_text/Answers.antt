@@ -8,7 +8,7 @@ pub value_in-requires : goal.value_in-requires
 value_in-requires c =
     let a = c.args in
     let lent = lends a.names.now a.area.now in
-    let e = sym c.open_value-opened.ensures ∙ c.in-requires.is in
+    let e = sym c.open_value-opened.ensures ∙ c.in-Open.is in
     let o = opens a.file.now lent a.items.now a.item_area.now e in
     (rw c.tables_of.ensures o.asks, o.good)
 

@@ -9,14 +9,14 @@ pub look_found-requires : goal.look_found-requires
 look_found-requires c =
     let s = c in
     let a = s.args in
-    let i = subst (Inside a.t.now a.area.now) c.f-1.given.1 s.requires.1 in
+    let i = subst (Inside a.t.now a.area.now) c.in-System.is s.requires.1 in
     i
 
 pub look_pool-requires : goal.look_pool-requires
 look_pool-requires c =
     let s = c in
     let a = s.args in
-    let i = subst (Inside a.t.now a.area.now) c.f-in-Pool-1.given.1 s.requires.1 in
+    let i = subst (Inside a.t.now a.area.now) c.in-Pool.is s.requires.1 in
     (s.requires.0, i, s.requires.2)
 
 pub returns-in-Nothing : goal.returns-in-Nothing

@@ -15,5 +15,5 @@ pub returns : goal.returns
 returns c =
     let a = c.args in
     let asked = c in
-    let k = content_of a.h a.t.now (lends a.names.now a.area.now) a.c.start.name-1.0 in
+    let k = content_of a.h a.t.now (lends a.names.now a.area.now) a.c.start.name.0 in
     (c.look_step.ensures ∙ ap (look_step a.c) asked.known_look-look.ensures.0 ∙ look-step a.c k, asked.known_look-look.ensures.1)

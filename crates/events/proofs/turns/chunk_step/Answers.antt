@@ -4,13 +4,13 @@ use mathlib.Core.Path.{◌∙◌, sym, ap}
 use Rattle.events.proofs.turns.chunk_step.Goals as goal
 
 pub end_step-requires : goal.end_step-requires
-end_step-requires c = rw c.enum_told-1.given.1 at c.requires
+end_step-requires c = rw c.in-End.is at c.requires
 
 pub other_step-requires : goal.other_step-requires
-other_step-requires c = rw c.x-in-Other-1.given.1 at c.requires
+other_step-requires c = rw c.in-Other.is at c.requires
 
 pub unknown_step-requires : goal.unknown_step-requires
-unknown_step-requires c = rw c.enum_told-in-Last-1.given.1 at c.requires
+unknown_step-requires c = rw c.in-Last.is at c.requires
 
 pub returns-in-Start : goal.returns-in-Start
 returns-in-Start c = c.start_step.ensures ∙ ap (chunk_step c.args.c) (sym c.in-Start.is)

@@ -11,18 +11,18 @@ pub foreign_step-requires : goal.foreign_step-requires
 foreign_step-requires c =
     let start = c in
     let a = start.args in
-    let v = c.turn-1.given in
+    let v = c.in-Foreign in
     let e = c.look-turn.ensures ∙ ap turn_of (rest a.b.now a.c.at) in
-    let q = foreign-there a.b.now a.c.at v.0.0 v.0.1.0 v.0.1.1.0 (sym e ∙ v.1) start.requires.0 in
+    let q = foreign-there a.b.now a.c.at v.sort v.number v.used (sym e ∙ v.is) start.requires.0 in
     (q.2, start.requires.1)
 
 pub chunk_step-requires : goal.chunk_step-requires
 chunk_step-requires c =
     let start = c in
     let a = start.args in
-    let v = c.turn-in-Met-1.given in
+    let v = c.in-Met in
     let e = c.look-turn.ensures ∙ ap turn_of (rest a.b.now a.c.at) in
-    let q = met-there a.b.now a.c.at v.0.0 (sym e ∙ v.1) start.requires.0 in
+    let q = met-there a.b.now a.c.at v.x (sym e ∙ v.is) start.requires.0 in
     omega (arith, q.1, start.requires.1)
 
 pub returns-in-Stop : goal.returns-in-Stop

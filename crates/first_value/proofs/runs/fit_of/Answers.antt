@@ -25,4 +25,4 @@ returns c =
     let a = c.args in
     let p : node_width * a.node_count ≤ length a.nodes.now = search rules in
     let q : attribute_width * a.attribute_count ≤ length a.attributes.now = search rules in
-    c.Runs-Fit.ensures ∙ sym (fit_of-runs a.nodes.now a.attributes.now a.node_count a.attribute_count p q)
+    c.runs_fit.ensures ∙ sym (fit_of-runs a.nodes.now a.attributes.now a.node_count a.attribute_count p q)

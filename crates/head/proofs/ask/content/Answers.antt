@@ -8,7 +8,7 @@ pub content_in-requires : goal.content_in-requires
 content_in-requires c =
     let s = c in
     let a = s.args in
-    let e = sym c.open_file-opened.ensures ∙ c.in-requires.is in
+    let e = sym c.open_file-opened.ensures ∙ c.in-Open.is in
     rw c.tables_of.ensures (open_of-asks a.file.now (lends a.names.now a.area.now) e)
 
 pub returns-in-Open : goal.returns-in-Open

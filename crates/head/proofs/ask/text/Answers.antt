@@ -10,7 +10,7 @@ text_in-requires c =
     let s = c in
     let p5 = c in
     let a = s.args in
-    let e = sym p5.open_file-opened.ensures ∙ c.in-requires.is in
+    let e = sym p5.open_file-opened.ensures ∙ c.in-Open.is in
     rw c.tables_of.ensures (open_of-asks a.file.now (lends a.names.now a.area.now) e)
 
 pub returns-in-Open : goal.returns-in-Open
@@ -19,7 +19,7 @@ returns-in-Open c =
     let p8 = c in
     let p6 = c in
     let a = s.args in
-    let e = sym p8.open_file-opened.ensures ∙ p6.opened-1.given.1 in
+    let e = sym p8.open_file-opened.ensures ∙ c.in-Open.is in
     reads-open a.file.now (lends a.names.now a.area.now) a.out.now _ a.index.0 e
     c.tables_of.ensures c.text_in.ensures
 
@@ -29,5 +29,5 @@ returns-in-Closed c =
     let p7 = c in
     let p5 = c in
     let a = s.args in
-    let e = sym p7.open_file-opened.ensures ∙ p5.opened-in-Closed-1.given.1 in
+    let e = sym p7.open_file-opened.ensures ∙ c.in-Closed.is in
     reads-closed a.file.now (lends a.names.now a.area.now) a.out.now _ a.index.0 e (c.refuse.ensures [])

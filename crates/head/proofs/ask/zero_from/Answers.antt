@@ -5,4 +5,4 @@ use Rattle.head.proofs.ask.zero_from.Goals as goal
 pub returns : goal.returns
 returns c =
     let a = c.args in
-    zero-tail a.out.now c.zero_all.new.0 a.from c.zero_all.ensures
+    zero-tail a.out.now c.zero_all.new.out a.from c.zero_all.ensures

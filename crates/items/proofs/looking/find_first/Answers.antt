@@ -1,5 +1,4 @@
 -- `items::looking::find_first` meets its contract. Invariant: no item before k is of the name. Measure: the items left.
-use Prim.Native.Nat.{◌-◌}
 use native.Mathlib.Omega.{arith}
 use Rattle.items.proofs.RunLaws.{place-lt, named-told, first-here, first_next, first-end}
 use Rattle.items.proofs.looking.find_first.Goals as goal

@@ -15,4 +15,4 @@ end_of-end-requires c = omega (arith, c.if-whole-first.false)
 pub returns : goal.returns
 returns c =
     let a = c.args in
-    λ name found. run-all a.area.now name a.items.now c.requires found c.if-whole-first.false refl c.end_of_lem.ensures
+    λ name found. run-all a.area.now name a.items.now c.requires found c.if-whole-first.false refl c.end_of-end.ensures

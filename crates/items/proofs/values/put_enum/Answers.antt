@@ -10,7 +10,7 @@ returns-in-Named c =
     let a = c.args in
     rw c.in-Named.is
     (wrote-more c.put_bytes.ensures c.part_of.ensures
-    (name-le a.area.now c.found-1.given.0.0 c.part_of.ensures
+    (name-le a.area.now c.in-Named.i c.part_of.ensures
     (omega arith)))
 
 pub returns-in-Unnamed : goal.returns-in-Unnamed

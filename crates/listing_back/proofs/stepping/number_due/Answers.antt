@@ -1,6 +1,6 @@
 -- `listing_back::stepping::number_due` meets its contract.
 use mathlib.Core.Path.{sym, ◌∙◌}
-use borrow.Author.Tests.{not-false}
+use borrow.Author.Tests.{not-true, not-false}
 use Rattle.listing_back.proofs.Spots.{counts-stopped, counts-lost, counts-malformed, counts-large, counts-never, counts-goes}
 use Rattle.listing_back.proofs.stepping.number_due.Goals as goal
 
@@ -9,36 +9,35 @@ returns-then-before-ne0 c = counts-stopped _ _ _ _ _ c.if-before-ne0.true c.requ
 
 pub returns-then-not-t : goal.returns-then-not-t
 returns-then-not-t c = counts-lost _ _ _ _ _ c.if-before-ne0.false _ c.take_alone-t.ensures _ _
-    (c.if-not-t.true) c.stray_at.ensures c.stopped.ensures
+    (not-true _ c.if-not-t.true) c.stray_at.ensures c.stopped.ensures
 
 pub returns-then-not-passes : goal.returns-then-not-passes
 returns-then-not-passes c = counts-malformed _ _ _ _ _ c.if-before-ne0.false _
     c.take_alone-t.ensures _
-    c.requires.2 (c.if-not-t.false)
+    c.requires.2 (not-false _ c.if-not-t.false)
     (sym c.passes.ensures ∙ c.if-not-passes.true) c.stopped-then-not-passes.ensures
 
 pub returns-then-t : goal.returns-then-t
 returns-then-t c = counts-large _ _ _ _ _ c.if-before-ne0.false _
     c.take_alone-t.ensures _
     c.requires.2
-    (c.if-not-t.false)
+    (not-false _ c.if-not-t.false)
     (sym c.passes.ensures ∙ c.if-not-passes.false) c.if-t.true c.stopped-then-t.ensures
 
 pub returns-then-t-gt4294967295 : goal.returns-then-t-gt4294967295
 returns-then-t-gt4294967295 c = counts-never c.args.text.now
-    c.args
+    c.args.before
     c.args.n
     c.args.line
     c.args.kind
     c.if-before-ne0.false _
     c.take_alone-t.ensures c.stopped-then-t-gt4294967295.result
     c.requires.2
-    (c.if-not-t.false) c.if-t.false c.if-t-gt4294967295.true
+    (not-false _ c.if-not-t.false) c.if-t.false c.if-t-gt4294967295.true
 
 pub returns : goal.returns
 returns c = counts-goes _ _ _ _ _ c.if-before-ne0.false _
     c.take_alone-t.ensures _
     c.requires.2
-    (c.if-not-t.false) c.if-t.false
-    (sym c.passes.ensures ∙ not-false _
-    c.if-not-passes.false) c.gone.ensures
+    (not-false _ c.if-not-t.false) c.if-t.false
+    (sym c.passes.ensures ∙ c.if-not-passes.false) c.gone.ensures

@@ -4,15 +4,10 @@ use native.Mathlib.Omega.{arith}
 use Rattle.listing_back.proofs.Spots.{records-first, records-more, records-stopped, records-done}
 use Rattle.listing_back.proofs.stepping.read_records.Goals as goal
 
-record-due-requires : tie.Need-record-due-requires invariant-loop decreases-loop
-record-due-requires c κs =
-    let s = c.before.before.before.before.loop.invariant.same in
-    let z = c.before.before.before.before.loop.invariant.room c.before.if1.false in (
-      c.before.if1.false,
-      c.before.before.before.before.loop.invariant.inside,
-      c.before.before.before.before.before.before.before.requires.1,
-      omega arith,
-    )
+pub record_due-spot-requires : goal.record_due-spot-requires
+record_due-spot-requires c =
+    let s = c.loop-k.invariant.same in
+    let z = c.loop-k.invariant.room c.if-spot-ne0.false in (c.if-spot-ne0.false, c.loop-k.invariant.inside, c.requires.1, omega arith)
 
 pub loop-k-init : goal.loop-k-init
 loop-k-init c = records-first _ _ _ _ _ _ _ _ c.requires.0

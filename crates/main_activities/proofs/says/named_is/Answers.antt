@@ -11,7 +11,7 @@ pub is_front-requires : goal.is_front-requires
 is_front-requires c =
     let p = c.requires in
     let at-attr-value = c.attr_value-said in
-    record { some = p.1.some; fits = omega (arith, at-attr-value.auto.0, p.1.fits) }
+    record { some = p.1.some; fits = omega (arith, at-attr-value.auto.out, p.1.fits) }
 
 pub returns-then-said : goal.returns-then-said
 returns-then-said c =
@@ -27,7 +27,7 @@ pub plain_is-requires : goal.plain_is-requires
 plain_is-requires c =
     let p = c.requires in
     let at-attr-value = c.attr_value-said in
-    (p.0, record { some = p.1.some; fits = omega (arith, at-attr-value.auto.0, p.1.fits) })
+    (p.0, record { some = p.1.some; fits = omega (arith, at-attr-value.auto.out, p.1.fits) })
 
 pub returns : goal.returns
 returns c =

@@ -15,11 +15,11 @@ pub attribute_at-requires : goal.attribute_at-requires
 attribute_at-requires c =
     let a = c.args in
     let at-find-named = c.find_named-found in
-    let at-found = c.found-1 in
+    let at-found = c.in-At in
     let p = c.requires in
     let w = tree_of a.h a.t.now (lends a.names.now a.area.now) a.items.now a.item_area.now a.nodes.now
     a.attributes.now a.count in
-    let q = from-below w a.name.now _ _ (sym at-find-named.ensures ∙ at-found.given.1) in
+    let q = from-below w a.name.now _ _ (sym at-find-named.ensures ∙ at-found.is) in
     omega (arith, q, p.0.inside a.k p.1)
 
 pub value_is-requires : goal.value_is-requires
@@ -31,19 +31,19 @@ pub returns-in-At : goal.returns-in-At
 returns-in-At c =
     let a = c.args in
     let at-find-named = c.find_named-found in
-    let at-found = c.found-1 in
+    let at-found = c.in-At in
     let at-attribute-at = c.attribute_at in
     let at-value-is = c.value_is in
     let w = tree_of a.h a.t.now (lends a.names.now a.area.now) a.items.now a.item_area.now a.nodes.now
     a.attributes.now a.count in
-    saying w a.name.now a.expected.now a.k at-find-named.ensures at-found.given.1 at-attribute-at.ensures
+    saying w a.name.now a.expected.now a.k at-find-named.ensures at-found.is at-attribute-at.ensures
     at-value-is.ensures
 
 pub returns-in-NoAttribute : goal.returns-in-NoAttribute
 returns-in-NoAttribute c =
     let a = c.args in
     let at-find-named = c.find_named-found in
-    let at-enum-told = c.enum_told-1 in
+    let at-enum-told = c.in-NoAttribute in
     let w = tree_of a.h a.t.now (lends a.names.now a.area.now) a.items.now a.item_area.now a.nodes.now
     a.attributes.now a.count in
-    saying-none w a.name.now a.expected.now a.k at-find-named.ensures at-enum-told.given.1
+    saying-none w a.name.now a.expected.now a.k at-find-named.ensures at-enum-told.is

@@ -68,8 +68,8 @@ pub overflow_add-ends : goal.overflow_add-ends
 overflow_add-ends c =
     let a = c.args in
     let lent = lends a.names.now a.area.now in
-    let g = looks-same a.h a.t.now lent a.items.now a.item_area.now a.index.0 c.looked-1.given.1 c.look-looked.ensures in
-    omega (arith, g.run.fits, c.well-formed.1.1.1.1.0)
+    let g = looks-same a.h a.t.now lent a.items.now a.item_area.now a.index.0 c.in-At.is c.look-looked.ensures in
+    omega (arith, g.run.fits)
 
 pub offset_bounds-ends-place-in-At : goal.offset_bounds-ends-place-in-At
 offset_bounds-ends-place-in-At c = omega (arith, c.if-place-ge-KNOWN.false)

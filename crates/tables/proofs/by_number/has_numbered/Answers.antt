@@ -48,13 +48,6 @@ returns-then-is_same c =
       at-is-same.is_same.ensures.1,
     )
 
-pub overflow_add-i : goal.overflow_add-i
-overflow_add-i c = omega (
-  arith,
-  c.loop-i.invariant.0,
-  c.well-formed.1.1.1.1.0,
-)
-
 pub loop-i-preserved : goal.loop-i-preserved
 loop-i-preserved c =
     let a = c.args in let lent = lends a.names.now a.area.now in

@@ -7,11 +7,11 @@ use Rattle.tables.proofs.hash.hash_found.Goals as goal
 
 pub overflow_add-at : goal.overflow_add-at
 overflow_add-at c =
-    let s = c in let q = inside-system s.args.t.now s.args.area.now s.requires c.f-1.given.1 in omega arith
+    let s = c in let q = inside-system s.args.t.now s.args.area.now s.requires c.in-System.is in omega arith
 
 pub slice_bounds-hash_of-end : goal.slice_bounds-hash_of-end
 slice_bounds-hash_of-end c =
-    let s = c in inside-system s.args.t.now s.args.area.now s.requires c.f-1.given.1
+    let s = c in inside-system s.args.t.now s.args.area.now s.requires c.in-System.is
 
 pub overflow_add-at-in-Pool : goal.overflow_add-at-in-Pool
 overflow_add-at-in-Pool c =

@@ -5,4 +5,4 @@ use Rattle.tables.specs.Inner.Numbered.{long_from}
 use Rattle.tables.proofs.numbers.is_long.Goals as goal
 
 pub returns : goal.returns
-returns c = ap (leb long_from) c.type_size.ensures
+returns c = ap (leb long_from) c.size_of.ensures

@@ -13,7 +13,7 @@ pub pool_marks-requires : goal.pool_marks-requires
 pool_marks-requires c =
     let s = c in
     let a = s.args in
-    (s.requires.0, inside-pool a.t.now a.area.now s.requires.1 c.g-1.given.1)
+    (s.requires.0, inside-pool a.t.now a.area.now s.requires.1 c.in-Pool.is)
 
 pub returns-in-Nothing : goal.returns-in-Nothing
 returns-in-Nothing c =

@@ -13,7 +13,7 @@ bytes_apart-requires c =
     let a = c.args in (
       c.requires.0,
       inside-pool a.t.now a.area.now c.requires.1
-          c.g-1.given.1,
+          c.in-Pool.is,
       omega arith,
     )
 

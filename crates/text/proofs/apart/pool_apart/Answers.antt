@@ -7,7 +7,7 @@ use Rattle.text.proofs.apart.pool_apart.Goals as goal
 pub part_apart-requires : goal.part_apart-requires
 part_apart-requires c =
     let a = c.args in (
-      inside-pool a.t.now a.area.now c.requires.0 c.f-1.given.1,
+      inside-pool a.t.now a.area.now c.requires.0 c.in-Pool.is,
       c.requires.1,
       c.requires.2,
     )

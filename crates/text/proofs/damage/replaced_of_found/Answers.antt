@@ -12,14 +12,14 @@ pub overflow_add-at : goal.overflow_add-at
 overflow_add-at c =
     let s = c in
     let a = s.args in
-    let q = inside-pool a.t.now a.area.now s.requires.0 c.f-1.given.1 in
+    let q = inside-pool a.t.now a.area.now s.requires.0 c.in-Pool.is in
     omega arith
 
 pub slice_bounds-replaced_in_part-end : goal.slice_bounds-replaced_in_part-end
 slice_bounds-replaced_in_part-end c =
     let s = c in
     let a = s.args in
-    inside-pool a.t.now a.area.now s.requires.0 c.f-1.given.1
+    inside-pool a.t.now a.area.now s.requires.0 c.in-Pool.is
 
 pub replaced_in_part-requires : goal.replaced_in_part-requires
 replaced_in_part-requires c =

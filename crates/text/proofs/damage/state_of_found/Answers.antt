@@ -11,14 +11,14 @@ pub overflow_add-at : goal.overflow_add-at
 overflow_add-at c =
     let s = c in
     let a = s.args in
-    let q = inside-pool a.t.now a.area.now s.requires c.f-1.given.1 in
+    let q = inside-pool a.t.now a.area.now s.requires c.in-Pool.is in
     omega arith
 
 pub slice_bounds-state_of-end : goal.slice_bounds-state_of-end
 slice_bounds-state_of-end c =
     let s = c in
     let a = s.args in
-    inside-pool a.t.now a.area.now s.requires c.f-1.given.1
+    inside-pool a.t.now a.area.now s.requires c.in-Pool.is
 
 pub returns-in-System : goal.returns-in-System
 returns-in-System c =

@@ -14,7 +14,7 @@ pub overflow_add-at : goal.overflow_add-at
 overflow_add-at c =
     let s = c in
     let a = s.args in
-    let q = inside-system a.t.now a.area.now s.requires.1 c.g-1.given.1 in
+    let q = inside-system a.t.now a.area.now s.requires.1 c.in-System.is in
     omega arith
 
 pub slice_bounds-same_part-end-in-System : goal.slice_bounds-same_part-end-in-System

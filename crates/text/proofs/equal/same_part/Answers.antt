@@ -10,7 +10,7 @@ pub overflow_add-at : goal.overflow_add-at
 overflow_add-at c =
     let s = c in
     let a = s.args in
-    let q = inside-system a.t.now a.area.now s.requires.0 c.f-1.given.1 in
+    let q = inside-system a.t.now a.area.now s.requires.0 c.in-System.is in
     omega arith
 
 pub slice_bounds-same_known-end-in-System : goal.slice_bounds-same_known-end-in-System

@@ -9,7 +9,7 @@ pub overflow_add-result : goal.overflow_add-result
 overflow_add-result c =
     let s = c in
     let a = s.args in
-    let q = inside-system a.t.now a.area.now s.requires c.f-1.given.1 in
+    let q = inside-system a.t.now a.area.now s.requires c.in-System.is in
     omega arith
 
 pub slice_bounds-result-end-in-System : goal.slice_bounds-result-end-in-System

@@ -9,14 +9,14 @@ pub overflow_add-at : goal.overflow_add-at
 overflow_add-at c =
     let s = c in
     let a = s.args in
-    let q = inside-pool a.t.now a.area.now s.requires c.f-1.given.1 in
+    let q = inside-pool a.t.now a.area.now s.requires c.in-Pool.is in
     omega arith
 
 pub slice_bounds-is_ascii_text-end : goal.slice_bounds-is_ascii_text-end
 slice_bounds-is_ascii_text-end c =
     let s = c in
     let a = s.args in
-    inside-pool a.t.now a.area.now s.requires c.f-1.given.1
+    inside-pool a.t.now a.area.now s.requires c.in-Pool.is
 
 pub returns-in-System : goal.returns-in-System
 returns-in-System c =

@@ -12,20 +12,20 @@ pub overflow_add-at : goal.overflow_add-at
 overflow_add-at c =
     let s = c in
     let a = s.args in
-    let q = inside-system a.t.now a.area.now s.requires.0 c.f-1.given.1 in
+    let q = inside-system a.t.now a.area.now s.requires.0 c.in-System.is in
     omega arith
 
 pub slice_bounds-ascii_into-end : goal.slice_bounds-ascii_into-end
 slice_bounds-ascii_into-end c =
     let s = c in
     let a = s.args in
-    inside-system a.t.now a.area.now s.requires.0 c.f-1.given.1
+    inside-system a.t.now a.area.now s.requires.0 c.in-System.is
 
 pub ascii_into-requires : goal.ascii_into-requires
 ascii_into-requires c =
     let s = c in
     let a = s.args in
-    sym (ap ascii_in (part_of-system a.utf16 a.t.now a.area.now c.f-1.given.1)) ∙ s.requires.2
+    sym (ap ascii_in (part_of-system a.utf16 a.t.now a.area.now c.in-System.is)) ∙ s.requires.2
 
 pub overflow_add-at-in-Pool : goal.overflow_add-at-in-Pool
 overflow_add-at-in-Pool c =

@@ -12,14 +12,14 @@ pub overflow_add-at : goal.overflow_add-at
 overflow_add-at c =
     let s = c in
     let a = s.args in
-    let q = inside-system a.t.now a.area.now s.requires.0 c.f-1.given.1 in
+    let q = inside-system a.t.now a.area.now s.requires.0 c.in-System.is in
     omega arith
 
 pub slice_bounds-text_into-end : goal.slice_bounds-text_into-end
 slice_bounds-text_into-end c =
     let s = c in
     let a = s.args in
-    inside-system a.t.now a.area.now s.requires.0 c.f-1.given.1
+    inside-system a.t.now a.area.now s.requires.0 c.in-System.is
 
 pub overflow_add-at-in-Pool : goal.overflow_add-at-in-Pool
 overflow_add-at-in-Pool c =
@@ -51,9 +51,9 @@ returns-in-System c =
     let s = c in
     let p6 = c in
     let a = s.args in
-    let q = inside-system a.t.now a.area.now s.requires.0 p6.f-1.given.1 in
-    let n = text_in-system a.utf16 a.t.now a.area.now s.requires.0 p6.f-1.given.1 in
-    let same = sym (ap text_in (part_of-system a.utf16 a.t.now a.area.now p6.f-1.given.1)) in
+    let q = inside-system a.t.now a.area.now s.requires.0 p6.in-System.is in
+    let n = text_in-system a.utf16 a.t.now a.area.now s.requires.0 p6.in-System.is in
+    let same = sym (ap text_in (part_of-system a.utf16 a.t.now a.area.now p6.in-System.is)) in
     Wrote-by _ same (omega (arith, n)) c.text_into.ensures
 
 pub returns-in-Pool : goal.returns-in-Pool
@@ -61,6 +61,6 @@ returns-in-Pool c =
     let s = c in
     let p6 = c in
     let a = s.args in
-    let same = sym (ap text_in (part_of-pool a.utf16 a.t.now a.area.now p6.f-in-Pool-1.given.1)) in
+    let same = sym (ap text_in (part_of-pool a.utf16 a.t.now a.area.now p6.in-Pool.is)) in
     let short = s.requires.1 in
     Wrote-by _ same (text_of-held a.utf16 _ same (simp (length-take, length-drop) (omega arith))) c.text_into-in-Pool.ensures

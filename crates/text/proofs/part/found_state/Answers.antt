@@ -9,14 +9,14 @@ pub overflow_add-at : goal.overflow_add-at
 overflow_add-at c =
     let s = c in
     let a = s.args in
-    let q = inside-system a.t.now a.area.now s.requires c.f-1.given.1 in
+    let q = inside-system a.t.now a.area.now s.requires c.in-System.is in
     omega arith
 
 pub slice_bounds-valid_name-end : goal.slice_bounds-valid_name-end
 slice_bounds-valid_name-end c =
     let s = c in
     let a = s.args in
-    inside-system a.t.now a.area.now s.requires c.f-1.given.1
+    inside-system a.t.now a.area.now s.requires c.in-System.is
 
 pub overflow_add-at-in-Pool : goal.overflow_add-at-in-Pool
 overflow_add-at-in-Pool c =

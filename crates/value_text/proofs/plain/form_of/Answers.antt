@@ -1,12 +1,6 @@
 -- `value_text::plain::form_of` meets its contract: each arm knows the type.
--- The needs are answered one behind the other, in the order in which `rt dev` lists them.
 use Rattle.value_text.specs.Inner.Forms.{form_of}
-use borrow.Author.Rules.{rules}
 use Rattle.value_text.proofs.plain.form_of.Goals as goal
-
-pub value_type_of-named-requires : goal.value_type_of-named-requires
-unfolding form_of
-value_type_of-named-requires c = search rules
 
 pub returns-in-Null : goal.returns-in-Null
 unfolding form_of

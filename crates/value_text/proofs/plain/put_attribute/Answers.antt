@@ -11,10 +11,9 @@ use Rattle.value_text.proofs.plain.put_attribute.Goals as goal
 pub returns-in-Name : goal.returns-in-Name
 returns-in-Name c =
     let a = c.args in
-    let x = c.name-1.given.0 in
     wrote-attribute a.area.now a.v (sym c.get_type_name-name.ensures
     ∙ c.in-Name.is)
-    (wrote-part a.area.now x.0 x.1.0 (omega arith) c.part_of.ensures c.put_bytes.ensures)
+    (wrote-part a.area.now c.in-Name.start c.in-Name.n (omega arith) c.part_of.ensures c.put_bytes.ensures)
 
 pub returns-in-Missing : goal.returns-in-Missing
 returns-in-Missing c =
