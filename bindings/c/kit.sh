@@ -1,10 +1,19 @@
 # How C is built over the proved library and run, with the kit's own clang, linker and C library. Read by bindings/c/run, axml-round-up and axml-show:
 # `. bindings/c/kit.sh`, with $top, the folder of the repository, set, rt on the path, and a function `say` for words to a person.
-kit=$(dirname "$(dirname "$(rt doc)")")
-tools=$kit/on/$(uname -m)/toolchain
-archive=$top/target/staticlib/libc_api.a # `rt staticlib c_api` writes it
-emulator=$tools/bin/qemu-x86_64
-[ -x "$emulator" ] || emulator=
+kit=$(dirname "$(rt doc)")
+tools=$kit/toolchain
+archive=$top/target/staticlib/libc_api.a # kit_archive writes it
+
+# kit_archive LOG: proves the C interface (crate c_api_c) and all below it, and compiles the archive; LOG has what rt said. Where AXML_PROVED is set, the gate
+# has just proved it all in this folder: then the archive alone is made, over the libraries that `rt ci` left.
+kit_archive() {
+    mkdir -p "$(dirname "$archive")" || return
+    if [ -n "${AXML_PROVED-}" ] && [ -d "$top/crates/c_api/out/rlib/c_api.rlib" ]; then
+        "$top/tools/archive" "$archive" >"$1" 2>&1
+        return
+    fi
+    (cd "$top/crates/c_api_c" && rt lib) >"$1" 2>&1 && cp "$top/crates/c_api_c/out/libc_api_c.a" "$archive"
+}
 
 kit_compiles() { # SOURCE OBJECT FOLDER..: the folders have further headers
     source=$1 object=$2
@@ -23,9 +32,9 @@ kit_links() { # PROGRAM OBJECT..
         "$tools/lib/crtbeginS.o" "$@" "$archive" "$tools/lib/libc.so.6" "$tools/lib/libc_nonshared.a" "$tools/lib/ld-linux-x86-64.so.2" \
         "$tools/lib/crtendS.o" "$tools/lib/crtn.o"
 }
-# The program is for x86-64 and runs with the kit's loader, elsewhere under the kit's emulator.
+# The program runs with the kit's loader.
 kit_becomes() { # PROGRAM WORD..: in place of the shell
-    exec ${emulator:+"$emulator"} "$tools/lib/ld-linux-x86-64.so.2" --library-path "$tools/lib" "$@"
+    exec "$tools/lib/ld-linux-x86-64.so.2" --library-path "$tools/lib" "$@"
 }
 kit_runs() { (kit_becomes "$@"); } # PROGRAM WORD..
 
@@ -35,7 +44,7 @@ kit_runs() { (kit_becomes "$@"); } # PROGRAM WORD..
 kit_fresh() { # MADE SOURCE..: it is there, and nothing of the sources is newer
     made=$1
     shift
-    [ -f "$made" ] && [ -z "$(cd "$top" && find "$@" -newer "$made" -type f 2>/dev/null | head -n 1)" ]
+    [ -f "$made" ] && [ -z "$(cd "$top" && find "$@" -name out -prune -o -newer "$made" -type f -print 2>/dev/null | head -n 1)" ]
 }
 kit_makes() { # FOLDER PROGRAM SOURCE..
     folder=$1 program=$2
@@ -57,9 +66,8 @@ kit_program() {
     began=$(date +%s)
     mkdir -p "$folder" && : >"$folder/log" || return
     if ! kit_fresh "$archive" crates.txt crates; then
-        say "proving the library and building the program, once: some seven minutes"
-        { (cd "$top" && rt staticlib c_api) 2>&1; echo "status $?"; } | tee "$folder/log" | sed -un "s/^rt: /$name: /p" >&2
-        [ "$(tail -n 1 "$folder/log")" = "status 0" ] || { say "the library was not proved; target/$name/log has all that was said"; return 1; }
+        say "proving the library and building the program, once: some quarter of an hour"
+        kit_archive "$folder/log" || { say "the library was not proved; target/$name/log has all that was said"; return 1; }
         touch "$archive"
     fi
     kit_makes "$folder" "$folder/$name" "$@" >>"$folder/log" 2>&1 || { say "the program was not built; target/$name/log has all that was said"; return 1; }

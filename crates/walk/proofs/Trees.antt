@@ -3,7 +3,7 @@
 -- Not here: attributes (Attributes.antt).
 use Prim.Native.Nat.{ℕ, ◌+◌, ◌-◌, ◌*◌, ◌/◌, ◌≤◌, ◌<◌}
 use native.Mathlib.Omega.{arith}
-use mathlib.Core.Path.{◌≡◌, refl, sym, ◌∙◌, ap}
+use mathlib.Core.Path.{◌≡◌, refl, sym, ◌∙◌, ap, subst}
 use mathlib.Core.List.{List, [], ◌∷◌, ◌++◌}
 use mathlib.Core.Bool.{Bool, cond}
 use borrow.Author.Tests.{le-leb, lt-leb, eq-eqb, ne_eqb}
@@ -124,7 +124,7 @@ module _ (rule : Rule) (key : Key) (ns ats ns' : List ℕ) (t : Tree) (name : St
         first = rw (uf, ua) (omega arith);
         inside = λ _. rw (un, ui) (omega arith);
       };
-      linked = rw (un, words) (linked o h);
+      linked = subst (λ (v : List ℕ). Linked v (t.nodes ∷ o)) (sym (ap (λ (n : ℕ). take (node_width * n) ns') un ∙ words)) (linked o h);
       top = sym ui;
       above_root = us;
       attributes_before_it = rw (un, words) uu;

@@ -12,6 +12,6 @@ returns-in-Clearing c =
     let r = c.clear_next in (
       (λ g.
           rw r.ensures
-          (goes-clearing a.file.now (lends a.names.now a.area.now) a.nodes.now a.attributes.now a.st g _ at_stage.stage-1.given.1)),
+          (goes-clearing a.file.now (lends a.names.now a.area.now) a.nodes.now a.attributes.now a.st g _ c.in-Clearing.is)),
       knows-cleared a.file.now (lends a.names.now a.area.now) _ _ at-start.requires.1.looks-room at-start.requires.1.texts-room a.st _ _ r.ensures,
     )

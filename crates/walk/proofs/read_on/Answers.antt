@@ -31,26 +31,26 @@ shape_of-nodes-in-Full c =
     let at-refuse = c in
     let at-run-in = c in
     let at-loop = c in
-    at-refuse.refuse.auto.0 ∙ at-run-in.run_in-h.auto.1.1.1.1.1.0 ∙ at-loop.loop-x.invariant.0
+    at-refuse.refuse.auto.nodes ∙ at-run-in.run_in-h.auto.nodes ∙ at-loop.loop-x.invariant.0
 
 pub shape_of-attributes-in-Full : goal.shape_of-attributes-in-Full
 shape_of-attributes-in-Full c =
     let at-refuse = c in
     let at-run-in = c in
     let at-loop = c in
-    at-refuse.refuse.auto.1.0 ∙ at-run-in.run_in-h.auto.1.1.1.1.1.1.0 ∙ at-loop.loop-x.invariant.1
+    at-refuse.refuse.auto.attributes ∙ at-run-in.run_in-h.auto.attributes ∙ at-loop.loop-x.invariant.1
 
 pub shape_of-memory-in-Full : goal.shape_of-memory-in-Full
 shape_of-memory-in-Full c =
     let at-run-in = c in
     let at-loop = c in
-    at-run-in.run_in-h.auto.1.1.1.1.1.1.1.0 ∙ at-loop.loop-x.invariant.2
+    at-run-in.run_in-h.auto.memory ∙ at-loop.loop-x.invariant.2
 
 pub shape_of-numbers-in-Full : goal.shape_of-numbers-in-Full
 shape_of-numbers-in-Full c =
     let at-run-in = c in
     let at-loop = c in
-    at-run-in.run_in-h.auto.1.1.1.1.1.1.1.1.1.1.0 ∙ at-loop.loop-x.invariant.3
+    at-run-in.run_in-h.auto.numbers ∙ at-loop.loop-x.invariant.3
 
 pub returns-in-Full : goal.returns-in-Full
 returns-in-Full c =
@@ -62,13 +62,12 @@ returns-in-Full c =
     let a = at-start.args in
     let l = at-loop.loop-x in
     let q = at-run-in.run_in-h in
-    let r = at-refuse.refuse in
-    let s = at-stop.stop-1.given in (
+    let r = at-refuse.refuse in (
       (λ g.
           read-full a.file.now (lends a.names.now a.area.now) a.nodes.now a.attributes.now a.st g l.nodes l.attributes l.cur
           l.tree (l.invariant.4 g)
-          q.result q.new.1.1.1.1.1.0 q.new.1.1.1.1.1.1.0 q.auto.1.1.1.1.1.0 q.auto.1.1.1.1.1.1.0 q.ensures.0
-          s.0.0 s.1 r.result r.new.0 r.new.1.0 r.ensures),
+          q.result q.new.nodes q.new.attributes q.auto.nodes q.auto.attributes q.ensures.0
+          c.in-Full.x c.in-Full.is r.result r.new.nodes r.new.attributes r.ensures),
       knows-refused a.file.now (lends a.names.now a.area.now) _ _ q.ensures.1.room q.ensures.2.room _ _ _ _ _ _ _ r.ensures,
     )
 
@@ -84,34 +83,34 @@ finish-requires c =
     let g = at-start.requires.0 in
     read-keepable a.file.now (lends a.names.now a.area.now) a.nodes.now a.attributes.now a.st g l.nodes l.attributes l.cur
     l.tree (l.invariant.4 g)
-    q.result q.new.1.1.1.1.1.0 q.new.1.1.1.1.1.1.0 q.auto.1.1.1.1.1.0 q.auto.1.1.1.1.1.1.0 q.ensures.0
-    at-enum-told.enum_told-1.given.1
+    q.result q.new.nodes q.new.attributes q.auto.nodes q.auto.attributes q.ensures.0
+    c.in-Finished.is
 
 pub shape_of-nodes-in-Finished : goal.shape_of-nodes-in-Finished
 shape_of-nodes-in-Finished c =
     let at-finish = c in
     let at-run-in = c in
     let at-loop = c in
-    at-finish.finish.auto.0 ∙ at-run-in.run_in-h.auto.1.1.1.1.1.0 ∙ at-loop.loop-x.invariant.0
+    at-finish.finish.auto.nodes ∙ at-run-in.run_in-h.auto.nodes ∙ at-loop.loop-x.invariant.0
 
 pub shape_of-attributes-in-Finished : goal.shape_of-attributes-in-Finished
 shape_of-attributes-in-Finished c =
     let at-finish = c in
     let at-run-in = c in
     let at-loop = c in
-    at-finish.finish.auto.1.0 ∙ at-run-in.run_in-h.auto.1.1.1.1.1.1.0 ∙ at-loop.loop-x.invariant.1
+    at-finish.finish.auto.attributes ∙ at-run-in.run_in-h.auto.attributes ∙ at-loop.loop-x.invariant.1
 
 pub shape_of-memory-in-Finished : goal.shape_of-memory-in-Finished
 shape_of-memory-in-Finished c =
     let at-run-in = c in
     let at-loop = c in
-    at-run-in.run_in-h.auto.1.1.1.1.1.1.1.0 ∙ at-loop.loop-x.invariant.2
+    at-run-in.run_in-h.auto.memory ∙ at-loop.loop-x.invariant.2
 
 pub shape_of-numbers-in-Finished : goal.shape_of-numbers-in-Finished
 shape_of-numbers-in-Finished c =
     let at-run-in = c in
     let at-loop = c in
-    at-run-in.run_in-h.auto.1.1.1.1.1.1.1.1.1.1.0 ∙ at-loop.loop-x.invariant.3
+    at-run-in.run_in-h.auto.numbers ∙ at-loop.loop-x.invariant.3
 
 pub returns-in-Finished : goal.returns-in-Finished
 returns-in-Finished c =
@@ -127,13 +126,13 @@ returns-in-Finished c =
       (λ g.
           read_done a.file.now (lends a.names.now a.area.now) a.nodes.now a.attributes.now a.st g l.nodes l.attributes l.cur
           l.tree (l.invariant.4 g)
-          q.result q.new.1.1.1.1.1.0 q.new.1.1.1.1.1.1.0 q.auto.1.1.1.1.1.0 q.auto.1.1.1.1.1.1.0 q.ensures.0
-          at-enum-told.enum_told-1.given.1 r.result r.new.0 r.new.1.0 r.ensures),
+          q.result q.new.nodes q.new.attributes q.auto.nodes q.auto.attributes q.ensures.0
+          c.in-Finished.is r.result r.new.nodes r.new.attributes r.ensures),
       knows-finished a.file.now (lends a.names.now a.area.now) _ _ q.ensures.1.room q.ensures.2.room _ _ _ _ _ _ _ r.ensures,
     )
 
 pub is_due-requires : goal.is_due-requires
-is_due-requires c = omega (arith, c.kind_index.ensures, kind_index-lt c.stop-in-Due-1.given.0.0)
+is_due-requires c = omega (arith, c.kind_index.ensures, kind_index-lt c.in-Due.x)
 
 pub note_due-requires : goal.note_due-requires
 note_due-requires c =
@@ -147,26 +146,26 @@ shape_of-nodes-then-is_due c =
     let at-note-due = c in
     let at-run-in = c in
     let at-loop = c in
-    at-note-due.note_due.auto.0 ∙ at-run-in.run_in-h.auto.1.1.1.1.1.0 ∙ at-loop.loop-x.invariant.0
+    at-note-due.note_due.auto.nodes ∙ at-run-in.run_in-h.auto.nodes ∙ at-loop.loop-x.invariant.0
 
 pub shape_of-attributes-then-is_due : goal.shape_of-attributes-then-is_due
 shape_of-attributes-then-is_due c =
     let at-note-due = c in
     let at-run-in = c in
     let at-loop = c in
-    at-note-due.note_due.auto.1.0 ∙ at-run-in.run_in-h.auto.1.1.1.1.1.1.0 ∙ at-loop.loop-x.invariant.1
+    at-note-due.note_due.auto.attributes ∙ at-run-in.run_in-h.auto.attributes ∙ at-loop.loop-x.invariant.1
 
 pub shape_of-memory-then-is_due : goal.shape_of-memory-then-is_due
 shape_of-memory-then-is_due c =
     let at-run-in = c in
     let at-loop = c in
-    at-run-in.run_in-h.auto.1.1.1.1.1.1.1.0 ∙ at-loop.loop-x.invariant.2
+    at-run-in.run_in-h.auto.memory ∙ at-loop.loop-x.invariant.2
 
 pub shape_of-numbers-then-is_due : goal.shape_of-numbers-then-is_due
 shape_of-numbers-then-is_due c =
     let at-run-in = c in
     let at-loop = c in
-    at-run-in.run_in-h.auto.1.1.1.1.1.1.1.1.1.1.0 ∙ at-loop.loop-x.invariant.3
+    at-run-in.run_in-h.auto.numbers ∙ at-loop.loop-x.invariant.3
 
 pub returns-then-is_due : goal.returns-then-is_due
 returns-then-is_due c =
@@ -183,13 +182,12 @@ returns-then-is_due c =
     let l = at-loop.loop-x in
     let q = at-run-in.run_in-h in
     let r = at-note-due.note_due in
-    let s = at-stop2.stop-in-Due-1.given in
     let under = ltb-true _ _ (sym (rw at-kind-index.kind_index.ensures at at-is-due.is_due.ensures) ∙ at-if1.if-is_due.true) in (
       (λ g.
           read-due a.file.now (lends a.names.now a.area.now) a.nodes.now a.attributes.now a.st g l.nodes l.attributes l.cur l.tree
           (l.invariant.4 g)
-          q.result q.new.1.1.1.1.1.0 q.new.1.1.1.1.1.1.0 q.auto.1.1.1.1.1.0 q.auto.1.1.1.1.1.1.0 q.ensures.0
-          s.0.0 s.1 under r.result r.new.0 r.new.1.0 r.ensures),
+          q.result q.new.nodes q.new.attributes q.auto.nodes q.auto.attributes q.ensures.0
+          c.in-Due.x c.in-Due.is under r.result r.new.nodes r.new.attributes r.ensures),
       knows-noted a.file.now (lends a.names.now a.area.now) _ _ q.ensures.1.room q.ensures.2.room _ _ _ _ _ _ _ _ _ r.ensures q.ensures.1 q.ensures.2,
     )
 
@@ -205,8 +203,8 @@ pass_in-cur-requires c =
     let g = at-start.requires.0 in
     due-within a.file.now (lends a.names.now a.area.now) a.nodes.now a.attributes.now a.st g l.nodes l.attributes l.cur l.tree
     (l.invariant.4 g)
-    q.result q.new.1.1.1.1.1.0 q.new.1.1.1.1.1.1.0 q.auto.1.1.1.1.1.0 q.auto.1.1.1.1.1.1.0 q.ensures.0
-    at-stop2.stop-in-Due-1.given.0.0 at-stop2.stop-in-Due-1.given.1
+    q.result q.new.nodes q.new.attributes q.auto.nodes q.auto.attributes q.ensures.0
+    c.in-Due.x c.in-Due.is
 
 pub loop-x-smaller : goal.loop-x-smaller
 loop-x-smaller c =
@@ -220,8 +218,8 @@ loop-x-smaller c =
     let g = at-start.requires.0 in
     let less = due-less a.file.now (lends a.names.now a.area.now) a.nodes.now a.attributes.now a.st g l.nodes l.attributes l.cur
     l.tree (l.invariant.4 g)
-    q.result q.new.1.1.1.1.1.0 q.new.1.1.1.1.1.1.0 q.auto.1.1.1.1.1.0 q.auto.1.1.1.1.1.1.0 q.ensures.0
-    at-stop2.stop-in-Due-1.given.0.0 at-stop2.stop-in-Due-1.given.1 in
+    q.result q.new.nodes q.new.attributes q.auto.nodes q.auto.attributes q.ensures.0
+    c.in-Due.x c.in-Due.is in
     omega (arith, less, c.pass_in-cur.ensures.low)
 
 pub loop-x-preserved : goal.loop-x-preserved
@@ -235,20 +233,19 @@ loop-x-preserved c =
     let a = at-start.args in
     let l = at-loop.loop-x in
     let q = at-run-in.run_in-h in
-    let s = at-stop2.stop-in-Due-1.given in
     let p = c.pass_in-cur in
     let past = ltb-false _ _ (sym (rw at-kind-index.kind_index.ensures at at-is-due.is_due.ensures) ∙ c.if-is_due.false) in (
-      q.auto.1.1.1.1.1.0 ∙ l.invariant.0,
-      q.auto.1.1.1.1.1.1.0 ∙ l.invariant.1,
-      q.auto.1.1.1.1.1.1.1.0 ∙ l.invariant.2,
-      q.auto.1.1.1.1.1.1.1.1.1.1.0 ∙ l.invariant.3,
+      q.auto.nodes ∙ l.invariant.0,
+      q.auto.attributes ∙ l.invariant.1,
+      q.auto.memory ∙ l.invariant.2,
+      q.auto.numbers ∙ l.invariant.3,
       λ g.
-          read-passed a.file.now (lends a.names.now a.area.now) a.nodes.now a.attributes.now a.st g q.new.1.1.1.1.1.0
-          q.new.1.1.1.1.1.1.0 q.result.cur-1 q.result.tree-1
+          read-passed a.file.now (lends a.names.now a.area.now) a.nodes.now a.attributes.now a.st g q.new.nodes
+          q.new.attributes q.result.cur q.result.tree
           (read_past a.file.now (lends a.names.now a.area.now) a.nodes.now a.attributes.now a.st g l.nodes l.attributes l.cur
           l.tree (l.invariant.4 g)
-          q.result q.new.1.1.1.1.1.0 q.new.1.1.1.1.1.1.0 q.auto.1.1.1.1.1.0 q.auto.1.1.1.1.1.1.0 q.ensures.0
-          s.0.0 s.1 past) p.result p.ensures,
+          q.result q.new.nodes q.new.attributes q.auto.nodes q.auto.attributes q.ensures.0
+          c.in-Due.x c.in-Due.is past) p.result p.ensures,
       q.ensures.1,
       q.ensures.2,
     )

@@ -13,7 +13,7 @@ read_on-requires c =
     let at-start = c in
     let a = at-start.args in
     let s = at-started.started in
-    let e = sym at-enter.enter-entered.ensures ∙ at-entered2.entered-in-In-1.given.1 in
+    let e = sym at-enter.enter-entered.ensures ∙ c.in-In.is in
     let p = started-asks a.file.now (lends a.names.now a.area.now) a.nodes.now a.attributes.now a.st at-start.requires.0 at-start.requires.1 e
     s.result s.ensures in
     (p.0, p.1, knows-started a.file.now (lends a.names.now a.area.now) _ _ at-start.requires.2.looks-room at-start.requires.2.texts-room a.st at-start.requires.1 at-start.requires.2 _ s.result s.ensures)
@@ -26,10 +26,10 @@ returns-in-Out c =
     let at-start = c in
     let a = at-start.args in
     let r = at-refuse.refuse in
-    let e = sym at-enter.enter-entered.ensures ∙ at-entered.entered-1.given.1 in (
+    let e = sym at-enter.enter-entered.ensures ∙ c.in-Out.is in (
       (λ g.
           fresh-out a.file.now (lends a.names.now a.area.now) a.nodes.now a.attributes.now a.st g at-start.requires.1 e
-          r.result r.new.0 r.new.1.0 r.ensures),
+          r.result r.new.nodes r.new.attributes r.ensures),
       knows-refused a.file.now (lends a.names.now a.area.now) _ _ at-start.requires.2.looks-room at-start.requires.2.texts-room _ _ _ _ _ _ _ r.ensures,
     )
 
@@ -42,9 +42,9 @@ returns-in-In c =
     let at-start = c in
     let a = at-start.args in
     let q = at-read-on.read_on in
-    let e = sym at-enter.enter-entered.ensures ∙ at-entered2.entered-in-In-1.given.1 in (
+    let e = sym at-enter.enter-entered.ensures ∙ c.in-In.is in (
       (λ g.
           advanced-started a.file.now (lends a.names.now a.area.now) a.nodes.now a.attributes.now a.st g at-start.requires.1 e
-          at-started.started.result at-started.started.ensures q.result q.new.1.1.1.0 q.new.1.1.1.1.0 q.ensures.0),
+          at-started.started.result at-started.started.ensures q.result q.new.nodes q.new.attributes q.ensures.0),
       q.ensures.1,
     )

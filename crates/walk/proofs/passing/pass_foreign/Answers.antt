@@ -7,7 +7,7 @@ use Rattle.walk.proofs.passing.pass_foreign.Goals as goal
 pub loop-at-init : goal.loop-at-init
 loop-at-init c =
     let a = c.args in
-    reaches_here a.b.now a.«from» a c.requires
+    reaches_here a.b.now a.«from» a.before c.requires
 
 pub pass_one-r-requires : goal.pass_one-r-requires
 pass_one-r-requires c = c.loop-at.invariant.fits
@@ -17,7 +17,7 @@ returns-then-r-at c =
     let p = c.pass_one-r in
     let l = c.loop-at in
     let a = c.args in
-    reaches-on a.b.now a.«from» a l.at l.run p.result.at p.result.run l.invariant p.ensures
+    reaches-on a.b.now a.«from» a.before l.at l.run p.result.at p.result.run l.invariant p.ensures
 
 pub loop-at-smaller : goal.loop-at-smaller
 loop-at-smaller c =
@@ -29,4 +29,4 @@ loop-at-preserved c =
     let p = c.pass_one-r in
     let l = c.loop-at in
     let a = c.args in
-    reaches-on a.b.now a.«from» a l.at l.run p.result.at p.result.run l.invariant p.ensures
+    reaches-on a.b.now a.«from» a.before l.at l.run p.result.at p.result.run l.invariant p.ensures

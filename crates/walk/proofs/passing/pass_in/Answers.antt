@@ -37,7 +37,7 @@ returns-in-AtChunk c =
     let other = past-cap a.cap a.notes.counts at-due2.kind_index-2.ensures at-due2.is_due-2.ensures at-if2.if-is_due-2.false in
     let reach = rw at-body-of.body_of-b.ensures at p.ensures in
     rw c.passed_to.ensures
-    (on-chunk (body_in a.file.now a.o.head) a.cap a.notes.counts a.c p.result.at p.result.run at_told.enum_told-1.given.1 reach
+    (on-chunk (body_in a.file.now a.o.head) a.cap a.notes.counts a.c p.result.at p.result.run c.in-AtChunk.is reach
     (one, other))
 
 pub returns-in_default : goal.returns-in_default

@@ -25,8 +25,8 @@ returns-in-NotStored c =
           let q = at-keep.keep-p in
           λ o h l.
           keep_same (by_prefix (same_name a.h a.t.now (lends a.names.now a.area.now)))
-          (key_by a.h a.t.now (lends a.names.now a.area.now)) a.nodes.now a.attributes.now q.new.1.1.1.1.0
-          q.new.1.1.1.1.1.0
+          (key_by a.h a.t.now (lends a.names.now a.area.now)) a.nodes.now a.attributes.now q.new.nodes
+          q.new.attributes
           a.tree o h l a.prefix a.a c.in-NotStored.is (q.ensures.0 l)),
       at-keep.keep-p.ensures.1,
     )
@@ -45,9 +45,9 @@ returns-in-Full c =
           let q = at-keep.keep-p in
           λ o h l.
           keep-full (by_prefix (same_name a.h a.t.now (lends a.names.now a.area.now)))
-          (key_by a.h a.t.now (lends a.names.now a.area.now)) a.nodes.now a.attributes.now q.new.1.1.1.1.0
-          q.new.1.1.1.1.1.0
-          a.tree o h l a.prefix a.a (length q.new.1.1.1.1.1.0) c.in-Full.is (q.ensures.0 l) q.auto.1.1.1.1.1.0),
+          (key_by a.h a.t.now (lends a.names.now a.area.now)) a.nodes.now a.attributes.now q.new.nodes
+          q.new.attributes
+          a.tree o h l a.prefix a.a (length q.new.attributes) c.in-Full.is (q.ensures.0 l) q.auto.attributes),
       at-keep.keep-p.ensures.1,
     )
 
@@ -65,8 +65,8 @@ returns-in-Stored c =
           let q = at-keep.keep-p in
           λ o h l.
           keep-stored (by_prefix (same_name a.h a.t.now (lends a.names.now a.area.now)))
-          (key_by a.h a.t.now (lends a.names.now a.area.now)) a.nodes.now a.attributes.now q.new.1.1.1.1.0
-          q.new.1.1.1.1.1.0 a.tree o h l a.prefix a.a c.p-1.given.0.0 c.in-Stored.is (q.ensures.0 l) q.auto.1.1.1.1.0
-          q.auto.1.1.1.1.1.0),
+          (key_by a.h a.t.now (lends a.names.now a.area.now)) a.nodes.now a.attributes.now q.new.nodes
+          q.new.attributes a.tree o h l a.prefix a.a c.in-Stored.u c.in-Stored.is (q.ensures.0 l) q.auto.nodes
+          q.auto.attributes),
       at-keep.keep-p.ensures.1,
     )

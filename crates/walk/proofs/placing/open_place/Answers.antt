@@ -20,5 +20,5 @@ returns c =
     let q = c.open_node in
     λ rule key o h l.
     rw q.ensures.0
-    (node_opens rule key a.nodes.now a.attributes.now q.new.0 a.tree a.name a.fixed a.line
-    (omega (arith, at-if1.if-nodes-node_place-lt-NODE_WORDS.false, at_place.node_place.ensures)) q.auto.0 q.ensures.1 o h)
+    (node_opens rule key a.nodes.now a.attributes.now q.new.nodes a.tree a.name a.fixed a.line
+    (omega (arith, at-if1.if-nodes-node_place-lt-NODE_WORDS.false, at_place.node_place.ensures)) q.auto.nodes q.ensures.1 o h)

@@ -11,7 +11,7 @@ pub keep_place-requires : goal.keep_place-requires
 keep_place-requires c =
     let at-e2 = c in
     let at-start = c in
-    (rw at-e2.e-in-Attribute-1.given.1 at at-start.requires.0, at-start.requires.1, at-start.requires.2)
+    (rw c.in-Attribute.is at at-start.requires.0, at-start.requires.1, at-start.requires.2)
 
 pub returns-in-Nothing : goal.returns-in-Nothing
 returns-in-Nothing c =
@@ -31,12 +31,11 @@ returns-in-Open c =
     let at-start = c in
     let a = at-start.args in
     let q = at-open-place.open_place in
-    let e = at-e.e-1.given in
     let rule = by_prefix (same_name a.h a.t.now (lends a.names.now a.area.now)) in
     let key = key_by a.h a.t.now (lends a.names.now a.area.now) in (
-      (λ o h l. place-as rule key a.nodes.now a.attributes.now a.tree o a.e q.result q.new.0 a.attributes.now _ e.1
+      (λ o h l. place-as rule key a.nodes.now a.attributes.now a.tree o a.e q.result q.new.nodes a.attributes.now _ c.in-Open.is
           (q.ensures rule key o h l)),
-      not_end q.result a.e (not-other a.e _ e.1 tt),
+      not_end q.result a.e (not-other a.e _ c.in-Open.is tt),
       at-start.requires.2,
     )
 
@@ -53,13 +52,12 @@ returns-in-Attribute c =
     let at-start = c in
     let a = at-start.args in
     let q = at-keep-place.keep_place in
-    let e = at-e2.e-in-Attribute-1.given in
     let rule = by_prefix (same_name a.h a.t.now (lends a.names.now a.area.now)) in
     let key = key_by a.h a.t.now (lends a.names.now a.area.now) in (
       (λ o h l.
-          place-as rule key a.nodes.now a.attributes.now a.tree o a.e q.result q.new.1.1.1.1.0 q.new.1.1.1.1.1.0 _ e.1
+          place-as rule key a.nodes.now a.attributes.now a.tree o a.e q.result q.new.nodes q.new.attributes _ c.in-Attribute.is
           (q.ensures.0 o h l)),
-      not_end q.result a.e (not-other a.e _ e.1 tt),
+      not_end q.result a.e (not-other a.e _ c.in-Attribute.is tt),
       q.ensures.1,
     )
 
@@ -67,10 +65,9 @@ pub returns-in-LeftOut : goal.returns-in-LeftOut
 returns-in-LeftOut c =
     let at-start = c in
     let a = at-start.args in
-    let e = c.e-in-LeftOut-1.given in
     let rule = by_prefix (same_name a.h a.t.now (lends a.names.now a.area.now)) in
     let key = key_by a.h a.t.now (lends a.names.now a.area.now) in
-    ((λ o h l. place-left rule key a.nodes.now a.attributes.now a.tree o a.e e.0.0 h l e.1), not-other a.e _ e.1 tt, at-start.requires.2)
+    ((λ o h l. place-left rule key a.nodes.now a.attributes.now a.tree o a.e c.in-LeftOut.name h l c.in-LeftOut.is), not-other a.e _ c.in-LeftOut.is tt, at-start.requires.2)
 
 pub returns-in-Close : goal.returns-in-Close
 returns-in-Close c =
@@ -78,12 +75,11 @@ returns-in-Close c =
     let at-start = c in
     let a = at-start.args in
     let q = c.close_place in
-    let e = at-enum-told2.enum_told-in-Close-1.given in
     let rule = by_prefix (same_name a.h a.t.now (lends a.names.now a.area.now)) in
     let key = key_by a.h a.t.now (lends a.names.now a.area.now) in (
-      (λ o h l. place-as rule key a.nodes.now a.attributes.now a.tree o a.e q.result a.nodes.now a.attributes.now _ e.1
+      (λ o h l. place-as rule key a.nodes.now a.attributes.now a.tree o a.e q.result a.nodes.now a.attributes.now _ c.in-Close.is
           (q.ensures rule key o h l)),
-      not_end q.result a.e (not-other a.e _ e.1 tt),
+      not_end q.result a.e (not-other a.e _ c.in-Close.is tt),
       at-start.requires.2,
     )
 
@@ -91,7 +87,6 @@ pub returns-in-Refuse : goal.returns-in-Refuse
 returns-in-Refuse c =
     let at-start = c in
     let a = at-start.args in
-    let e = c.e-in-Refuse-1.given in
     let rule = by_prefix (same_name a.h a.t.now (lends a.names.now a.area.now)) in
     let key = key_by a.h a.t.now (lends a.names.now a.area.now) in
-    ((λ o h l. place-refused rule key a.nodes.now a.attributes.now a.tree o a.e e.0.0 e.1), tt, at-start.requires.2)
+    ((λ o h l. place-refused rule key a.nodes.now a.attributes.now a.tree o a.e c.in-Refuse.x c.in-Refuse.is), tt, at-start.requires.2)

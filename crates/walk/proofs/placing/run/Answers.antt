@@ -42,11 +42,11 @@ loop-u-smaller c =
     let l = at-loop.loop-u in
     let s = at-step-at.step_at-s in
     let q = at_place.place-p in
-    let g = at-start.pre.0 in
+    let g = at-start.requires.0 in
     run-less a.mode a.t.now (lends a.names.now a.area.now) a.b.now a.o a.nodes.now a.attributes.now a.c a.tree g l.nodes l.attributes
-    l.cur l.grown (l.invariant.2 g) s.result s.ensures.0 q.new.1.1.1.1.0 q.new.1.1.1.1.1.0 q.auto.1.1.1.1.0
-    q.auto.1.1.1.1.1.0
-    q.result q.ensures.0 q.ensures.1 c.p-1.given.0.0 c.p-1.given.1
+    l.cur l.grown (l.invariant.2 g) s.result s.ensures.0 q.new.nodes q.new.attributes q.auto.nodes
+    q.auto.attributes
+    q.result q.ensures.0 q.ensures.1 c.in-Done.u c.in-Done.is
 
 pub loop-u-preserved : goal.loop-u-preserved
 loop-u-preserved c =
@@ -58,14 +58,14 @@ loop-u-preserved c =
     let l = at-loop.loop-u in
     let s = at-step-at.step_at-s in
     let q = at_place.place-p in (
-      q.auto.1.1.1.1.0 ∙ l.invariant.0,
-      q.auto.1.1.1.1.1.0 ∙ l.invariant.1,
+      q.auto.nodes ∙ l.invariant.0,
+      q.auto.attributes ∙ l.invariant.1,
       λ g.
           run-goes a.mode a.t.now (lends a.names.now a.area.now) a.b.now a.o a.nodes.now a.attributes.now a.c a.tree g l.nodes
           l.attributes
-          l.cur l.grown (l.invariant.2 g) s.result s.ensures.0 q.new.1.1.1.1.0 q.new.1.1.1.1.1.0 q.auto.1.1.1.1.0
-          q.auto.1.1.1.1.1.0
-          q.result q.ensures.0 q.ensures.1 c.p-1.given.0.0 c.p-1.given.1,
+          l.cur l.grown (l.invariant.2 g) s.result s.ensures.0 q.new.nodes q.new.attributes q.auto.nodes
+          q.auto.attributes
+          q.result q.ensures.0 q.ensures.1 c.in-Done.u c.in-Done.is,
       s.ensures.1,
       q.ensures.2,
     )
@@ -74,13 +74,13 @@ pub shape_of-memory-in-Full : goal.shape_of-memory-in-Full
 shape_of-memory-in-Full c =
     let at-step-at = c in
     let at-start = c in
-    at-step-at.step_at-s.ensures.1.room ∙ sym at-start.pre.1.room
+    at-step-at.step_at-s.ensures.1.room ∙ sym at-start.requires.1.room
 
 pub shape_of-numbers-in-Full : goal.shape_of-numbers-in-Full
 shape_of-numbers-in-Full c =
     let at_place = c in
     let at-start = c in
-    at_place.place-p.ensures.2.room ∙ sym at-start.pre.2.room
+    at_place.place-p.ensures.2.room ∙ sym at-start.requires.2.room
 
 pub returns-in-Full : goal.returns-in-Full
 returns-in-Full c =
@@ -95,9 +95,9 @@ returns-in-Full c =
       λ g.
           run-full a.mode a.t.now (lends a.names.now a.area.now) a.b.now a.o a.nodes.now a.attributes.now a.c a.tree g l.nodes
           l.attributes
-          l.cur l.grown (l.invariant.2 g) s.result s.ensures.0 q.new.1.1.1.1.0 q.new.1.1.1.1.1.0 q.auto.1.1.1.1.0
-          q.auto.1.1.1.1.1.0
-          q.result q.ensures.0 q.ensures.1 c.p-in-Full-1.given.0.0 l.grown c.in-Full.is,
+          l.cur l.grown (l.invariant.2 g) s.result s.ensures.0 q.new.nodes q.new.attributes q.auto.nodes
+          q.auto.attributes
+          q.result q.ensures.0 q.ensures.1 c.in-Full.x l.grown c.in-Full.is,
       s.ensures.1,
       q.ensures.2,
     )
@@ -106,13 +106,13 @@ pub shape_of-memory-in-Due : goal.shape_of-memory-in-Due
 shape_of-memory-in-Due c =
     let at-step-at = c in
     let at-start = c in
-    at-step-at.step_at-s.ensures.1.room ∙ sym at-start.pre.1.room
+    at-step-at.step_at-s.ensures.1.room ∙ sym at-start.requires.1.room
 
 pub shape_of-numbers-in-Due : goal.shape_of-numbers-in-Due
 shape_of-numbers-in-Due c =
     let at_place = c in
     let at-start = c in
-    at_place.place-p.ensures.2.room ∙ sym at-start.pre.2.room
+    at_place.place-p.ensures.2.room ∙ sym at-start.requires.2.room
 
 pub returns-in-Due : goal.returns-in-Due
 returns-in-Due c =
@@ -127,9 +127,9 @@ returns-in-Due c =
       λ g.
           run-due a.mode a.t.now (lends a.names.now a.area.now) a.b.now a.o a.nodes.now a.attributes.now a.c a.tree g l.nodes
           l.attributes
-          l.cur l.grown (l.invariant.2 g) s.result s.ensures.0 q.new.1.1.1.1.0 q.new.1.1.1.1.1.0 q.auto.1.1.1.1.0
-          q.auto.1.1.1.1.1.0
-          q.result q.ensures.0 q.ensures.1 c.p-in-Due-1.given.0.0 c.in-Due.is,
+          l.cur l.grown (l.invariant.2 g) s.result s.ensures.0 q.new.nodes q.new.attributes q.auto.nodes
+          q.auto.attributes
+          q.result q.ensures.0 q.ensures.1 c.in-Due.x c.in-Due.is,
       s.ensures.1,
       q.ensures.2,
     )
@@ -138,13 +138,13 @@ pub shape_of-memory-in-Finished : goal.shape_of-memory-in-Finished
 shape_of-memory-in-Finished c =
     let at-step-at = c in
     let at-start = c in
-    at-step-at.step_at-s.ensures.1.room ∙ sym at-start.pre.1.room
+    at-step-at.step_at-s.ensures.1.room ∙ sym at-start.requires.1.room
 
 pub shape_of-numbers-in-Finished : goal.shape_of-numbers-in-Finished
 shape_of-numbers-in-Finished c =
     let at_place = c in
     let at-start = c in
-    at_place.place-p.ensures.2.room ∙ sym at-start.pre.2.room
+    at_place.place-p.ensures.2.room ∙ sym at-start.requires.2.room
 
 pub returns-in-Finished : goal.returns-in-Finished
 returns-in-Finished c =
@@ -159,8 +159,8 @@ returns-in-Finished c =
       λ g.
           run-finished a.mode a.t.now (lends a.names.now a.area.now) a.b.now a.o a.nodes.now a.attributes.now a.c a.tree g l.nodes
           l.attributes
-          l.cur l.grown (l.invariant.2 g) s.result s.ensures.0 q.new.1.1.1.1.0 q.new.1.1.1.1.1.0 q.auto.1.1.1.1.0
-          q.auto.1.1.1.1.1.0
+          l.cur l.grown (l.invariant.2 g) s.result s.ensures.0 q.new.nodes q.new.attributes q.auto.nodes
+          q.auto.attributes
           q.result q.ensures.0 q.ensures.1 c.in-Finished.is,
       s.ensures.1,
       q.ensures.2,

@@ -28,7 +28,7 @@ overflow_sub-used c = omega (
 )
 
 pub overflow_sub-nodes : goal.overflow_sub-nodes
-overflow_sub-nodes c = omega (arith, c.node_place.ensures, c.requires.1.sized.nodes-1)
+overflow_sub-nodes c = omega (arith, c.node_place.ensures, c.requires.1.sized.nodes)
 
 pub overflow_sub-used-2 : goal.overflow_sub-used-2
 overflow_sub-used-2 c = omega (
@@ -45,7 +45,7 @@ overflow_add-from c = omega (
   c.attribute_place-used.ensures,
   c.attribute_place-from.ensures,
   c.requires.1.sized.first,
-  c.requires.1.sized.attributes-1,
+  c.requires.1.sized.attributes,
   c.requires.1.many,
 )
 
@@ -56,7 +56,7 @@ offset_bounds-attributes-from c = omega (
   c.attribute_place-used.ensures,
   c.attribute_place-from.ensures,
   c.requires.1.sized.first,
-  c.requires.1.sized.attributes-1,
+  c.requires.1.sized.attributes,
   c.requires.1.many,
 )
 
@@ -67,7 +67,7 @@ slice_bounds-has-count c = omega (
   c.attribute_place-used.ensures,
   c.attribute_place-from.ensures,
   c.requires.1.sized.first,
-  c.requires.1.sized.attributes-1,
+  c.requires.1.sized.attributes,
   c.requires.1.many,
 )
 
@@ -79,7 +79,7 @@ slice_bounds-has-start c = omega (
   c.attribute_place-used.ensures,
   c.attribute_place-from.ensures,
   c.requires.1.sized.first,
-  c.requires.1.sized.attributes-1,
+  c.requires.1.sized.attributes,
   c.requires.1.many,
 )
 
@@ -91,7 +91,7 @@ slice_bounds-has-end c = omega (
   c.attribute_place-used.ensures,
   c.attribute_place-from.ensures,
   c.requires.1.sized.first,
-  c.requires.1.sized.attributes-1,
+  c.requires.1.sized.attributes,
   c.requires.1.many,
 )
 
@@ -119,7 +119,7 @@ returns-then-has c =
             there = λ _. front-found a.nodes.now a.attributes.now a.tree s.requires.1.sized (by_prefix same)
                 (new_words a.tree a.prefix a.a) _ _ _ _ _ at-attribute-place.attribute_place-from.ensures
                 at-attribute-place2.attribute_place-used.ensures refl at-is-far.is_far-far.result at_has.has.result at-is-far.is_far-far.ensures
-                at-front-of.front_of-front.ensures (at_has.has.ensures.0 (a.tree.nodes-1 - 1) a.a.data_type a.a.«data») c.if-has.true;
+                at-front-of.front_of-front.ensures (at_has.has.ensures.0 (a.tree.nodes - 1) a.a.data_type a.a.«data») c.if-has.true;
             nodes =
                 refl;
             attributes = refl;
@@ -131,12 +131,12 @@ pub keep_far-requires : goal.keep_far-requires
 keep_far-requires c =
     let s = c in
     let a = s.args in (
-      s.pre.0.0,
-      s.pre.1,
+      s.requires.0.0,
+      s.requires.1,
       far-of a.nodes.now a.attributes.now a.tree
           (c.attribute_place-used.result - c.attribute_place-from.result) (length a.nodes.now -
           c.node_place.result)
-          c.if-n-eq0.false s.pre.1.sized (omega (
+          c.if-n-eq0.false s.requires.1.sized (omega (
             arith,
             c.attribute_place-used.ensures,
             c.attribute_place-from.ensures,
@@ -153,7 +153,7 @@ pub shape_of-numbers-then-far : goal.shape_of-numbers-then-far
 shape_of-numbers-then-far c =
     let at-keep-far = c in
     let at-start = c in
-    at-keep-far.keep_far.ensures.1.room ∙ sym at-start.pre.2.room
+    at-keep-far.keep_far.ensures.1.room ∙ sym at-start.requires.2.room
 
 pub returns-then-far : goal.returns-then-far
 returns-then-far c =
@@ -168,10 +168,10 @@ returns-then-far c =
     let at-start = c in (
       (let s = at-start in let a = s.args in let lent = lends a.names.now a.area.now in let same = same_name a.h a.t.now lent in let
           key = key_by a.h a.t.now lent in at-keep-far.keep_far.ensures.0
-          (front-first a.nodes.now a.attributes.now a.tree s.pre.1.sized (by_prefix same) (new_words a.tree a.prefix a.a) _ _ _ 0
+          (front-first a.nodes.now a.attributes.now a.tree s.requires.1.sized (by_prefix same) (new_words a.tree a.prefix a.a) _ _ _ 0
           _ at-attribute-place.attribute_place-from.ensures at-attribute-place2.attribute_place-used.ensures refl at-is-far.is_far-far.result
           at_has.has.result false then3.if-far.true at-front-of.front_of-front.ensures
-          (at_has.has.ensures.0 (a.tree.nodes-1 - 1) a.a.data_type a.a.«data») else2.if-has.false)),
+          (at_has.has.ensures.0 (a.tree.nodes - 1) a.a.data_type a.a.«data») else2.if-has.false)),
       at-keep-far.keep_far.ensures.1,
     )
 
@@ -179,26 +179,26 @@ pub overflow_sub-attributes : goal.overflow_sub-attributes
 overflow_sub-attributes c = omega (
   arith,
   c.attribute_place-used.ensures,
-  c.requires.1.sized.attributes-1,
+  c.requires.1.sized.attributes,
 )
 
 pub shape_of-numbers-then-attributes-used-lt-ATTRIBUTE_WORDS : goal.shape_of-numbers-then-attributes-used-lt-ATTRIBUTE_WORDS
 shape_of-numbers-then-attributes-used-lt-ATTRIBUTE_WORDS c =
     let at_has = c in
     let at-start = c in
-    at_has.has.ensures.1.room ∙ sym at-start.pre.2.room
+    at_has.has.ensures.1.room ∙ sym at-start.requires.2.room
 
 pub returns-then-attributes-used-lt-ATTRIBUTE_WORDS : goal.returns-then-attributes-used-lt-ATTRIBUTE_WORDS
 returns-then-attributes-used-lt-ATTRIBUTE_WORDS c = (
   (let s = c in let a = s.args in let lent = lends a.names.now a.area.now in let same =
       same_name a.h a.t.now lent in let key = key_by a.h a.t.now lent in λ l. record {
         some = c.if-n-eq0.false;
-        new = front-near a.nodes.now a.attributes.now a.tree s.pre.1.sized (by_prefix same)
+        new = front-near a.nodes.now a.attributes.now a.tree s.requires.1.sized (by_prefix same)
             (new_words a.tree a.prefix a.a) _ _ _ 0 _
             c.attribute_place-from.ensures c.attribute_place-used.ensures refl c.is_far-far.result
             c.has.result false c.if-far.false
             c.front_of-front.ensures
-            (c.has.ensures.0 (a.tree.nodes-1 - 1) a.a.data_type a.a.«data»)
+            (c.has.ensures.0 (a.tree.nodes - 1) a.a.data_type a.a.«data»)
             c.if-has.false;
         full = omega (
           arith,
@@ -225,13 +225,13 @@ pub shape_of-numbers : goal.shape_of-numbers
 shape_of-numbers c =
     let at_has = c in
     let at-start = c in
-    at_has.has.ensures.1.room ∙ sym at-start.pre.2.room
+    at_has.has.ensures.1.room ∙ sym at-start.requires.2.room
 
 pub returns : goal.returns
 returns c = (
   (let s = c in let a = s.args in let
       lent = lends a.names.now a.area.now in let same = same_name a.h a.t.now lent in let key = key_by a.h a.t.now lent in let
-      room : attribute_width * a.tree.attributes-1 + attribute_width ≤ length a.attributes.now = omega (
+      room : attribute_width * a.tree.attributes + attribute_width ≤ length a.attributes.now = omega (
         arith,
         c.if-attributes-used-lt-ATTRIBUTE_WORDS.false,
         c.attribute_place-used.ensures,
@@ -239,23 +239,23 @@ returns c = (
       record {
         some = c.if-n-eq0.false;
         new = front-near a.nodes.now a.attributes.now a.tree
-            s.pre.1.sized (by_prefix same) (new_words a.tree a.prefix a.a) _ _ _ 0 _
+            s.requires.1.sized (by_prefix same) (new_words a.tree a.prefix a.a) _ _ _ 0 _
             c.attribute_place-from.ensures
             c.attribute_place-used.ensures refl
             c.is_far-far.result c.has.result false
             c.if-far.false
             c.front_of-front.ensures (c.has.ensures.0
-            (a.tree.nodes-1 - 1) a.a.data_type a.a.«data»)
+            (a.tree.nodes - 1) a.a.data_type a.a.«data»)
             c.if-has.false;
         room = room;
         tree = w.tree;
         attributes =
-            w.attributes-1;
-        nodes = counted-nodes a.nodes.now a.attributes.now q.new.0 q.new.1.0 a.tree q.result a.prefix
-            a.a s.pre.1.sized (pos_of_ne-zero
+            w.attributes;
+        nodes = counted-nodes a.nodes.now a.attributes.now q.new.nodes q.new.attributes a.tree q.result a.prefix
+            a.a s.requires.1.sized (pos_of_ne-zero
             c.if-n-eq0.false) room w;
-        chained = chained-near a.nodes.now a.attributes.now q.new.0
-            q.new.1.0 a.tree q.result a.prefix a.a s.pre.1.sized
+        chained = chained-near a.nodes.now a.attributes.now q.new.nodes
+            q.new.attributes a.tree q.result a.prefix a.a s.requires.1.sized
             (pos_of_ne-zero c.if-n-eq0.false) room w key
             (c.attribute_place-used.result -
             c.attribute_place-from.result) (length a.nodes.now -

@@ -37,7 +37,7 @@ pub slice_bounds-seek-end : goal.slice_bounds-seek-end
 slice_bounds-seek-end c = omega (
   arith,
   c.attribute_place-used.ensures,
-  c.requires.1.sized.attributes-1,
+  c.requires.1.sized.attributes,
 )
 
 pub seek-e-requires : goal.seek-e-requires
@@ -62,7 +62,7 @@ pub shape_of-numbers-then-e : goal.shape_of-numbers-then-e
 shape_of-numbers-then-e c =
     let at-seek = c in
     let at-start = c in
-    at-seek.seek-e.ensures.1.room ∙ sym at-start.pre.3.room
+    at-seek.seek-e.ensures.1.room ∙ sym at-start.requires.3.room
 
 pub returns-then-e : goal.returns-then-e
 returns-then-e c =
@@ -74,7 +74,7 @@ returns-then-e c =
     let at-start = c in (
       (let s = at-start in let a = s.args in let lent = lends a.names.now a.area.now in let same = same_name a.h a.t.now lent in let
           key = key_by a.h a.t.now lent in λ none l. record {
-            there = λ _. far-repeat a.nodes.now a.attributes.now a.tree s.pre.1.sized s.pre.2 key same a.prefix a.a _ _ _
+            there = λ _. far-repeat a.nodes.now a.attributes.now a.tree s.requires.1.sized s.requires.2 key same a.prefix a.a _ _ _
                 at-key-of.key_of-key.result at-seek.seek-e.result true (ap (λ (k : ℕ). k + front_words) at-attribute-place.attribute_place-from.ensures)
                 at-attribute-place2.attribute_place-used.ensures at-node-place.node_place-free.ensures l at-seek.seek-e.ensures.0
                 at-key-of.key_of-key.ensures.0 none c.if-e.true;
@@ -88,21 +88,21 @@ pub overflow_sub-attributes : goal.overflow_sub-attributes
 overflow_sub-attributes c = omega (
   arith,
   c.attribute_place-used.ensures,
-  c.requires.1.sized.attributes-1,
+  c.requires.1.sized.attributes,
 )
 
 pub shape_of-numbers-then-attributes-used-lt-ATTRIBUTE_WORDS : goal.shape_of-numbers-then-attributes-used-lt-ATTRIBUTE_WORDS
 shape_of-numbers-then-attributes-used-lt-ATTRIBUTE_WORDS c =
     let at-seek = c in
     let at-start = c in
-    at-seek.seek-e.ensures.1.room ∙ sym at-start.pre.3.room
+    at-seek.seek-e.ensures.1.room ∙ sym at-start.requires.3.room
 
 pub returns-then-attributes-used-lt-ATTRIBUTE_WORDS : goal.returns-then-attributes-used-lt-ATTRIBUTE_WORDS
 returns-then-attributes-used-lt-ATTRIBUTE_WORDS c = (
   (let s = c in let a = s.args in let lent = lends a.names.now
       a.area.now in let same = same_name a.h a.t.now lent in let key = key_by a.h a.t.now lent in λ none l. record {
-        some = λ z. omega (arith, s.pre.2.some);
-        new = far-repeat a.nodes.now a.attributes.now a.tree s.pre.1.sized s.pre.2
+        some = λ z. omega (arith, s.requires.2.some);
+        new = far-repeat a.nodes.now a.attributes.now a.tree s.requires.1.sized s.requires.2
             key same a.prefix a.a _ _ _
             c.key_of-key.result
             c.seek-e.result false
@@ -143,16 +143,16 @@ pub slice_bounds-link-count : goal.slice_bounds-link-count
 slice_bounds-link-count c = omega (
   arith,
   c.node_place-free.ensures,
-  c.requires.1.sized.nodes-1,
-  c.store-u.auto.0,
+  c.requires.1.sized.nodes,
+  c.store-u.auto.nodes,
 )
 
 pub slice_bounds-link-start : goal.slice_bounds-link-start
 slice_bounds-link-start c = omega (
   arith,
   c.node_place-free.ensures,
-  c.requires.1.sized.nodes-1,
-  c.store-u.auto.0,
+  c.requires.1.sized.nodes,
+  c.store-u.auto.nodes,
 )
 
 pub overflow_sub-used : goal.overflow_sub-used
@@ -167,20 +167,20 @@ pub link-requires : goal.link-requires
 link-requires c =
     let s = c in
     let a = s.args in
-    let h = s.pre.1.sized in
-    let far = s.pre.2 in
+    let h = s.requires.1.sized in
+    let far = s.requires.2 in
     let ef = ap (λ (k : ℕ). k + front_words)
     c.attribute_place-from.ensures in
     let eu = c.attribute_place-used.ensures in
     let seen = count-seen a.nodes.now a.attributes.now a.tree h far _ _ ef eu in (
-      link-room a.nodes.now a.attributes.now a.tree h far c.store-u.new.0 _ _ _
-          c.store-u.auto.0 ef eu
+      link-room a.nodes.now a.attributes.now a.tree h far c.store-u.new.nodes _ _ _
+          c.store-u.auto.nodes ef eu
           c.node_place-free.ensures,
       omega (
         arith,
         count-is a.nodes.now
             a.attributes.now a.tree h far _ _ ef eu,
-        s.pre.1.many,
+        s.requires.1.many,
       ),
       λ pos. (let n =
           (c.seek-e.ensures.0.ends
@@ -192,15 +192,15 @@ pub shape_of-numbers : goal.shape_of-numbers
 shape_of-numbers c =
     let at-seek = c in
     let at-start = c in
-    at-seek.seek-e.ensures.1.room ∙ sym at-start.pre.3.room
+    at-seek.seek-e.ensures.1.room ∙ sym at-start.requires.3.room
 
 pub returns : goal.returns
 returns c = (
   (let s = c in let a = s.args in let lent = lends a.names.now a.area.now in let same = same_name a.h
-      a.t.now lent in let key = key_by a.h a.t.now lent in let h = s.pre.1.sized in let far = s.pre.2 in let ef = ap
+      a.t.now lent in let key = key_by a.h a.t.now lent in let h = s.requires.1.sized in let far = s.requires.2 in let ef = ap
       (λ (k : ℕ). k + front_words) c.attribute_place-from.ensures in let eu =
       c.attribute_place-used.ensures in let room :
-      attribute_width * a.tree.attributes-1 + attribute_width ≤ length a.attributes.now = omega (
+      attribute_width * a.tree.attributes + attribute_width ≤ length a.attributes.now = omega (
         arith,
         c.if-attributes-used-lt-ATTRIBUTE_WORDS.false,
         c.attribute_place-used.ensures,
@@ -208,7 +208,7 @@ returns c = (
       c.store-u in let seen = count-seen a.nodes.now a.attributes.now
       a.tree h far _ _ ef eu in let w = q.ensures in λ none l. record {
         some = λ z. omega (arith, far.some);
-        new = far-repeat a.nodes.now a.attributes.now a.tree s.pre.1.sized s.pre.2 key
+        new = far-repeat a.nodes.now a.attributes.now a.tree s.requires.1.sized s.requires.2 key
             same a.prefix a.a _ _ _ c.key_of-key.result
             c.seek-e.result
             false (ap (λ (k : ℕ). k + front_words)
@@ -220,18 +220,18 @@ returns c = (
             c.if-e.false;
         room = room;
         tree = w.tree;
-        attributes = w.attributes-1;
-        nodes = linked-nodes a.nodes.now a.attributes.now q.last.0 q.last.1.0 a.tree q.result
-            a.prefix a.a h far.some room w far key _ c.link.new.0
+        attributes = w.attributes;
+        nodes = linked-nodes a.nodes.now a.attributes.now q.new.nodes q.new.attributes a.tree q.result
+            a.prefix a.a h far.some room w far key _ c.link.new.links
             c.node_place-free.ensures;
         chained = chained-far
-            a.nodes.now a.attributes.now q.last.0 q.last.1.0 a.tree q.result a.prefix a.a h far.some room w far key _
-            c.link.new.0
+            a.nodes.now a.attributes.now q.new.nodes q.new.attributes a.tree q.result a.prefix a.a h far.some room w far key _
+            c.link.new.links
             c.node_place-free.ensures _ _ l (count-is a.nodes.now
             a.attributes.now a.tree h far _ _ ef eu)
             c.key_of-key.ensures.0 (c.link.ensures
-            (λ pos. ends-here a.nodes.now a.attributes.now q.last.0 q.last.1.0 a.tree q.result a.prefix a.a h far.some
-            room w far key _ c.link.new.0
+            (λ pos. ends-here a.nodes.now a.attributes.now q.new.nodes q.new.attributes a.tree q.result a.prefix a.a h far.some
+            room w far key _ c.link.new.links
             c.node_place-free.ensures _ _ _ _ _ seen
             (c.seek-e.ensures.0.ends c.if-e.false
             (omega (arith, seen, pos)))));
