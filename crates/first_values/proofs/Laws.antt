@@ -5,12 +5,12 @@
 use Prim.Native.Nat.{ℕ, zero, suc, ◌+◌, ◌-◌, ◌*◌, ◌/◌, ◌%◌, ◌≤◌, ◌<◌}
 use native.Mathlib.Omega.{arith}
 use mathlib.Core.Path.{◌≡◌, refl, sym, ◌∙◌, ap}
-use mathlib.Core.List.{List, [], ◌∷◌, ◌++◌, append-nil, append_assoc}
+use mathlib.Core.List.{List, [], ◌++◌}
 use mathlib.Core.Bool.{Bool, true, false, cond}
 use borrow.Author.Tests.{le-leb, lt-leb, eq-eqb, ne_eqb}
 use lib.ListN.{length, take, drop, get_or, replicate, length-append, length-drop}
 use lib.Seq.{drop-drop, get_or-drop, take_at, drop-append-add}
-use lib.Dec.{leb, eqb}
+use lib.Dec.{eqb}
 use Rattle.errors.specs.Refusal.{first_numbers_of, pair_numbers_of}
 use Rattle.errors.specs.declared.Refusal.{Refusal}
 use Rattle.errors.specs.declared.Refusal.TheVariants.{PairsError, AnswersFull}
@@ -31,7 +31,7 @@ use Rattle.text.specs.declared.Head.{Head}
 use Rattle.first_value.specs.Question.{shared_of, value_by}
 use Rattle.first_value.specs.declared.NodeFound.{NodeFound}
 use Rattle.first_value.proofs.Search.{first-shared}
-use Rattle.first_values.specs.Pairs.{is_inside, pair_inside, tag_in, name_in, tag_at, name_at, pairs_from, pairs_of, number_words, answer_to, answers_from, many_by, list_by}
+use Rattle.first_values.specs.Pairs.{is_inside, pair_inside, tag_in, name_in, tag_at, name_at, pairs_from, pairs_of, number_words, answer_to, answers_from, many_by}
 use Rattle.first_values.specs.Pairs.{asks, many_answer, answers_after, ManyReads}
 use Rattle.first_values.specs.Inner.Known.{finds_in, asks_in, NodeOf, Repeats, Gives}
 use Rattle.first_values.specs.declared.PairsRead.{PairsRead}

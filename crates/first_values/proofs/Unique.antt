@@ -4,13 +4,12 @@
 use Prim.Native.Nat.{ℕ, zero, suc, ◌+◌, ◌-◌, ◌*◌, ◌/◌, ◌≤◌, ◌<◌}
 use native.Mathlib.Omega.{arith}
 use mathlib.Core.Path.{◌≡◌, refl, sym, ◌∙◌, ap}
-use mathlib.Core.List.{List, [], ◌∷◌, ◌++◌}
+use mathlib.Core.List.{List, ◌++◌}
 use mathlib.Core.Bool.{Bool, true, false, cond}
 use borrow.Author.Tests.{leb-true}
 use lib.ListN.{length, take, drop, get_or, replicate, length-append, length-replicate}
-use lib.Seq.{drop_at, take_at, drop-drop}
+use lib.Seq.{drop_at, drop-drop}
 use lib.Dec.{leb}
-use Rattle.errors.specs.Refusal.{pair_numbers_of, first_numbers_of}
 use Rattle.errors.specs.declared.Refusal.{Refusal}
 use Rattle.errors.specs.declared.Refusal.TheVariants.{NothingFound}
 use Rattle.errors.specs.declared.FirstAnswer.{FirstAnswer}
@@ -28,7 +27,7 @@ use Rattle.first_value.specs.Question.{shared_of, name_is, found_by, find_node, 
 use Rattle.first_value.specs.declared.NodeFound.{NodeFound}
 use Rattle.first_value.specs.declared.NodeFound.TheVariants.{Run, NoNode}
 use Rattle.first_value.proofs.Search.{first-shared}
-use Rattle.first_values.specs.Pairs.{tag_at, name_at, pairs_of, number_words, answer_to, answers_from, many_by, many_asked_by, asks, many_answer, answers_after, ManyReads}
+use Rattle.first_values.specs.Pairs.{tag_at, name_at, pairs_of, number_words, answer_to, answers_from, many_asked_by, asks, many_answer, answers_after, ManyReads}
 use Rattle.first_values.specs.declared.PairsRead.{PairsRead}
 use Rattle.first_values.specs.declared.PairsRead.TheVariants.{Whole, Bad}
 use Rattle.first_values.proofs.Laws.{pairs_of-count, answers_from-length}

@@ -8,7 +8,7 @@
 --
 -- The answer to a pair IS `first_answer` of first_value/specs/Question, for its tag and its name. A table of words is those left; no pairs at all
 -- are fine. Laws: proofs/Laws.antt. Computed on small tables: proofs/Cases.antt.
-use Rattle.std.specs.Prelude.{ℕ, zero, suc, ◌+◌, ◌-◌, ◌*◌, ◌/◌, ◌%◌, ◌≡◌, List, [], ◌∷◌, ◌++◌, Bool, cond, ◌&&◌, length, drop, get_or, replicate, leb, eqb}
+use Rattle.std.specs.Prelude.{ℕ, zero, suc, ◌+◌, ◌-◌, ◌*◌, ◌/◌, ◌%◌, ◌≡◌, List, [], ◌++◌, Bool, cond, ◌&&◌, length, drop, get_or, replicate, leb, eqb}
 use Rattle.errors.specs.declared.Refusal.TheVariants.{PairsError, AnswersFull}
 use Rattle.errors.specs.Refusal.{first_numbers_of, pair_numbers_of}
 use Rattle.errors.specs.declared.FirstAnswer.{FirstAnswer}

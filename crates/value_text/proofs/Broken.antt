@@ -9,7 +9,7 @@ use Prim.Native.Nat.{ℕ}
 use native.Mathlib.Omega.{arith}
 use mathlib.Core.Path.{◌≡◌, refl, sym, ap, ◌∙◌}
 use mathlib.Core.List.{List, [], ◌∷◌}
-use lib.ListN.{length, replicate, get_or}
+use lib.ListN.{length, get_or}
 use Rattle.field.specs.Le.{u16le, u32le}
 use Rattle.common.specs.Header.{header_of}
 use Rattle.common.specs.ValueType.{value_type_of}

@@ -1,18 +1,16 @@
 -- What follows from the promise of specs/Value.antt. No contract cites this file.
 -- In order: two results that it allows are equal (`value-unique`); a refusal leaves zeros alone (`value-refused-zeros`), an answer zeros
 -- behind its text (`value-done-zeros`).
-use Prim.Native.Nat.{ℕ, ◌-◌, ◌≤◌}
+use Prim.Native.Nat.{ℕ, ◌-◌}
 use native.Mathlib.Omega.{arith}
 use mathlib.Core.Path.{◌≡◌, refl, sym, ap, ◌∙◌}
-use mathlib.Core.List.{List, [], ◌∷◌, ◌++◌}
+use mathlib.Core.List.{List, ◌++◌}
 use mathlib.Core.Bool.{Bool, true, false, cond}
-use borrow.Author.Tests.{leb-true}
 use lib.ListN.{length, drop, replicate}
 use lib.Seq.{drop-append_seam}
 use lib.Dec.{leb}
-use Rattle.errors.specs.Refusal.{value_numbers_of}
 use Rattle.errors.specs.declared.Refusal.{Refusal}
-use Rattle.errors.specs.declared.Refusal.TheVariants.{NothingFound, TextShort, NoPlainText}
+use Rattle.errors.specs.declared.Refusal.TheVariants.{TextShort}
 use Rattle.errors.specs.declared.TextState.{TextState}
 use Rattle.errors.specs.declared.ValueAnswer.{ValueAnswer}
 use Rattle.errors.specs.declared.ValueAnswer.TheVariants.{Value as Answered, Refused}

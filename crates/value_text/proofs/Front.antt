@@ -1,10 +1,10 @@
 -- Laws of specs/Inner/Leads.antt and specs/Inner/Forms.antt: a text at the front of a buffer. No contract cites this file.
 -- In order: what wrote it (`leads-wrote`, `leads-put`, `leads-none`); the forms of a value's type (`form-..`); the answers (`tells-..`,
 -- `named-..`); the whole buffer (`gives-..`).
-use Prim.Native.Nat.{ℕ, ◌+◌, ◌-◌, ◌/◌, ◌≤◌, ◌<◌}
+use Prim.Native.Nat.{ℕ, ◌+◌, ◌-◌, ◌≤◌, ◌<◌}
 use mathlib.Core.Path.{◌≡◌, refl, sym, ap, ◌∙◌}
-use mathlib.Core.List.{List, [], ◌∷◌, ◌++◌, append-nil}
-use mathlib.Core.Bool.{Bool, true, false, not, cond, true≢false}
+use mathlib.Core.List.{List, [], ◌∷◌, append-nil}
+use mathlib.Core.Bool.{true, false, not, true≢false}
 use native.Mathlib.Omega.{arith}
 use native.Mathlib.Nat.{zero-add}
 use borrow.Author.Tests.{le-leb, lt-leb}
@@ -12,7 +12,6 @@ use borrow.Rule.Slice.PartMut.{put_mid, mid_of}
 use lib.ListN.{length, take, drop, replicate, length-drop, drop_of_length-le}
 use lib.Seq.{sets-eq, take_all, take-append_seam}
 use lib.Dec.{leb}
-use Rattle.utf.specs.Text.{put_text}
 use Rattle.utf.proofs.Filled.{put_text-whole, put_text-length}
 use Rattle.errors.specs.declared.Refusal.TheVariants.{NothingFound, TextShort, NoPlainText}
 use Rattle.errors.specs.declared.TextState.{TextState}
@@ -38,7 +37,7 @@ use Rattle.items.specs.Inner.Turns.{run_items, RunOf, Spoken}
 use Rattle.items.proofs.TurnLaws.{part_in-le}
 use Rattle.items.specs.declared.Run.{Run}
 use Rattle.items.specs.declared.Said.{Said}
-use Rattle.value_text.specs.Value.{Value, no_name, no_text, shows, shown, string_state, or_plain, reference_by, attribute_by, plain_by, plain_state, named_value, answer_by, buffer_by}
+use Rattle.value_text.specs.Value.{Value, no_name, no_text, shows, string_state, or_plain, reference_by, attribute_by, plain_by, plain_state, named_value, answer_by}
 use Rattle.value_text.specs.declared.Told.{Told}
 use Rattle.value_text.specs.declared.Told.TheVariants.{Shown, NoName, NoText}
 use Rattle.value_text.specs.Inner.Leads.{Leads, Tells, Gives, told_of}

@@ -2,8 +2,8 @@
 -- In order: an item against a text (`is-item`); a name in a buffer (`name-held`); no names lent (`pool-..`); the value (`value-..`).
 use Prim.Native.Nat.{ℕ, ◌-◌, ◌/◌, ◌≤◌, ◌<◌}
 use mathlib.Core.Path.{◌≡◌, refl, sym, ap, ◌∙◌}
-use mathlib.Core.List.{List, [], ◌∷◌}
-use mathlib.Core.Bool.{Bool, true, false, cond, ◌&&◌}
+use mathlib.Core.List.{List, []}
+use mathlib.Core.Bool.{Bool, true, false, cond}
 use native.Mathlib.Omega.{arith}
 use borrow.Author.Tests.{eq-eqb, ne_eqb}
 use lib.ListN.{length, take, drop}
@@ -15,9 +15,8 @@ use Rattle.utf.proofs.Equal.{eq_bytes-refl, eq_bytes-true, eq_bytes-false, eq_by
 use Rattle.utf.proofs.Laws.{text_of-ascii}
 use Rattle.utf.proofs.Ascii.{is_ascii-at}
 use Rattle.utf.proofs.Filled.{put_text-whole}
-use Rattle.system_types.specs.Names.{Lent, lends, top_byte, system_name, name_by_id, names_from, names_of}
+use Rattle.system_types.specs.Names.{Lent, lends, top_byte, system_name, name_by_id, names_from}
 use Rattle.system_types.specs.declared.Lookup.TheVariants.{Missing}
-use Rattle.system_types.specs.declared.NamesRead.TheVariants.{Good}
 use Rattle.resource_map.specs.Map.{id_of}
 use Rattle.text.specs.declared.Head.{Head}
 use Rattle.text.specs.declared.Found.{Found}
@@ -34,7 +33,7 @@ use Rattle.value_text.specs.declared.Attribute.{Attribute}
 use Rattle.value_text.specs.declared.Told.{Told}
 use Rattle.value_text.specs.declared.Told.TheVariants.{NoName}
 use Rattle.errors.specs.declared.TextState.TheVariants.{Whole}
-use Rattle.value_text.specs.Value.{shows, no_name, named_value, value_by, attribute_value}
+use Rattle.value_text.specs.Value.{shows, named_value, value_by, attribute_value}
 use Rattle.value_text.specs.Inner.Leads.{Tells}
 
 -- ---- an item against a text

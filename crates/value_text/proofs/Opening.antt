@@ -4,11 +4,9 @@ use Prim.Native.Nat.{ℕ}
 use native.Mathlib.Omega.{arith}
 use mathlib.Core.Path.{◌≡◌, refl, sym, ap, ◌∙◌}
 use mathlib.Core.List.{List, [], ◌∷◌, ◌++◌}
-use mathlib.Core.Bool.{Bool, true, false}
 use lib.ListN.{length, replicate}
 use Rattle.errors.specs.Refusal.{value_numbers_of}
 use Rattle.errors.specs.declared.Refusal.{Refusal}
-use Rattle.errors.specs.declared.Refusal.TheVariants.{ItemsError}
 use Rattle.errors.specs.declared.ValueAnswer.{ValueAnswer}
 use Rattle.errors.specs.declared.ValueAnswer.TheVariants.{Refused}
 use Rattle.system_types.specs.Names.{Lent}
@@ -17,14 +15,14 @@ use Rattle.text.specs.Inner.Found.{Asks}
 use Rattle.head.specs.Head.{opened_of, tables_in}
 use Rattle.head.specs.declared.Asker.TheVariants.{Question}
 use Rattle.head.specs.Entry.{question, value_with, Check, passes, fails, first_of, length_check, cap_check, names_check, mode_check, items_check_by, entry_checks}
-use Rattle.head.specs.Ask.{head_read, open_by, open_of}
+use Rattle.head.specs.Ask.{open_by, open_of}
 use Rattle.head.specs.Inner.Entered.{entered_of}
 use Rattle.head.specs.declared.Opened.{Opened}
 use Rattle.head.specs.declared.OpenRead.{OpenRead}
 use Rattle.head.specs.declared.OpenRead.TheVariants.{Open, Closed}
 use Rattle.head.specs.declared.Entered.TheVariants.{In, Out}
 use Rattle.head.proofs.Entering.{entered-in, entered-out}
-use Rattle.head.proofs.Questions.{open_of-asks, open_of-in}
+use Rattle.head.proofs.Questions.{open_of-asks}
 use Rattle.items.specs.Items.{table_of}
 use Rattle.items.specs.declared.ItemsRead.{ItemsRead}
 use Rattle.items.specs.declared.ItemsRead.TheVariants.{Good, Bad}

@@ -2,7 +2,7 @@
 -- and one of ASCII is whole (`string-ascii`). What the code tells of it (`string-shown`).
 use Prim.Native.Nat.{ℕ}
 use native.Mathlib.Omega.{arith}
-use mathlib.Core.Path.{◌≡◌, refl, sym, ap, ◌∙◌}
+use mathlib.Core.Path.{◌≡◌, sym, ap, ◌∙◌}
 use mathlib.Core.List.{List}
 use mathlib.Core.Bool.{Bool, true, false}
 use Rattle.errors.specs.declared.TextState.{TextState}

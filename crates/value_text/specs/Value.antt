@@ -11,7 +11,7 @@
 --
 -- Of an attribute only prefix, name, type and data are looked at, not its namespace. A prefix of 2 is that of the leading attribute, whose value is the
 -- Android namespace. t is the bytes behind the file's header. Laws: proofs/Opening.antt, proofs/Claimed.antt.
-use Rattle.std.specs.Prelude.{ℕ, ◌+◌, ◌≡◌, List, [], ◌∷◌, ◌++◌, Bool, true, false, cond, length, replicate, eqb, leb}
+use Rattle.std.specs.Prelude.{ℕ, ◌≡◌, List, [], ◌∷◌, cond, length, replicate, eqb, leb}
 use Rattle.errors.specs.Refusal.{value_numbers_of}
 use Rattle.errors.specs.declared.Refusal.TheVariants.{NothingFound, TextShort, NoPlainText}
 use Rattle.errors.specs.declared.TextState.{TextState}

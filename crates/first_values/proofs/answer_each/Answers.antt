@@ -1,6 +1,5 @@
 -- `first_values::answer_each` meets its contract: the answers to the pairs in turn.
 -- Invariant: the answers to the first k pairs stand in front, and the node is that of the pair before k. Measure: the pairs left.
-use Prim.Native.Nat.{◌-◌}
 use native.Mathlib.Omega.{arith}
 use mathlib.Core.Path.{refl}
 use Rattle.system_types.specs.Names.{lends}

@@ -1,5 +1,4 @@
 -- `value_text::find_item` meets its contract. Invariant: no item before k is of the name. Measure: the items left.
-use Prim.Native.Nat.{◌-◌}
 use native.Mathlib.Omega.{arith}
 use Rattle.text.specs.Content.{text_in}
 use Rattle.text.specs.Inner.Found.{part_of}

@@ -1,6 +1,6 @@
 -- `first_values::pairs::read_pairs` meets its contract: it stops at the first pair that does not lie inside.
 -- Invariant: the pairs from k on say what all of them say. Measure: the pairs left.
-use Prim.Native.Nat.{◌-◌, ◌%◌}
+use Prim.Native.Nat.{◌%◌}
 use native.Mathlib.Nat.{sub-zero}
 use native.Mathlib.Omega.{arith}
 use mathlib.Core.Path.{refl, sym, ◌∙◌}
