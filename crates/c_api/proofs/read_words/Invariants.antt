@@ -7,7 +7,7 @@ use Rattle.c_api.proofs.LoopInvariant.{Point}
 use Rattle.c_api.proofs.read_words.Given as goal
 
 abbrev pub invariant-loop-st : goal.invariant-loop-st
-invariant-loop-st l = Point l.file (lends l.names l.area) l.initial.nodes l.initial.attributes l.initial.notes l.cap l.mode l.nodes l.attributes l.notes l.st × KnownSoFar l.file (lends l.names l.area) l.st l.memory l.numbers
+invariant-loop-st l = Point l.file (lends l.names l.area) l.fn.nodes l.fn.attributes l.fn.notes l.cap l.mode l.nodes l.attributes l.notes l.st × KnownSoFar l.file (lends l.names l.area) l.st l.memory l.numbers
 
 abbrev pub decreases-loop-st : goal.decreases-loop-st
 decreases-loop-st l = steps_left l.file (lends l.names l.area) l.st

@@ -14,22 +14,12 @@ returns-then-refusal-ge-NUMBERS c =
 
 pub returns-then-add_where_room : goal.returns-then-add_where_room
 returns-then-add_where_room c =
-    let tried = c in
-    let shared = tried in
-    let counted = shared in
-    let second = counted in
-    let first = second in
-    let a = first.args in
-    adds-all a.round_up.now a.notes.now a.refusal a.note_count a.file_bytes first.if-words-ne-PLACES.false second.if-refusal-ge-NUMBERS.false _ _
-    counted.kinds_in-kinds.ensures shared.share_by-share.ensures _ _ tried.add_where_room.ensures c.if-add_where_room.true
+    let a = c.args in
+    adds-all a.round_up.now a.notes.now a.refusal a.note_count a.file_bytes c.if-words-ne-PLACES.false c.if-refusal-ge-NUMBERS.false _ _
+    c.kinds_in-kinds.ensures c.share_by-share.ensures _ _ c.add_where_room.ensures c.if-add_where_room.true
 
 pub returns : goal.returns
 returns c =
-    let tried = c in
-    let shared = tried in
-    let counted = shared in
-    let second = counted in
-    let first = second in
-    let a = first.args in
-    adds-full a.round_up.now a.notes.now a.refusal a.note_count a.file_bytes first.if-words-ne-PLACES.false second.if-refusal-ge-NUMBERS.false _ _
-    counted.kinds_in-kinds.ensures shared.share_by-share.ensures _ _ tried.add_where_room.ensures c.if-add_where_room.false
+    let a = c.args in
+    adds-full a.round_up.now a.notes.now a.refusal a.note_count a.file_bytes c.if-words-ne-PLACES.false c.if-refusal-ge-NUMBERS.false _ _
+    c.kinds_in-kinds.ensures c.share_by-share.ensures _ _ c.add_where_room.ensures c.if-add_where_room.false

@@ -5,8 +5,7 @@ use Rattle.c_api.proofs.asking.axml_first_values.Goals as goal
 
 pub returns : goal.returns
 returns c =
-    let at-many = c in
-    let a = at-many.args in
+    let a = c.args in
     asks-of-many a.file.now (lends a.names.now a.area.now) a.nodes.now a.attributes.now a.pairs.now a.pair_area.now
-    a.answers.now a.node_count a.attribute_count at-many.first_values-answer.ensures c.pair_numbers.ensures
+    a.answers.now a.node_count a.attribute_count c.first_values-answer.ensures c.pair_numbers.ensures
     c.pairs_answer_of.ensures

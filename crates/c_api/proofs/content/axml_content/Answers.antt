@@ -8,13 +8,13 @@ use Rattle.c_api.proofs.content.axml_content.Goals as goal
 pub find-f-requires : goal.find-f-requires
 find-f-requires c =
     let a = c.args in
-    let e = sym c.open_file-opened.ensures ∙ c.opened-1.given.1 in
+    let e = sym c.open_file-opened.ensures ∙ c.in-Open.is in
     rw c.tables_of-t.ensures (open_of-asks a.file.now (lends a.names.now a.area.now) e)
 
 pub place_of-requires : goal.place_of-requires
 place_of-requires c =
     let a = c.args in
-    let e = sym c.open_file-opened.ensures ∙ c.opened-1.given.1 in
+    let e = sym c.open_file-opened.ensures ∙ c.in-Open.is in
     (c.find-f.ensures.inside, rw c.tables_of-t.ensures (open_of-asks a.file.now (lends a.names.now a.area.now) e).fits.short)
 
 pub returns-in-Open : goal.returns-in-Open

@@ -1,6 +1,0 @@
--- `c_api::values::value_answer_of` meets its contract: the numbers, field by field.
-use mathlib.Core.Path.{refl}
-use Rattle.c_api.proofs.values.value_answer_of.Goals as goal
-
-pub returns : goal.returns
-returns c = refl
