@@ -1,16 +1,18 @@
 -- Laws of specs/Inner/Input.antt: each case of what came in. No contract cites this file.
-use mathlib.Core.Path.{◌≡◌}
-use mathlib.Core.List.{List, ◌++◌}
-use Prim.Native.Nat.{ℕ, ◌≤◌, ◌<◌}
-use native.Mathlib.Nat.{le_refl}
-use lib.ListN.{length, take, replicate, length-replicate}
+use Rattle.std.proofs.Common.{◌≡◌, ℕ, ◌-◌, ◌≤◌, ◌<◌, List, ◌++◌, IfSome, None, Some, length, take, replicate, refl, sym, ap, ◌∙◌, subst, arith, append-nil, le-leb, le_refl, length-replicate}
+use lib.Seq.{take_at}
+use Rattle.std.specs.declared.option.Option.{Option}
+use Rattle.std.specs.Io.KnownBytes.{Consumes, Appends, IsAtEnd}
+use Rattle.digits.specs.Written.{fitted}
 use Rattle.errors.specs.declared.LinesAnswer.TheVariants.{Text}
 use Rattle.records.specs.Limits.{listed_file}
-use Rattle.listed.specs.Lists.{Lists}
+use Rattle.listed.specs.Roomy.{Roomy}
+use Rattle.listed.specs.Lists.{listed_text, Lists}
 use Rattle.listed.proofs.Lists.{lists-longer}
+use Rattle.listed.proofs.Fits.{lists-answer, lists-le}
 use Rattle.listing.specs.declared.Input.{Input}
 use Rattle.listing.specs.declared.Input.TheVariants.{Whole, Full, Failed}
-use Rattle.listing.specs.Inner.Input.{Within, Runs}
+use Rattle.listing.specs.Inner.Input.{Within, Came, Runs, Listed}
 
 pub within-whole : (x : Input) (n room : ℕ) → x ≡ Whole n → Within x room → n < room
 unfolding Within
@@ -33,3 +35,43 @@ module _ (x : Input) (f ns ats before : List ℕ) (r : ℕ) (ns' ats' after : Li
 -- an array of n bytes is as long
 pub as_long : (n : ℕ) → n ≤ length {A = ℕ} (replicate n 0)
 as_long n = rw (length-replicate {A = ℕ} n 0) (le_refl n)
+
+-- ---- what is written
+
+fitted-front : (text : List ℕ) (room r : ℕ) → length text ≤ room → r ≡ length text → take r (fitted text room) ≡ text
+unfolding fitted
+fitted-front text room r h e = rw (le-leb (length text) room h) (take_at text (replicate (room - length text) 0) r (sym e))
+
+-- the listing of known bytes stands at the front of the buffer
+pub lists-front :
+    (f ns ats before : List ℕ) (r : ℕ) (ns' ats' after : List ℕ) → Roomy (length ns) (length ats) (length before) → Lists f ns ats before (Text r) ns' ats' after →
+    take r after ≡ listed_text f (length ns) (length ats)
+lists-front f ns ats before r ns' ats' after room h =
+    let text = listed_text f (length ns) (length ats) in
+    let q : Text r ≡ Text (length text) = lists-answer f ns ats before ns' ats' after room (Text r) h in
+    let e : r ≡ length text = cc in
+    let fits : r ≤ length before = lists-le f ns ats before ns' ats' after room r h in
+    let g : length text ≤ length before = omega arith in
+    ap (take r) h.printed.out ∙ fitted-front text (length before) r g e
+
+pub runs-front :
+    (x : Input) (known after : Option (List ℕ)) (f ns ats before : List ℕ) (r : ℕ) (ns' ats' out : List ℕ) → (x ≡ Failed → ⊥) → Came known after x f →
+    Roomy (length ns) (length ats) (length before) → Runs x f ns ats before r ns' ats' out → IfSome known (λ l. take r out ≡ listed_text l (length ns) (length ats))
+unfolding Came Runs
+runs-front x None after f ns ats before r ns' ats' out no came room h = tt
+runs-front (Whole n) (Some l) None f ns ats before r ns' ats' out no came room h = absurd came.0
+runs-front (Whole n) (Some l) (Some k) f ns ats before r ns' ats' out no came room h =
+    let e : l ≡ take n f = came.0 ∙ (ap (λ (m : List ℕ). take n f ++ m) came.1 ∙ append-nil (take n f)) in
+    lists-front (take n f) ns ats before r ns' ats' out room h ∙ ap (λ (m : List ℕ). listed_text m (length ns) (length ats)) (sym e)
+runs-front Full (Some l) None f ns ats before r ns' ats' out no came room h = absurd came
+runs-front Full (Some l) (Some k) f ns ats before r ns' ats' out no came room h =
+    lists-front (f ++ k) ns ats before r ns' ats' out room (h k) ∙ ap (λ (m : List ℕ). listed_text m (length ns) (length ats)) (sym came)
+runs-front Failed (Some l) after f ns ats before r ns' ats' out no came room h = absurd (no refl)
+
+-- a writer that has it more holds the listing
+pub runs-listed :
+    (x : Input) (known after old new : Option (List ℕ)) (f ns ats before : List ℕ) (r : ℕ) (ns' ats' out : List ℕ) → (x ≡ Failed → ⊥) → Came known after x f →
+    Roomy (length ns) (length ats) (length before) → Runs x f ns ats before r ns' ats' out → Appends old new (take r out) → Listed known old new (length ns) (length ats)
+runs-listed x None after old new f ns ats before r ns' ats' out no came room h w = tt
+runs-listed x (Some l) after old new f ns ats before r ns' ats' out no came room h w =
+    subst (Appends old new) (runs-front x (Some l) after f ns ats before r ns' ats' out no came room h) w

@@ -1,5 +1,5 @@
 -- What reads put into a room, one behind the other, for the proof of `listing::take_in`. No contract cites this file.
-use Rattle.std.proofs.Common.{◌≡◌, ℕ, ◌+◌, ◌≤◌, List, ◌++◌, length, take, drop, sym, ap, ◌∙◌, subst, le_refl, drop_at, length-take-le}
+use Rattle.std.proofs.Common.{◌≡◌, ℕ, ◌+◌, ◌≤◌, List, ◌++◌, length, take, drop, sym, ap, ◌∙◌, subst, arith, le_refl, drop_at, length-take-le}
 use Rattle.std.proofs.lemmas.Slice.{take-put_mid_below}
 use Rattle.std.specs.declared.option.Option.{Option}
 use Rattle.std.specs.Io.KnownBytes.{Consumes}
@@ -19,3 +19,11 @@ pub came-more :
     (a b c : Option (List ℕ)) (n k more : ℕ) (room buf : List ℕ) → n ≤ length room → more ≤ length buf → Consumes a b (take n room) → Consumes b c (take more buf) →
     Consumes a c (take (n + more) (put_mid n k room buf))
 came-more a b c n k more room buf within fits p q = subst (Consumes a c) (sym (take-came n k more room buf within fits)) (Consumes-trans a b c _ _ p q)
+
+-- a read that put nothing leaves them as they were
+pub came-stay :
+    (a b c : Option (List ℕ)) (n k more : ℕ) (room buf : List ℕ) → n ≤ length room → more ≤ length buf → more ≡ 0 → Consumes a b (take n room) → Consumes b c (take more buf) →
+    Consumes a c (take n (put_mid n k room buf))
+came-stay a b c n k more room buf within fits none p q =
+    let e : n + more ≡ n = omega arith in
+    subst (λ (m : ℕ). Consumes a c (take m (put_mid n k room buf))) e (came-more a b c n k more room buf within fits p q)

@@ -3,13 +3,7 @@ use Rattle.listed.proofs.Fits.{lists-text, lists-never}
 use Rattle.listing.proofs.list_whole.Goals as goal
 
 pub returns-in-Text : goal.returns-in-Text
-returns-in-Text c =
-    let arm = c in
-    let call = arm in
-    lists-text _ _ _ _ _ _ _ _ _ arm.answer-1.given.1 call.list_into-answer.ensures
+returns-in-Text c = lists-text _ _ _ _ _ _ _ _ _ c.in-Text.is c.list_into-answer.ensures
 
 pub returns-in-Refused : goal.returns-in-Refused
-returns-in-Refused c =
-    let call = c in
-    absurd (lists-never _ _ _ _ _ _ _ call.requires _ _ c.in-Refused.is
-    call.list_into-answer.ensures)
+returns-in-Refused c = absurd (lists-never _ _ _ _ _ _ _ c.requires _ _ c.in-Refused.is c.list_into-answer.ensures)
