@@ -1,14 +1,13 @@
 -- The step at a chunk makes the first of what is pending. No contract cites this file.
 -- In order: no chunk, a foreign one with its whole stretch, a whole XML chunk, a cut one.
-use Prim.Native.Nat.{ℕ, ◌+◌, ◌-◌, ◌*◌, ◌≤◌, ◌<◌}
+use Prim.Native.Nat.{ℕ, ◌+◌, ◌-◌, ◌≤◌}
 use native.Mathlib.Omega.{arith}
-use mathlib.Core.Path.{◌≡◌, refl, sym, ◌∙◌}
-use mathlib.Core.List.{List, [], ◌∷◌, ◌++◌}
-use mathlib.Core.Bool.{Bool, true, false, cond, not}
+use mathlib.Core.Path.{◌≡◌, refl, ◌∙◌}
+use mathlib.Core.List.{List, ◌++◌}
+use mathlib.Core.Bool.{Bool, true, false, cond}
 use lib.ListN.{length, drop, length-drop}
 use lib.Dec.{eqb}
 use Rattle.chunk.specs.Inner.Run.{skip_run}
-use Rattle.anomaly.specs.declared.ResAnomaly.TheVariants.{UnknownChunk}
 use Rattle.head.specs.declared.Opened.{Opened}
 use Rattle.xml_elements.specs.declared.XmlStartElement.{XmlStartElement}
 use Rattle.xml_elements.specs.declared.Chunk.{Chunk}
@@ -18,17 +17,16 @@ use Rattle.xml_elements.specs.declared.CutChunk.TheVariants.{CutLine, CutHead, C
 use Rattle.xml_elements.specs.declared.Turn.{Turn}
 use Rattle.xml_elements.specs.declared.Turn.TheVariants.{Stop, Foreign, Met, Cut}
 use Rattle.xml_elements.specs.Chunk.{start_len, turn_of, len_of}
-use Rattle.xml_elements.proofs.Laws.{foreign-there, met-there, cut-there, cut_least}
-use Rattle.events.specs.declared.Event.TheVariants.{Nothing, Close, Note}
-use Rattle.events.specs.declared.Phase.{Phase}
+use Rattle.xml_elements.proofs.Laws.{foreign-there, met-there, cut-there}
+use Rattle.events.specs.declared.Event.TheVariants.{Nothing}
 use Rattle.events.specs.declared.Phase.TheVariants.{AtChunk, AtGap, AtName, AtShort, AtLast}
 use Rattle.events.specs.declared.Cursor.{Cursor}
 use Rattle.events.specs.Events.{Names, foreign_note, chunk_yield, cut_yield, chunk_next, cut_next, last_of, events_on}
 use Rattle.events.specs.Inner.Starts.{from_gap, from_size, from_trailing}
 use Rattle.events.specs.Inner.Steps.{begun_by, passed_to, closed_to, is_plain, chunk_step, cut_step, foreign_step, turn_step}
-use Rattle.events.specs.Inner.Pending.{Within, spot_of, behind, pending}
+use Rattle.events.specs.Inner.Pending.{Within, spot_of, pending}
 use Rattle.events.proofs.Model.{events_on-stop, events_on-turn, events_on-end, start_events-chain, from_gap-plain, event_list-unless, goes, goes-unless}
-use Rattle.events.proofs.Runs.{Passed, run-passed}
+use Rattle.events.proofs.Runs.{run-passed}
 use Rattle.events.proofs.Here.{Here, SteppedBy, made, stays}
 
 module _ (N : Names) (o : Opened) (t b : List ℕ) (c : Cursor) where

@@ -1,11 +1,11 @@
 -- Steps in the head, and behind the walk: each makes the first of what is pending. No contract cites this file.
 -- In order: garbage, count, offsets, the refusal of a head that is not whole; a start cut short, the walk's end, no start at all, nothing left.
-use Prim.Native.Nat.{ℕ, ◌+◌, ◌-◌, ◌*◌, ◌≤◌, ◌<◌}
+use Prim.Native.Nat.{ℕ}
 use native.Mathlib.Omega.{arith}
 use mathlib.Core.Path.{◌≡◌, refl, sym, ◌∙◌, ap}
-use mathlib.Core.List.{List, [], ◌∷◌, ◌++◌, append-nil}
+use mathlib.Core.List.{List, append-nil}
 use mathlib.Core.Bool.{Bool, true, false, not}
-use lib.ListN.{length, drop}
+use lib.ListN.{drop}
 use lib.Dec.{eqb}
 use Rattle.errors.specs.declared.Refusal.TheVariants.{MissingRoot}
 use Rattle.anomaly.specs.declared.ResAnomaly.{ResAnomaly}
@@ -14,14 +14,14 @@ use Rattle.anomaly.specs.declared.ResAnomaly.TheVariants.{TruncatedXml, Unclosed
 use Rattle.head.specs.declared.HeadEnd.{HeadEnd}
 use Rattle.head.specs.declared.HeadEnd.TheVariants.{Whole, TooSmall, HeaderSize, PoolShort, MapShort}
 use Rattle.head.specs.declared.Opened.{Opened}
-use Rattle.head.specs.Head.{PoolThere, refusal_of, when_note, garbage_notes, count_notes, offset_notes, outside_in}
+use Rattle.head.specs.Head.{refusal_of, when_note, outside_in}
 use Rattle.events.specs.declared.Event.{Event}
 use Rattle.events.specs.declared.Event.TheVariants.{Note, Refuse, Finish}
 use Rattle.events.specs.declared.Phase.TheVariants.{AtGarbage, AtCount, AtOffsets, AtRefuse, AtChunk, AtShort, AtLast, AtRoot, Over}
 use Rattle.events.specs.declared.Cursor.{Cursor}
-use Rattle.events.specs.Events.{Names, from_root, events_on, body_events, notes_of, after_pool, file_events}
-use Rattle.events.specs.Inner.Steps.{to_phase, to_step, note_if, garbage_step, pool_next, count_step, map_next, offsets_step, last_step, root_step}
-use Rattle.events.specs.Inner.Pending.{Unmoved, spot_of, after_map, pending, event_list}
+use Rattle.events.specs.Events.{Names, from_root, events_on, body_events, notes_of, file_events}
+use Rattle.events.specs.Inner.Steps.{to_step, note_if, garbage_step, pool_next, count_step, map_next, offsets_step, last_step, root_step}
+use Rattle.events.specs.Inner.Pending.{Unmoved, spot_of, pending, event_list}
 use Rattle.events.proofs.Model.{event_list-if, Goes, goes, goes-if}
 use Rattle.events.proofs.Here.{Here, SteppedBy, made, stays, unmoved}
 

@@ -1,6 +1,6 @@
 -- What a whole XML chunk within the front c of a list makes does not depend on what follows c: `chunk_yield-append`. Its turn does not either
 -- (proofs/Local.antt of xml_elements). No contract cites this file.
-use Prim.Native.Nat.{ℕ, zero, suc, ◌+◌, ◌-◌, ◌*◌, ◌≤◌}
+use Prim.Native.Nat.{ℕ, zero, suc, ◌*◌, ◌≤◌}
 use native.Mathlib.Omega.{arith}
 use mathlib.Core.Path.{◌≡◌, refl, sym, ◌∙◌}
 use mathlib.Core.List.{List, ◌++◌}

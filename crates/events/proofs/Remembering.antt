@@ -3,7 +3,7 @@
 use Prim.Native.Nat.{ℕ, zero, suc, ◌+◌, ◌*◌, ◌/◌, ◌%◌, ◌≤◌, ◌<◌}
 use native.Mathlib.Omega.{arith}
 use mathlib.Core.Path.{◌≡◌, refl, sym, ◌∙◌, ap}
-use mathlib.Core.Bool.{Bool, true, false, cond, ◌&&◌, true≢false}
+use mathlib.Core.Bool.{Bool, true, false, ◌&&◌, true≢false}
 use mathlib.Core.List.{List}
 use borrow.Author.Tests.{eqb-true, eqb-false, eq-eqb, ne_eqb, lt-ltb, le-ltb}
 use lib.ListN.{length, get_or, set, replicate, take, drop, length-set}
@@ -11,7 +11,7 @@ use lib.Seq.{get_or-set_same, get_or-set_other}
 use lib.Dec.{eqb, ltb}
 use Rattle.utf.specs.Text.{Damage, whole, replaced, unpaired, cut as cut_text, state_number}
 use Rattle.system_types.specs.Names.{Lent}
-use Rattle.text.specs.Content.{Content, none, cut, some, content_of, damage_in, has_text, is_name, valid_by, state_in}
+use Rattle.text.specs.Content.{Content, none, cut, some, content_of, damage_in, is_name, valid_by, state_in}
 use Rattle.text.specs.Inner.Found.{whole_name}
 use Rattle.text.specs.declared.Head.{Head}
 use Rattle.text.specs.declared.NameState.{NameState}
@@ -20,8 +20,7 @@ use Rattle.anomaly.specs.declared.ResAnomaly.TheVariants.{InvalidElementName, Da
 use Rattle.events.specs.declared.Event.TheVariants.{Note}
 use Rattle.events.specs.declared.Phase.TheVariants.{AtNamed, AtOpen}
 use Rattle.events.specs.declared.Cursor.{Cursor}
-use Rattle.events.specs.declared.Step.{Step}
-use Rattle.events.specs.Inner.Steps.{to_step, open_step, named_step, name_step}
+use Rattle.events.specs.Inner.Steps.{to_step, open_step, name_step}
 use Rattle.events.specs.Inner.Remembered.{look_by, look_of, state_by, look_step, mark_of, place_of, look_place, length_place, strings, words, Remembers}
 
 -- ---- a look

@@ -2,14 +2,14 @@
 -- In order: gap, size, trailing bytes, the state of the name, the name; the element, behind which come the leading attribute and the attributes (`pending-opened`).
 use Prim.Native.Nat.{ℕ, zero, suc, ◌+◌, ◌-◌, ◌*◌, ◌≤◌, ◌<◌}
 use native.Mathlib.Omega.{arith}
-use mathlib.Core.Path.{◌≡◌, refl, sym, ◌∙◌}
-use mathlib.Core.List.{List, [], ◌∷◌, ◌++◌, append_assoc}
+use mathlib.Core.Path.{◌≡◌, refl, ◌∙◌}
+use mathlib.Core.List.{List, ◌++◌, append_assoc}
 use mathlib.Core.Bool.{Bool, true, false, cond, not, ◌&&◌}
-use borrow.Author.Tests.{eqb-true, eqb-false, ltb-true, eq-eqb, ne_eqb}
+use borrow.Author.Tests.{eqb-true, ltb-true, eq-eqb, ne_eqb}
 use lib.ListN.{length, drop}
 use lib.Seq.{drop-drop}
 use lib.Dec.{ltb, eqb}
-use Rattle.anomaly.specs.declared.ResAnomaly.TheVariants.{AttributeStartShifted, AttributeSizeMismatch, ElementTrailingBytes, InvalidElementName, DamagedElementName}
+use Rattle.anomaly.specs.declared.ResAnomaly.TheVariants.{AttributeStartShifted, AttributeSizeMismatch, ElementTrailingBytes, DamagedElementName}
 use Rattle.text.specs.declared.NameState.{NameState}
 use Rattle.text.specs.declared.NameState.TheVariants.{NoText, Invalid, Valid}
 use Rattle.head.specs.declared.Opened.{Opened}
@@ -17,16 +17,16 @@ use Rattle.head.specs.Head.{PoolThere}
 use Rattle.xml_elements.specs.Chunk.{stride_of, attributes_at, trailing_of, start_len}
 use Rattle.xml_elements.proofs.Laws.{cond-by}
 use Rattle.events.specs.declared.Event.{Event}
-use Rattle.events.specs.declared.Event.TheVariants.{Open, Note}
+use Rattle.events.specs.declared.Event.TheVariants.{Note}
 use Rattle.events.specs.declared.Phase.{Phase}
 use Rattle.events.specs.declared.Phase.TheVariants.{AtGap, AtSize, AtTrailing, AtShort, AtName, AtNamed, AtOpen, AtLead, AtAttribute}
 use Rattle.events.specs.declared.Cursor.{Cursor}
-use Rattle.events.specs.Events.{Names, event_if, leading, attribute_event, attributes_of, started, events_on}
+use Rattle.events.specs.Events.{Names, event_if, leading, attribute_event, attributes_of, events_on}
 use Rattle.events.specs.Inner.Starts.{from_gap, from_size, from_trailing, from_name, from_named, from_open, from_lead}
 use Rattle.events.specs.Inner.Steps.{to_phase, left_next, behind_of, opened_by, moved_by, after_open}
 use Rattle.events.specs.Inner.Steps.{to_step, note_if, gap_step, size_step, trailing_step, open_step, named_step, name_step}
-use Rattle.events.specs.Inner.Pending.{There, Held, Within, spot_of, behind, pend_by, pending, rank, steps, event_list}
-use Rattle.events.proofs.Model.{event_list-if, event_list-attribute, Goes, goes, goes-if, goes-attribute, attributes_of-step, fit_next, fit_same, fit-here}
+use Rattle.events.specs.Inner.Pending.{There, Held, Within, spot_of, behind, pending, rank, steps, event_list}
+use Rattle.events.proofs.Model.{event_list-if, event_list-attribute, Goes, goes, goes-if, goes-attribute, attributes_of-step, fit_next, fit_same}
 use Rattle.events.proofs.Here.{Here, SteppedBy, made, stays}
 
 module _ (N : Names) (o : Opened) (t b : List ℕ) where

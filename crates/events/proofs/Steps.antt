@@ -1,6 +1,6 @@
 -- THE LAW of the cursor: a step makes the first of what is pending, stays within, and comes nearer to the end; and what is pending at
 -- first is what the file makes. No contract cites this file; the loop above goes by it alone.
-use Prim.Native.Nat.{ℕ, ◌+◌, ◌*◌, ◌≤◌, zero-le}
+use Prim.Native.Nat.{ℕ, ◌≤◌, zero-le}
 use native.Mathlib.Omega.{arith}
 use mathlib.Core.Path.{◌≡◌, refl}
 use mathlib.Core.List.{List}

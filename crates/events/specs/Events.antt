@@ -9,10 +9,8 @@
 --   file_events      the head's notes and refusals, then the body's events
 --
 -- Names are asked of `Names`: what an index stands for. The walk itself is `trace` of crate chunk.
-use Rattle.std.specs.Prelude.{ℕ, zero, suc, ◌+◌, ◌-◌, ◌*◌, List, [], ◌∷◌, ◌++◌, Bool, true, false, cond, ◌&&◌, not, length, drop, ltb, eqb}
+use Rattle.std.specs.Prelude.{ℕ, zero, suc, ◌+◌, ◌-◌, List, [], ◌∷◌, ◌++◌, Bool, true, false, cond, ◌&&◌, not, length, drop, ltb, eqb}
 use Rattle.chunk.specs.Walk.{trace}
-use Rattle.common.specs.declared.StringIndex.{StringIndex}
-use Rattle.errors.specs.declared.Refusal.{Refusal}
 use Rattle.errors.specs.declared.Refusal.TheVariants.{MissingRoot}
 use Rattle.anomaly.specs.declared.ResAnomaly.{ResAnomaly}
 use Rattle.anomaly.specs.declared.ResAnomaly.TheVariants.{NonXmlChunk, XmlNodeHeaderSize, UnknownChunk, TruncatedXml, UnclosedElements}
@@ -38,7 +36,7 @@ use Rattle.xml_elements.specs.declared.CutChunk.{CutChunk}
 use Rattle.xml_elements.specs.declared.CutChunk.TheVariants.{CutLine, CutHead, CutGap, CutAttributes, CutTrailing, CutEnd, CutOther}
 use Rattle.xml_elements.specs.declared.Turn.{Turn}
 use Rattle.xml_elements.specs.declared.Turn.TheVariants.{Stop, Foreign, Met, Cut}
-use Rattle.xml_elements.specs.Chunk.{index, stride_of, attributes_at, attributes_end, trailing_of, attribute_at, turn_of, used_of}
+use Rattle.xml_elements.specs.Chunk.{index, stride_of, attributes_at, trailing_of, attribute_at, turn_of, used_of}
 use Rattle.events.specs.declared.Event.{Event}
 use Rattle.events.specs.declared.Event.TheVariants.{Open, Attribute, LeftOut, Close, Note, Refuse}
 

@@ -8,7 +8,7 @@ use mathlib.Core.List.{List}
 use mathlib.Core.Bool.{Bool, true, false, cond}
 use borrow.Author.Tests.{ltb-true, ltb-false, lt-ltb, le-ltb}
 use lib.ListN.{length, take, drop, get_or, length-drop}
-use lib.Seq.{drop-drop, get_or-drop}
+use lib.Seq.{get_or-drop}
 use lib.Dec.{ltb}
 use Rattle.head.proofs.Cases.{rest_all}
 use Rattle.records.specs.Words.{node_width, node_first, node_count, attribute_width}

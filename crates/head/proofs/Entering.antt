@@ -18,10 +18,8 @@ use Rattle.head.specs.Head.{opened_of}
 use Rattle.head.specs.Entry.{Terms, Check, passes, fails, first_of, entry_checks}
 use Rattle.head.specs.Entry.{length_check, keeps_none, cap_check, names_check_by, names_check, mode_of, is_mode, mode_check, items_check}
 use Rattle.head.specs.Inner.Entered.{entered_by, entered_of}
-use Rattle.head.specs.declared.Asker.{Asker}
 use Rattle.head.specs.declared.Asker.TheVariants.{Reading}
 use Rattle.head.specs.declared.Opened.{Opened}
-use Rattle.head.specs.declared.Entered.{Entered}
 use Rattle.head.specs.declared.Entered.TheVariants.{In, Out}
 
 passes-not : {r : Refusal} → fails r ≡ passes → ⊥

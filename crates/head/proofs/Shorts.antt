@@ -1,7 +1,7 @@
 -- Laws of a head of which a part is short (41 to 45, 51, 52): its refusal's value is where the part should begin, and what stands behind that place can go. No
 -- contract cites this file.
 -- In order: the pool (`pool-cut`), the map (`map-cut`), the head of a file (`opened-cut`).
-use Prim.Native.Nat.{ℕ, ◌+◌, ◌-◌, ◌*◌, ◌≤◌}
+use Prim.Native.Nat.{ℕ, ◌+◌, ◌-◌, ◌≤◌}
 use native.Mathlib.Omega.{arith}
 use mathlib.Core.Path.{◌≡◌, refl, sym, ap, ◌∙◌}
 use mathlib.Core.List.{List, [], ◌∷◌, ◌++◌}
@@ -18,7 +18,6 @@ use Rattle.errors.specs.declared.Refusal.{Refusal}
 use Rattle.res_string_pool.specs.Pool.{pool_of}
 use Rattle.res_string_pool.specs.declared.Garbage.{Garbage}
 use Rattle.res_string_pool.specs.declared.Pool.{Pool}
-use Rattle.res_string_pool.specs.declared.PoolRead.{PoolRead}
 use Rattle.res_string_pool.specs.declared.PoolEnd.{PoolEnd}
 use Rattle.res_string_pool.specs.declared.PoolEnd.TheVariants.{Complete, GarbageShort, HeaderShort, OffsetsShort, StylesShort, DataShort}
 use Rattle.res_string_pool.proofs.Laws.{pool_of-fits}

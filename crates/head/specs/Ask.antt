@@ -7,9 +7,8 @@
 --   content_answer the answer of the content question: empty on a refusal, for no text, and for a string cut or outside
 --
 -- An empty text is an answer of length 0, also where the buffer has no bytes. A refused answer tells no state, 11 neither. Laws: proofs/Questions.antt, proofs/Unique.antt.
-use Rattle.std.specs.Prelude.{ℕ, ◌-◌, ◌≡◌, List, [], ◌∷◌, ◌++◌, cond, length, replicate, leb}
+use Rattle.std.specs.Prelude.{ℕ, ◌-◌, ◌≡◌, List, ◌++◌, cond, length, replicate, leb}
 use Rattle.errors.specs.Refusal.{text_numbers_of}
-use Rattle.errors.specs.declared.Refusal.{Refusal}
 use Rattle.errors.specs.declared.Refusal.TheVariants.{NothingFound, TextShort}
 use Rattle.errors.specs.declared.TextState.{TextState}
 use Rattle.errors.specs.declared.TextState.TheVariants as state_is
@@ -17,7 +16,6 @@ use Rattle.errors.specs.declared.TextAnswer.{TextAnswer}
 use Rattle.errors.specs.declared.TextAnswer.TheVariants.{Text, Refused}
 use Rattle.utf.specs.Text.{Damage, whole, replaced, unpaired, cut as cut_text}
 use Rattle.system_types.specs.Names.{Lent}
-use Rattle.text.specs.declared.Head.{Head}
 use Rattle.text.specs.Content.{Content, none, cut, some, content_of, text_in, damage_in, raw_of}
 use Rattle.head.specs.Head.{opened_of, head_is_whole, refusal_of, tables_in}
 use Rattle.head.specs.Entry.{question, Check, passes, fails, first_of, entry_checks}

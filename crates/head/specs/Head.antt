@@ -9,7 +9,7 @@
 --
 -- The type and the total size of the file's header are not looked at. A number that the bytes do not reach is 0. A place is counted
 -- from the first byte behind the file's header, a file offset from the file's first. Laws: proofs/Laws.antt, proofs/Shorts.antt.
-use Rattle.std.specs.Prelude.{ℕ, ◌+◌, ◌-◌, ◌*◌, ◌/◌, List, [], ◌∷◌, Bool, true, false, cond, not, length, take, drop, ltb, eqb}
+use Rattle.std.specs.Prelude.{ℕ, ◌+◌, ◌-◌, ◌*◌, List, [], ◌∷◌, Bool, true, false, cond, not, length, take, drop, ltb, eqb}
 use Rattle.field.specs.Le.{u16le}
 use Rattle.errors.specs.declared.Refusal.{Refusal}
 use Rattle.errors.specs.declared.Refusal.TheVariants.{TooSmallError, HeaderSizeError, MissingRoot, StringPoolGarbage, StringPoolHeader}
@@ -19,7 +19,6 @@ use Rattle.anomaly.specs.declared.ResAnomaly.TheVariants.{StringPoolGarbageChunk
 use Rattle.res_string_pool.specs.Pool.{pool_of, no_garbage, outside_of}
 use Rattle.res_string_pool.specs.declared.Garbage.{Garbage}
 use Rattle.res_string_pool.specs.declared.Pool.{Pool}
-use Rattle.res_string_pool.specs.declared.PoolRead.{PoolRead}
 use Rattle.res_string_pool.specs.declared.PoolEnd.{PoolEnd}
 use Rattle.res_string_pool.specs.declared.PoolEnd.TheVariants.{Complete, GarbageShort, HeaderShort, OffsetsShort, StylesShort, DataShort}
 use Rattle.resource_map.specs.Map.{map_of}

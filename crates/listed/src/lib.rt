@@ -2,6 +2,8 @@
 //
 // Mirrors nothing of the Rust's. docs/FORMAT.md, L1 to L4. Definitions: specs/Lists.antt.
 // `axml::read_listed` reads and `listing_text::listing_into` prints; the limit, the cap and the rooms are those of crate `records`.
+#![tactic(auto)]
+
 ghost use Rattle.listed.specs.Lists.{Lists};
 
 use anomaly::Note;

@@ -1,2 +1,3 @@
 -- The root of the crate's laws.
 pub mod Laws
+pub mod Reading

@@ -1,19 +1,23 @@
 // Lists a binary XML file: standard input in, the lines of docs/FORMAT.md (L1 to L4) out.
 //
-// The program only moves bytes: what it lists is `listed::list_into`'s promise, and `list_input` says so of what came in. More than the limit is
-// refused with 2 and not read to its end. A read that fails prints nothing on standard output and a line on standard error, so that a part of a
-// file is never listed as if it were the whole; a write that fails says so too, for what was written then is a part of the listing.
-ghost use Rattle.std.specs.Prelude.{◌≤◌, ◌<◌, length};
+// The program only moves bytes: what it lists is `listed::list_into`'s promise, `list_input` says so of what came in, and `run` of a reader and a
+// writer: what is written is the listing of all that the reader had. More than the limit is refused with 2 and not read to its end. A read that
+// fails prints nothing on standard output and ends the program with an error, so that a part of a file is never listed as if it were the whole;
+// so does a write that fails, for what was written then is a part of the listing.
+#![tactic(auto)]
+
+ghost use Rattle.std.specs.Prelude.{◌≡◌, ◌≤◌, ◌<◌, length, OnOk};
 ghost use Rattle.records.specs.Limits.{listed_file};
 ghost use Rattle.errors.specs.declared.LinesAnswer.TheVariants.{Text};
 ghost use Rattle.listed.specs.Lists.{Lists};
 ghost use Rattle.listed.specs.Roomy.{Roomy};
-ghost use Rattle.listing.specs.Inner.Input.{Within, Runs};
+ghost use Rattle.listing.specs.Inner.Input.{Within, Came, Runs, Listed};
 
 use errors::LinesAnswer;
-use libc::{STDERR_FILENO, STDIN_FILENO, STDOUT_FILENO};
 use listing_text::LISTED_BYTES;
 use records::{ATTRIBUTE_WORDS, LISTED_ATTRIBUTES, LISTED_FILE, LISTED_NODES, NODE_WORDS};
+use std::io;
+use std::io::{Read, Write};
 
 // What came in on standard input.
 #[derive(Clone, Copy)]
@@ -24,16 +28,17 @@ pub enum Input {
 }
 
 // Reads until the room is full, the input ends or a read fails.
-fn take_in(room: &mut [u8]) -> Input
-    ensures { Within result (length room.new) }
+// Ruled out: an end that is told before there is one, and bytes that came and are not in the room.
+fn take_in<R: Read>(reader: &mut R, room: &mut [u8]) -> Input
+    ensures within { Within result (length room.new) }
+    ensures came { Came (R.remaining reader.old) (R.remaining reader.new) result room.new }
 {
     let mut n: usize = 0;
     while n < room.len() {
-        let got = libc::read(STDIN_FILENO, &mut room[n..]);
-        if got < 0 {
-            return Input::Failed;
-        }
-        let more = io::count(got, &room[n..]);
+        let more = match reader.read(&mut room[n..]) {
+            Ok(more) => more,
+            Err(_) => return Input::Failed,
+        };
         if more == 0 {
             return Input::Whole(n);
         }
@@ -76,25 +81,34 @@ fn list_input(
     }
 }
 
-// Reads, lists and writes. A listing is never empty: its length is 0 where a read failed.
-fn run(file: &mut [u8], nodes: &mut [u32], attributes: &mut [u32], out: &mut [u8])
+// Reads, lists and writes: of known bytes the listing, in the room of a listing. Nothing is written where a read failed.
+// Ruled out: the listing of a part of what the reader had, and a listing that is not written whole.
+fn run<R: Read, W: Write>(
+    reader: &mut R,
+    writer: &mut W,
+    file: &mut [u8],
+    nodes: &mut [u32],
+    attributes: &mut [u32],
+    out: &mut [u8],
+) -> io::Result<()>
     requires { (listed_file < length file.old) × Roomy (length nodes.old) (length attributes.old) (length out.old) }
+    ensures { OnOk result (Listed (R.remaining reader.old) (W.contents writer.old) (W.contents writer.new) (length nodes.old) (length attributes.old)) }
 {
-    let input = take_in(file);
+    let input = take_in(reader, file);
+    if let Input::Failed = input {
+        let message = "standard input cannot be read";
+        return Err(io::Error::new(io::ErrorKind::Other, message));
+    }
     let length = list_input(input, file, nodes, attributes, out);
-    if length == 0 {
-        io::write_all(STDERR_FILENO, b"listing: standard input cannot be read\n");
-        return;
-    }
-    if !io::write_all(STDOUT_FILENO, &out[..length]) {
-        io::write_all(STDERR_FILENO, b"listing: standard output takes no more\n");
-    }
+    writer.write_all(&out[..length])
 }
 
-fn main() {
+fn main(rt: HostRuntime) -> io::Result<()> {
+    let from = &mut rt.stdin();
+    let to = &mut rt.stdout();
     let mut file = [0u8; LISTED_FILE + 1];
     let mut nodes = [0u32; NODE_WORDS * LISTED_NODES];
     let mut attributes = [0u32; ATTRIBUTE_WORDS * LISTED_ATTRIBUTES];
     let mut out = [0u8; LISTED_BYTES];
-    run(&mut file, &mut nodes, &mut attributes, &mut out);
+    run(from, to, &mut file, &mut nodes, &mut attributes, &mut out)
 }

@@ -1,17 +1,17 @@
 -- Equal texts have equal numbers (`hash-same`), attributes that repeat each other have equal keys (`key-same`), and the turns of the loop of
 -- `hash_of`. No contract cites this file.
-use Prim.Native.Nat.{ℕ, zero, suc, ◌+◌, ◌*◌, ◌/◌, ◌%◌, ◌≤◌, ◌<◌}
+use Prim.Native.Nat.{ℕ, ◌+◌, ◌*◌, ◌/◌, ◌%◌, ◌≤◌, ◌<◌}
 use mathlib.Core.Path.{◌≡◌, refl, sym, ap, ◌∙◌}
 use mathlib.Core.Bool.{Bool, true, false, cond, ◌&&◌, true≢false}
-use mathlib.Core.List.{List, [], ◌∷◌, ◌++◌}
+use mathlib.Core.List.{List, [], ◌∷◌}
 use native.Mathlib.Omega.{arith}
 use lib.Bits.{bit_xor}
 use lib.Dec.{eqb}
 use lib.ListN.{length, get_or, drop, length-append}
-use borrow.Author.Tests.{eqb-true, eq-eqb, ne_eqb, eqb-false}
+use borrow.Author.Tests.{eqb-true, eq-eqb, ne_eqb}
 use Rattle.utf.specs.declared.Step.{Step}
 use Rattle.utf.specs.Utf8.{encode}
-use Rattle.utf.specs.Text.{step_of, step_value, width_of, steps_of, bytes_of, refused, text_of, eq_bytes}
+use Rattle.utf.specs.Text.{step_value, steps_of, bytes_of, refused, text_of, eq_bytes}
 use Rattle.utf.specs.Inner.StepRuns.{Took}
 use Rattle.utf.proofs.Scalars.{encode-length-lt}
 use Rattle.utf.proofs.Tables.{both_true}

@@ -1,6 +1,6 @@
 -- Laws of specs/Inner/Numbered.antt: equal texts are an equivalence (`same_back`, `same-on`); nothing is known at first (`numbered-none`); what is told of
 -- two indices (`told_same`, `told-other`); which index stands for a text (`first-met`, `first-own`); and one index more (`numbered_more`). No contract cites this file.
-use Prim.Native.Nat.{ℕ, zero, suc, ◌+◌, ◌-◌, ◌*◌, ◌/◌, ◌%◌, ◌≤◌, ◌<◌}
+use Prim.Native.Nat.{ℕ, zero, suc, ◌+◌, ◌-◌, ◌/◌, ◌%◌, ◌≤◌, ◌<◌}
 use native.Mathlib.Omega.{arith}
 use mathlib.Core.Path.{◌≡◌, refl, sym, ◌∙◌, ap}
 use mathlib.Core.Bool.{Bool, true, false, cond, ◌&&◌, true≢false}

@@ -13,7 +13,6 @@ use lib.Seq.{get_or-set_same, get_or-set_other, drop_at, drop-drop, length-take-
 use borrow.Author.Tests.{eqb-true, eqb-false, eq-eqb, ltb-true, ltb-false}
 use Rattle.records.specs.Words.{attribute_width, attribute_words}
 use Rattle.records.specs.Repeats.{Rule, by_prefix, repeats_one, is_repeat}
-use Rattle.tables.specs.declared.links.WayEnd.{WayEnd}
 use Rattle.tables.specs.Inner.Keys.{Key, keys_of}
 use Rattle.tables.specs.Inner.Ways.{link_width, link_key, child_of, Leads, there, down, Reached, Hung, Ends, same_at, Sought}
 use Rattle.tables.proofs.Keys.{by_prefix-at}

@@ -13,7 +13,7 @@ use lib.Seq.{take_at, take_all, take-take, drop_at, drop-drop, length-take-le, g
 use borrow.Author.Tests.{leb-true, leb-false}
 use borrow.Rule.Slice.PartMut.{mid_of, put_mid}
 use Rattle.xml_elements.specs.declared.XmlAttributeElement.{XmlAttributeElement}
-use Rattle.records.specs.Words.{node_width, node_count, attribute_width, attribute_prefix, attribute_name, attribute_namespace, attribute_words}
+use Rattle.records.specs.Words.{node_width, node_count, attribute_width, attribute_prefix, attribute_name, attribute_namespace}
 use Rattle.records.specs.Repeats.{Rule, by_prefix, is_repeat}
 use Rattle.tables.specs.Inner.Keys.{Key, keys_of}
 use Rattle.tables.specs.declared.links.WayEnd.{WayEnd}

@@ -1,6 +1,6 @@
 -- The end of the loop of `read_on`: what is kept stays, zeros come behind it, and this is what the promise says. No contract cites this file.
 -- In order: what is kept is there (`kept-nodes-le`, `kept-attributes-le`), what `finish` asks (`read-keepable`), `read_done`.
-use Prim.Native.Nat.{ℕ, ◌+◌, ◌-◌, ◌*◌, ◌/◌, ◌≤◌}
+use Prim.Native.Nat.{ℕ, ◌-◌, ◌*◌, ◌/◌, ◌≤◌}
 use native.Mathlib.Omega.{arith}
 use mathlib.Core.Path.{◌≡◌, refl, sym, ◌∙◌, ap}
 use mathlib.Core.List.{List, ◌++◌}

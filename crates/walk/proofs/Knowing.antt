@@ -1,6 +1,6 @@
 -- Laws of specs/Inner/KnownSoFar.antt: nothing is known in zeros, whatever the state (`knows-none`); an answer asks nothing (`knows-refused`, `knows-finished`,
 -- `knows-cleared`); a note leaves what is known (`knows-noted`), and the head opened begins with nothing (`knows-started`). No contract cites this file.
-use Prim.Native.Nat.{ℕ, ◌≤◌, ◌<◌}
+use Prim.Native.Nat.{ℕ}
 use mathlib.Core.Path.{◌≡◌, refl, sym, ◌∙◌, ap}
 use mathlib.Core.List.{List}
 use mathlib.Core.Bool.{Bool, true, false}

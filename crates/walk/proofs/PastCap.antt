@@ -25,7 +25,7 @@ use Rattle.events.specs.declared.Cursor.{Cursor}
 use Rattle.events.specs.declared.Event.{Event}
 use Rattle.events.specs.declared.Event.TheVariants.{Note}
 use Rattle.events.specs.declared.Phase.TheVariants.{AtChunk}
-use Rattle.events.specs.Events.{Names, WalkState, event_if, events_on}
+use Rattle.events.specs.Events.{Names, event_if, events_on}
 use Rattle.events.specs.Inner.Steps.{passed_to}
 use Rattle.events.specs.Inner.Pending.{Within, pending, steps}
 use Rattle.events.proofs.Model.{events_on-turn}
@@ -33,7 +33,6 @@ use Rattle.walk.specs.declared.tree.Tree.{Tree}
 use Rattle.walk.specs.declared.State.{State}
 use Rattle.walk.specs.Settle.{Room, Tables, going, settle}
 use Rattle.walk.specs.Reading.{final_of}
-use Rattle.walk.specs.Inner.Tree.{tables_of}
 use Rattle.walk.specs.Inner.Outcome.{StateOk, room_of}
 use Rattle.walk.specs.Inner.Pass.{spot_at, NoneDue, Reaches, PassesOn}
 use Rattle.walk.proofs.Advancing.{ReadHead, body, tables, N}

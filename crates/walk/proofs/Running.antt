@@ -1,6 +1,6 @@
 -- The loop of `run`: each turn is one step of the reading. No contract cites this file.
 -- In order: the loop's head (`RunHead`), and what each arm leaves (`run-goes`, `run-full`, `run-due`, `run-finished`).
-use Prim.Native.Nat.{ℕ, ◌+◌, ◌≤◌, ◌<◌}
+use Prim.Native.Nat.{ℕ, ◌≤◌, ◌<◌}
 use native.Mathlib.Omega.{arith}
 use mathlib.Core.Path.{◌≡◌, refl, sym, ◌∙◌, ap}
 use mathlib.Core.List.{List, ◌∷◌, ◌++◌}

@@ -1,9 +1,7 @@
 -- Laws of `settle`, for the loop of `run` and for what `advance` keeps. No contract cites this file.
 -- In order: an event that is none (`settle-the`), a refusal stays (`settle-refused`), the two equations.
-use Prim.Native.Nat.{ℕ}
 use mathlib.Core.Path.{◌≡◌, refl}
 use mathlib.Core.List.{List, [], ◌∷◌, ◌++◌}
-use mathlib.Core.Bool.{Bool}
 use Rattle.errors.specs.declared.Refusal.{Refusal}
 use Rattle.records.specs.Repeats.{Rule}
 use Rattle.events.specs.declared.Event.{Event}

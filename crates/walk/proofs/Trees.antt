@@ -1,11 +1,11 @@
 -- What an element that opens or closes does to the tables, as one push of specs/Settle.antt. No contract cites this file.
 -- In order: words put at a place, the list of open elements, a node opens (`node_opens`, `node-full`), an element closes (`node-closes`).
 -- Not here: attributes (Attributes.antt).
-use Prim.Native.Nat.{ℕ, ◌+◌, ◌-◌, ◌*◌, ◌/◌, ◌≤◌, ◌<◌}
+use Prim.Native.Nat.{ℕ, ◌+◌, ◌*◌, ◌/◌, ◌≤◌, ◌<◌}
 use native.Mathlib.Omega.{arith}
 use mathlib.Core.Path.{◌≡◌, refl, sym, ◌∙◌, ap, subst}
 use mathlib.Core.List.{List, [], ◌∷◌, ◌++◌}
-use mathlib.Core.Bool.{Bool, cond}
+use mathlib.Core.Bool.{cond}
 use borrow.Author.Tests.{le-leb, lt-leb, eq-eqb, ne_eqb}
 use lib.ListN.{length, take, drop, set, get_or, length-append, length-set, get_or-append}
 use lib.Seq.{take_at, length-take-le, get_or-set_other, get_or-append-add, get_or-take}

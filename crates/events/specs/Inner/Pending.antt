@@ -17,7 +17,6 @@ use Rattle.head.specs.declared.HeadEnd.{HeadEnd}
 use Rattle.head.specs.declared.HeadEnd.TheVariants.{Whole, TooSmall, HeaderSize, PoolShort, MapShort}
 use Rattle.head.specs.declared.Opened.{Opened}
 use Rattle.head.specs.Head.{PoolThere, refusal_of, count_notes, offset_notes}
-use Rattle.xml_elements.specs.declared.XmlStartElement.{XmlStartElement}
 use Rattle.xml_elements.specs.Chunk.{stride_of, trailing_of, start_len}
 use Rattle.events.specs.declared.Event.{Event}
 use Rattle.events.specs.declared.Event.TheVariants.{Nothing, Open, Attribute, LeftOut, Close, Note, Refuse, Finish}
@@ -29,7 +28,6 @@ use Rattle.events.specs.declared.Step.{Step}
 use Rattle.events.specs.Events.{Names, attributes_of, cut_short}
 use Rattle.events.specs.Events.{WalkState, started, from_root, last_of, events_on, body_events, notes_of, after_pool, file_events}
 use Rattle.events.specs.Inner.Starts.{from_gap, from_size, from_trailing, from_name, from_named, from_lead}
-use Rattle.events.specs.Inner.Steps.{step_of}
 
 -- ---- what holds of a cursor
 

@@ -7,7 +7,7 @@
 --   foreign_step   passes a whole stretch of chunks of one sort (docs/FORMAT.md, W4); no event where the chunk before was of that sort
 --   cut_step       what is cut takes all that is left, n bytes being the body; an end closes all the same
 --   step_of        the step from a cursor, by its phase; `Finish`, and nothing moves, once all is made
-use Rattle.std.specs.Prelude.{ℕ, ◌+◌, ◌-◌, ◌*◌, List, Bool, true, false, cond, ◌&&◌, not, length, drop, ltb, leb, eqb}
+use Rattle.std.specs.Prelude.{ℕ, ◌+◌, ◌-◌, List, Bool, cond, ◌&&◌, not, length, drop, ltb, leb, eqb}
 use Rattle.chunk.specs.Inner.Run.{skip_run}
 use Rattle.errors.specs.declared.Refusal.TheVariants.{MissingRoot}
 use Rattle.anomaly.specs.declared.ResAnomaly.TheVariants.{StringPoolGarbageChunk, StringCountMismatch, StringOffsetsOutOfBounds, UnknownChunk, TruncatedXml}
@@ -28,7 +28,7 @@ use Rattle.xml_elements.specs.declared.Turn.{Turn}
 use Rattle.xml_elements.specs.declared.Turn.TheVariants.{Stop, Foreign, Met, Cut}
 use Rattle.xml_elements.specs.Chunk.{index, stride_of, attributes_at, trailing_of, turn_of}
 use Rattle.events.specs.declared.Event.{Event}
-use Rattle.events.specs.declared.Event.TheVariants.{Nothing, Open, Attribute, Close, Note, Refuse, Finish}
+use Rattle.events.specs.declared.Event.TheVariants.{Nothing, Open, Close, Note, Refuse, Finish}
 use Rattle.events.specs.declared.Phase.{Phase}
 use Rattle.events.specs.declared.Phase.TheVariants.{AtGarbage, AtCount, AtOffsets, AtRefuse, AtChunk, AtGap, AtSize, AtTrailing}
 use Rattle.events.specs.declared.Phase.TheVariants.{AtShort, AtName, AtNamed, AtOpen, AtLead, AtAttribute, AtLast, AtRoot, Over}

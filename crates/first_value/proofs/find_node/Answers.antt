@@ -1,6 +1,5 @@
 -- `first_value::find_node` meets its contract: it stops at the first node with the tag.
 -- Invariant: none before k has it, and what is kept are other names. Measure: the nodes left.
-use Prim.Native.Nat.{◌-◌}
 use native.Mathlib.Nat.{sub-zero}
 use mathlib.Core.Path.{refl, sym, ◌∙◌}
 use Rattle.system_types.specs.Names.{lends}

@@ -1,6 +1,5 @@
 -- `first_value::find_value` meets its contract: it stops at the first attribute with the name.
 -- Invariant: none before k has it. Measure: the attributes left.
-use Prim.Native.Nat.{◌-◌}
 use native.Mathlib.Nat.{sub-zero}
 use mathlib.Core.Path.{sym, ◌∙◌}
 use borrow.Author.Rules.{rules}

@@ -31,12 +31,11 @@ slice_bounds-find_value-start c =
     omega (arith, inside c.args.attributes.now c.args.node _ _ _ c.requires.1 c.in-Run.is c.attribute_place.ensures)
 
 pub find_value-requires : goal.find_value-requires
-find_value-requires c =
-    (
-      c.requires.0,
-      rest-words c.args.attributes.now c.attribute_place.result _
-          (inside c.args.attributes.now c.args.node _ _ _ c.requires.1 c.in-Run.is c.attribute_place.ensures),
-    )
+find_value-requires c = (
+  c.requires.0,
+  rest-words c.args.attributes.now c.attribute_place.result _
+      (inside c.args.attributes.now c.args.node _ _ _ c.requires.1 c.in-Run.is c.attribute_place.ensures),
+)
 
 pub returns-in-Run : goal.returns-in-Run
 returns-in-Run c =

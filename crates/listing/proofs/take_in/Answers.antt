@@ -1,17 +1,11 @@
--- `listing::take_in` meets its contract. Invariant: n bytes are in, and the room is as long as it was. Measure: the room left.
-use Prim.Native.Nat.{◌-◌}
-use borrow.Author.Rules.{rules}
-use Rattle.listing.specs.Inner.Input.{Within}
+-- `listing::take_in` meets its contract: a read puts its bytes behind those that are there.
+use Rattle.std.proofs.Common.{arith, rules}
+use Rattle.listing.proofs.Reading.{came-more}
 use Rattle.listing.proofs.take_in.Goals as goal
 
-pub returns-then-got-lt0 : goal.returns-then-got-lt0
-unfolding Within
-returns-then-got-lt0 c = search rules
-
-pub returns-then-more-eq0 : goal.returns-then-more-eq0
-unfolding Within
-returns-then-more-eq0 c = search rules
-
-pub returns : goal.returns
-unfolding Within
-returns c = search rules
+pub loop-n-preserved : goal.loop-n-preserved
+loop-n-preserved g c = record {
+  within = search rules;
+  length = search rules;
+  came = came-more _ _ _ _ _ _ _ _ c.loop-n.invariant.within c.in-Ok.ensures.bound.0 c.loop-n.invariant.came c.in-Ok.ensures.bytes.0;
+}

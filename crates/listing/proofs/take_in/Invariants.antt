@@ -1,11 +1,14 @@
--- `listing::take_in` meets its contract. Invariant: n bytes are in, and the room is as long as it was. Measure: the room left.
-use mathlib.Core.Path.{◌≡◌}
-use Prim.Native.Nat.{◌≤◌, ◌-◌}
-use lib.ListN.{length}
+-- `listing::take_in` meets its contract. Invariant: n bytes are in, and they are those that came. Measure: the room left.
+use Rattle.std.proofs.Common.{◌≡◌, ◌-◌, ◌≤◌, length, take}
+use Rattle.std.specs.Io.KnownBytes.{Consumes}
 use Rattle.listing.proofs.take_in.Given as goal
 
 abbrev pub invariant-loop-n : goal.invariant-loop-n
-invariant-loop-n l = (l.n ≤ length l.initial.room) × (length l.room ≡ length l.initial.room)
+invariant-loop-n g l = record {
+  within : l.n ≤ length l.room;
+  length : length l.room ≡ length l.initial.room;
+  came : Consumes (g.R.Read.remaining l.initial.reader) (g.R.Read.remaining l.reader) (take l.n l.room);
+}
 
 abbrev pub decreases-loop-n : goal.decreases-loop-n
-decreases-loop-n l = length l.initial.room - l.n
+decreases-loop-n g l = length l.room - l.n

@@ -5,4 +5,4 @@ use Rattle.many_texts.proofs.zero_behind.Goals as goal
 pub returns : goal.returns
 returns c =
     let a = c.args in
-    zero-tail a.out.now c.zero.new.0 a.from c.zero.ensures
+    zero-tail a.out.now c.zero.new.out a.from c.zero.ensures

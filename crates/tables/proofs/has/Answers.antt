@@ -1,7 +1,6 @@
 -- `tables::has` meets its contract: it stops at the first record of this prefix whose name has the same text; where the namespace counts or the name is
 -- long, `has_numbered` says it.
 -- Invariant: no record before i is one, whichever index the wanted text was found for; what is known of it. Measure: the words left.
-use Prim.Native.Nat.{◌-◌}
 use mathlib.Core.Path.{refl, sym, ◌∙◌, ap}
 use native.Mathlib.Nat.{sub-zero}
 use native.Mathlib.Omega.{arith}
@@ -101,9 +100,10 @@ loop-i-preserved c =
       λ n ns owner kind value wanted.
           (at-loop.loop-i.invariant.2 n ns owner kind value wanted
           ∙ elim c.if-words-i.branch [
-              then-words-i+else-same_as_known w ↦ repeat-name same owner a.prefix n kind value ns a.words.now i far w.if-words-i.true
-                  (same-found a.h a.t.now lent _ n _ wanted _ _ w.same_as_known.ensures w.if-same_as_known.false)
-            | else-words-i w ↦ repeat-prefix same owner a.prefix n kind value ns a.words.now i far w.if-words-i.false ]),
+            | then-words-i+else-same_as_known w ↦ repeat-name same owner a.prefix n kind value ns a.words.now i far w.if-words-i.true
+                (same-found a.h a.t.now lent _ n _ wanted _ _ w.same_as_known.ensures w.if-same_as_known.false)
+            | else-words-i w ↦ repeat-prefix same owner a.prefix n kind value ns a.words.now i far w.if-words-i.false
+          ]),
     )
 
 pub returns : goal.returns

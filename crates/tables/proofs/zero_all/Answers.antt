@@ -1,5 +1,4 @@
 -- `tables::zero_all` meets its contract. Invariant: zeros up to i, and behind it what stood there. Measure: the words left.
-use Prim.Native.Nat.{◌-◌}
 use mathlib.Core.Path.{refl}
 use borrow.Author.Rules.{rules}
 use lib.ListN.{length-set}

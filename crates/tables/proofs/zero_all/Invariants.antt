@@ -1,5 +1,5 @@
 -- `tables::zero_all` meets its contract. Invariant: zeros up to i, and behind it what stood there. Measure: the words left.
-use Prim.Native.Nat.{◌+◌, ◌-◌, ◌≤◌}
+use Prim.Native.Nat.{◌-◌, ◌≤◌}
 use mathlib.Core.Path.{◌≡◌}
 use mathlib.Core.List.{◌++◌}
 use lib.ListN.{length, drop, replicate}

@@ -8,7 +8,7 @@
 --   same_at     whether the attribute of this prefix, name and namespace repeats the record at the place i (W23)
 --   Sought     what a search comes to, among the records w that hang together by the keys `key`
 --   is_far      whether a new record is linked: it is one behind the first 32 of its element, and there is room for its link
-use Rattle.std.specs.Prelude.{ℕ, ◌+◌, ◌-◌, ◌*◌, ◌/◌, ◌%◌, ◌≤◌, ◌<◌, ◌≡◌, ◌⊎◌, Bool, true, false, ◌&&◌, List, leb, eqb, length, get_or}
+use Rattle.std.specs.Prelude.{ℕ, ◌+◌, ◌-◌, ◌*◌, ◌/◌, ◌%◌, ◌≤◌, ◌<◌, ◌≡◌, ◌⊎◌, Bool, false, ◌&&◌, List, leb, eqb, length, get_or}
 use Rattle.records.specs.Words.{attribute_width, attribute_prefix, attribute_name, attribute_namespace, attribute_words}
 use Rattle.records.specs.Repeats.{by_prefix, same_space, is_repeat}
 use Rattle.tables.specs.declared.links.WayEnd.{WayEnd}

@@ -1,10 +1,6 @@
 -- `unicode_cases::walk` is safe and ends. Invariant: the text before lies in the file. Measure: the bytes left.
-use Prim.Native.Nat.{◌-◌}
 use native.Mathlib.Omega.{arith}
 use Rattle.unicode_cases.proofs.walk.Goals as goal
-
-record-at-requires : tie.Need-record-at-requires invariant-loop decreases-loop
-record-at-requires c κs = c.loop-test.true
 
 pub judge-v-requires : goal.judge-v-requires
 judge-v-requires c = (c.record_at-r.ensures.0, c.loop-at.invariant.0, c.loop-at.invariant.1)

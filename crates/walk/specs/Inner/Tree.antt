@@ -7,7 +7,7 @@
 --   Keeps        what `keep` does with an attribute: it Repeats one, Lacks a place, or `keep` Stores it; KeepsIn where those before it are Chained
 --   Places       what `place` does with an event: it is PutAway, one push of specs/Settle.antt; or it is refused, or Passes to the caller
 --   AsksFor      an attribute asks for texts, and its name is valid but for the leading one's; no other event asks
-use Rattle.std.specs.Prelude.{ℕ, ◌+◌, ◌-◌, ◌*◌, ◌≤◌, ◌<◌, ◌≡◌, List, [], ◌∷◌, ◌++◌, Bool, true, false, cond, length, take, drop, set, get_or, eqb}
+use Rattle.std.specs.Prelude.{ℕ, ◌+◌, ◌-◌, ◌*◌, ◌≤◌, ◌<◌, ◌≡◌, List, [], ◌∷◌, ◌++◌, true, false, cond, length, take, drop, set, get_or, eqb}
 use Rattle.anomaly.specs.declared.Note.{Note as NoteOf}
 use Rattle.text.specs.Content.{content_of, is_name}
 use Rattle.text.specs.Inner.Found.{Asks}

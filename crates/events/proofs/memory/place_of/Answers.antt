@@ -1,5 +1,4 @@
 -- `events::memory::place_of` meets its contract: a remainder is below 512, whatever stands at a place. Measure: the places left.
-use Prim.Native.Nat.{◌-◌}
 use native.Mathlib.Omega.{arith}
 use Rattle.events.proofs.memory.place_of.Goals as goal
 

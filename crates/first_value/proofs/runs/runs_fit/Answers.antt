@@ -1,6 +1,5 @@
 -- `first_value::runs::runs_fit` meets its contract: it stops at the first node whose attributes pass the count.
 -- Invariant: the nodes from k on say what all of them say. Measure: the nodes left.
-use Prim.Native.Nat.{◌-◌}
 use native.Mathlib.Nat.{sub-zero}
 use mathlib.Core.Path.{sym, ◌∙◌}
 use borrow.Author.Rules.{rules}

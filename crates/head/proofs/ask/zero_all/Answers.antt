@@ -1,5 +1,4 @@
 -- `head::ask::zero_all` meets its contract: before i all is 0, the rest as it was. Measure: what is left.
-use Prim.Native.Nat.{◌-◌}
 use mathlib.Core.Path.{refl}
 use borrow.Author.Rules.{rules}
 use lib.ListN.{length-set}

@@ -1,5 +1,5 @@
 -- `head::ask::zero_all` meets its contract: before i all is 0, the rest as it was. Measure: what is left.
-use Prim.Native.Nat.{◌+◌, ◌-◌, ◌≤◌}
+use Prim.Native.Nat.{◌-◌, ◌≤◌}
 use mathlib.Core.Path.{◌≡◌}
 use mathlib.Core.List.{◌++◌}
 use lib.ListN.{length, drop, replicate}

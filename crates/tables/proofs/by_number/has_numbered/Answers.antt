@@ -1,6 +1,5 @@
 -- `tables::by_number::has_numbered` meets its contract: it stops at the first record that is repeated.
 -- Invariant: no record before i is one, and what is known holds. Measure: the words left.
-use Prim.Native.Nat.{◌-◌}
 use mathlib.Core.Path.{refl, sym, ap, ◌∙◌}
 use native.Mathlib.Omega.{arith}
 use Rattle.records.specs.Words.{attribute_words}

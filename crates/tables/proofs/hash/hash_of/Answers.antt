@@ -1,5 +1,4 @@
 -- `tables::hash::hash_of` meets its contract: a turn of its loop mixes one step (proofs/Hashes.antt).
-use Prim.Native.Nat.{◌-◌}
 use native.Mathlib.Omega.{arith}
 use Rattle.tables.proofs.Hashes.{mixing-first, mixing-none, mixing-next, mixing-last}
 use Rattle.tables.proofs.hash.hash_of.Goals as goal

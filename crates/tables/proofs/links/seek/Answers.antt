@@ -1,6 +1,5 @@
 -- `tables::links::seek` meets its contract: the way of the key, down to a record that is repeated or to its end (proofs/Ways.antt).
 -- Invariant: record i is on the way, what is repeated is on the way from there, and what is known holds. Measure: the records left.
-use Prim.Native.Nat.{◌-◌}
 use mathlib.Core.Path.{sym, ◌∙◌}
 use mathlib.Core.Logic.{inl, inr}
 use native.Mathlib.Omega.{arith}

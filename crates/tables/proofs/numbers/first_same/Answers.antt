@@ -1,6 +1,5 @@
 -- `tables::numbers::first_same` meets its contract: the first place of the same text, or none.
 -- Invariant: no place before q has the same text. Measure: the places left.
-use Prim.Native.Nat.{◌-◌}
 use mathlib.Core.Path.{sym, ◌∙◌}
 use native.Mathlib.Omega.{arith}
 use Rattle.system_types.specs.Names.{lends}

@@ -1,5 +1,4 @@
 -- `tables::numbers::place_of` meets its contract: a remainder is below 256, whatever stands at a place. Measure: the places left.
-use Prim.Native.Nat.{◌-◌}
 use native.Mathlib.Omega.{arith}
 use Rattle.tables.proofs.numbers.place_of.Goals as goal
 

@@ -1,5 +1,4 @@
 -- `walk::passing::pass_foreign` meets its contract. Invariant: what is settled from here is what was settled at first. Measure: the bytes left.
-use Prim.Native.Nat.{◌-◌}
 use native.Mathlib.Omega.{arith}
 use Rattle.walk.proofs.PastCap.{reaches_here, reaches-on}
 use Rattle.walk.proofs.passing.pass_foreign.Goals as goal
