@@ -1,15 +1,15 @@
 -- A number at a place of a text, digit by digit, as the code takes it. No contract cites this file.
 use Prim.Native.Nat.{ℕ, ◌+◌, ◌-◌, ◌*◌, ◌≤◌, ◌<◌, min}
 use mathlib.Core.Path.{◌≡◌, refl, sym, ap, subst, ◌∙◌}
-use mathlib.Core.Bool.{Bool, true, false, cond}
-use mathlib.Core.List.{List, [], ◌∷◌}
+use mathlib.Core.Bool.{true, false, cond}
+use mathlib.Core.List.{List}
 use native.Mathlib.Omega.{arith}
 use native.Mathlib.Nat.{add-zero}
 use native.Mathlib.Numerals.{add-one}
 use borrow.Author.Tests.{ne_eqb}
 use lib.ListN.{length, drop, get_or, drop_of_length-le}
 use lib.Seq.{drop-cons, drop-drop, get_or-drop}
-use Rattle.listing_back.specs.Forms.{Number, nothing, number, is_digit, digits_from, number_at_front}
+use Rattle.listing_back.specs.Forms.{nothing, number, is_digit, digits_from, number_at_front}
 use Rattle.listing_back.specs.Inner.Stands.{FigureAt, IsFigure}
 use Rattle.listing_back.specs.declared.taking.Figure.{Figure}
 
