@@ -3,7 +3,7 @@
 --   event_marks    an element that opens is a start, an element that closes an end; all other events are none
 --   file-marks    where a file's events hold no refusal, their marks are those of the file: a start that was read whole opens one element, an end closes one
 --   events-depth, events-names, events-lines   depth, name indices and lines of events are those of their marks
-use Prim.Native.Nat.{ℕ, zero, suc, ◌≤◌}
+use Prim.Native.Nat.{ℕ, zero, suc, ◌+◌, ◌-◌, ◌≤◌}
 use native.Mathlib.Omega.{arith}
 use mathlib.Core.Path.{◌≡◌, refl, sym, ◌∙◌, ap}
 use mathlib.Core.List.{List, [], ◌∷◌, ◌++◌, append_assoc}
