@@ -83,6 +83,12 @@ module _ (text : List ℕ) (p : ℕ) where
   unfolding number_at_front
   number-digits-at n e = rw (front-drop text p, ne_eqb (get_or text p 0) 48 n, e)
 
+-- a 0 first, as `number_at` hands it on
+pub zero_first :
+    (text : List ℕ) (p : ℕ) (r : Figure) → get_or text p 0 ≡ 48 →
+    IsFigure text r (cond (is_digit (get_or text (p + 1) 0)) nothing (number 0 (drop (p + 1) text))) → IsFigure text r (number_at_front (drop p text))
+zero_first text p r e h = rw (number-zero-at text p e) h
+
 pub zero-alone :
     (text : List ℕ) (p : ℕ) (r : Figure) → r ≡ record { found = true; value = 0; end = p + 1 } → p < length text → is_digit (get_or text (p + 1) 0) ≡ false →
     IsFigure text r (cond (is_digit (get_or text (p + 1) 0)) nothing (number 0 (drop (p + 1) text)))
