@@ -1,8 +1,11 @@
 -- Laws of specs/Inner/Input.antt: each case of what came in. No contract cites this file.
-use Rattle.std.proofs.Common.{◌≡◌, ℕ, ◌-◌, ◌≤◌, ◌<◌, List, ◌++◌, IfSome, None, Some, length, take, replicate, refl, sym, ap, ◌∙◌, subst, arith, append-nil, le-leb, le_refl, length-replicate}
+use Rattle.std.proofs.Common.{◌≡◌, ℕ, ◌-◌, ◌≤◌, ◌<◌, List, ◌++◌, IfSome, OnOk, None, Some, length, take, replicate, refl, sym, ap, ◌∙◌, subst, arith, append-nil, le-leb, le_refl}
+use lib.ListN.{length-replicate}
 use lib.Seq.{take_at}
 use Rattle.std.specs.declared.option.Option.{Option}
-use Rattle.std.specs.Io.KnownBytes.{Consumes, Appends, IsAtEnd}
+use Rattle.std.specs.declared.result.Result.{Result}
+use Rattle.std.specs.declared.result.Result.TheVariants.{Ok, Err}
+use Rattle.std.specs.Io.KnownBytes.{Appends}
 use Rattle.digits.specs.Written.{fitted}
 use Rattle.errors.specs.declared.LinesAnswer.TheVariants.{Text}
 use Rattle.records.specs.Limits.{listed_file}
@@ -58,20 +61,27 @@ pub runs-front :
     (x : Input) (known after : Option (List ℕ)) (f ns ats before : List ℕ) (r : ℕ) (ns' ats' out : List ℕ) → (x ≡ Failed → ⊥) → Came known after x f →
     Roomy (length ns) (length ats) (length before) → Runs x f ns ats before r ns' ats' out → IfSome known (λ l. take r out ≡ listed_text l (length ns) (length ats))
 unfolding Came Runs
-runs-front x None after f ns ats before r ns' ats' out no came room h = tt
-runs-front (Whole n) (Some l) None f ns ats before r ns' ats' out no came room h = absurd came.0
-runs-front (Whole n) (Some l) (Some k) f ns ats before r ns' ats' out no came room h =
+runs-front x None after f ns ats before r ns' ats' out some came room h = tt
+runs-front (Whole n) (Some l) None f ns ats before r ns' ats' out some came room h = absurd came.0
+runs-front (Whole n) (Some l) (Some k) f ns ats before r ns' ats' out some came room h =
     let e : l ≡ take n f = came.0 ∙ (ap (λ (m : List ℕ). take n f ++ m) came.1 ∙ append-nil (take n f)) in
     lists-front (take n f) ns ats before r ns' ats' out room h ∙ ap (λ (m : List ℕ). listed_text m (length ns) (length ats)) (sym e)
-runs-front Full (Some l) None f ns ats before r ns' ats' out no came room h = absurd came
-runs-front Full (Some l) (Some k) f ns ats before r ns' ats' out no came room h =
+runs-front Full (Some l) None f ns ats before r ns' ats' out some came room h = absurd came
+runs-front Full (Some l) (Some k) f ns ats before r ns' ats' out some came room h =
     lists-front (f ++ k) ns ats before r ns' ats' out room (h k) ∙ ap (λ (m : List ℕ). listed_text m (length ns) (length ats)) (sym came)
-runs-front Failed (Some l) after f ns ats before r ns' ats' out no came room h = absurd (no refl)
+runs-front Failed (Some l) after f ns ats before r ns' ats' out some came room h = absurd (some refl)
 
 -- a writer that has it more holds the listing
 pub runs-listed :
     (x : Input) (known after old new : Option (List ℕ)) (f ns ats before : List ℕ) (r : ℕ) (ns' ats' out : List ℕ) → (x ≡ Failed → ⊥) → Came known after x f →
     Roomy (length ns) (length ats) (length before) → Runs x f ns ats before r ns' ats' out → Appends old new (take r out) → Listed known old new (length ns) (length ats)
-runs-listed x None after old new f ns ats before r ns' ats' out no came room h w = tt
-runs-listed x (Some l) after old new f ns ats before r ns' ats' out no came room h w =
-    subst (Appends old new) (runs-front x (Some l) after f ns ats before r ns' ats' out no came room h) w
+runs-listed x None after old new f ns ats before r ns' ats' out some came room h w = tt
+runs-listed x (Some l) after old new f ns ats before r ns' ats' out some came room h w =
+    subst (Appends old new) (runs-front x (Some l) after f ns ats before r ns' ats' out some came room h) w
+
+pub run-listed :
+    {A E : Type 0} (done : Result A E) (x : Input) (known after old new : Option (List ℕ)) (f ns ats before : List ℕ) (r : ℕ) (ns' ats' out : List ℕ) →
+    (x ≡ Failed → ⊥) → Came known after x f → Roomy (length ns) (length ats) (length before) → Runs x f ns ats before r ns' ats' out →
+    OnOk done (Appends old new (take r out)) → OnOk done (Listed known old new (length ns) (length ats))
+run-listed (Ok u) x known after old new f ns ats before r ns' ats' out some came room h w = runs-listed x known after old new f ns ats before r ns' ats' out some came room h w
+run-listed (Err e) x known after old new f ns ats before r ns' ats' out some came room h w = tt

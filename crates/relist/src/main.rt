@@ -2,23 +2,29 @@
 //
 // What is written is printed from the records that were read, by the printer of the listing program (`listing_text::listing_into`), and `judge` says
 // that it is the text of what was read, which is the text that came in. A text that is no listing is told by the number of its refusal and its
-// value, in a line of its own, `fault=24 value=9`. More bytes than any listing has are told as `fault=0`.
-ghost use Rattle.std.specs.Prelude.{◌≡◌, ◌+◌, ◌*◌, ◌≤◌, length, drop, get_or};
+// value, in a line of its own, `fault=24 value=9`. More bytes than any listing has are told as `fault=0`. A read or a write that fails ends the
+// program with an error.
+#![tactic(auto)]
+
+ghost use Rattle.std.specs.Prelude.{◌≡◌, ◌+◌, ◌*◌, ◌<◌, ◌≤◌, length, take, drop, get_or, IfOk, OnOk};
+ghost use Rattle.std.specs.Io.{ReadsAtMost};
+ghost use Rattle.std.specs.Io.KnownBytes.{Consumes, Appends, IsAtEnd};
 ghost use Rattle.records.specs.Words.{note_width};
 ghost use Rattle.records.specs.Limits.{listed_notes};
 ghost use Rattle.listing_text.specs.Size.{listed_bytes};
 ghost use Rattle.listing_back.specs.Inner.Whole.{is_own};
-ghost use Rattle.relist.specs.Inner.Judged.{note_in, notes_from, verdict_of, Judges};
+ghost use Rattle.relist.specs.Inner.Judged.{note_in, notes_from, verdict_of, Judges, Relists_out};
 
 use anomaly::Note;
 use errors::{LinesAnswer, read_numbers};
-use libc::{STDERR_FILENO, STDIN_FILENO, STDOUT_FILENO};
 use listing_back::read_listing;
 use listing_text::{LISTED_BYTES, listing_into};
 use records::{
     ATTRIBUTE_WORDS, LISTED_ATTRIBUTES, LISTED_NODES, LISTED_NOTES, NODE_WORDS, NOTE_A, NOTE_B,
     NOTE_KIND, NOTE_WORDS,
 };
+use std::io;
+use std::io::{Read, Write};
 
 // The number of the reader's own refusal and its value; 0 for a listing, and then how many bytes were printed.
 #[derive(Clone, Copy)]
@@ -131,70 +137,92 @@ fn judge(
     verdict_of(printed)
 }
 
-fn write_fault(v: Verdict) -> bool {
-    if !io::write_all(STDOUT_FILENO, b"fault=") {
-        return false;
+// ---- what comes in and goes out
+
+// Reads until the room is full or the input ends; how many bytes came, at the front of the room.
+// Ruled out: an end that is told before there is one, and bytes that came and are not among those told.
+fn read_in<R: Read>(reader: &mut R, room: &mut [u8]) -> io::Result<usize>
+    ensures bound { ReadsAtMost result room.new }
+    ensures bytes { IfOk result (λ n. Consumes (R.remaining reader.old) (R.remaining reader.new) (take n room.new)) }
+    ensures end { IfOk result (λ n. n < length room.new → IsAtEnd (R.remaining reader.new)) }
+{
+    let mut n: usize = 0;
+    while n < room.len() {
+        let more = reader.read(&mut room[n..])?;
+        if more == 0 {
+            return Ok(n);
+        }
+        n += more;
     }
-    if !io::print_decimal(STDOUT_FILENO, v.fault as u64) {
-        return false;
-    }
-    if !io::write_all(STDOUT_FILENO, b" value=") {
-        return false;
-    }
-    if !io::print_decimal(STDOUT_FILENO, v.value) {
-        return false;
-    }
-    io::write_all(STDOUT_FILENO, b"\n")
+    Ok(n)
 }
 
-fn write_verdict(out: &[u8], v: Verdict) -> bool
+fn write_fault<W: Write>(writer: &mut W, v: Verdict) -> io::Result<()> {
+    writeln!(writer, "fault={} value={}", v.fault, v.value)
+}
+
+// Ruled out: a listing that is not written whole.
+fn write_verdict<W: Write>(writer: &mut W, out: &[u8], v: Verdict) -> io::Result<()>
     requires { v.printed ≤ length out.now }
+    ensures { v.fault ≡ 0 → OnOk result (Appends (W.contents writer.old) (W.contents writer.new) (take v.printed out.now)) }
 {
     if v.fault == 0 {
         let printed = v.printed;
-        return io::write_all(STDOUT_FILENO, &out[..printed]);
+        return writer.write_all(&out[..printed]);
     }
-    write_fault(v)
+    write_fault(writer, v)
 }
 
-fn relist(
+// What is written of a listing is that listing.
+fn relist<W: Write>(
+    writer: &mut W,
     text: &[u8],
     nodes: &mut [u32],
     attributes: &mut [u32],
     notes: &mut [u32],
     out: &mut [u8],
-) -> bool
+) -> io::Result<()>
     requires { (length notes.old ≡ note_width * listed_notes) × (length text.now ≤ length out.old) }
+    ensures { OnOk result (Relists_out text.now (length nodes.old) (length attributes.old) (length notes.old) (W.contents writer.old) (W.contents writer.new)) }
 {
     let v = judge(text, nodes, attributes, notes, out);
-    write_verdict(out, v)
+    write_verdict(writer, out, v)
 }
 
 // Reads, judges and writes. The room has a byte more than any listing, and the buffer as many.
-fn run(
+fn run<R: Read, W: Write>(
+    reader: &mut R,
+    writer: &mut W,
     text: &mut [u8],
     nodes: &mut [u32],
     attributes: &mut [u32],
     notes: &mut [u32],
     out: &mut [u8],
-)
+) -> io::Result<()>
     requires { (length notes.old ≡ note_width * listed_notes) × (length text.old ≡ listed_bytes + 1) × (listed_bytes + 1 ≤ length out.old) }
 {
-    let n = io::read_full(STDIN_FILENO, text);
+    let n = read_in(reader, text)?;
     if text.len() <= n {
-        write_fault(told(0, 0, 0));
-        return;
+        return write_fault(writer, told(0, 0, 0));
     }
-    if !relist(&text[..n], nodes, attributes, notes, out) {
-        io::write_all(STDERR_FILENO, b"relist: standard output takes no more\n");
-    }
+    relist(writer, &text[..n], nodes, attributes, notes, out)
 }
 
-fn main() {
+fn main(rt: HostRuntime) -> io::Result<()> {
+    let from = &mut rt.stdin();
+    let to = &mut rt.stdout();
     let mut text = [0u8; LISTED_BYTES + 1];
     let mut nodes = [0u32; NODE_WORDS * LISTED_NODES];
     let mut attributes = [0u32; ATTRIBUTE_WORDS * LISTED_ATTRIBUTES];
     let mut notes = [0u32; NOTE_WORDS * LISTED_NOTES];
     let mut out = [0u8; LISTED_BYTES + 1];
-    run(&mut text, &mut nodes, &mut attributes, &mut notes, &mut out);
+    run(
+        from,
+        to,
+        &mut text,
+        &mut nodes,
+        &mut attributes,
+        &mut notes,
+        &mut out,
+    )
 }

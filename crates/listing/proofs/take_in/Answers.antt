@@ -1,5 +1,5 @@
 -- `listing::take_in` meets its contract: a read puts its bytes behind those that are there, and one that puts none is the end.
-use Rattle.std.proofs.Common.{◌≡◌, ◌-◌, ◌<◌, length, subst, arith, rules, take_all}
+use Rattle.std.proofs.Common.{◌≡◌, ◌<◌, length, subst, arith, rules, take_all}
 use Rattle.std.specs.Io.KnownBytes.{Consumes}
 use Rattle.listing.specs.Inner.Input.{Within, Came}
 use Rattle.listing.proofs.Reading.{came-more, came-stay}
