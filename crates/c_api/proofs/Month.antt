@@ -1,11 +1,10 @@
 -- The four answers of `axml_round_up_add` (specs/Adding.antt), each on plain values. No contract cites this file.
 use Prim.Native.Nat.{ℕ, ◌≤◌, ◌<◌}
 use mathlib.Core.Path.{◌≡◌, refl, sym, ◌∙◌, ap}
-use mathlib.Core.Bool.{Bool, true, false, cond}
+use mathlib.Core.Bool.{Bool, true, false}
 use mathlib.Core.List.{List}
 use borrow.Author.Tests.{eq-eqb, ne_eqb, lt-ltb, le-ltb}
 use lib.ListN.{length}
-use lib.Dec.{ltb, eqb}
 use Rattle.errors.specs.Refusal.{refusal_number, refusal_value}
 use Rattle.round_up.specs.declared.Added.{Added}
 use Rattle.round_up.specs.Kinds.{kinds_in}

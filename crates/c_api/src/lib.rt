@@ -1,4 +1,5 @@
-// The C interface: functions that C and Rust call by their plain names. include/axml.h declares them.
+// The C interface: the functions of include/axml.h, with what they promise. Rattle crates call them here; C and Rust link the exports of c_api_c, which
+// call them.
 //
 // A slice is lent as two C parameters, a pointer and a number of elements. The answers are structs of numbers, since C has no enums that
 // hold values. Notes are lent as words (crate records), in the layout of C's `struct axml_note`; `axml::read` has them as records, and

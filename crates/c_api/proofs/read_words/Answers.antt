@@ -34,6 +34,24 @@ put_note-requires c =
     point-fits a.file.now (lends a.names.now a.area.now) a.nodes.now a.attributes.now a.notes.now a.cap a.mode
     l.nodes l.attributes l.notes l.st l.invariant.0 q.result q.new.nodes q.new.attributes q.ensures.0 c.if-st.false
 
+pub overflow_mul-at : goal.overflow_mul-at
+overflow_mul-at c =
+    let a = c.args in
+    let l = c.loop-st in
+    let q = c.advance_knowing-st in
+    let fits = point-fits a.file.now (lends a.names.now a.area.now) a.nodes.now a.attributes.now a.notes.now a.cap a.mode
+    l.nodes l.attributes l.notes l.st l.invariant.0 q.result q.new.nodes q.new.attributes q.ensures.0 c.if-st.false in
+    omega (arith, fits)
+
+pub overflow_add-at : goal.overflow_add-at
+overflow_add-at c =
+    let a = c.args in
+    let l = c.loop-st in
+    let q = c.advance_knowing-st in
+    let fits = point-fits a.file.now (lends a.names.now a.area.now) a.nodes.now a.attributes.now a.notes.now a.cap a.mode
+    l.nodes l.attributes l.notes l.st l.invariant.0 q.result q.new.nodes q.new.attributes q.ensures.0 c.if-st.false in
+    omega (arith, fits)
+
 pub zero_from-requires-then-is_clearing : goal.zero_from-requires-then-is_clearing
 zero_from-requires-then-is_clearing c =
     let a = c.args in
