@@ -1,15 +1,13 @@
 -- Laws of specs/Activities.antt on children and of specs/Inner/Pass.antt on the pass over the nodes. No contract cites this file.
 -- In order: the children from a record on (`rest-..`); tests and numbers of them (`any-..`, `flat-..`); what was passed over (`within-..`);
 -- a filter (`filtering-..`), an activity (`seeking-..`); attributes (`from-..`).
-use Prim.Native.Nat.{ℕ, zero, suc, ◌+◌, ◌-◌, ◌*◌, ◌≤◌, ◌<◌}
+use Prim.Native.Nat.{ℕ, zero, suc, ◌+◌, ◌-◌, ◌≤◌, ◌<◌}
 use native.Mathlib.Omega.{arith}
 use mathlib.Core.Path.{◌≡◌, refl, sym, ap, ◌∙◌}
 use mathlib.Core.Bool.{Bool, true, false, cond, not, ◌&&◌, ◌||◌}
 use mathlib.Core.List.{List, [], ◌∷◌, ◌++◌, flat_map}
 use borrow.Author.Tests.{lt-ltb, le-ltb, eq-eqb, ne_eqb}
-use lib.ListN.{length, get_or}
 use lib.Dec.{ltb, eqb}
-use Rattle.records.specs.Words.{node_width, node_fixed, node_name, attribute_width, attribute_prefix, attribute_name}
 use Rattle.value_text.specs.Value.{false_text, attribute_value}
 use Rattle.value_text.specs.declared.Attribute.{Attribute}
 use Rattle.many_texts.specs.Many.{attribute_at}

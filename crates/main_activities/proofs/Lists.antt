@@ -1,6 +1,6 @@
 -- Laws of the lent list of specs/Inner/Pass.antt, and of what stands in it. No contract cites this file.
 -- In order: one number more (`put-..`); an application (`listing-..`), all of them (`all-..`); what is answered (`gives-..`).
-use Prim.Native.Nat.{ℕ, zero, suc, ◌+◌, ◌-◌, ◌*◌, ◌≤◌, ◌<◌}
+use Prim.Native.Nat.{ℕ, suc, ◌+◌, ◌-◌, ◌≤◌, ◌<◌}
 use native.Mathlib.Omega.{arith}
 use mathlib.Core.Path.{◌≡◌, refl, sym, ap, ◌∙◌}
 use mathlib.Core.Bool.{Bool, true, false, cond, ◌&&◌}

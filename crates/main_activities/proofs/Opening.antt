@@ -2,7 +2,7 @@
 -- In order: what is open (`open-..`); what that tells (`ready`); the promise (`main-..`), and two answers that it allows are equal (`main-unique`).
 use Prim.Native.Nat.{ℕ, zero, suc, ◌+◌, ◌*◌, ◌≤◌, ◌<◌}
 use native.Mathlib.Omega.{arith}
-use mathlib.Core.Path.{◌≡◌, refl, sym, ap, ◌∙◌}
+use mathlib.Core.Path.{◌≡◌, refl, ap, ◌∙◌}
 use mathlib.Core.Bool.{Bool, true, false, cond}
 use mathlib.Core.List.{List}
 use borrow.Author.Tests.{ltb-false}
@@ -13,7 +13,7 @@ use Rattle.errors.specs.declared.Refusal.{Refusal}
 use Rattle.head.specs.Head.{tables_in}
 use Rattle.head.specs.declared.OpenRead.{OpenRead}
 use Rattle.head.specs.declared.OpenRead.TheVariants.{Open, Closed}
-use Rattle.records.specs.Words.{node_width, node_first, node_count, attribute_width}
+use Rattle.records.specs.Words.{node_width, node_first, node_count}
 use Rattle.system_types.specs.Names.{Lent}
 use Rattle.text.specs.declared.Head.{Head}
 use Rattle.first_value.specs.Question.{runs_from, fit_of, fitted_by, shared_by}

@@ -1,11 +1,11 @@
 -- Laws of a value's text against a given one: `shown_as` of specs/Activities.antt, `said_is` of specs/Inner/Pass.antt. No contract cites this file.
 -- In order: a text in a buffer (`front-..`); a string of the pool (`string-is`); by the type (`plain-..`); behind the items (`named-..`); the
 -- value (`value-..`).
-use Prim.Native.Nat.{ℕ, ◌/◌, ◌≤◌, ◌<◌}
+use Prim.Native.Nat.{ℕ, ◌≤◌, ◌<◌}
 use native.Mathlib.Omega.{arith}
 use mathlib.Core.Path.{◌≡◌, refl, sym, ap, ◌∙◌}
-use mathlib.Core.Bool.{Bool, true, false, not, ◌&&◌}
-use mathlib.Core.List.{List, [], ◌∷◌}
+use mathlib.Core.Bool.{Bool, true, false, not}
+use mathlib.Core.List.{List}
 use borrow.Author.Tests.{eq-eqb, ne_eqb}
 use lib.ListN.{length, take}
 use Rattle.utf.specs.Text.{eq_bytes}

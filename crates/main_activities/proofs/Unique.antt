@@ -6,10 +6,10 @@ use mathlib.Core.Path.{◌≡◌, refl, sym, ◌∙◌, ap}
 use mathlib.Core.Bool.{Bool, true, false, cond}
 use mathlib.Core.List.{List, ◌++◌}
 use borrow.Author.Tests.{leb-true}
-use lib.ListN.{length, take, drop, replicate, length-append, length-replicate}
-use lib.Seq.{drop_at, take_at}
+use lib.ListN.{length, drop, replicate, length-append, length-replicate}
+use lib.Seq.{drop_at}
 use lib.Dec.{leb}
-use Rattle.errors.specs.Refusal.{refusal_number, refusal_value, pair_numbers_of}
+use Rattle.errors.specs.Refusal.{pair_numbers_of}
 use Rattle.errors.specs.declared.Refusal.{Refusal}
 use Rattle.errors.specs.declared.Refusal.TheVariants.{ListFull}
 use Rattle.errors.specs.declared.ManyAnswer.{ManyAnswer}
@@ -23,7 +23,7 @@ use Rattle.text.specs.declared.Head.{Head}
 use Rattle.main_activities.specs.declared.MainAnswer.{MainAnswer}
 use Rattle.main_activities.specs.declared.MainAnswer.TheVariants.{Found, Refused}
 use Rattle.main_activities.specs.declared.MainNumbers.{MainNumbers}
-use Rattle.main_activities.specs.Activities.{answer_by, list_by, answer_in, list_in, main_open, activities_in, main_answer, list_after, main_numbers_of, MainReads}
+use Rattle.main_activities.specs.Activities.{answer_by, answer_in, list_in, main_open, activities_in, main_answer, list_after, main_numbers_of, MainReads}
 
 -- ---- numbers: those of many pairs' answer are the same three
 

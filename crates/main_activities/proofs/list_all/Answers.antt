@@ -3,7 +3,6 @@
 use mathlib.Core.Path.{refl, ◌∙◌}
 use native.Mathlib.Omega.{arith}
 use Rattle.system_types.specs.Names.{lends}
-use Prim.Native.Nat.{◌-◌}
 use Rattle.main_activities.specs.Activities.{tree_of}
 use Rattle.main_activities.proofs.Laws.{rest_end}
 use Rattle.main_activities.proofs.Lists.{all_start, all-step, all_end}

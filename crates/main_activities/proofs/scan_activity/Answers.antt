@@ -2,7 +2,6 @@
 -- Invariant: no child before k is such a filter. Measure: the nodes left.
 use native.Mathlib.Omega.{arith}
 use Rattle.system_types.specs.Names.{lends}
-use Prim.Native.Nat.{◌-◌}
 use Rattle.main_activities.specs.Activities.{tree_of}
 use Rattle.main_activities.proofs.Laws.{rest_out, rest_end, seeking-start, seeking-out, seeking-found, seeking-next}
 use Rattle.main_activities.proofs.scan_activity.Goals as goal

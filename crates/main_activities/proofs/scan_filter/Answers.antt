@@ -2,7 +2,6 @@
 -- Invariant: what is known of the children before k. Measure: the nodes left.
 use native.Mathlib.Omega.{arith}
 use Rattle.system_types.specs.Names.{lends}
-use Prim.Native.Nat.{◌-◌}
 use Rattle.main_activities.specs.Activities.{tree_of}
 use Rattle.main_activities.proofs.Laws.{filtering-start, filtering-step, filtering-end, rest_out, rest_end}
 use Rattle.main_activities.proofs.scan_filter.Goals as goal

@@ -9,7 +9,7 @@
 --   Fits       a text to compare with: not empty, and no longer than the buffer
 --   said_is     whether a text is there and is these bytes
 --   is_pool     whether a value of the form is a string of the pool
-use Rattle.std.specs.Prelude.{ℕ, ◌+◌, ◌-◌, ◌*◌, ◌≤◌, ◌<◌, ◌≡◌, Bool, true, false, ◌||◌, List, [], ◌++◌, length, take, get_or}
+use Rattle.std.specs.Prelude.{ℕ, ◌+◌, ◌-◌, ◌*◌, ◌≤◌, ◌<◌, ◌≡◌, Bool, true, false, ◌||◌, List, ◌++◌, length, take, get_or}
 use Rattle.utf.specs.Text.{eq_bytes}
 use Rattle.records.specs.Words.{node_width, node_first, node_count, attribute_width}
 use Rattle.text.specs.Inner.Found.{Asks}

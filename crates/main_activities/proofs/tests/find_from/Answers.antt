@@ -4,7 +4,6 @@ use mathlib.Core.Path.{sym, ◌∙◌}
 use native.Mathlib.Omega.{arith}
 use Rattle.system_types.specs.Names.{lends}
 use native.Mathlib.Nat.{sub-zero, add-zero}
-use Prim.Native.Nat.{◌-◌}
 use Rattle.main_activities.specs.Activities.{tree_of}
 use Rattle.main_activities.proofs.Laws.{from_end, from_found, from_next}
 use Rattle.main_activities.proofs.tests.find_from.Goals as goal
