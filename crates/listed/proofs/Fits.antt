@@ -25,7 +25,7 @@ use Rattle.xml_elements.proofs.Laws.{cond-by}
 use Rattle.events.specs.declared.Event.{Event}
 use Rattle.events.specs.declared.Event.TheVariants.{Nothing, Open, Attribute, LeftOut, Close, Note, Refuse, Finish}
 use Rattle.records.specs.Words.{node_width, attribute_width}
-use Rattle.records.specs.Limits.{listed_file, listed_nodes, listed_attributes, listed_notes, listed_cap}
+use Rattle.records.specs.Limits.{listed_file, listed_nodes, listed_attributes, listed_cap}
 use Rattle.system_types.specs.Names.{Lent, lends}
 use Rattle.records.specs.Repeats.{Rule}
 use Rattle.walk.specs.Settle.{Room, Tables, Out, going, refused, repeated, kept, noted, push, settle, nothing_yet}

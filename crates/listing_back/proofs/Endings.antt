@@ -6,7 +6,7 @@ use mathlib.Core.Bool.{Bool, true, false, cond, not, ◌&&◌, ◌||◌}
 use mathlib.Core.List.{List, [], ◌∷◌, ◌++◌}
 use native.Mathlib.Omega.{arith}
 use native.Mathlib.Nat.{sub-zero}
-use borrow.Author.Tests.{eq-eqb, ne_eqb, le-leb, lt-leb, eqb-true, eqb-false, leb-true, ltb-true, ltb-false}
+use borrow.Author.Tests.{eq-eqb, ne_eqb, le-leb, eqb-true, eqb-false, leb-true, ltb-true, ltb-false}
 use lib.Dec.{eqb, leb, ltb}
 use lib.ListN.{length, take, drop, get_or, replicate}
 use lib.Seq.{length-take-le}
@@ -14,14 +14,14 @@ use Rattle.digits.specs.Written.{fitted}
 use Rattle.errors.specs.declared.Numbers.{Numbers}
 use Rattle.errors.specs.declared.Refusal.{Refusal}
 use Rattle.errors.specs.declared.ReadAnswer.TheVariants.{Refused}
-use Rattle.errors.specs.Refusal.{refusal_number, refusal_value, numbers_of}
+use Rattle.errors.specs.Refusal.{numbers_of}
 use Rattle.records.specs.Words.{node_width, attribute_width, note_width}
 use Rattle.listing_text.specs.Keys.{refusal_key, value_key, cap_key, starts_key, nodes_key, attributes_key, notes_key}
-use Rattle.listing_back.specs.Forms.{Front, lost, front, taken, form_text, forms_of, forms}
+use Rattle.listing_back.specs.Forms.{Front, lost, front, taken, forms_of, forms}
 use Rattle.listing_back.specs.Due.{Step, stops, goes, any_over, stray_by, stray_in, stray, Test, head_by, head_line, Table, record_by, record_line, records, ended}
 use Rattle.listing_back.specs.Back.{is_listed, is_plain, zero_where, refusal_test, value_test, any_test, count_test, notes_test, head_form, head_of}
 use Rattle.listing_back.specs.Back.{head_numbers, Words, Relisting, Found, fault, found, node_table, attribute_table, note_table, in_notes}
-use Rattle.listing_back.specs.Back.{in_attributes, in_nodes, in_head, relisting, fault_numbers, told, relisted_in, Relists}
+use Rattle.listing_back.specs.Back.{in_attributes, in_nodes, in_head, relisting, fault_numbers, Relists}
 use Rattle.listing_back.specs.Inner.Stands.{form_at}
 use Rattle.listing_back.specs.Inner.Steps.{test_by, step_of, CountsOn, table_of, RecordsOn, EndsOn}
 use Rattle.listing_back.specs.Inner.Whole.{heading_list, heading_numbers, spot_of, ReadsHead, TestedHeading, is_own, Sayable, Says, relisting_of, ReadsAll}
@@ -34,7 +34,7 @@ use Rattle.listing_back.proofs.Steps.{stops-never, records-stops}
 use Rattle.listing_back.proofs.Strays.{listed-none, listed-gap, listed-map}
 use Rattle.listing_back.proofs.Spots.{step_of-stops, step_of-goes}
 use Rattle.listing_back.proofs.Heads.{line1, line2, line3, line4, line5, line6, head_of-lines}
-use Rattle.listing_back.proofs.Whole.{fault-never, relisting-said}
+use Rattle.listing_back.proofs.Whole.{relisting-said}
 
 -- ---- the head
 

@@ -1,15 +1,15 @@
 -- A number at a place of a text, digit by digit, as the code takes it. No contract cites this file.
 use Prim.Native.Nat.{ℕ, ◌+◌, ◌-◌, ◌*◌, ◌≤◌, ◌<◌, min}
 use mathlib.Core.Path.{◌≡◌, refl, sym, ap, subst, ◌∙◌}
-use mathlib.Core.Bool.{Bool, true, false, cond}
-use mathlib.Core.List.{List, [], ◌∷◌}
+use mathlib.Core.Bool.{true, false, cond}
+use mathlib.Core.List.{List}
 use native.Mathlib.Omega.{arith}
 use native.Mathlib.Nat.{add-zero}
 use native.Mathlib.Numerals.{add-one}
 use borrow.Author.Tests.{ne_eqb}
 use lib.ListN.{length, drop, get_or, drop_of_length-le}
 use lib.Seq.{drop-cons, drop-drop, get_or-drop}
-use Rattle.listing_back.specs.Forms.{Number, nothing, number, is_digit, digits_from, number_at_front}
+use Rattle.listing_back.specs.Forms.{nothing, number, is_digit, digits_from, number_at_front}
 use Rattle.listing_back.specs.Inner.Stands.{FigureAt, IsFigure}
 use Rattle.listing_back.specs.declared.taking.Figure.{Figure}
 
@@ -82,6 +82,12 @@ module _ (text : List ℕ) (p : ℕ) where
   pub number-digits-at : (get_or text p 0 ≡ 48 → ⊥) → is_digit (get_or text p 0) ≡ true → number_at_front (drop p text) ≡ digits_from 0 (drop p text)
   unfolding number_at_front
   number-digits-at n e = rw (front-drop text p, ne_eqb (get_or text p 0) 48 n, e)
+
+-- a 0 first, as `number_at` hands it on
+pub zero_first :
+    (text : List ℕ) (p : ℕ) (r : Figure) → get_or text p 0 ≡ 48 →
+    IsFigure text r (cond (is_digit (get_or text (p + 1) 0)) nothing (number 0 (drop (p + 1) text))) → IsFigure text r (number_at_front (drop p text))
+zero_first text p r e h = rw (number-zero-at text p e) h
 
 pub zero-alone :
     (text : List ℕ) (p : ℕ) (r : Figure) → r ≡ record { found = true; value = 0; end = p + 1 } → p < length text → is_digit (get_or text (p + 1) 0) ≡ false →

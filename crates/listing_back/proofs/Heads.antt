@@ -1,9 +1,8 @@
 -- The seven lines of the head: what is printed is taken, and what is taken is what is printed. No contract cites this file.
-use Prim.Native.Nat.{ℕ, ◌<◌}
+use Prim.Native.Nat.{ℕ}
 use mathlib.Core.Path.{◌≡◌, refl, sym, ap, ◌∙◌}
-use mathlib.Core.Bool.{Bool, true, false, not, ◌&&◌}
+use mathlib.Core.Bool.{true, false, not, ◌&&◌}
 use mathlib.Core.List.{List, [], ◌∷◌, ◌++◌, append_assoc}
-use native.Mathlib.Omega.{arith}
 use lib.Dec.{eqb}
 use lib.ListN.{get_or}
 use Rattle.errors.specs.declared.Numbers.{Numbers}
@@ -12,7 +11,7 @@ use Rattle.listing_text.specs.Listing.{field, line_text, lines_text, head_lines}
 use Rattle.listing_back.specs.Due.{Step, goes, any_over, head_line}
 use Rattle.listing_back.specs.Back.{is_listed, is_plain, zero_where, refusal_test, value_test, any_test, count_test, notes_test, head_form, head_of, head_numbers, head_cap}
 use Rattle.listing_back.proofs.Lines.{plain_key, any_over-first, any_over-others}
-use Rattle.listing_back.proofs.Steps.{Headed, head-taken, head-back, any_over-cons, no-over}
+use Rattle.listing_back.proofs.Steps.{head-taken, head-back, any_over-cons, no-over}
 
 abbrev pub line1 : Step → Step
 line1 st = head_line (head_form refusal_key) 1 refusal_test st

@@ -1,5 +1,5 @@
 -- A form held against a text byte by byte, as the code does it. No contract cites this file.
-use Prim.Native.Nat.{ℕ, suc, ◌+◌, ◌-◌, ◌≤◌, ◌<◌, min}
+use Prim.Native.Nat.{ℕ, ◌+◌, ◌-◌, ◌≤◌, ◌<◌, min}
 use mathlib.Core.Path.{◌≡◌, refl, sym, ap, subst, ◌∙◌}
 use mathlib.Core.Bool.{Bool, true, false, cond, ◌||◌}
 use mathlib.Core.List.{List, [], ◌∷◌, ◌++◌}
@@ -13,7 +13,7 @@ use Rattle.digits.specs.Written.{written}
 use Rattle.digits.proofs.Written.{written-append}
 use Rattle.listing_back.specs.Forms.{Number, nothing, number, number_at_front, Front, lost, front, numbered, next, held, taken}
 use Rattle.listing_back.specs.Due.{is_over, any_over}
-use Rattle.listing_back.specs.Inner.Stands.{FigureAt, IsFigure, HoldsFront, HoldsNothing, Holds, MovesOn}
+use Rattle.listing_back.specs.Inner.Stands.{IsFigure, HoldsFront, Holds, MovesOn}
 use Rattle.listing_back.specs.declared.taking.Figure.{Figure}
 use Rattle.listing_back.specs.declared.taking.Taking.{Taking}
 use Rattle.listing_back.proofs.Lines.{any_over-first, neither}

@@ -1,17 +1,17 @@
 -- A number as text: what is printed is taken, whatever follows it, and what is taken is what is printed. No contract cites this file.
-use Prim.Native.Nat.{ℕ, zero, suc, ◌+◌, ◌-◌, ◌*◌, ◌^◌, ◌/◌, ◌%◌, ◌≤◌, ◌<◌}
+use Prim.Native.Nat.{ℕ, suc, ◌+◌, ◌-◌, ◌*◌, ◌^◌, ◌/◌, ◌%◌, ◌≤◌, ◌<◌}
 use mathlib.Core.Path.{◌≡◌, refl, sym, ap, ◌∙◌}
 use mathlib.Core.Bool.{Bool, true, false, cond, ◌&&◌}
 use mathlib.Core.List.{List, [], ◌∷◌, ◌++◌, append_assoc}
 use native.Mathlib.Omega.{arith}
-use borrow.Author.Tests.{le-leb, lt-leb, leb-true, leb-false, eq-eqb, ne_eqb, eqb-true, eqb-false}
+use borrow.Author.Tests.{le-leb, leb-true, ne_eqb, eqb-true, eqb-false}
 use lib.Dec.{leb, eqb}
-use lib.ListN.{length, drop, get_or}
+use lib.ListN.{get_or}
 use Rattle.digits.specs.Digits.{digits, decimal}
 use Rattle.digits.proofs.Back.{number_from}
 use Rattle.digits.proofs.Laws.{digits_lt, digits-suc}
 use Rattle.digits.proofs.Decimal.{digits-ind, digits-enough, decimal-lt, decimal-back, get_d-decimal-lt}
-use Rattle.listing_back.specs.Forms.{Number, nothing, number, is_digit, digits_from, number_at_front}
+use Rattle.listing_back.specs.Forms.{nothing, number, is_digit, digits_from, number_at_front}
 
 pub both : (a b : Bool) → (a && b) ≡ true → (a ≡ true) × (b ≡ true)
 both true b h = (refl, h)

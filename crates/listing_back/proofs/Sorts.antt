@@ -9,7 +9,6 @@ use mathlib.Core.Path.{◌≡◌, refl, sym, ap, ◌∙◌}
 use mathlib.Core.Bool.{true}
 use mathlib.Core.List.{List, [], ◌∷◌, ◌++◌}
 use native.Mathlib.Omega.{arith}
-use native.Mathlib.Nat.{zero-add}
 use lib.ListN.{length, take, drop, get_or, length-append}
 use lib.Seq.{drop-cons, take-append-le, take_all}
 use Rattle.listing_text.specs.Listing.{Field, Line, node_line, attribute_line}

@@ -1,23 +1,22 @@
 -- Lines that are due, as the code reads them one behind the other. No contract cites this file.
 use Prim.Native.Nat.{ℕ, zero, suc, ◌+◌, ◌*◌, ◌/◌, ◌-◌, ◌≤◌, ◌<◌, min}
-use mathlib.Core.Path.{◌≡◌, refl, sym, ap, subst, ◌∙◌}
-use mathlib.Core.Bool.{Bool, true, false, cond}
+use mathlib.Core.Path.{◌≡◌, refl, sym, ap, ◌∙◌}
+use mathlib.Core.Bool.{true, false, cond}
 use mathlib.Core.List.{List, [], ◌∷◌, ◌++◌}
 use native.Mathlib.Omega.{arith}
 use native.Mathlib.Nat.{mul-zero, mul-suc, mul-le-mul_left, mul-div-le, sub-zero, add-zero}
-use native.Mathlib.Numerals.{add-one, unary_clauses}
+use native.Mathlib.Numerals.{add-one}
 use borrow.Author.Tests.{eq-eqb, ne_eqb, lt-ltb, le-ltb}
 use lib.Dec.{eqb, ltb}
 use lib.ListN.{length, take, drop, get_or, drop_of_length-le, length-drop, length-append}
 use lib.Seq.{take_at, sets-eq, length-take-le, drop-cons}
 use Rattle.digits.specs.Written.{written}
-use Rattle.listing_back.specs.Forms.{Front, lost, front, held, taken}
-use Rattle.listing_back.specs.Due.{Step, stops, goes, is_over, any_over, stray, Test, head_by, head_line, Table, record_by, record_line, records, ended}
-use Rattle.listing_back.specs.Inner.Stands.{HoldsFront, Holds, form_at}
+use Rattle.listing_back.specs.Forms.{taken}
+use Rattle.listing_back.specs.Due.{Step, stops, goes, any_over, stray, Test, head_by, head_line, Table, record_by, record_line, records, ended}
+use Rattle.listing_back.specs.Inner.Stands.{Holds, form_at}
 use Rattle.listing_back.specs.Inner.Steps.{equals_in, TakesAlone, test_by, step_of, CountsOn, table_of, RecordOn, RecordsOn, EndsOn}
 use Rattle.listing_back.specs.declared.taking.Taking.{Taking}
 use Rattle.listing_back.specs.declared.stepping.Spot.{Spot}
-use Rattle.listing_back.proofs.Holding.{contra}
 use Rattle.listing_back.proofs.Lines.{any_over-first}
 use Rattle.listing_back.proofs.Steps.{records-stops}
 use Rattle.listing_back.proofs.Strays.{lost-of, FrontOf, front_of, taken-many, stray-ge, test-capped}

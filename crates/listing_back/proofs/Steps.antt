@@ -10,7 +10,7 @@ use borrow.Author.Tests.{eq-eqb, eqb-true, lt-ltb, le-ltb, ltb-true}
 use lib.Dec.{eqb, ltb}
 use lib.ListN.{length, take, drop, get_or, length-append, length-drop}
 use lib.Seq.{take-add, drop_at}
-use Rattle.listing_text.specs.Listing.{Field, Line, field, field_text, line_text, lines_text, record_lines}
+use Rattle.listing_text.specs.Listing.{Field, Line, field, line_text, lines_text, record_lines}
 use Rattle.listing_back.specs.Forms.{form_text, Front, lost, front, held, taken}
 use Rattle.listing_back.specs.Due.{Step, stops, goes, is_over, any_over, stray, Test, head_by, head_line, Table, record_by, record_line, records}
 use Rattle.listing_back.specs.Back.{head_form}

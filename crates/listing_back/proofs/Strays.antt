@@ -1,19 +1,19 @@
 -- A line that is not due, and the tests of the head's numbers, as the code looks at them. No contract cites this file.
-use Prim.Native.Nat.{ℕ, zero, suc, ◌+◌, ◌≤◌, ◌<◌, min}
-use mathlib.Core.Path.{◌≡◌, refl, sym, ap, subst, ◌∙◌}
-use mathlib.Core.Bool.{Bool, true, false, cond, ◌&&◌, ◌||◌}
+use Prim.Native.Nat.{ℕ, suc, ◌+◌, ◌≤◌, ◌<◌, min}
+use mathlib.Core.Path.{◌≡◌, refl, sym, ap, ◌∙◌}
+use mathlib.Core.Bool.{Bool, true, false, cond}
 use mathlib.Core.List.{List, [], ◌∷◌, ◌++◌}
 use native.Mathlib.Omega.{arith}
-use native.Mathlib.Nat.{add-zero, add-suc}
+use native.Mathlib.Nat.{add-zero}
 use native.Mathlib.Numerals.{add-one}
-use borrow.Author.Tests.{eq-eqb, ne_eqb, le-leb, lt-leb, ltb-true, ltb-false, eqb-true}
+use borrow.Author.Tests.{eq-eqb, ne_eqb, le-leb, lt-leb, ltb-true, ltb-false}
 use lib.Dec.{eqb, ltb, leb}
-use lib.ListN.{length, drop, get_or, drop_of_length-le, length-append}
+use lib.ListN.{length, drop, drop_of_length-le, length-append}
 use lib.Seq.{drop-cons}
-use Rattle.listing_back.specs.Forms.{Number, nothing, number, number_at_front, Front, lost, front, numbered, next, held, taken, form_text, forms_of, forms}
-use Rattle.listing_back.specs.Due.{is_over, any_over, stray_by, stray_in, stray}
+use Rattle.listing_back.specs.Forms.{Number, nothing, number, number_at_front, Front, lost, front, numbered, held, taken, forms_of, forms}
+use Rattle.listing_back.specs.Due.{any_over, stray_by, stray_in, stray}
 use Rattle.listing_back.specs.Back.{is_listed}
-use Rattle.listing_back.specs.Inner.Stands.{HoldsFront, HoldsNothing, Holds, form_at}
+use Rattle.listing_back.specs.Inner.Stands.{HoldsFront, Holds, form_at}
 use Rattle.listing_back.specs.Inner.Steps.{equals_in, TakesAlone, test_by}
 use Rattle.listing_back.specs.declared.taking.Taking.{Taking}
 use Rattle.listing_back.proofs.Holding.{contra}

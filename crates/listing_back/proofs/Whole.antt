@@ -7,19 +7,18 @@
 --   relisting-back     PRINTED BEHIND READ: the text of what was read is the text that was read, so that there is no other
 use Prim.Native.Nat.{ℕ, zero, suc, ◌+◌, ◌*◌, ◌/◌, ◌≤◌, ◌<◌}
 use mathlib.Core.Path.{◌≡◌, refl, sym, ap, subst, ◌∙◌}
-use mathlib.Core.Bool.{Bool, true, false}
-use mathlib.Core.List.{List, [], ◌∷◌, ◌++◌, append_assoc, append-nil}
+use mathlib.Core.Bool.{false}
+use mathlib.Core.List.{List, [], ◌∷◌, ◌++◌, append-nil}
 use native.Mathlib.Omega.{arith}
 use native.Mathlib.Nat.{mul-le-mul_left, mul-div-le}
 use lib.ListN.{length, take}
 use lib.Seq.{take_all}
-use Rattle.errors.specs.declared.Numbers.{Numbers}
 use Rattle.records.specs.Words.{node_width, attribute_width, note_width}
 use Rattle.listing_text.specs.Listing.{Line, lines_text, head_lines, node_line, attribute_line, record_lines}
 use Rattle.listing_text.proofs.Laws.{lines_text-append}
 use Rattle.listing_back.specs.Forms.{form_text}
 use Rattle.listing_back.specs.Due.{Step, stops, goes, any_over, stray, Table, records, ended}
-use Rattle.listing_back.specs.Back.{head_of, head_numbers, head_cap, Relisting, Found, fault, found, Words, node_table, attribute_table, note_table, in_notes, in_attributes, in_nodes, in_head, relisting, note_words_line, relist_text}
+use Rattle.listing_back.specs.Back.{head_of, head_numbers, head_cap, Relisting, fault, found, Words, node_table, attribute_table, note_table, in_notes, in_attributes, in_nodes, in_head, relisting, note_words_line, relist_text}
 use Rattle.listing_back.proofs.Lines.{any_over-first, any_over-others}
 use Rattle.listing_back.proofs.Steps.{stops-never, ManyRecords, records-taken, records-back}
 use Rattle.listing_back.proofs.Sorts.{Sort, node_sort, attribute_sort, note_sort}

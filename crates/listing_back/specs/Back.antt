@@ -11,14 +11,13 @@
 --
 -- A cap of 0 says that notes are unknown: a listing made with notes switched off is read, and has none. That `relist_text` is the only text of
 -- a relisting, and that each that can be printed reads back: proofs/Whole.antt. Two claims of crate claims say it of the calls.
-use Rattle.std.specs.Prelude.{ℕ, ◌+◌, ◌/◌, ◌≡◌, Bool, true, cond, not, ◌&&◌, ◌||◌, List, [], ◌∷◌, ◌++◌, length, get_or, replicate, eqb, leb}
+use Rattle.std.specs.Prelude.{ℕ, ◌+◌, ◌/◌, ◌≡◌, Bool, true, cond, not, ◌&&◌, ◌||◌, List, [], ◌∷◌, ◌++◌, length, get_or, eqb, leb}
 use Rattle.digits.specs.Written.{fitted}
-use Rattle.anomaly.specs.declared.Note.{Note}
 use Rattle.errors.specs.declared.Numbers.{Numbers}
 use Rattle.errors.specs.Refusal.{numbers_of}
 use Rattle.records.specs.Words.{node_width, attribute_width, note_width, note_kind, note_a, note_b}
 use Rattle.listing_text.specs.Keys.{refusal_key, value_key, cap_key, starts_key, nodes_key, attributes_key, notes_key}
-use Rattle.listing_text.specs.Listing.{Line, field, field_text, line_text, lines_text, head_lines, node_line, attribute_line, note_line, record_lines}
+use Rattle.listing_text.specs.Listing.{Line, field, lines_text, head_lines, node_line, attribute_line, note_line, record_lines}
 use Rattle.listing_back.specs.Forms.{form_text, node_form, attribute_form, note_form}
 use Rattle.listing_back.specs.Due.{Step, stops, goes, Test, Table, head_line, records, ended}
 use Rattle.listing_back.specs.declared.Relisted.{Relisted}

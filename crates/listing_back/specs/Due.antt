@@ -12,7 +12,7 @@
 --
 -- Once there is a refusal nothing is looked at any more. Laws: proofs/Steps.antt.
 use Rattle.std.specs.Prelude.{ℕ, zero, suc, ◌+◌, Bool, false, cond, ◌||◌, List, [], ◌∷◌, ◌++◌, drop, get_or, eqb, ltb}
-use Rattle.listing_back.specs.Forms.{Front, lost, front, number_at_front, held, taken, form_text, forms_of, forms}
+use Rattle.listing_back.specs.Forms.{Front, lost, front, held, taken, forms_of, forms}
 
 pub data Step : Type 0 where
   stops : ℕ → ℕ → Step

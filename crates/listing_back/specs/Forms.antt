@@ -11,7 +11,7 @@
 use Rattle.std.specs.Prelude.{ℕ, ◌+◌, ◌-◌, ◌*◌, Bool, cond, ◌&&◌, List, [], ◌∷◌, ◌++◌, drop, get_or, eqb, leb}
 use Rattle.anomaly.specs.declared.Note.{Note}
 use Rattle.errors.specs.declared.Numbers.{Numbers}
-use Rattle.listing_text.specs.Listing.{Field, Line, head_lines, node_line, attribute_line, note_line}
+use Rattle.listing_text.specs.Listing.{Line, head_lines, node_line, attribute_line, note_line}
 
 -- ---- a number
 

@@ -116,6 +116,7 @@ fn zero_at(text: &[u8], p: usize) -> Figure
 }
 
 // The number at this place. Ruled out: a leading zero taken, `+1`, and a number over 32 bits that wraps.
+#[tactic(auto, using(crate::proofs::Figures::zero_first))]
 fn number_at(text: &[u8], p: usize) -> Figure
     requires { p ≤ length text.now }
     ensures { IsFigure text.now result (number_at_front (drop p text.now)) }

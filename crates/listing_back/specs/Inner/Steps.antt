@@ -7,7 +7,7 @@
 --   CountsOn     a line of the head more, whatever the numbers before it, where the test is one of the three kinds
 --   RecordOn     the line of a record more, its words behind those before it; RecordsOn the lines of all records of a table
 --   EndsOn       the end of the text
-use Rattle.std.specs.Prelude.{ℕ, zero, suc, ◌+◌, ◌*◌, ◌/◌, ◌≤◌, ◌≡◌, Bool, true, cond, List, [], ◌∷◌, ◌++◌, length, take, drop, eqb}
+use Rattle.std.specs.Prelude.{ℕ, suc, ◌+◌, ◌*◌, ◌/◌, ◌≤◌, ◌≡◌, Bool, true, cond, List, [], ◌∷◌, ◌++◌, length, take, drop, eqb}
 use Rattle.listing_back.specs.Forms.{Front}
 use Rattle.listing_back.specs.Due.{Step, stops, goes, Test, Table, head_line, record_line, records, ended}
 use Rattle.listing_back.specs.Back.{is_listed}

@@ -10,7 +10,7 @@ use Rattle.errors.specs.declared.Numbers.{Numbers}
 use Rattle.errors.specs.declared.Refusal.{Refusal}
 use Rattle.errors.specs.Refusal.{refusal_number, refusal_value}
 use Rattle.records.specs.Words.{node_width, attribute_width, note_width}
-use Rattle.listing_back.specs.Back.{is_listed, is_plain, zero_where, head_of, Words, Relisting, fault, found, relisting}
+use Rattle.listing_back.specs.Back.{is_listed, is_plain, zero_where, head_of, Relisting, fault, found, relisting}
 use Rattle.listing_back.specs.Inner.Steps.{step_of}
 use Rattle.listing_back.specs.declared.opening.Heading.{Heading}
 use Rattle.listing_back.specs.declared.stepping.Spot.{Spot}

@@ -1,6 +1,5 @@
 -- `listing_text::put_attributes` meets its contract. Invariant: the lines from the k-th attribute on are left. Measure: those left. A turn: proofs/Turns.antt.
 use mathlib.Core.Path.{refl}
-use Prim.Native.Nat.{◌-◌}
 use native.Mathlib.Omega.{arith}
 use native.Mathlib.Nat.{sub-zero}
 use borrow.Author.Rules.{rules}

@@ -1,10 +1,9 @@
 -- `listing_text::put_notes` meets its contract. Invariant: the lines from the k-th note on are left. Measure: the notes left. A turn: proofs/Turns.antt.
-use mathlib.Core.Path.{◌≡◌, refl}
-use Prim.Native.Nat.{◌*◌, ◌-◌}
+use mathlib.Core.Path.{refl}
+use Prim.Native.Nat.{◌*◌}
 use native.Mathlib.Omega.{arith}
 use native.Mathlib.Nat.{sub-zero}
 use borrow.Author.Rules.{rules}
-use lib.ListN.{length}
 use Rattle.records.specs.Limits.{listed_notes}
 use Rattle.digits.proofs.Written.{left-first, left-piece, left-none}
 use Rattle.listing_text.proofs.Turns.{note_lines-stop, note_lines-short, note_lines-step}

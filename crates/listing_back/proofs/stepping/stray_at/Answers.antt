@@ -1,6 +1,5 @@
 -- `listing_back::stepping::stray_at` meets its contract. Invariant: none of the forms so far is that of the line. Measure: the forms left.
 use mathlib.Core.Path.{sym, ◌∙◌}
-use Prim.Native.Nat.{◌-◌}
 use native.Mathlib.Omega.{arith}
 use Rattle.listing_back.proofs.Strays.{stray-start, stray-ends, stray-on, stray-here, stray-last}
 use Rattle.listing_back.proofs.stepping.stray_at.Goals as goal

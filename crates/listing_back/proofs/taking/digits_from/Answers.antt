@@ -1,6 +1,5 @@
 -- `listing_back::taking::digits_from` meets its contract. Invariant: the digits so far make the number so far. Measure: the bytes left.
 use mathlib.Core.Path.{sym, ◌∙◌}
-use Prim.Native.Nat.{◌-◌}
 use native.Mathlib.Omega.{arith}
 use Rattle.listing_back.proofs.Figures.{digits-first, digits_more, digits-stop, digits-end}
 use Rattle.listing_back.proofs.taking.digits_from.Goals as goal

@@ -1,20 +1,18 @@
 -- `listing_back::taking::number_at` meets its contract.
 use mathlib.Core.Path.{sym, ◌∙◌}
-use Rattle.listing_back.proofs.Figures.{number-end, number-zero-at, number-none-at, number-digits-at}
+use native.Mathlib.Omega.{arith}
+use Rattle.listing_back.proofs.Figures.{number-end, number-none-at, number-digits-at}
 use Rattle.listing_back.proofs.taking.number_at.Goals as goal
 
 pub returns-then-text-p : goal.returns-then-text-p
 returns-then-text-p c = rw (number-end c.args.text.now c.args.p c.if-text-p.true) c.no_figure.ensures
 
-pub returns-then-b-eq48 : goal.returns-then-b-eq48
-returns-then-b-eq48 c = rw (number-zero-at c.args.text.now c.args.p c.if-b-eq48.true) c.zero_at.ensures
-
 pub returns-then-not-is_digit : goal.returns-then-not-is_digit
 returns-then-not-is_digit c = rw (number-none-at c.args.text.now
-    c.args.p c.if-b-eq48.false
+    c.args.p (omega arith)
     (sym c.is_digit.ensures ∙ c.if-not-is_digit.true)) c.no_figure-then-not-is_digit.ensures
 
 pub returns : goal.returns
 returns c = rw (number-digits-at c.args.text.now
-    c.args.p c.if-b-eq48.false
+    c.args.p (omega arith)
     (sym c.is_digit.ensures ∙ c.if-not-is_digit.false)) c.digits_from.ensures

@@ -1,5 +1,4 @@
 -- `listing_back::taking::take_line` meets its contract. Invariant: the bytes of the form so far have taken what was taken. Measure: those left.
-use Prim.Native.Nat.{◌-◌}
 use native.Mathlib.Omega.{arith}
 use Rattle.listing_back.proofs.Holding.{take-first, take_more, take-end}
 use Rattle.listing_back.proofs.taking.take_line.Goals as goal
