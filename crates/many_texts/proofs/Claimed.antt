@@ -4,13 +4,13 @@
 use Prim.Native.Nat.{ℕ, zero, suc, ◌+◌, ◌-◌, ◌*◌, ◌/◌, ◌≤◌, ◌<◌, min}
 use native.Mathlib.Omega.{arith}
 use mathlib.Core.Path.{◌≡◌, refl, sym, ap, ◌∙◌}
-use mathlib.Core.List.{List, [], ◌∷◌, ◌++◌, append-nil, append_assoc}
+use mathlib.Core.List.{List, [], ◌++◌, append-nil, append_assoc}
 use mathlib.Core.Bool.{Bool, true, false, cond}
 use borrow.Author.Tests.{eqb-true, eqb-false, ltb-true, ltb-false}
 use lib.ListN.{length, take, drop, get_or, replicate}
 use lib.Seq.{drop-append_seam, drop_at, take-append_seam, take_at, get_or-take, get_or-drop}
 use lib.Dec.{eqb, ltb, leb}
-use Rattle.errors.specs.Refusal.{state_of, replaced_of, refusal_number, text_numbers_of, value_numbers_of, many_numbers_of}
+use Rattle.errors.specs.Refusal.{state_of, replaced_of, refusal_number, text_numbers_of, value_numbers_of}
 use Rattle.errors.specs.declared.Refusal.{Refusal}
 use Rattle.errors.specs.declared.Refusal.TheVariants.{TextShort, TablesError, AnswersFull}
 use Rattle.errors.specs.declared.ManyTexts.{ManyTexts}

@@ -2,17 +2,17 @@
 -- contract cites this file.
 use Prim.Native.Nat.{ℕ, zero, suc, ◌+◌, ◌-◌, ◌<◌}
 use native.Mathlib.Omega.{arith}
-use mathlib.Core.Path.{◌≡◌, refl, sym, ap, ◌∙◌}
+use mathlib.Core.Path.{◌≡◌, refl, sym, ◌∙◌}
 use mathlib.Core.Bool.{Bool, true, false}
 use mathlib.Core.List.{List}
 use borrow.Author.Tests.{eqb-true, eqb-false}
-use lib.ListN.{length, get_or, set, replicate, length-set}
+use lib.ListN.{get_or, set, replicate, length-set}
 use lib.Seq.{get_or-set_same, get_or-set_other}
 use lib.Dec.{eqb}
 use Rattle.text.specs.declared.Head.{Head}
 use Rattle.text.specs.declared.Found.{Found}
 use Rattle.text.specs.declared.Found.TheVariants.{Nothing, Cut, System, Pool}
-use Rattle.text.specs.Content.{none, content_of, text_in, has_text}
+use Rattle.text.specs.Content.{none, content_of, text_in}
 use Rattle.text.specs.Inner.Found.{part_of, is_found}
 use Rattle.system_types.specs.Names.{Lent}
 use Rattle.items.specs.declared.Run.{Run}

@@ -11,7 +11,7 @@
 --
 -- `one` says for each number of a question what is asked. A start is a word, so that texts of more than `most_bytes` have no room in any
 -- buffer; where not even `most_count` counts their bytes, 11 tells that number. Laws: proofs/Going.antt, proofs/Claimed.antt.
-use Rattle.std.specs.Prelude.{ℕ, zero, suc, ◌+◌, ◌-◌, ◌*◌, ◌/◌, min, ◌≡◌, List, [], ◌∷◌, ◌++◌, cond, length, replicate, get_or, ltb, leb}
+use Rattle.std.specs.Prelude.{ℕ, zero, suc, ◌+◌, ◌-◌, ◌*◌, ◌/◌, min, ◌≡◌, List, [], ◌++◌, cond, length, replicate, get_or, ltb, leb}
 use Rattle.errors.specs.Refusal.{refusal_number, state_of, replaced_of, many_numbers_of}
 use Rattle.errors.specs.declared.Refusal.TheVariants.{NothingFound, TextShort, TablesError, NoPlainText, AnswersFull}
 use Rattle.errors.specs.declared.ManyTexts.{ManyTexts}

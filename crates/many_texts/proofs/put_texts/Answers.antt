@@ -1,5 +1,4 @@
 -- `many_texts::put_texts` meets its contract. Invariant: the first k texts and answers (`Done`). Measure: the indices left.
-use Prim.Native.Nat.{◌-◌}
 use native.Mathlib.Omega.{arith}
 use Rattle.system_types.specs.Names.{lends}
 use Rattle.many_texts.specs.Inner.Going.{index_value}

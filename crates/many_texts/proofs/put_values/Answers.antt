@@ -1,5 +1,4 @@
 -- `many_texts::put_values` meets its contract. Invariant: the first k texts and answers (`Done`), and what is known. Measure: the records left.
-use Prim.Native.Nat.{◌-◌}
 use native.Mathlib.Omega.{arith}
 use Rattle.system_types.specs.Names.{lends}
 use Rattle.many_texts.specs.Inner.Going.{record_value}
