@@ -1,19 +1,19 @@
 -- What is told of a text, from the promises of `read_listing` and of the printer. No contract cites this file.
 -- In order: the reader's own refusals; notes as the printer takes them; tables with zeros behind their records print the same; a fault, a listing.
 use Prim.Native.Nat.{ℕ, zero, suc, ◌+◌, ◌-◌, ◌*◌, ◌/◌, ◌≤◌, ◌<◌}
-use mathlib.Core.Path.{◌≡◌, refl, sym, ap, subst, ◌∙◌}
-use mathlib.Core.Bool.{Bool, true, false}
+use mathlib.Core.Path.{◌≡◌, refl, sym, ap, ◌∙◌}
+use mathlib.Core.Bool.{true, false}
 use mathlib.Core.List.{List, [], ◌∷◌, ◌++◌}
 use native.Mathlib.Omega.{arith}
 use native.Mathlib.Nat.{le_refl}
 use native.Mathlib.Numerals.{add-one}
 use borrow.Author.Tests.{lt-leb, le-leb, lt-ltb, le-ltb}
-use lib.Dec.{leb, ltb}
+use lib.Dec.{leb}
 use lib.ListN.{length, take, drop, get_or, set, replicate, length-drop, length-append, length-replicate}
 use lib.Seq.{get_or-drop, drop-drop, take_at}
 use Rattle.anomaly.specs.declared.Note.{Note}
 use Rattle.digits.specs.Written.{fitted}
-use Rattle.errors.specs.Refusal.{numbers_of, lines_numbers_of}
+use Rattle.errors.specs.Refusal.{numbers_of}
 use Rattle.errors.specs.declared.Numbers.{Numbers}
 use Rattle.errors.specs.declared.LinesAnswer.{LinesAnswer}
 use Rattle.errors.specs.declared.LinesAnswer.TheVariants as text_is
@@ -23,13 +23,13 @@ use Rattle.records.specs.Limits.{listed_notes}
 use Rattle.listing_text.specs.Listing.{Line, lines_text, head_lines, node_lines, attribute_lines, record_lines, note_lines, listing, listing_text}
 use Rattle.listing_text.specs.Printed.{listing_answer, Printed}
 use Rattle.listing_back.specs.Due.{any_over}
-use Rattle.listing_back.specs.Back.{is_listed, Words, Relisting, Found, fault, found, relisting, told, note_words_line, relist_text, Relists}
+use Rattle.listing_back.specs.Back.{Words, Relisting, Found, fault, found, relisting, told, note_words_line, relist_text, Relists}
 use Rattle.listing_back.specs.Inner.Whole.{is_own}
 use Rattle.listing_back.specs.declared.Relisted.{Relisted}
 use Rattle.listing_back.proofs.Holding.{contra}
-use Rattle.listing_back.proofs.Whole.{Filled, filled-le, Leading, Printable, trimmed, relisting-trimmed, relisting-said, relisting-back}
+use Rattle.listing_back.proofs.Whole.{Filled, filled-le, Leading, trimmed, relisting-trimmed, relisting-said, relisting-back}
 use Rattle.listing_back.proofs.Endings.{relisting-own, own-never, listed-own}
-use Rattle.relist.specs.Inner.Judged.{note_in, notes_from, verdict_of, IsListing, Judges}
+use Rattle.relist.specs.Inner.Judged.{note_in, notes_from, verdict_of, Judges}
 use Rattle.relist.specs.declared.Verdict.{Verdict}
 
 module _ (n : ℕ) where

@@ -16,8 +16,8 @@ module _ (text : List ℕ) (ns ats os : ℕ) (v : Verdict) (out : List ℕ) (bef
   judges-out : (v.fault ≡ 0 → Appends before after (take v.printed out)) → Relists_out text ns ats os before after
   unfolding Relists_out
   judges-out w = λ (said : Relisting) (says : relisting (record { nodes = ns; attributes = ats; notes = os }) text ≡ found said).
-      elim zero_or v.fault [
-        inl e ↦ subst (Appends before after) (h.listing e).same (w e)
+      elim (zero_or v.fault) [
+        | inl e ↦ subst (Appends before after) (h.listing e).same (w e)
         | inr n ↦ let z : fault v.fault v.value ≡ found said = sym (h.faulty n) ∙ says in absurd (let b : ⊥ = cc in b)
       ]
 

@@ -1,5 +1,5 @@
 -- `relist::judge` meets its contract: an answer of the reader's own, or a listing, which is printed.
-use mathlib.Core.Path.{sym, ◌∙◌}
+use Rattle.std.proofs.Common.{sym, ◌∙◌}
 use Rattle.relist.proofs.Judging.{judges-own, judges-listing}
 use Rattle.relist.proofs.judge.Goals as goal
 
@@ -9,10 +9,9 @@ returns-then-is_own c = judges-own c.read_listing-read.ensures _
 
 pub returns : goal.returns
 returns c =
-    let start = c in
     judges-listing c.read_listing-read.ensures _
-    c.read_numbers-n.ensures _ _ _ _ _ start.pre.0
-    start.pre.1 c.notes_of-records.ensures
+    c.read_numbers-n.ensures _ _ _ _ _ c.requires.0
+    c.requires.1 c.notes_of-records.ensures
     c.listing_into-printed.ensures c.verdict_of.ensures
     (sym c.is_own.ensures ∙
     c.if-is_own.false)

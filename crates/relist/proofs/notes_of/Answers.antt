@@ -1,5 +1,4 @@
 -- `relist::notes_of` meets its contract. Invariant: the first i notes stand in the array. Measure: those left.
-use Prim.Native.Nat.{◌-◌}
 use Rattle.relist.proofs.Judging.{notes-start, notes-turn, notes-end}
 use borrow.Author.Rules.{rules}
 use Rattle.relist.proofs.notes_of.Goals as goal

@@ -1,13 +1,9 @@
 -- `tables::same_space` meets its contract: the prefix 3 alone asks for the namespace's text.
 use native.Mathlib.Omega.{arith}
 use mathlib.Core.Path.{sym, ◌∙◌}
-use borrow.Author.Tests.{eq-eqb, ne_eqb}
+use borrow.Author.Tests.{eq-eqb}
 use Rattle.records.specs.Words.{own_prefix}
 use Rattle.tables.proofs.same_space.Goals as goal
-
-pub returns-then-prefix-ne-OWN_PREFIX : goal.returns-then-prefix-ne-OWN_PREFIX
-returns-then-prefix-ne-OWN_PREFIX c =
-    let a = c.args in (rw (ne_eqb a.prefix own_prefix (λ e. omega (arith, c.if-prefix-ne-OWN_PREFIX.true))), c.requires.1)
 
 pub same_numbered-requires : goal.same_numbered-requires
 same_numbered-requires c = c.requires
@@ -21,4 +17,4 @@ shape_of-numbers c =
 pub returns : goal.returns
 returns c =
     let a = c.args in
-    (rw (eq-eqb a.prefix own_prefix (omega (arith, c.if-prefix-ne-OWN_PREFIX.false)), c.same_numbered.ensures.0), c.same_numbered.ensures.1)
+    (rw (eq-eqb a.prefix own_prefix (omega arith), c.same_numbered.ensures.0), c.same_numbered.ensures.1)
