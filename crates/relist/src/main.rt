@@ -13,7 +13,7 @@ ghost use Rattle.records.specs.Words.{note_width};
 ghost use Rattle.records.specs.Limits.{listed_notes};
 ghost use Rattle.listing_text.specs.Size.{listed_bytes};
 ghost use Rattle.listing_back.specs.Inner.Whole.{is_own};
-ghost use Rattle.relist.specs.Inner.Judged.{note_in, notes_from, verdict_of, Judges, Relists_out};
+ghost use Rattle.relist.specs.Inner.Judged.{note_in, notes_from, verdict_of, Judges, RelistsOut};
 
 use anomaly::Note;
 use errors::{LinesAnswer, read_numbers};
@@ -183,7 +183,7 @@ fn relist<W: Write>(
     out: &mut [u8],
 ) -> io::Result<()>
     requires { (length notes.old ≡ note_width * listed_notes) × (length text.now ≤ length out.old) }
-    ensures { OnOk result (Relists_out text.now (length nodes.old) (length attributes.old) (length notes.old) (W.contents writer.old) (W.contents writer.new)) }
+    ensures { OnOk result (RelistsOut text.now (length nodes.old) (length attributes.old) (length notes.old) (W.contents writer.old) (W.contents writer.new)) }
 {
     let v = judge(text, nodes, attributes, notes, out);
     write_verdict(writer, out, v)

@@ -5,7 +5,7 @@
 --   IsListing   the text says something; what was printed is the text of what it says, and so the text that came in
 --   Judges      what `judge` promises in tables of so many words: the number and the value of the reader's own refusal, or 0 for a listing, which then
 --               stands at the front of the buffer
---   Relists_out  what `relist` promises of a writer whose bytes are known: of a text that says something that text is what the writer has more
+--   RelistsOut  what `relist` promises of a writer whose bytes are known: of a text that says something that text is what the writer has more
 use Rattle.std.specs.Io.KnownBytes.{Appends}
 use Rattle.std.specs.declared.option.Option.{Option}
 use Rattle.std.specs.Prelude.{ℕ, zero, suc, ◌≤◌, ◌≡◌, List, [], ◌∷◌, length, take, drop, get_or}
@@ -39,6 +39,6 @@ pub record Judges (text : List ℕ) (ns ats os : ℕ) (r : Verdict) (out : List 
   pub within : r.printed ≤ length out
 
 -- the text, the words of the three tables; what the writer held before and holds afterwards
-unfoldable pub Relists_out : List ℕ → ℕ → ℕ → ℕ → Option (List ℕ) → Option (List ℕ) → Type 0
-Relists_out text ns ats os before after =
+unfoldable pub RelistsOut : List ℕ → ℕ → ℕ → ℕ → Option (List ℕ) → Option (List ℕ) → Type 0
+RelistsOut text ns ats os before after =
     (said : Relisting) → relisting (record { nodes = ns; attributes = ats; notes = os }) text ≡ found said → Appends before after text
