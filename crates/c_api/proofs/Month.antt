@@ -24,9 +24,14 @@ module _ (words notes : List ℕ) (refusal count bytes : ℕ) where
     counts = c ∙ ap (λ (y : Added). y.round_up.counts) (sym e);
   }
 
-  pub adds-other-length : (length words ≡ places → ⊥) → AddsWords words notes refusal count bytes (told 13 (length words)) words
+  -- with another length: the two parts of the promise
+  pub other_length_answer : (length words ≡ places → ⊥) → add_answer_of (add_numbers (adding_to words notes refusal count bytes).answer) ≡ told 13 (length words)
   unfolding adding_to add_numbers refusal_number refusal_value
-  adds-other-length h = adds-by (misfit words (length words)) (rw (ne_eqb (length words) places h)) (told 13 (length words)) refl words refl
+  other_length_answer h = rw (ne_eqb (length words) places h)
+
+  pub other_length_counts : (length words ≡ places → ⊥) → (adding_to words notes refusal count bytes).round_up.counts ≡ words
+  unfolding adding_to
+  other_length_counts h = rw (ne_eqb (length words) places h)
 
   module _ (whole : length words ≡ places) where
     pub adds-other-number : numbers ≤ refusal → AddsWords words notes refusal count bytes (told 13 refusal) words

@@ -17,6 +17,7 @@ pub struct AxmlAddAnswer {
 
 // Adds a file: `refusal` and `note_count` are those of its reading's answer, `notes` the note table that it left, `file_bytes` its length.
 // Ruled out: a word that changed beside a refusal, and a round-up of 131 words that is taken for one.
+#[tactic(auto, using(crate::proofs::Month::other_length_answer, crate::proofs::Month::other_length_counts))]
 #[unsafe(no_mangle)]
 pub extern "C" fn axml_round_up_add(
     round_up: &mut [u32],
