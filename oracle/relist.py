@@ -4,7 +4,7 @@
 The model goes by lines and regular expressions, where the proved reader goes by bytes: docs/FORMAT.md, L7 to L9. LIBRARY is libaxml.so as
 tools/library writes it. Every number of the answer and every word of the three tables is compared, with garbage in the tables before. What is
 taken is printed again from its words and compared with the text. With --program the first N listings go through the program behind axml-relist too (COMMAND
-is how target/bin/relist is started here): it prints the listing again, or the number and the value of its fault. Says what it did, and ends
+is how crates/relist/out/relist is started here): it prints the listing again, or the number and the value of its fault. Says what it did, and ends
 with 1 where they disagree.
 """
 import argparse, collections, ctypes, random, re, shlex, subprocess, sys

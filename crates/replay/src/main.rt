@@ -1,7 +1,7 @@
 // Replays stored answers of whole readings, first values, valid names and complex values: data/cases, made by oracle/cases.py (`pack-replay`).
 //
-// A reading is asked of `c_api::axml_read`, with the stored names, cap and rooms: it takes the notes as words, where `axml::read` takes records,
-// which a covered function cannot lend. `axml::read` itself runs under `axml::read_listed`, wherever its names, cap and places answer the same.
+// A reading is asked of `c_api::axml_read`, with the stored names, cap and rooms: it takes the notes as words, where `axml::read` takes records.
+// `axml::read` itself runs under `axml::read_listed`, wherever its names, cap and places answer the same.
 // A reading is right where its numbers and every word of the three lent tables are. What is printed is how many answers are right, and how
 // many were asked for.
 #![tactic(auto)]
