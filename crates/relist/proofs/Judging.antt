@@ -45,6 +45,9 @@ module _ (n : ℕ) where
   pub own_line : 8 ≤ n → 10 < n → 24 ≤ n → leb n 26 ≡ is_own n
   own_line h i j = rw (le-leb 8 n h, lt-leb n 10 i, le-leb 24 n j)
 
+-- for `relist::is_own`
+pub ruleset owns = (own-low, own_room, own-gap, own_line)
+
 -- an array of n bytes is as long
 pub as_long : (n : ℕ) → n ≤ length {A = ℕ} (replicate n 0)
 as_long n = rw (length-replicate {A = ℕ} n 0) (le_refl n)

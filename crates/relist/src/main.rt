@@ -35,6 +35,7 @@ pub struct Verdict {
 }
 
 // 8 to 10, 24 to 26
+#[tactic(auto, using(crate::proofs::Judging::owns))]
 fn is_own(n: u32) -> bool
     ensures { result ≡ is_own n }
 {
