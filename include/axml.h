@@ -1,5 +1,5 @@
-/* The C interface of the AXML reader. `tools/library DIR` writes what is linked on the machine at hand: DIR/lib/libaxml.a and libaxml.so,
- * DIR/include/axml.h, and DIR/lib/pkgconfig/axml.pc. The library calls only C's memset. docs/USING.md has an example for each question.
+/* The C interface of the AXML reader. `tools/library DIR` writes what is linked, for x86-64 (v2): DIR/lib/libaxml.a and libaxml.so,
+ * DIR/include/axml.h, and DIR/lib/pkgconfig/axml.pc. The library calls only C's memset and memcpy. docs/USING.md has an example for each question.
  *
  * docs/FORMAT.md says what every number means; its rules are cited by number (B9). Each function takes whatever bytes and tables it is lent,
  * and returns; it allocates nothing and keeps nothing. The caller, whom nothing checks, sees to this alone:
