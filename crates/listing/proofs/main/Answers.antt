@@ -6,7 +6,7 @@ use Rattle.listing.proofs.Laws.{as_long}
 use Rattle.listing.proofs.main.Goals as goal
 
 pub slice_bounds-run-end-4 : goal.slice_bounds-run-end-4
-slice_bounds-run-end-4 c = sym (length-replicate {A = ℕ} _ 0)
+slice_bounds-run-end-4 c = sym (length-replicate {A = ℕ} listed_bytes 0)
 
 pub run-requires : goal.run-requires
 run-requires c = (search rules, record { nodes = search rules; attributes = search rules; out = as_long listed_bytes })
