@@ -6,6 +6,7 @@
 --   leaves  the last turn leaves what `Reads` says
 --
 -- Measure: `steps_left`, which each turn lowers.
+use Rattle.std.specs.Prelude.{Result}
 use mathlib.Core.Path.{◌≡◌, refl, sym, ◌∙◌, ap}
 use Prim.Native.Nat.{ℕ, ◌<◌, ◌+◌, ◌≤◌}
 use mathlib.Core.Bool.{true, false}
@@ -14,12 +15,13 @@ use native.Mathlib.Omega.{arith}
 use lib.ListN.{length, set, length-set}
 use Rattle.anomaly.specs.declared.Note.{Note}
 use Rattle.walk.specs.declared.State.{State}
-use Rattle.errors.specs.declared.ReadAnswer.{ReadAnswer}
 use Rattle.errors.specs.Refusal.{numbers_of}
 use Rattle.system_types.specs.Names.{Lent}
 use Rattle.walk.specs.declared.Stage.TheVariants.{Fresh, Reading as InBody}
 use Rattle.walk.specs.Reading.{Reading, Reads, room_in, reading}
 use Rattle.walk.specs.Inner.Outcome.{AdvanceKeeps, Advanced, Answers, StateOk, first, steps_left, outcome}
+use Rattle.errors.specs.declared.ReadCounts.{ReadCounts}
+use Rattle.errors.specs.declared.Refusal.{Refusal}
 
 -- a fresh state does not read yet
 fresh-reads : Fresh ≡ InBody → ⊥
@@ -71,7 +73,7 @@ module _ (file : List ℕ) (lent : Lent) (nodes attributes : List ℕ) (notes : 
     pub fewer : r.done ≡ false → steps_left file lent r < steps_left file lent st
     fewer d = omega (arith, (advanced.due d).1)
 
-    pub leaves : r.done ≡ true → (a : ReadAnswer) → Answers r a → Reads file lent nodes attributes notes cap mode a ns' bs' xs
+    pub leaves : r.done ≡ true → (a : Result ReadCounts Refusal) → Answers r a → Reads file lent nodes attributes notes cap mode a ns' bs' xs
     leaves d a is =
         let e : ◌≡◌ {A = Reading} (record { answer = a; nodes = ns'; attributes = bs'; notes = xs })
         (reading (room_in nodes attributes notes cap mode) file lent) = sym (advanced.ends d a is xs all-places) ∙ p.same in

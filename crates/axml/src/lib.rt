@@ -12,19 +12,19 @@ ghost use Rattle.walk.specs.Reading.{Reads, zero_note};
 pub use anomaly::Note;
 pub use common::{ResourceId, StringIndex, complex_to_float};
 pub use errors::{
-    FirstAnswer, FirstNumbers, ManyAnswer, ManyNumbers, ManyTexts, Numbers, PairNumbers,
-    ReadAnswer, ReadCounts, Refusal, TextAnswer, TextNumbers, TextState, ValueAnswer, ValueNumbers,
-    first_numbers, many_numbers, pair_numbers, read_numbers, text_numbers, value_numbers,
+    FirstNumbers, FirstValue, ManyNumbers, Numbers, PairNumbers, ReadCounts, Refusal, TextNumbers,
+    TextState, TextWritten, TextsWritten, ValueNumbers, ValueWritten, first_numbers, many_numbers,
+    pair_numbers, read_numbers, text_numbers, value_numbers,
 };
 pub use first_value::first_value;
 pub use first_values::first_values;
 pub use head::{content, text};
-pub use main_activities::{MainAnswer, MainNumbers, main_activities, main_numbers};
+pub use main_activities::{MainNumbers, main_activities, main_numbers};
 pub use many_texts::{texts, value_texts};
 use records::{LISTED_CAP, LISTED_NOTES, MERGED};
 pub use round_up::{
-    AddAnswer, AddNumbers, Added, RoundUp, add_numbers, add_reading, empty_round_up, files_read,
-    kinds_in, notes_of, refused_by,
+    AddNumbers, Added, RoundUp, add_numbers, add_reading, empty_round_up, files_read, kinds_in,
+    notes_of, refused_by,
 };
 pub use value_text::{Attribute, value_text};
 pub use xml::is_valid_name;
@@ -42,7 +42,7 @@ pub fn read(
     notes: &mut [Note],
     cap: u32,
     mode: u32,
-) -> ReadAnswer
+) -> Result<ReadCounts, Refusal>
     ensures { Reads file.now (lends names.now area.now) nodes.old attributes.old
         notes.old cap mode result nodes.new attributes.new notes.new }
 {
@@ -61,7 +61,7 @@ pub fn read(
 // The answer of a reading, and its notes by value.
 #[derive(Clone, Copy)]
 pub struct Listed {
-    pub answer: ReadAnswer,
+    pub answer: Result<ReadCounts, Refusal>,
     pub notes: [Note; LISTED_NOTES],
 }
 

@@ -7,6 +7,7 @@
 --   point-slot    its place is one of the table's
 --   point-cleared, point-last   the two ways out: the answer is known and zeros are written from the next place on; all places are written
 --   reads-by      the answer of `read_words` in numbers is that of `axml_read`
+use Rattle.std.specs.Prelude.{Result}
 use Prim.Native.Nat.{ℕ, ◌+◌, ◌-◌, ◌*◌, ◌/◌, ◌%◌, ◌≤◌, ◌<◌}
 use native.Mathlib.Omega.{arith}
 use native.Mathlib.Nat.{div-add-mod}
@@ -17,7 +18,6 @@ use lib.ListN.{length, take, set, replicate, length-set}
 use lib.Seq.{take-length}
 use Rattle.anomaly.specs.declared.Note.{Note}
 use Rattle.errors.specs.declared.Numbers.{Numbers}
-use Rattle.errors.specs.declared.ReadAnswer.{ReadAnswer}
 use Rattle.errors.specs.Refusal.{numbers_of}
 use Rattle.records.specs.Words.{note_width}
 use Rattle.system_types.specs.Names.{Lent}
@@ -31,10 +31,12 @@ use Rattle.walk.proofs.Opening.{first_good}
 use Rattle.c_api.specs.declared.AxmlAnswer.{AxmlAnswer}
 use Rattle.c_api.specs.Words.{words_of, word_room, put_note, is_clearing, answer_of, ReadsWords}
 use Rattle.c_api.proofs.Noting.{length-of, notes_of_words, rest_in, words_back, notes_of_words-places, words-put, words-cleared}
+use Rattle.errors.specs.declared.ReadCounts.{ReadCounts}
+use Rattle.errors.specs.declared.Refusal.{Refusal}
 
 -- a stage that clears has an answer
 record Known (m : Stage) : Type 0 where
-  answer : ReadAnswer
+  answer : Result ReadCounts Refusal
   stage : m ≡ Clearing answer
 
 clearing-of : (m : Stage) → is_clearing m ≡ true → Known m
@@ -73,7 +75,7 @@ module _ (f : List ℕ) (lent : Lent) (ns₀ ats₀ ws₀ : List ℕ) (cap mode 
 
   -- ---- where a turn leaves the loop
 
-  abbrev gives : ReadAnswer → List ℕ → List ℕ → List Note → Reading
+  abbrev gives : Result ReadCounts Refusal → List ℕ → List ℕ → List Note → Reading
   gives a ns ats os = record { answer = a; nodes = ns; attributes = ats; notes = os }
 
   reads_of : (x : Reading) → x ≡ reading (word_room ns₀ ats₀ ws₀ cap mode) f lent → (ws' : List ℕ)
@@ -92,7 +94,7 @@ module _ (f : List ℕ) (lent : Lent) (ns₀ ats₀ ws₀ : List ℕ) (cap mode 
   -- the answer is known, the note is written, and zeros are from the next place on
   pub point-cleared : (ns ats ws : List ℕ) (st : State) → Point ns ats ws st → is_clearing st.stage ≡ true → st.slot < st.room
       → (ws' : List ℕ) → ws' ≡ take (note_width * st.slot + note_width) ws ++ replicate (length ws - (note_width * st.slot + note_width)) 0
-      → (a : ReadAnswer) → Answers st a → ReadsWords f lent ns₀ ats₀ ws₀ cap mode (answer_of (numbers_of a)) ns ats ws'
+      → (a : Result ReadCounts Refusal) → Answers st a → ReadsWords f lent ns₀ ats₀ ws₀ cap mode (answer_of (numbers_of a)) ns ats ws'
   point-cleared ns ats ws st p m h ws' z a is =
       let known = clearing-of st.stage m in
       let all : length p.notes ≡ st.room = p.places ∙ sym p.room in
@@ -142,7 +144,7 @@ module _ (f : List ℕ) (lent : Lent) (ns₀ ats₀ ws₀ : List ℕ) (cap mode 
 
     -- all places are written, and zeros are behind the last
     pub point-last : r.done ≡ true → (ws' : List ℕ) → ws' ≡ take (note_width * (length ws / note_width)) ws ++ replicate (length ws - note_width * (length ws / note_width)) 0
-        → (a : ReadAnswer) → Answers r a → ReadsWords f lent ns₀ ats₀ ws₀ cap mode (answer_of (numbers_of a)) ns' ats' ws'
+        → (a : Result ReadCounts Refusal) → Answers r a → ReadsWords f lent ns₀ ats₀ ws₀ cap mode (answer_of (numbers_of a)) ns' ats' ws'
     point-last d ws' z a is =
         let all : note_width * (length ws / note_width) ≡ note_width * length p.notes = rw (p.long-words, p.places) in
         let none : length p.notes - length p.notes ≡ 0 = omega arith in
@@ -155,6 +157,6 @@ module _ (f : List ℕ) (lent : Lent) (ns₀ ats₀ ws₀ : List ℕ) (cap mode 
 
   -- ---- the answer in numbers
 
-  pub reads-by : (a : ReadAnswer) (ns ats ws : List ℕ) → ReadsWords f lent ns₀ ats₀ ws₀ cap mode (answer_of (numbers_of a)) ns ats ws
+  pub reads-by : (a : Result ReadCounts Refusal) (ns ats ws : List ℕ) → ReadsWords f lent ns₀ ats₀ ws₀ cap mode (answer_of (numbers_of a)) ns ats ws
       → (m : Numbers) → m ≡ numbers_of a → (r : AxmlAnswer) → r ≡ answer_of m → ReadsWords f lent ns₀ ats₀ ws₀ cap mode r ns ats ws
   reads-by a ns ats ws h m em r er = record { answer = er ∙ ap answer_of em ∙ h.answer; nodes = h.nodes; attributes = h.attributes; notes = h.notes }

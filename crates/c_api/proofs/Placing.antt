@@ -1,6 +1,7 @@
 -- Laws of specs/Place.antt: what was found, told in numbers, is the content of the index. No contract cites this file.
 -- In order: a part of the bytes behind the header (`part-behind`), what a place of each sort tells (`tells-..`), an open file
 -- (`place-open`) and a closed one (`place-closed`).
+use Rattle.std.specs.Prelude.{Ok, Err}
 use Prim.Native.Nat.{ℕ, ◌+◌, ◌≤◌}
 use native.Mathlib.Omega.{arith}
 use mathlib.Core.Path.{◌≡◌, refl, sym, ap, ◌∙◌}
@@ -20,7 +21,6 @@ use Rattle.text.specs.Inner.Found.{part_of, Inside, Stands}
 use Rattle.text.proofs.Parts.{take-drop-part}
 use Rattle.head.specs.Head.{tables_in, head_len}
 use Rattle.head.specs.Ask.{open_of, content_asked, content_answer}
-use Rattle.head.specs.declared.OpenRead.TheVariants.{Open, Closed}
 use Rattle.head.proofs.Cases.{opened_of-small}
 use Rattle.head.proofs.Questions.{open_of-open, content-open, content-closed}
 use Rattle.c_api.specs.declared.content.AxmlContentAnswer.{AxmlContentAnswer}
@@ -66,7 +66,7 @@ module _ (f : List ℕ) (lent : Lent) (i : ℕ) where
   asks_of e q t = record { known = t.known; there = t.there ∙ ap is_there (sym e); inside = t.inside; bytes = t.bytes ∙ q }
 
   -- a file that is open has its header
-  open-long : {h : Head} → open_of f lent ≡ Open h → 8 ≤ length f
+  open-long : {h : Head} → open_of f lent ≡ Ok h → 8 ≤ length f
   open-long e = go (ltb (length f) 8) refl
     where
       go : (b : Bool) → ltb (length f) 8 ≡ b → 8 ≤ length f
@@ -79,7 +79,7 @@ module _ (f : List ℕ) (lent : Lent) (i : ℕ) where
 
   pub place-open
       : {h : Head} {t : List ℕ} {g : Found} {r : AxmlContentAnswer}
-      → open_of f lent ≡ Open h
+      → open_of f lent ≡ Ok h
       → t ≡ tables_in f h
       → Stands h.utf16 t lent.area (content_of h t lent i) g
       → r ≡ place_of g
@@ -93,7 +93,7 @@ module _ (f : List ℕ) (lent : Lent) (i : ℕ) where
 
   pub place-closed
       : {why : Refusal} {r : AxmlContentAnswer}
-      → open_of f lent ≡ Closed why
+      → open_of f lent ≡ Err why
       → r ≡ place_of Nothing
       → AsksContent f lent i r
   place-closed e p =

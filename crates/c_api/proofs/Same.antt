@@ -1,12 +1,11 @@
 -- `axml_read` gives the reading of `axml::read`, its notes as words (`same-reading`), and `axml_text` the text question of `head::text` (`asks-of-reads`).
 -- No contract cites this file.
+use Rattle.std.specs.Prelude.{Result}
 use Prim.Native.Nat.{ℕ, ◌/◌, ◌%◌}
 use mathlib.Core.Path.{◌≡◌, sym, ◌∙◌, ap}
 use mathlib.Core.List.{List, ◌++◌}
 use lib.ListN.{length, replicate}
 use Rattle.anomaly.specs.declared.Note.{Note}
-use Rattle.errors.specs.declared.ReadAnswer.{ReadAnswer}
-use Rattle.errors.specs.declared.TextAnswer.{TextAnswer}
 use Rattle.errors.specs.declared.TextNumbers.{TextNumbers}
 use Rattle.errors.specs.Refusal.{numbers_of, text_numbers_of}
 use Rattle.head.specs.Ask.{TextReads}
@@ -18,9 +17,12 @@ use Rattle.c_api.specs.declared.AxmlAnswer.{AxmlAnswer}
 use Rattle.c_api.specs.declared.AxmlTextAnswer.{AxmlTextAnswer}
 use Rattle.c_api.specs.Answers.{text_answer_of, AsksText}
 use Rattle.c_api.specs.Words.{words_of, word_room, answer_of, ReadsWords}
+use Rattle.errors.specs.declared.ReadCounts.{ReadCounts}
+use Rattle.errors.specs.declared.Refusal.{Refusal}
+use Rattle.errors.specs.declared.TextWritten.{TextWritten}
 
 -- the answer r and the tables of the one call are the answer a and the tables of the other
-pub record OneReading (a : ReadAnswer) (ns₁ ats₁ : List ℕ) (os₁ : List Note) (ws : List ℕ) (r : AxmlAnswer) (ns₂ ats₂ ws₂ : List ℕ) : Type 0 where
+pub record OneReading (a : Result ReadCounts Refusal) (ns₁ ats₁ : List ℕ) (os₁ : List Note) (ws : List ℕ) (r : AxmlAnswer) (ns₂ ats₂ ws₂ : List ℕ) : Type 0 where
   pub answer : r ≡ answer_of (numbers_of a)
   pub nodes : ns₂ ≡ ns₁
   pub attributes : ats₂ ≡ ats₁
@@ -28,7 +30,7 @@ pub record OneReading (a : ReadAnswer) (ns₁ ats₁ : List ℕ) (os₁ : List N
 
 -- with as many places as the words have whole threes
 pub same-reading : (f : List ℕ) (lent : Lent) (ns ats : List ℕ) (os : List Note) (ws : List ℕ) (cap mode : ℕ) → length os ≡ length ws / note_width
-    → (a : ReadAnswer) (ns₁ ats₁ : List ℕ) (os₁ : List Note) → Reads f lent ns ats os cap mode a ns₁ ats₁ os₁
+    → (a : Result ReadCounts Refusal) (ns₁ ats₁ : List ℕ) (os₁ : List Note) → Reads f lent ns ats os cap mode a ns₁ ats₁ os₁
     → (r : AxmlAnswer) (ns₂ ats₂ ws₂ : List ℕ) → ReadsWords f lent ns ats ws cap mode r ns₂ ats₂ ws₂
     → OneReading a ns₁ ats₁ os₁ ws r ns₂ ats₂ ws₂
 same-reading f lent ns ats os ws cap mode places a ns₁ ats₁ os₁ h r ns₂ ats₂ ws₂ k =
@@ -44,6 +46,6 @@ same-reading f lent ns ats os ws cap mode places a ns₁ ats₁ os₁ h r ns₂ 
           ∙ ap (λ (o : List Note). words_of o ++ replicate (length ws % note_width) 0) (sym h.notes);
     }
 
-pub asks-of-reads : (f : List ℕ) (lent : Lent) (before : List ℕ) (i : ℕ) (a : TextAnswer) (after : List ℕ) → TextReads f lent before i a after
+pub asks-of-reads : (f : List ℕ) (lent : Lent) (before : List ℕ) (i : ℕ) (a : Result TextWritten Refusal) (after : List ℕ) → TextReads f lent before i a after
     → (m : TextNumbers) → m ≡ text_numbers_of a → (r : AxmlTextAnswer) → r ≡ text_answer_of m → AsksText f lent before i r after
 asks-of-reads f lent before i a after h m em r er = record { answer = er ∙ ap text_answer_of (em ∙ h.answer); out = h.out }

@@ -10,7 +10,7 @@ ghost use Rattle.c_api.specs.Place.{AsksContent};
 ghost use Rattle.c_api.specs.Inner.Placed.{place_of};
 
 use common::StringIndex;
-use head::{OpenRead, open_file, tables_of};
+use head::{open_file, tables_of};
 use text::{Found, find};
 
 // A part of what was lent: of nothing (slice 0), of the name area (1) or of the file (2).
@@ -65,12 +65,12 @@ pub extern "C" fn axml_content(
 {
     let opened = open_file(file, names, area);
     match opened {
-        OpenRead::Open(h) => {
+        Ok(h) => {
             let t = tables_of(file, h);
             let f = find(t, names, area, h, StringIndex(index));
             place_of(t, area, f)
         }
-        OpenRead::Closed(_) => AxmlContentAnswer {
+        Err(_) => AxmlContentAnswer {
             slice: 0,
             start: 0,
             length: 0,

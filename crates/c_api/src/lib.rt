@@ -31,7 +31,8 @@ pub use asking::{AxmlPairsAnswer, axml_first_values};
 use common::StringIndex;
 pub use content::{AxmlContentAnswer, axml_content};
 use errors::{
-    FirstNumbers, Numbers, ReadAnswer, TextNumbers, first_numbers, read_numbers, text_numbers,
+    FirstNumbers, Numbers, ReadCounts, Refusal, TextNumbers, first_numbers, read_numbers,
+    text_numbers,
 };
 use records::{NOTE_A, NOTE_B, NOTE_KIND, NOTE_WORDS};
 pub use relisting::{AxmlRelisted, axml_read_listing};
@@ -86,7 +87,7 @@ fn read_words(
     notes: &mut [u32],
     cap: u32,
     mode: u32,
-) -> ReadAnswer
+) -> Result<ReadCounts, Refusal>
     ensures { ReadsWords file.now (lends names.now area.now) nodes.old attributes.old
         notes.old cap mode (answer_of (numbers_of result)) nodes.new attributes.new notes.new }
 {

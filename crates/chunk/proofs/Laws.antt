@@ -1,6 +1,7 @@
 -- Laws of specs/Sort.antt and specs/Inner/Run.antt. No contract cites this file.
 -- In order: bounds (`content_size-le`, `foreign_len-le`), what a chunk of a sort takes (`runUsed-..`), the two equations of a run
 -- (`skip_run-stop`, `skip_run-step`), what the code computes at a place (`-here`). Not here: laws of headers (common).
+use Rattle.std.specs.Prelude.{Some, None}
 use Prim.Native.Nat.{ℕ, zero, suc, ◌+◌, ◌-◌, ◌≤◌, ◌<◌, zero-le}
 use native.Mathlib.Omega.{arith}
 use mathlib.Core.Path.{◌≡◌, refl, sym, ◌∙◌}
@@ -12,7 +13,6 @@ use lib.Seq.{drop-drop}
 use lib.Dec.{ltb, leb, eqb}
 use Rattle.common.specs.Header.{header_of}
 use Rattle.common.specs.declared.ResChunkHeader.{ResChunkHeader}
-use Rattle.common.specs.declared.HeaderRead.TheVariants.{Whole, Short}
 use Rattle.common.proofs.Laws.{header_here, header_of-short, header_of-whole, header_of-long-at}
 use Rattle.chunk.specs.Sort.{chunk_sort, content_size, foreign_len}
 use Rattle.chunk.specs.Inner.Run.{run_used, skip_run}
@@ -50,22 +50,22 @@ foreign_len-lt n h = omega arith
 
 -- ---- a chunk of a sort
 
-pub run_used-short : (k : ℕ) (l : List ℕ) → header_of l ≡ Short → run_used k l ≡ 0
+pub run_used-short : (k : ℕ) (l : List ℕ) → header_of l ≡ None → run_used k l ≡ 0
 unfolding run_used
 run_used-short k l w = rw w
 
-pub run_used-same : (k : ℕ) (l : List ℕ) {h : ResChunkHeader} → header_of l ≡ Whole h → chunk_sort h ≡ k → run_used k l ≡ foreign_len (length l) h
+pub run_used-same : (k : ℕ) (l : List ℕ) {h : ResChunkHeader} → header_of l ≡ Some h → chunk_sort h ≡ k → run_used k l ≡ foreign_len (length l) h
 unfolding run_used
 run_used-same k l w e = rw (w, eq-eqb _ _ e)
 
-pub run_used-other : (k : ℕ) (l : List ℕ) {h : ResChunkHeader} → header_of l ≡ Whole h → (chunk_sort h ≡ k → ⊥) → run_used k l ≡ 0
+pub run_used-other : (k : ℕ) (l : List ℕ) {h : ResChunkHeader} → header_of l ≡ Some h → (chunk_sort h ≡ k → ⊥) → run_used k l ≡ 0
 unfolding run_used
 run_used-other k l w e = rw (w, ne_eqb _ _ e)
 
 pub run_used-fits : (k : ℕ) (l : List ℕ) → run_used k l ≤ length l
 run_used-fits k l = go (ltb (length l) 8) refl
   where
-    whole : (h : ResChunkHeader) → header_of l ≡ Whole h → 8 ≤ length l → (b : Bool) → eqb (chunk_sort h) k ≡ b → run_used k l ≤ length l
+    whole : (h : ResChunkHeader) → header_of l ≡ Some h → 8 ≤ length l → (b : Bool) → eqb (chunk_sort h) k ≡ b → run_used k l ≤ length l
     whole h w p true e = rw (run_used-same k l w (eqb-true _ _ e)) (foreign_len-le (length l) h p)
     whole h w p false e = rw (run_used-other k l w (eqb-false _ _ e)) zero-le
 
@@ -98,7 +98,7 @@ foreign_len-here s at r h long q =
     rw (length-drop, same) (omega arith)
 
 -- what `run_used` computes where a chunk of the sort stands
-pub run_used-here : (s : List ℕ) (at k r : ℕ) {h : ResChunkHeader} → header_of (drop at s) ≡ Whole h → chunk_sort h ≡ k → at ≤ length s
+pub run_used-here : (s : List ℕ) (at k r : ℕ) {h : ResChunkHeader} → header_of (drop at s) ≡ Some h → chunk_sort h ≡ k → at ≤ length s
     → r ≡ at + 8 + content_size (length s - (at + 8)) h.size → (r - at ≡ run_used k (drop at s)) × (at + (r - at) ≤ length s)
 run_used-here s at k r {h} w e p q =
     let long : at + 8 ≤ length s = header_of-long-at s at w p in (

@@ -11,7 +11,7 @@ ghost use Rattle.chunk.specs.Sort.{is_xml, chunk_sort, content_size};
 ghost use Rattle.chunk.specs.Inner.Run.{run_used, skip_run};
 ghost use Rattle.chunk.specs.Inner.HeaderOnly.{is_bare, all_bare};
 
-use common::{HeaderRead, ResChunkHeader, header_at};
+use common::{ResChunkHeader, header_at};
 use field::u32_at;
 
 // Whether a chunk of this type belongs to the XML tree: 0x100 to 0x104 and 0x17f.
@@ -64,8 +64,8 @@ pub fn run_used(s: &[u8], at: usize, sort: u32) -> usize
 {
     let read = header_at(s, at);
     match read {
-        HeaderRead::Short => 0,
-        HeaderRead::Whole(h) => {
+        None => 0,
+        Some(h) => {
             if sort_of(h) == sort {
                 skip_content(s, at + 8, h.size) - at
             } else {

@@ -33,6 +33,7 @@
 -- a reading a child is a record whose parent word says so; every-one-broken, main-meets-some. Computed: proofs/Broken/Tellers.antt.
 -- The marked cases (L5): `cases-right` of proofs/Cases/Table.antt, one table and one theorem; `cases-read` of proofs/Cases/CasesOfRead.antt: `read` gives them.
 -- Texts and names (P2): what ties them to Unicode's tables and to XML's ranges is named in ARCHITECTURE.md.
+use Rattle.std.specs.Prelude.{Some, Result, Ok, Err}
 use Prim.Native.Nat.{ℕ, ◌+◌, ◌-◌, ◌*◌, ◌/◌, ◌^◌, ◌≤◌, ◌<◌}
 use mathlib.Core.Path.{◌≡◌, sym, ◌∙◌}
 use mathlib.Core.List.{List, [], ◌∷◌, ◌++◌, map}
@@ -42,20 +43,12 @@ use lib.ListN.{length, take, drop, replicate}
 use Rattle.common.specs.Complex.{Complex}
 use Rattle.common.specs.Header.{header_of}
 use Rattle.common.specs.declared.ResChunkHeader.{ResChunkHeader}
-use Rattle.common.specs.declared.HeaderRead.TheVariants.{Whole}
 use Rattle.common.proofs.Product.{Complex-unique}
 use Rattle.chunk.specs.Sort.{chunk_sort}
 use Rattle.errors.specs.Refusal.{refusal_number, refusal_value, numbers_of, text_numbers_of, lines_numbers_of, first_numbers_of}
-use Rattle.errors.specs.declared.ReadAnswer.{ReadAnswer}
-use Rattle.errors.specs.declared.ReadAnswer.TheVariants.{Done, Refused}
 use Rattle.errors.specs.declared.Refusal.{Refusal}
 use Rattle.errors.specs.declared.ReadCounts.{ReadCounts}
 use Rattle.errors.specs.declared.TextState.{TextState}
-use Rattle.errors.specs.declared.TextAnswer.{TextAnswer}
-use Rattle.errors.specs.declared.LinesAnswer.{LinesAnswer}
-use Rattle.errors.specs.declared.TextAnswer.TheVariants as text_is
-use Rattle.errors.specs.declared.LinesAnswer.TheVariants as lines_is
-use Rattle.errors.specs.declared.FirstAnswer.{FirstAnswer}
 use Rattle.errors.proofs.Laws.{numbers_of-unique, text_numbers_of-unique, lines_numbers_of-unique, first_numbers_of-unique}
 use Rattle.anomaly.specs.Note.{note_of}
 use Rattle.anomaly.specs.declared.Note.{Note}
@@ -118,8 +111,6 @@ use Rattle.anomaly.specs.Note.{kind_number}
 use Rattle.errors.specs.declared.Refusal.TheVariants.{RoundUpFull}
 use Rattle.round_up.specs.declared.RoundUp.{RoundUp}
 use Rattle.round_up.specs.declared.Added.{Added}
-use Rattle.round_up.specs.declared.AddAnswer.{AddAnswer}
-use Rattle.round_up.specs.declared.AddAnswer.TheVariants as add
 use Rattle.round_up.specs.RoundUp as sums
 use Rattle.round_up.specs.Kinds.{kinds_in, tally}
 use Rattle.round_up.specs.History as history
@@ -130,10 +121,6 @@ use Rattle.c_api.specs.declared.adding.AxmlAddAnswer.{AxmlAddAnswer}
 use Rattle.c_api.specs.Adding.{AddsWords}
 use Rattle.many_texts.specs.Words.{answer_width}
 use Rattle.errors.specs.Refusal.{value_numbers_of}
-use Rattle.errors.specs.declared.ValueAnswer.{ValueAnswer}
-use Rattle.errors.specs.declared.ValueAnswer.TheVariants as value_is
-use Rattle.errors.specs.declared.ManyTexts.{ManyTexts}
-use Rattle.errors.specs.declared.ManyTexts.TheVariants as many_is
 use Rattle.digits.specs.Digits as digits
 use Rattle.digits.proofs.Back as back
 use Rattle.digits.specs.Written.{fitted}
@@ -146,7 +133,6 @@ use Rattle.text.specs.declared.Head.{Head}
 use Rattle.text.specs.Content.{content_of, text_in}
 use Rattle.head.specs.Head.{tables_in}
 use Rattle.head.specs.Ask.{text_buffer}
-use Rattle.head.specs.declared.OpenRead.TheVariants.{Open}
 use Rattle.items.specs.Items.{items_of, item_name_of, named_in}
 use Rattle.items.specs.Flags.{taken, left_of, uncovered, sum_of}
 use Rattle.items.specs.declared.Item.{Item}
@@ -161,9 +147,6 @@ use Rattle.many_texts.proofs.Claimed as manies
 use Rattle.claims.specs.Month as month
 use Rattle.claims.proofs.Calls.Month as months
 use Rattle.errors.specs.Refusal.{pair_numbers_of}
-use Rattle.errors.specs.declared.ManyAnswer.{ManyAnswer}
-use Rattle.errors.specs.declared.ManyAnswer.TheVariants as pairs_is
-use Rattle.errors.specs.declared.FirstAnswer.TheVariants as first_is
 use Rattle.errors.specs.declared.Refusal.TheVariants.{NothingFound}
 use Rattle.errors.proofs.Laws.{pair_numbers_of-unique}
 use Rattle.records.specs.Words as layout
@@ -181,8 +164,6 @@ use Rattle.text.proofs.Wholes as wholes
 use Rattle.claims.specs.Askers.{Asker, MeetsAll, TwelveToAll}
 use Rattle.claims.proofs.Broken.Askers as many
 use Rattle.records.specs.Words.{no_parent}
-use Rattle.main_activities.specs.declared.MainAnswer.{MainAnswer}
-use Rattle.main_activities.specs.declared.MainAnswer.TheVariants as main_is
 use Rattle.main_activities.specs.Activities.{Tree, children_of, main_numbers_of, main_answer, list_after, MainReads}
 use Rattle.main_activities.proofs.Unique as started
 use Rattle.c_api.specs.declared.starting.AxmlMainAnswer.{AxmlMainAnswer}
@@ -190,15 +171,19 @@ use Rattle.c_api.specs.Starting.{AsksMain}
 use Rattle.claims.specs.Screens as screens
 use Rattle.claims.proofs.Structure.TreeOrder as nests
 use Rattle.claims.proofs.Broken.Tellers as screened
+use Rattle.errors.specs.declared.FirstValue.{FirstValue}
+use Rattle.errors.specs.declared.TextWritten.{TextWritten}
+use Rattle.errors.specs.declared.TextsWritten.{TextsWritten}
+use Rattle.errors.specs.declared.ValueWritten.{ValueWritten}
 
 module _ (f : List ℕ) (lent : Lent) (ns ats : List ℕ) (os : List Note) (cap mode : ℕ) where
-  pub read-unique : (r r' : ReadAnswer) (ns₁ ns₂ ats₁ ats₂ : List ℕ) (os₁ os₂ : List Note) → Reads f lent ns ats os cap mode r ns₁ ats₁ os₁
+  pub read-unique : (r r' : Result ReadCounts Refusal) (ns₁ ns₂ ats₁ ats₂ : List ℕ) (os₁ os₂ : List Note) → Reads f lent ns ats os cap mode r ns₁ ats₁ os₁
       → Reads f lent ns ats os cap mode r' ns₂ ats₂ os₂ → (r ≡ r') × (ns₁ ≡ ns₂) × (ats₁ ≡ ats₂) × (os₁ ≡ os₂)
   read-unique r r' ns₁ ns₂ ats₁ ats₂ os₁ os₂ p q =
       (numbers_of-unique r r' (p.answer ∙ sym q.answer), p.nodes ∙ sym q.nodes, p.attributes ∙ sym q.attributes, p.notes ∙ sym q.notes)
 
 module _ (f : List ℕ) (lent : Lent) (before : List ℕ) (i : ℕ) where
-  pub text-unique : (r r' : TextAnswer) (after after' : List ℕ) → TextReads f lent before i r after → TextReads f lent before i r' after'
+  pub text-unique : (r r' : Result TextWritten Refusal) (after after' : List ℕ) → TextReads f lent before i r after → TextReads f lent before i r' after'
       → (r ≡ r') × (after ≡ after')
   text-unique r r' after after' p q = (text_numbers_of-unique r r' (p.answer ∙ sym q.answer), p.out ∙ sym q.out)
 
@@ -206,11 +191,11 @@ pub content-unique : (f : List ℕ) (lent : Lent) (i : ℕ) (s s' : List ℕ) �
 content-unique f lent i s s' p q = p ∙ sym q
 
 module _ (f : List ℕ) (lent : Lent) (ns ats tag name : List ℕ) (nodes attributes : ℕ) where
-  pub first-unique : (r r' : FirstAnswer) → FirstReads f lent ns ats tag name nodes attributes r
+  pub first-unique : (r r' : Result FirstValue Refusal) → FirstReads f lent ns ats tag name nodes attributes r
       → FirstReads f lent ns ats tag name nodes attributes r' → r ≡ r'
   first-unique r r' p q = first_numbers_of-unique r r' (p.answer ∙ sym q.answer)
 
-pub listing-unique : (text before : List ℕ) (r r' : LinesAnswer) (after after' : List ℕ) → Printed text before r after → Printed text before r' after'
+pub listing-unique : (text before : List ℕ) (r r' : Result ℕ Refusal) (after after' : List ℕ) → Printed text before r after → Printed text before r' after'
     → (r ≡ r') × (after ≡ after')
 listing-unique text before r r' after after' p q = (lines_numbers_of-unique r r' (p.answer ∙ sym q.answer), p.out ∙ sym q.out)
 
@@ -220,16 +205,16 @@ name-unique s r r' p q = p ∙ sym q
 pub complex-unique : (d : ℕ) (r r' : Float) → Complex d r → Complex d r' → r ≡ r'
 complex-unique d r r' p q = Complex-unique d r r' p q
 
-pub numbers-unique : (a b : ReadAnswer) → numbers_of a ≡ numbers_of b → a ≡ b
+pub numbers-unique : (a b : Result ReadCounts Refusal) → numbers_of a ≡ numbers_of b → a ≡ b
 numbers-unique a b e = numbers_of-unique a b e
 
-pub text-numbers-unique : (a b : TextAnswer) → text_numbers_of a ≡ text_numbers_of b → a ≡ b
+pub text-numbers-unique : (a b : Result TextWritten Refusal) → text_numbers_of a ≡ text_numbers_of b → a ≡ b
 text-numbers-unique a b e = text_numbers_of-unique a b e
 
-pub lines-numbers-unique : (a b : LinesAnswer) → lines_numbers_of a ≡ lines_numbers_of b → a ≡ b
+pub lines-numbers-unique : (a b : Result ℕ Refusal) → lines_numbers_of a ≡ lines_numbers_of b → a ≡ b
 lines-numbers-unique a b e = lines_numbers_of-unique a b e
 
-pub first-numbers-unique : (a b : FirstAnswer) → first_numbers_of a ≡ first_numbers_of b → a ≡ b
+pub first-numbers-unique : (a b : Result FirstValue Refusal) → first_numbers_of a ≡ first_numbers_of b → a ≡ b
 first-numbers-unique a b e = first_numbers_of-unique a b e
 
 -- ---- insertion
@@ -237,7 +222,7 @@ first-numbers-unique a b e = first_numbers_of-unique a b e
 -- A file reads with no refusal and no note, so that its cap is at least 1, as that of the other reading has to be (27); `places` are lists of complete
 -- foreign chunks: the first list stands before the first chunk that the walk meets behind the map, the next before the next, and one more at the end if the
 -- last chunk is whole and nothing follows it.
-module _ (r : Room) (f : List ℕ) (lent : Lent) (c : ReadCounts) (done : (reading r f lent).answer ≡ Done c) (none : c.notes ≡ 0)
+module _ (r : Room) (f : List ℕ) (lent : Lent) (c : ReadCounts) (done : (reading r f lent).answer ≡ Ok c) (none : c.notes ≡ 0)
     (places : List (List ForeignChunk)) (few : length places ≤ places_in f) (limit : length (inserted_file places f) ≤ file_limit) (r' : Room)
     (one : 1 ≤ r'.cap) (alike : r'.mode ≡ r.mode) where
   -- In the same mode, where every table has room: starts, kept nodes and attributes are the same, word for word, and the notes are one for each stretch, up to the cap of each kind.
@@ -267,12 +252,12 @@ module _ (r : Room) (f : List ℕ) (lent : Lent) (c : ReadCounts) (done : (readi
 
 -- The same of two calls, whatever results the promise allows: `reading_left` is an answer and what stands in the three tables.
 module _ (f : List ℕ) (lent : Lent) (ns ats : List ℕ) (os : List Note) (cap mode : ℕ) (c : ReadCounts) (ns₁ ats₁ : List ℕ) (os₁ : List Note)
-    (first : Reads f lent ns ats os cap mode (Done c) ns₁ ats₁ os₁) (none : c.notes ≡ 0) (places : List (List ForeignChunk))
+    (first : Reads f lent ns ats os cap mode (Ok c) ns₁ ats₁ os₁) (none : c.notes ≡ 0) (places : List (List ForeignChunk))
     (few : length places ≤ places_in f) (limit : length (inserted_file places f) ≤ file_limit) (ns' ats' : List ℕ) (os' : List Note) (cap' : ℕ)
-    (one : 1 ≤ cap') (a : ReadAnswer) (ns₂ ats₂ : List ℕ) (os₂ : List Note)
+    (one : 1 ≤ cap') (a : Result ReadCounts Refusal) (ns₂ ats₂ : List ℕ) (os₂ : List Note)
     (second : Reads (inserted_file places f) lent ns' ats' os' cap' mode a ns₂ ats₂ os₂) where
   pub insertion-read : HasRoom a
-      → reading_left a ns₂ ats₂ os₂ ≡ with_notes (room_in ns' ats' os' cap' mode) (reading_left (Done c) ns₁ ats₁ os₁) c (kept_notes cap' (place_notes places))
+      → reading_left a ns₂ ats₂ os₂ ≡ with_notes (room_in ns' ats' os' cap' mode) (reading_left (Ok c) ns₁ ats₁ os₁) c (kept_notes cap' (place_notes places))
   insertion-read room =
       calls.insertion-read f lent ns ats os cap mode c ns₁ ats₁ os₁ first none places few limit ns' ats' os' cap' one a ns₂ ats₂ os₂ second room
 
@@ -285,21 +270,21 @@ module _ (f : List ℕ) (lent : Lent) (ns ats : List ℕ) (os : List Note) (cap 
       calls.insertion-read-room f lent ns ats os cap mode c ns₁ ats₁ os₁ first none places few limit ns' ats' os' cap' one a ns₂ ats₂ os₂ second n m k
 
 -- Text, content and first value, asked of the longer file, are those of the file: of any two results that the promises allow.
-module _ (r : Room) (f : List ℕ) (lent : Lent) (c : ReadCounts) (done : (reading r f lent).answer ≡ Done c) (none : c.notes ≡ 0)
+module _ (r : Room) (f : List ℕ) (lent : Lent) (c : ReadCounts) (done : (reading r f lent).answer ≡ Ok c) (none : c.notes ≡ 0)
     (places : List (List ForeignChunk)) (limit : length (inserted_file places f) ≤ file_limit) where
-  pub insertion-text : (before : List ℕ) (i : ℕ) (a a' : TextAnswer) (after after' : List ℕ) → TextReads f lent before i a after
+  pub insertion-text : (before : List ℕ) (i : ℕ) (a a' : Result TextWritten Refusal) (after after' : List ℕ) → TextReads f lent before i a after
       → TextReads (inserted_file places f) lent before i a' after' → (a' ≡ a) × (after' ≡ after)
   insertion-text = values.insertion-text r f lent c done none places limit
 
   pub insertion-content : (i : ℕ) (s s' : List ℕ) → s ≡ content_answer f lent i → s' ≡ content_answer (inserted_file places f) lent i → s' ≡ s
   insertion-content = values.insertion-content r f lent c done none places limit
 
-  pub insertion-first : (ns ats tag name : List ℕ) (nodes attributes : ℕ) (a a' : FirstAnswer)
+  pub insertion-first : (ns ats tag name : List ℕ) (nodes attributes : ℕ) (a a' : Result FirstValue Refusal)
       → FirstReads f lent ns ats tag name nodes attributes a → FirstReads (inserted_file places f) lent ns ats tag name nodes attributes a'
       → a' ≡ a
   insertion-first = values.insertion-first r f lent c done none places limit
 
-  pub insertion-many : (ns ats pairs area before : List ℕ) (nodes attributes : ℕ) (a a' : ManyAnswer) (after after' : List ℕ)
+  pub insertion-many : (ns ats pairs area before : List ℕ) (nodes attributes : ℕ) (a a' : Result ℕ Refusal) (after after' : List ℕ)
       → ManyReads f lent ns ats pairs area before nodes attributes a after
       → ManyReads (inserted_file places f) lent ns ats pairs area before nodes attributes a' after' → (a' ≡ a) × (after' ≡ after)
   insertion-many = values.insertion-many r f lent c done none places limit
@@ -309,7 +294,7 @@ pub insertion-none : (f : List ℕ) → inserted_file [] f ≡ f
 insertion-none f = inserted_file-none f
 
 -- every complete foreign chunk (W5) can be put in: a foreign header, a size of at least 8, and all its bytes
-pub insertion-chunk : (l : List ℕ) {h : ResChunkHeader} → header_of l ≡ Whole h → (chunk_sort h ≡ 2 → ⊥) → 8 ≤ h.size → h.size ≤ length l
+pub insertion-chunk : (l : List ℕ) {h : ResChunkHeader} → header_of l ≡ Some h → (chunk_sort h ≡ 2 → ⊥) → 8 ≤ h.size → h.size ≤ length l
     → (x : ForeignChunk) × (x.bytes ≡ take h.size l)
 insertion-chunk l w n least there = (foreign-of l w n least there, foreign-bytes l w n least there)
 
@@ -329,7 +314,7 @@ kinds-apart = damaged.besides-kept
 
 -- A file whose only notes are of kind 32, and the same file with complete foreign chunks at some of its places, as above: a note 32 is a note, so that
 -- `insertion` says nothing of it.
-module _ (r : Room) (f : List ℕ) (lent : Lent) (c : ReadCounts) (done : (reading r f lent).answer ≡ Done c)
+module _ (r : Room) (f : List ℕ) (lent : Lent) (c : ReadCounts) (done : (reading r f lent).answer ≡ Ok c)
     (only : OnlyDamage (take c.notes (reading r f lent).notes)) where
   -- nothing was dropped
   pub insertion-damaged-dropped : c.nodes ≡ c.starts
@@ -367,7 +352,7 @@ pub suffices : (r : Room) (f : List ℕ) (lent : Lent) → nodes_for (length f) 
 suffices = room.suffices
 
 -- the same of a call
-pub read-suffices : (f : List ℕ) (lent : Lent) (ns ats : List ℕ) (os : List Note) (cap mode : ℕ) (a : ReadAnswer) (ns' ats' : List ℕ) (os' : List Note)
+pub read-suffices : (f : List ℕ) (lent : Lent) (ns ats : List ℕ) (os : List Note) (cap mode : ℕ) (a : Result ReadCounts Refusal) (ns' ats' : List ℕ) (os' : List Note)
     → nodes_for (length f) ≤ length ns → attributes_for (length f) ≤ length ats → places_for cap ≤ length os
     → Reads f lent ns ats os cap mode a ns' ats' os' → HasRoom a
 read-suffices = room.read-suffices
@@ -377,14 +362,14 @@ pub listing-suffices : (n : ℕ) → n ≤ listed_file
     → (nodes_for n ≤ listing_room.nodes) × (attributes_for n ≤ listing_room.attributes) × (places_for listing_room.cap ≤ listing_room.notes)
 listing-suffices = room.listing-suffices
 
-pub read-listed-suffices : (f ns ats : List ℕ) (a : ReadAnswer) (ns' ats' : List ℕ) (os' : List Note) → length f ≤ listed_file
+pub read-listed-suffices : (f ns ats : List ℕ) (a : Result ReadCounts Refusal) (ns' ats' : List ℕ) (os' : List Note) → length f ≤ listed_file
     → length ns ≡ listing_room.nodes → length ats ≡ listing_room.attributes
     → Reads f (lends [] []) ns ats (replicate listing_room.notes zero_note) listing_room.cap listing_room.mode a ns' ats' os' → HasRoom a
 read-listed-suffices = room.read-listed-suffices
 
 -- ---- a part of pool or map that is short (H15): the value of the refusal is where it should begin
 
-module _ (r : Room) (f : List ℕ) (lent : Lent) (x : Refusal) (part : is_part x ≡ true) (refused : (reading r f lent).answer ≡ Refused x) where
+module _ (r : Room) (f : List ℕ) (lent : Lent) (x : Refusal) (part : is_part x ≡ true) (refused : (reading r f lent).answer ≡ Err x) where
   -- a place in the file, behind its header
   pub part-offset : (8 ≤ refusal_value x) × (refusal_value x ≤ length f)
   part-offset = parts.part-offset f lent _ x (parts.reading-part f lent x part r refused)
@@ -394,8 +379,8 @@ module _ (r : Room) (f : List ℕ) (lent : Lent) (x : Refusal) (part : is_part x
   part_cut = parts.part_cut f lent x r (parts.reading-part f lent x part r refused)
 
 -- and so does the text question of any index, whatever the buffer
-module _ (f : List ℕ) (lent : Lent) (n i : ℕ) (x : Refusal) (part : is_part x ≡ true) (refused : text_answer f lent n i ≡ text_is.Refused x) where
-  pub text-part-cut : (8 ≤ refusal_value x) × (refusal_value x ≤ length f) × (text_answer (take (refusal_value x) f) lent n i ≡ text_is.Refused x)
+module _ (f : List ℕ) (lent : Lent) (n i : ℕ) (x : Refusal) (part : is_part x ≡ true) (refused : text_answer f lent n i ≡ Err x) where
+  pub text-part-cut : (8 ≤ refusal_value x) × (refusal_value x ≤ length f) × (text_answer (take (refusal_value x) f) lent n i ≡ Err x)
   text-part-cut =
       let e = parts.text-part f lent x part n i refused in
       let p = parts.open-part f lent x part e in
@@ -404,37 +389,37 @@ module _ (f : List ℕ) (lent : Lent) (n i : ℕ) (x : Refusal) (part : is_part 
 -- ---- zeros (B7, B8), and the structure of a success (W25 to W29, B9 to B15)
 
 module _ (f : List ℕ) (lent : Lent) (ns ats : List ℕ) (os : List Note) (cap mode : ℕ) (ns' ats' : List ℕ) (os' : List Note) where
-  pub refused-zeros : (x : Refusal) → Reads f lent ns ats os cap mode (Refused x) ns' ats' os' → RefusedZero (numbers_of (Refused x)) ns ats os ns' ats' os'
+  pub refused-zeros : (x : Refusal) → Reads f lent ns ats os cap mode (Err x) ns' ats' os' → RefusedZero (numbers_of (Err x)) ns ats os ns' ats' os'
   refused-zeros x h = zeros.refused-zeros f lent ns ats os cap mode x ns' ats' os' h
 
-  pub done-zeros : (c : ReadCounts) → Reads f lent ns ats os cap mode (Done c) ns' ats' os' → DoneZero (numbers_of (Done c)) ns ats os ns' ats' os'
+  pub done-zeros : (c : ReadCounts) → Reads f lent ns ats os cap mode (Ok c) ns' ats' os' → DoneZero (numbers_of (Ok c)) ns ats os ns' ats' os'
   done-zeros c h = zeros.done-zeros f lent ns ats os cap mode c ns' ats' os' h
 
-  pub structured : (c : ReadCounts) → Reads f lent ns ats os cap mode (Done c) ns' ats' os' → Structured (events_of mode f lent) cap c ns' ats' os'
+  pub structured : (c : ReadCounts) → Reads f lent ns ats os cap mode (Ok c) ns' ats' os' → Structured (events_of mode f lent) cap c ns' ats' os'
   structured c h = tree.structured f lent ns ats os cap mode c ns' ats' os' h
 
   -- its notes are exactly the file's, of each kind the first `cap` (B13, B14)
-  pub notes-kept : (c : ReadCounts) → Reads f lent ns ats os cap mode (Done c) ns' ats' os'
+  pub notes-kept : (c : ReadCounts) → Reads f lent ns ats os cap mode (Ok c) ns' ats' os'
       → take c.notes os' ≡ map note_of (kept_notes cap (event_notes (events_of mode f lent)))
   notes-kept c h = tree.notes-kept f lent ns ats os cap mode c ns' ats' os' h
 
   -- Nothing is lost without a note (P7). The kept nodes are exactly the starts before the first, other than the very first, that never gets its end; and
   -- where a start is dropped, the last note is 12, with the number of starts that never get their end.
-  pub nothing-lost : (c : ReadCounts) → Reads f lent ns ats os cap mode (Done c) ns' ats' os' → NothingLost (marks_in f) c ns' os'
+  pub nothing-lost : (c : ReadCounts) → Reads f lent ns ats os cap mode (Ok c) ns' ats' os' → NothingLost (marks_in f) c ns' os'
   nothing-lost c h = lost.nothing-lost f lent ns ats os cap mode c ns' ats' os' h
 
   -- so a reading without note 12 dropped no start that was read whole
-  pub unnoted-kept : (c : ReadCounts) → Reads f lent ns ats os cap mode (Done c) ns' ats' os' → of_number 12 (take c.notes os') ≡ 0
+  pub unnoted-kept : (c : ReadCounts) → Reads f lent ns ats os cap mode (Ok c) ns' ats' os' → of_number 12 (take c.notes os') ≡ 0
       → c.nodes ≡ length (start_names (marks_in f))
   unnoted-kept c h = lost.whole-kept f lent ns ats os cap mode c ns' ats' os' h
 
 module _ (f : List ℕ) (lent : Lent) (before : List ℕ) (i : ℕ) (after : List ℕ) where
-  pub text-refused-zeros : (x : Refusal) → TextReads f lent before i (text_is.Refused x) after
-      → TextRefusedZero (text_numbers_of (text_is.Refused x)) before after
+  pub text-refused-zeros : (x : Refusal) → TextReads f lent before i (Err x) after
+      → TextRefusedZero (text_numbers_of (Err x)) before after
   text-refused-zeros x h = zeros.text-refused-zeros f lent before i x after h
 
-  pub text-done-zeros : (k : ℕ) (s : TextState) → TextReads f lent before i (text_is.Text k s) after
-      → TextDoneZero (text_numbers_of (text_is.Text k s)) before after
+  pub text-done-zeros : (k : ℕ) (s : TextState) → TextReads f lent before i (Ok (record { length = k; state = s })) after
+      → TextDoneZero (text_numbers_of (Ok (record { length = k; state = s }))) before after
   text-done-zeros k s h = zeros.text-done-zeros f lent before i k s after h
 
 -- ---- damaged texts (T11)
@@ -471,8 +456,8 @@ damage-empty c = (wholes.unpaired-empty c, wholes.state-cut c)
 -- ---- the two modes (W22, W23, B16), whatever the room and the cap of each
 
 module _ (f : List ℕ) (lent : Lent) (ns ats : List ℕ) (os : List Note) (cap : ℕ) (c : ReadCounts) (ns₁ ats₁ : List ℕ) (os₁ : List Note)
-    (first : Reads f lent ns ats os cap merged (Done c) ns₁ ats₁ os₁) (ns' ats' : List ℕ) (os' : List Note) (cap' : ℕ) (c' : ReadCounts)
-    (ns₂ ats₂ : List ℕ) (os₂ : List Note) (second : Reads f lent ns' ats' os' cap' apart (Done c') ns₂ ats₂ os₂) where
+    (first : Reads f lent ns ats os cap merged (Ok c) ns₁ ats₁ os₁) (ns' ats' : List ℕ) (os' : List Note) (cap' : ℕ) (c' : ReadCounts)
+    (ns₂ ats₂ : List ℕ) (os₂ : List Note) (second : Reads f lent ns' ats' os' cap' apart (Ok c') ns₂ ats₂ os₂) where
   pub mode-merged : Merges (take (attribute_width * c.attributes) ats₁) (take (attribute_width * c'.attributes) ats₂)
   mode-merged = modes.mode-merged f lent ns ats os cap c ns₁ ats₁ os₁ first ns' ats' os' cap' c' ns₂ ats₂ os₂ second
 
@@ -528,13 +513,13 @@ module _ (f : List ℕ) (lent : Lent) (before : List ℕ) (i : ℕ) (a : AxmlTex
   pub c-text-done-zeros : AsksText f lent before i a after → a.refusal ≡ 0 → TextDoneInC a before after
   c-text-done-zeros = in_c.text-done-zeros f lent before i a after
 
-pub c-first-refused-zeros : (b : FirstAnswer) (a : AxmlFirstAnswer) → a ≡ first_answer_of (first_numbers_of b) → (a.refusal ≡ 0 → ⊥) → FirstRefusedInC a
+pub c-first-refused-zeros : (b : Result FirstValue Refusal) (a : AxmlFirstAnswer) → a ≡ first_answer_of (first_numbers_of b) → (a.refusal ≡ 0 → ⊥) → FirstRefusedInC a
 c-first-refused-zeros = in_c.first-refused-zeros
 
 -- ---- the listing's function
 
 module _ (f ns ats before : List ℕ) where
-  pub list-unique : (r r' : LinesAnswer) (ns₁ ns₂ ats₁ ats₂ after after' : List ℕ) → Lists f ns ats before r ns₁ ats₁ after
+  pub list-unique : (r r' : Result ℕ Refusal) (ns₁ ns₂ ats₁ ats₂ after after' : List ℕ) → Lists f ns ats before r ns₁ ats₁ after
       → Lists f ns ats before r' ns₂ ats₂ after' → (r ≡ r') × (ns₁ ≡ ns₂) × (ats₁ ≡ ats₂) × (after ≡ after')
   list-unique r r' ns₁ ns₂ ats₁ ats₂ after after' p q =
       let e = listing-unique _ before r r' after after' p.printed q.printed in
@@ -542,18 +527,18 @@ module _ (f ns ats before : List ℕ) where
 
   module _ (ns' ats' after : List ℕ) where
     -- in the buffer, where the text has no place, and behind the text
-    pub list-refused-zeros : (x : Refusal) → Lists f ns ats before (lines_is.Refused x) ns' ats' after → after ≡ replicate (length before) 0
+    pub list-refused-zeros : (x : Refusal) → Lists f ns ats before (Err x) ns' ats' after → after ≡ replicate (length before) 0
     list-refused-zeros x h = lists.printed-refused _ before after x h.printed
 
-    pub list-done-zeros : (k : ℕ) → Lists f ns ats before (lines_is.Text k) ns' ats' after → ZeroBehind 0 k before after
+    pub list-done-zeros : (k : ℕ) → Lists f ns ats before (Ok k) ns' ats' after → ZeroBehind 0 k before after
     list-done-zeros k h = lists.printed-done _ before after k h.printed
 
     -- in the tables, where the file is refused, and behind the records that the listing has
-    pub list-unread-zeros : (r : LinesAnswer) → Lists f ns ats before r ns' ats' after → (x : Refusal)
-        → (listed f (length ns) (length ats)).answer ≡ Refused x → (ns' ≡ replicate (length ns) 0) × (ats' ≡ replicate (length ats) 0)
+    pub list-unread-zeros : (r : Result ℕ Refusal) → Lists f ns ats before r ns' ats' after → (x : Refusal)
+        → (listed f (length ns) (length ats)).answer ≡ Err x → (ns' ≡ replicate (length ns) 0) × (ats' ≡ replicate (length ats) 0)
     list-unread-zeros r h x e = let z = lists.unread-zeros f ns ats x e in (h.nodes ∙ z.0, h.attributes ∙ z.1)
 
-    pub list-read-zeros : (r : LinesAnswer) → Lists f ns ats before r ns' ats' after → (c : ReadCounts) → (listed f (length ns) (length ats)).answer ≡ Done c
+    pub list-read-zeros : (r : Result ℕ Refusal) → Lists f ns ats before r ns' ats' after → (c : ReadCounts) → (listed f (length ns) (length ats)).answer ≡ Ok c
         → ZeroBehind 0 (node_width * c.nodes) ns ns' × ZeroBehind 0 (attribute_width * c.attributes) ats ats'
     list-read-zeros r h c e = rw (h.nodes, h.attributes) (lists.read-zeros f ns ats c e)
 
@@ -571,7 +556,7 @@ relist-printed = relisted.listed_back
 
 -- The same of any two calls, of the listing's function in a listing's room and of `read_listing` with what it printed, whatever stood in the tables of either:
 -- the answer of the reading, the cap of a listing, and every word of nodes and attributes as the first call left it; notes are the reading's.
-pub relist-calls : (f ns ats before : List ℕ) → all_below 256 f ≡ true → Roomy (length ns) (length ats) (length before) → (a : LinesAnswer) (ns₁ ats₁ after : List ℕ)
+pub relist-calls : (f ns ats before : List ℕ) → all_below 256 f ≡ true → Roomy (length ns) (length ats) (length before) → (a : Result ℕ Refusal) (ns₁ ats₁ after : List ℕ)
     → Lists f ns ats before a ns₁ ats₁ after → (ns₂ ats₂ os : List ℕ) → length ns₂ ≡ length ns → length ats₂ ≡ length ats → length os ≡ note_width * listed_notes
     → (r : Relisted) (ns₃ ats₃ os₃ : List ℕ) → Relists (take (lines_numbers_of a).length after) ns₂ ats₂ os r ns₃ ats₃ os₃
     → (r.answer ≡ (listed f (length ns) (length ats)).answer) × (r.cap ≡ listed_cap) × (ns₃ ≡ ns₁) × (ats₃ ≡ ats₁)
@@ -644,7 +629,7 @@ module _ (R : Reader) (meets : Meets R) where
     pub invents-notes-broken : length (kept_notes cap (event_notes (events_of mode f lent))) < (numbers_of (R f lent ns ats os cap mode).answer).notes → ⊥
     invents-notes-broken = broken.invents-notes-broken R meets f lent ns ats os cap mode call
 
-    pub wrong-kinds-broken : (c : ReadCounts) → (R f lent ns ats os cap mode).answer ≡ Done c
+    pub wrong-kinds-broken : (c : ReadCounts) → (R f lent ns ats os cap mode).answer ≡ Ok c
         → (kinds_of (take c.notes (R f lent ns ats os cap mode).notes) ≡ kinds_of (map note_of (kept_notes cap (event_notes (events_of mode f lent)))) → ⊥) → ⊥
     wrong-kinds-broken = broken.wrong-kinds-broken R meets f lent ns ats os cap mode call
 
@@ -671,19 +656,19 @@ month-order = order_same
 
 -- a file that was refused adds to one count, and nothing else
 pub month-refused : (r : RoundUp) (counts : List ℕ) (x : Refusal) (bytes : ℕ) → length r.counts ≡ sums.places
-    → (sums.added_to r (sums.share_of counts (Refused x) bytes)).answer ≡ add.Added
-    → (sums.added_to r (sums.share_of counts (Refused x) bytes)).round_up.counts
+    → (sums.added_to r (sums.share_of counts (Err x) bytes)).answer ≡ (Ok tt)
+    → (sums.added_to r (sums.share_of counts (Err x) bytes)).round_up.counts
     ≡ set r.counts (sums.refused_from + refusal_number x) (get_or r.counts (sums.refused_from + refusal_number x) 0 + 1)
 month-refused = told.refused-one
 
 -- 29 is the only refusal, leaves the round-up as it was, and is given where a count would pass
-pub month-full : (r : RoundUp) (share : List ℕ) (x : Refusal) → (sums.added_to r share).answer ≡ add.Refused x
+pub month-full : (r : RoundUp) (share : List ℕ) (x : Refusal) → (sums.added_to r share).answer ≡ Err x
     → (x ≡ RoundUpFull) × ((sums.added_to r share).round_up ≡ r) × ((i : ℕ) × (sums.largest < get_or r.counts i 0 + get_or share i 0))
 month-full r share x e = let h = told.full-same r share x e in (h.0, h.1, told.full-where r share x e)
 
 -- and where none would, the file is added, in every count
 pub month-added : (r : RoundUp) (share : List ℕ) → length r.counts ≡ length share → ((i : ℕ) → get_or r.counts i 0 + get_or share i 0 ≤ sums.largest)
-    → ((sums.added_to r share).answer ≡ add.Added)
+    → ((sums.added_to r share).answer ≡ (Ok tt))
     × ((i : ℕ) → get_or (sums.added_to r share).round_up.counts i 0 ≡ get_or r.counts i 0 + get_or share i 0)
 month-added r share even fits = let a = told.added-fits r share even fits in (a, λ i. told.added-at r share i even a)
 
@@ -702,7 +687,7 @@ month-grid = months.month-grid
 pub month-unique : (r : RoundUp) (share : List ℕ) (x y : Added) → x ≡ sums.added_to r share → y ≡ sums.added_to r share → x ≡ y
 month-unique r share x y p q = p ∙ sym q
 
-pub month-numbers-unique : (a b : AddAnswer) → sums.add_numbers a ≡ sums.add_numbers b → a ≡ b
+pub month-numbers-unique : (a b : Result (Unit {0}) Refusal) → sums.add_numbers a ≡ sums.add_numbers b → a ≡ b
 month-numbers-unique = told.add_numbers-unique
 
 pub c-month-unique : (words notes : List ℕ) (refusal count bytes : ℕ) (a b : AxmlAddAnswer) (after after' : List ℕ)
@@ -712,28 +697,28 @@ c-month-unique words notes refusal count bytes a b after after' p q = (p.answer 
 -- ---- value texts (V1 to V12)
 
 module _ (f : List ℕ) (lent : Lent) (items area before : List ℕ) (a : Attribute) where
-  pub value-unique : (r r' : ValueAnswer) (after after' : List ℕ) → ValueReads f lent items area before a r after
+  pub value-unique : (r r' : Result ValueWritten Refusal) (after after' : List ℕ) → ValueReads f lent items area before a r after
       → ValueReads f lent items area before a r' after' → (r ≡ r') × (after ≡ after')
   value-unique r r' after after' p q = valued.value-unique f lent items area before a p q
 
-  pub value-refused-zeros : (x : Refusal) (after : List ℕ) → ValueReads f lent items area before a (value_is.Refused x) after → after ≡ replicate (length before) 0
+  pub value-refused-zeros : (x : Refusal) (after : List ℕ) → ValueReads f lent items area before a (Err x) after → after ≡ replicate (length before) 0
   value-refused-zeros x after h = valued.value-refused-zeros f lent items area before after a x h
 
-  pub value-done-zeros : (k u : ℕ) (d : TextState) (after : List ℕ) → ValueReads f lent items area before a (value_is.Value k u d) after
+  pub value-done-zeros : (k u : ℕ) (d : TextState) (after : List ℕ) → ValueReads f lent items area before a (Ok (record { length = k; uncovered = u; state = d })) after
       → drop k after ≡ replicate (length before - k) 0
   value-done-zeros k u d after h = valued.value-done-zeros f lent items area before after a k u d h
 
 -- versions that cannot meet the promise: one that always shows the number, and one that always shows the first item of the attribute
-module _ (answer : List ℕ → Lent → List ℕ → List ℕ → List ℕ → Attribute → ValueAnswer)
+module _ (answer : List ℕ → Lent → List ℕ → List ℕ → List ℕ → Attribute → Result ValueWritten Refusal)
     (after : List ℕ → Lent → List ℕ → List ℕ → List ℕ → Attribute → List ℕ)
     (meets : (f : List ℕ) (lent : Lent) (items area before : List ℕ) (a : Attribute)
     → ValueReads f lent items area before a (answer f lent items area before a) (after f lent items area before a)) where
-  pub value-decimal-broken : ((f : List ℕ) (lent : Lent) (items area before : List ℕ) (a : Attribute) (h : Head) → value_open f lent items area ≡ Open h
+  pub value-decimal-broken : ((f : List ℕ) (lent : Lent) (items area before : List ℕ) (a : Attribute) (h : Head) → value_open f lent items area ≡ Ok h
       → after f lent items area before a ≡ fitted (digits.decimal a.«data») (length before)) → ⊥
   value-decimal-broken = unvalued.decimal-broken (record { answer = answer; after = after; meets = meets })
 
   pub value-first-broken : ((f : List ℕ) (lent : Lent) (items area before : List ℕ) (a : Attribute) (h : Head) (i : Item) (is : List Item)
-      → value_open f lent items area ≡ Open h
+      → value_open f lent items area ≡ Ok h
       → named_in area (text_in (content_of h (tables_in f h) lent a.name.0)) (items_of items) ≡ i ∷ is
       → after f lent items area before a ≡ fitted (item_name_of area i) (length before)) → ⊥
   value-first-broken = unvalued.first-broken (record { answer = answer; after = after; meets = meets })
@@ -758,16 +743,16 @@ flag-none n is h = (flags.uncovered-none n is h, flags.uncovered-whole n is h)
 -- ---- many texts (V13 to V16)
 
 module _ (f : List ℕ) (lent : Lent) (items area ats out₀ table₀ : List ℕ) (count : ℕ) where
-  pub values-unique : (r r' : ManyTexts) (out out' table table' : List ℕ) → ReadsValues f lent items area ats out₀ table₀ count r out table
+  pub values-unique : (r r' : Result TextsWritten Refusal) (out out' table table' : List ℕ) → ReadsValues f lent items area ats out₀ table₀ count r out table
       → ReadsValues f lent items area ats out₀ table₀ count r' out' table' → (r ≡ r') × (out ≡ out') × (table ≡ table')
   values-unique r r' out out' table table' p q = manies.values-unique f lent items area ats out₀ table₀ count p q
 
   module _ (out table : List ℕ) where
-    pub values-refused-zeros : (x : Refusal) → ReadsValues f lent items area ats out₀ table₀ count (many_is.Refused x) out table
+    pub values-refused-zeros : (x : Refusal) → ReadsValues f lent items area ats out₀ table₀ count (Err x) out table
         → (out ≡ replicate (length out₀) 0) × (table ≡ replicate (length table₀) 0)
     values-refused-zeros x h = manies.values-refused-zeros f lent items area ats out₀ table₀ count out table x h
 
-    module _ (k b : ℕ) (done : ReadsValues f lent items area ats out₀ table₀ count (many_is.Answered k b) out table) where
+    module _ (k b : ℕ) (done : ReadsValues f lent items area ats out₀ table₀ count (Ok (record { count = k; length = b })) out table) where
       pub values-done-zeros : (drop b out ≡ replicate (length out₀ - b) 0) × (drop (answer_width * k) table ≡ replicate (length table₀ - answer_width * k) 0)
       values-done-zeros = let z = manies.values-done-zeros f lent items area ats out₀ table₀ count out table k b done in (z.bytes, z.words)
 
@@ -782,16 +767,16 @@ module _ (f : List ℕ) (lent : Lent) (items area ats out₀ table₀ : List ℕ
       values-single = manies.values-single f lent items area ats out₀ table₀ count out table k b done
 
 module _ (f : List ℕ) (lent : Lent) (indices out₀ table₀ : List ℕ) where
-  pub texts-unique : (r r' : ManyTexts) (out out' table table' : List ℕ) → ReadsTexts f lent indices out₀ table₀ r out table
+  pub texts-unique : (r r' : Result TextsWritten Refusal) (out out' table table' : List ℕ) → ReadsTexts f lent indices out₀ table₀ r out table
       → ReadsTexts f lent indices out₀ table₀ r' out' table' → (r ≡ r') × (out ≡ out') × (table ≡ table')
   texts-unique r r' out out' table table' p q = manies.texts-unique f lent indices out₀ table₀ p q
 
   module _ (out table : List ℕ) where
-    pub texts-refused-zeros : (x : Refusal) → ReadsTexts f lent indices out₀ table₀ (many_is.Refused x) out table
+    pub texts-refused-zeros : (x : Refusal) → ReadsTexts f lent indices out₀ table₀ (Err x) out table
         → (out ≡ replicate (length out₀) 0) × (table ≡ replicate (length table₀) 0)
     texts-refused-zeros x h = manies.texts-refused-zeros f lent indices out₀ table₀ out table x h
 
-    module _ (k b : ℕ) (done : ReadsTexts f lent indices out₀ table₀ (many_is.Answered k b) out table) where
+    module _ (k b : ℕ) (done : ReadsTexts f lent indices out₀ table₀ (Ok (record { count = k; length = b })) out table) where
       pub texts-done-zeros : (drop b out ≡ replicate (length out₀ - b) 0) × (drop (answer_width * k) table ≡ replicate (length table₀ - answer_width * k) 0)
       texts-done-zeros = let z = manies.texts-done-zeros f lent indices out₀ table₀ out table k b done in (z.bytes, z.words)
 
@@ -805,7 +790,7 @@ module _ (f : List ℕ) (lent : Lent) (indices out₀ table₀ : List ℕ) where
 
 module _ (f : List ℕ) (lent : Lent) (ns ats pairs area before : List ℕ) (nodes attributes : ℕ) where
   -- one answer, every word of the list included
-  pub many-unique : (r r' : ManyAnswer) (after after' : List ℕ) → ManyReads f lent ns ats pairs area before nodes attributes r after
+  pub many-unique : (r r' : Result ℕ Refusal) (after after' : List ℕ) → ManyReads f lent ns ats pairs area before nodes attributes r after
       → ManyReads f lent ns ats pairs area before nodes attributes r' after' → (r ≡ r') × (after ≡ after')
   many-unique r r' after after' = asked.many-unique f lent ns ats pairs area before nodes attributes
 
@@ -814,26 +799,26 @@ module _ (f : List ℕ) (lent : Lent) (ns ats pairs area before : List ℕ) (nod
   c-many-unique a b after after' p q = (p.answer ∙ sym q.answer, p.list ∙ sym q.list)
 
   -- zeros in the whole list on a refusal, and behind the answers, one for each pair
-  pub many-refused-zeros : (x : Refusal) (after : List ℕ) → ManyReads f lent ns ats pairs area before nodes attributes (pairs_is.Refused x) after
+  pub many-refused-zeros : (x : Refusal) (after : List ℕ) → ManyReads f lent ns ats pairs area before nodes attributes (Err x) after
       → after ≡ replicate (length before) 0
   many-refused-zeros = asked.many-refused f lent ns ats pairs area before nodes attributes
 
-  module _ (n : ℕ) (after : List ℕ) (answered : ManyReads f lent ns ats pairs area before nodes attributes (pairs_is.Answered n) after) where
+  module _ (n : ℕ) (after : List ℕ) (answered : ManyReads f lent ns ats pairs area before nodes attributes (Ok n) after) where
     pub many-done-zeros : (n ≡ length pairs / layout.pair_width) × ZeroBehind 0 (layout.answer_width * n) before after
     many-done-zeros =
         let d = asked.many-done f lent ns ats pairs area before nodes attributes n after answered in
         (d.0, record { long = d.2; there = d.1; zeros = d.3 })
 
     -- answer i is what any call of the single question answers to pair i
-    pub many-asks : (i : ℕ) → i < n → (a : FirstAnswer) → FirstReads f lent ns ats (tag_at pairs area i) (name_at pairs area i) nodes attributes a
+    pub many-asks : (i : ℕ) → i < n → (a : Result FirstValue Refusal) → FirstReads f lent ns ats (tag_at pairs area i) (name_at pairs area i) nodes attributes a
         → take layout.answer_width (drop (layout.answer_width * i) after) ≡ answer_to a
     many-asks = asked.many-asks f lent ns ats pairs area before nodes attributes n after answered
 
     -- which finds a value, or says 12 and nothing else
-    pub many-found : (tag name : List ℕ) (x : Refusal) → FirstReads f lent ns ats tag name nodes attributes (first_is.Refused x) → x ≡ NothingFound
+    pub many-found : (tag name : List ℕ) (x : Refusal) → FirstReads f lent ns ats tag name nodes attributes (Err x) → x ≡ NothingFound
     many-found = asked.many-found f lent ns ats pairs area before nodes attributes n after answered
 
-pub many-numbers-unique : (a b : ManyAnswer) → pair_numbers_of a ≡ pair_numbers_of b → a ≡ b
+pub many-numbers-unique : (a b : Result ℕ Refusal) → pair_numbers_of a ≡ pair_numbers_of b → a ≡ b
 many-numbers-unique = pair_numbers_of-unique
 
 -- one that says 12 to every pair breaks the promise, which can be met: by the definition itself
@@ -851,7 +836,7 @@ many-meets-some = many.many-meets-some
 
 module _ (f : List ℕ) (lent : Lent) (items area ns ats before : List ℕ) (nodes attributes : ℕ) where
   -- one answer, every word of the list included
-  pub main-unique : (r r' : MainAnswer) (after after' : List ℕ) → MainReads f lent items area ns ats before nodes attributes r after
+  pub main-unique : (r r' : Result ℕ Refusal) (after after' : List ℕ) → MainReads f lent items area ns ats before nodes attributes r after
       → MainReads f lent items area ns ats before nodes attributes r' after' → (r ≡ r') × (after ≡ after')
   main-unique r r' after after' = started.main-unique f lent items area ns ats before nodes attributes
 
@@ -860,21 +845,21 @@ module _ (f : List ℕ) (lent : Lent) (items area ns ats before : List ℕ) (nod
   c-main-unique a b after after' p q = (p.answer ∙ sym q.answer, p.list ∙ sym q.list)
 
   -- zeros in the whole list on a refusal, and behind the names
-  pub main-refused-zeros : (x : Refusal) (after : List ℕ) → MainReads f lent items area ns ats before nodes attributes (main_is.Refused x) after
+  pub main-refused-zeros : (x : Refusal) (after : List ℕ) → MainReads f lent items area ns ats before nodes attributes (Err x) after
       → after ≡ replicate (length before) 0
   main-refused-zeros = started.main-refused f lent items area ns ats before nodes attributes
 
-  pub main-done-zeros : (n : ℕ) (after : List ℕ) → MainReads f lent items area ns ats before nodes attributes (main_is.Found n) after
+  pub main-done-zeros : (n : ℕ) (after : List ℕ) → MainReads f lent items area ns ats before nodes attributes (Ok n) after
       → ZeroBehind 0 n before after
   main-done-zeros n after p =
       let d = started.main-done f lent items area ns ats before nodes attributes n after p in record { long = d.1; there = d.0; zeros = d.2 }
 
-pub main-numbers-unique : (a b : MainAnswer) → main_numbers_of a ≡ main_numbers_of b → a ≡ b
+pub main-numbers-unique : (a b : Result ℕ Refusal) → main_numbers_of a ≡ main_numbers_of b → a ≡ b
 main-numbers-unique = started.main_numbers_of-unique
 
 -- on the tables of every reading the children of p are the records whose parent word is p, whatever else a tree over them has
 pub main-children : (f : List ℕ) (lent : Lent) (ns ats : List ℕ) (os : List Note) (cap mode : ℕ) (c : ReadCounts) (ns' ats' : List ℕ) (os' : List Note)
-    → Reads f lent ns ats os cap mode (Done c) ns' ats' os' → (w : Tree) → w.nodes ≡ ns' → w.count ≡ c.nodes
+    → Reads f lent ns ats os cap mode (Ok c) ns' ats' os' → (w : Tree) → w.nodes ≡ ns' → w.count ≡ c.nodes
     → (p : ℕ) → p < c.nodes → p < no_parent → children_of w p ≡ screens.with_parent ns' p 0 c.nodes
 main-children f lent ns ats os cap mode c ns' ats' os' h w e q p l s =
     rw (e, q) (nests.children ns' c.nodes p (structured f lent ns ats os cap mode ns' ats' os' c h).parents

@@ -4,13 +4,12 @@
 --   Asker         takes what a call of `first_values` is lent, and gives an answer and the list afterwards
 --   MeetsAll      the promise holds of all its results, asked of calls alone, so that a program is an asker
 --   TwelveToAll   it says 12 to every pair of every call that it answers
-use Rattle.std.specs.Prelude.{ℕ, ◌+◌, ◌*◌, ◌<◌, ◌≡◌, List, get_or}
-use Rattle.errors.specs.declared.ManyAnswer.{ManyAnswer}
-use Rattle.errors.specs.declared.ManyAnswer.TheVariants.{Answered}
+use Rattle.std.specs.Prelude.{ℕ, ◌+◌, ◌*◌, ◌<◌, ◌≡◌, List, get_or, Result, Ok}
 use Rattle.records.specs.Words.{answer_width, answer_refusal}
 use Rattle.system_types.specs.Names.{Lent}
 use Rattle.first_values.specs.Pairs.{ManyReads}
 use Rattle.claims.specs.Readers.{Bytes, Words}
+use Rattle.errors.specs.declared.Refusal.{Refusal}
 
 pub record Ask (f : List ℕ) (lent : Lent) (ns ats pairs area before : List ℕ) (nodes attributes : ℕ) : Type 0 where
   pub file : Bytes f
@@ -25,7 +24,7 @@ pub record Ask (f : List ℕ) (lent : Lent) (ns ats pairs area before : List ℕ
   pub attribute_count : attributes < 4294967296
 
 pub record Asked : Type 0 where
-  pub answer : ManyAnswer
+  pub answer : Result ℕ Refusal
   pub list : List ℕ
 
 -- from file, names and their area, the tables of nodes and attributes, pairs and their area, the list, and the two counts
@@ -41,5 +40,5 @@ MeetsAll A =
 abbrev pub TwelveToAll : Asker → Type 0
 TwelveToAll A =
     (f : List ℕ) (lent : Lent) (ns ats pairs area before : List ℕ) (nodes attributes : ℕ) → Ask f lent ns ats pairs area before nodes attributes
-    → (n i : ℕ) → (A f lent ns ats pairs area before nodes attributes).answer ≡ Answered n → i < n
+    → (n i : ℕ) → (A f lent ns ats pairs area before nodes attributes).answer ≡ Ok n → i < n
     → ◌≡◌ {A = ℕ} (get_or (A f lent ns ats pairs area before nodes attributes).list (answer_width * i + answer_refusal) 0) 12

@@ -10,14 +10,11 @@
 --   with_notes      the reading s with the counts c, in tables of other room, with these notes and no other: all that it kept, word for word
 --
 -- A place is said by the walk itself: `used_of` of `turn_of`, the bytes that it takes. The theorem: `insertion` of proofs/Claims.antt.
-use Rattle.std.specs.Prelude.{ℕ, ◌+◌, ◌-◌, ◌*◌, ◌≡◌, List, [], ◌∷◌, ◌++◌, map, Bool, true, false, cond, ◌&&◌, length, take, drop, replicate, eqb}
+use Rattle.std.specs.Prelude.{ℕ, ◌+◌, ◌-◌, ◌*◌, ◌≡◌, List, [], ◌∷◌, ◌++◌, map, Bool, true, false, cond, ◌&&◌, length, take, drop, replicate, eqb, Some, Result, Ok}
 use Rattle.common.specs.Header.{header_of}
 use Rattle.common.specs.declared.ResChunkHeader.{ResChunkHeader}
-use Rattle.common.specs.declared.HeaderRead.TheVariants.{Whole}
 use Rattle.chunk.specs.Sort.{chunk_sort}
 use Rattle.chunk.specs.Walk.{walk}
-use Rattle.errors.specs.declared.ReadAnswer.{ReadAnswer}
-use Rattle.errors.specs.declared.ReadAnswer.TheVariants.{Done}
 use Rattle.errors.specs.declared.ReadCounts.{ReadCounts}
 use Rattle.anomaly.specs.Note.{note_of}
 use Rattle.anomaly.specs.declared.Note.{Note}
@@ -30,13 +27,14 @@ use Rattle.events.specs.Events.{foreign_note}
 use Rattle.records.specs.Words.{node_width, attribute_width}
 use Rattle.walk.specs.Settle.{Room}
 use Rattle.walk.specs.Reading.{Reading, zero_note}
+use Rattle.errors.specs.declared.Refusal.{Refusal}
 
 -- ---- foreign chunks
 
 pub record ForeignChunk : Type 0 where
   pub bytes : List ℕ
   pub header : ResChunkHeader
-  pub reads : header_of bytes ≡ Whole header
+  pub reads : header_of bytes ≡ Some header
   pub foreign : chunk_sort header ≡ 2 → ⊥
   pub complete : header.size ≡ length bytes
 
@@ -123,11 +121,11 @@ places_in f = places_of (body_in f (opened_of f).head)
 
 abbrev pub with_notes : Room → Reading → ReadCounts → List ResAnomaly → Reading
 with_notes r s c ns = record {
-  answer = Done (record { starts = c.starts; nodes = c.nodes; attributes = c.attributes; notes = length ns });
+  answer = Ok (record { starts = c.starts; nodes = c.nodes; attributes = c.attributes; notes = length ns });
   nodes = take (node_width * c.nodes) s.nodes ++ replicate (r.nodes - node_width * c.nodes) 0;
   attributes = take (attribute_width * c.attributes) s.attributes ++ replicate (r.attributes - attribute_width * c.attributes) 0;
   notes = map note_of ns ++ replicate (r.notes - length ns) zero_note;
 }
 
-abbrev pub reading_left : ReadAnswer → List ℕ → List ℕ → List Note → Reading
+abbrev pub reading_left : Result ReadCounts Refusal → List ℕ → List ℕ → List Note → Reading
 reading_left a nodes attributes notes = record { answer = a; nodes = nodes; attributes = attributes; notes = notes }

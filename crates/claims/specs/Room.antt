@@ -6,16 +6,15 @@
 --   attributes_for  the same of attributes: each has 20 bytes, and the leading one is paid for by its element
 --   places_for      places for all the notes that a cap keeps: the kinds are counted apart
 --   listing_room    the room of a listing: words for the nodes and attributes that records/Limits names
-use Rattle.std.specs.Prelude.{ℕ, ◌*◌, ◌/◌, ◌≡◌, Bool, false, ◌&&◌, leb}
+use Rattle.std.specs.Prelude.{ℕ, ◌*◌, ◌/◌, ◌≡◌, Bool, false, ◌&&◌, leb, Result, Ok, Err}
 use Rattle.anomaly.specs.Note.{kinds}
 use Rattle.errors.specs.Refusal.{refusal_number}
 use Rattle.errors.specs.declared.Refusal.{Refusal}
-use Rattle.errors.specs.declared.ReadAnswer.{ReadAnswer}
-use Rattle.errors.specs.declared.ReadAnswer.TheVariants.{Done, Refused}
 use Rattle.records.specs.Words.{node_width, attribute_width}
 use Rattle.records.specs.Limits.{listed_nodes, listed_attributes}
 use Rattle.walk.specs.Settle.{Room}
 use Rattle.listed.specs.Lists.{listed_room}
+use Rattle.errors.specs.declared.ReadCounts.{ReadCounts}
 
 abbrev pub is_full_number : ℕ → Bool
 is_full_number n = leb 8 n && leb n 10
@@ -23,9 +22,9 @@ is_full_number n = leb 8 n && leb n 10
 abbrev pub is_full : Refusal → Bool
 is_full x = is_full_number (refusal_number x)
 
-abbrev pub HasRoom : ReadAnswer → Type 0
-HasRoom (Done c) = Unit {0}
-HasRoom (Refused x) = is_full x ≡ false
+abbrev pub HasRoom : Result ReadCounts Refusal → Type 0
+HasRoom (Ok c) = Unit {0}
+HasRoom (Err x) = is_full x ≡ false
 
 abbrev pub nodes_for : ℕ → ℕ
 nodes_for n = node_width * (n / 36)

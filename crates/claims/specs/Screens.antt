@@ -6,17 +6,13 @@
 --   MeetsAll      the promise holds of all its results, asked of calls alone, so that a program is a teller
 --   NamedActivity whether an application of the tables has an activity with a name
 --   EveryOne      where that is so, it never says that no screen starts: so does one that gives every activity
-use Rattle.std.specs.Prelude.{ℕ, zero, suc, ◌+◌, ◌*◌, ◌<◌, ◌≡◌, Bool, true, false, cond, ◌&&◌, List, [], ◌∷◌, eqb}
+use Rattle.std.specs.Prelude.{ℕ, zero, suc, ◌+◌, ◌*◌, ◌<◌, ◌≡◌, Bool, true, false, cond, ◌&&◌, List, [], ◌∷◌, eqb, Option, Some, None, Result, Ok}
 use Rattle.system_types.specs.Names.{Lent}
 use Rattle.text.specs.declared.Head.{Head}
 use Rattle.head.specs.Head.{tables_in}
-use Rattle.head.specs.declared.OpenRead.TheVariants.{Open}
-use Rattle.main_activities.specs.declared.AttributeFound.{AttributeFound}
-use Rattle.main_activities.specs.declared.AttributeFound.TheVariants.{At, NoAttribute}
-use Rattle.main_activities.specs.declared.MainAnswer.{MainAnswer}
-use Rattle.main_activities.specs.declared.MainAnswer.TheVariants.{Found}
 use Rattle.main_activities.specs.Activities.{Tree, tree_of, parent_of, children_of, any_of, tagged, attribute_of, application_tag, activity_tag, name_name, main_open, MainReads}
 use Rattle.claims.specs.Readers.{Bytes, Words}
+use Rattle.errors.specs.declared.Refusal.{Refusal}
 
 unfoldable pub with_parent : List ℕ → ℕ → ℕ → ℕ → List ℕ
 with_parent ns p k zero = []
@@ -35,7 +31,7 @@ pub record Ask (f : List ℕ) (lent : Lent) (items area ns ats before : List ℕ
   pub attribute_count : attributes < 4294967296
 
 pub record Told : Type 0 where
-  pub answer : MainAnswer
+  pub answer : Result ℕ Refusal
   pub list : List ℕ
 
 -- from file, names and their area, items and their area, the tables of nodes and attributes, the list, and the two counts
@@ -48,9 +44,9 @@ MeetsAll A =
     → MainReads f lent items area ns ats before nodes attributes (A f lent items area ns ats before nodes attributes).answer
     (A f lent items area ns ats before nodes attributes).list
 
-abbrev pub is_at : AttributeFound → Bool
-is_at (At j) = true
-is_at NoAttribute = false
+abbrev pub is_at : Option ℕ → Bool
+is_at (Some j) = true
+is_at None = false
 
 unfoldable pub NamedActivity : Tree → Bool
 NamedActivity w =
@@ -59,6 +55,6 @@ NamedActivity w =
 abbrev pub EveryOne : Teller → Type 0
 EveryOne A =
     (f : List ℕ) (lent : Lent) (items area ns ats before : List ℕ) (nodes attributes : ℕ) → Ask f lent items area ns ats before nodes attributes
-    → (h : Head) → main_open f lent items area ns ats nodes attributes ≡ Open h
+    → (h : Head) → main_open f lent items area ns ats nodes attributes ≡ Ok h
     → NamedActivity (tree_of h (tables_in f h) lent items area ns ats nodes) ≡ true
-    → (A f lent items area ns ats before nodes attributes).answer ≡ Found 0 → ⊥
+    → (A f lent items area ns ats before nodes attributes).answer ≡ Ok 0 → ⊥

@@ -1,5 +1,6 @@
 -- Laws of specs/Header.antt. No contract cites this file.
 -- In order: a whole header has its 8 bytes (`header_of-long`, `header_of-long-at`); it stands there whatever follows (`header_of-append`).
+use Rattle.std.specs.Prelude.{Some, None}
 use Prim.Native.Nat.{ℕ, ◌+◌, ◌-◌, ◌≤◌, ◌<◌}
 use native.Mathlib.Omega.{arith}
 use mathlib.Core.Path.{◌≡◌, refl}
@@ -12,22 +13,21 @@ use Rattle.field.specs.Le.{u16le, u32le}
 use Rattle.field.proofs.Laws.{u16le-append, u32le-append}
 use Rattle.common.specs.Header.{header_of}
 use Rattle.common.specs.declared.ResChunkHeader.{ResChunkHeader}
-use Rattle.common.specs.declared.HeaderRead.TheVariants.{Whole, Short}
 
 -- the fields of a whole header
 abbrev pub header_here : List ℕ → ResChunkHeader
 header_here l = record { kind = u16le l 0; header_size = u16le l 2; size = u32le l 4 }
 
-pub header_of-short : (l : List ℕ) → length l < 8 → header_of l ≡ Short
+pub header_of-short : (l : List ℕ) → length l < 8 → header_of l ≡ None
 unfolding header_of
 header_of-short l h = rw (lt-ltb (length l) 8 h)
 
-pub header_of-whole : (l : List ℕ) → 8 ≤ length l → header_of l ≡ Whole (header_here l)
+pub header_of-whole : (l : List ℕ) → 8 ≤ length l → header_of l ≡ Some (header_here l)
 unfolding header_of
 header_of-whole l h = rw (le-ltb (length l) 8 h)
 
 -- a whole header has its 8 bytes
-pub header_of-long : (l : List ℕ) {h : ResChunkHeader} → header_of l ≡ Whole h → 8 ≤ length l
+pub header_of-long : (l : List ℕ) {h : ResChunkHeader} → header_of l ≡ Some h → 8 ≤ length l
 unfolding header_of
 header_of-long l {h} w = go (ltb (length l) 8) refl
   where
@@ -36,11 +36,11 @@ header_of-long l {h} w = go (ltb (length l) 8) refl
     go false e = ltb-false _ _ e
 
 -- a whole header at a place has its 8 bytes there
-pub header_of-long-at : (s : List ℕ) (at : ℕ) {h : ResChunkHeader} → header_of (drop at s) ≡ Whole h → at ≤ length s → at + 8 ≤ length s
+pub header_of-long-at : (s : List ℕ) (at : ℕ) {h : ResChunkHeader} → header_of (drop at s) ≡ Some h → at ≤ length s → at + 8 ≤ length s
 header_of-long-at s at w p = let q : 8 ≤ length s - at = rw length-drop at (header_of-long (drop at s) w) in omega arith
 
 -- where there is none, fewer than 8 bytes are left
-pub header_of-short-lt : (l : List ℕ) → header_of l ≡ Short → length l < 8
+pub header_of-short-lt : (l : List ℕ) → header_of l ≡ None → length l < 8
 header_of-short-lt l w = go (ltb (length l) 8) refl
   where
     go : (b : Bool) → ltb (length l) 8 ≡ b → length l < 8
@@ -48,7 +48,7 @@ header_of-short-lt l w = go (ltb (length l) 8) refl
     go false e = let e' = header_of-whole l (ltb-false _ _ e) in let z : ◌≡◌ {A = ℕ} 0 1 = cc in omega arith
 
 -- a whole header stands there whatever follows
-pub header_of-append : (c m : List ℕ) {h : ResChunkHeader} → header_of c ≡ Whole h → header_of (c ++ m) ≡ Whole h
+pub header_of-append : (c m : List ℕ) {h : ResChunkHeader} → header_of c ≡ Some h → header_of (c ++ m) ≡ Some h
 unfolding header_of
 header_of-append c m {h} w =
     let long : 8 ≤ length c = header_of-long c w in

@@ -4,14 +4,12 @@
 --   content_size   the bytes of content that a header promises behind its own 8; 0 where its size is below 8
 --
 -- A list is the bytes left, never the whole file. `◌-◌` stops at 0. Laws: proofs/Laws.antt.
-use Rattle.std.specs.Prelude.{ℕ, ◌-◌, List, cond, length, ltb}
+use Rattle.std.specs.Prelude.{ℕ, ◌-◌, List, cond, length, ltb, Option, Some, None}
 use Rattle.field.specs.Le.{u16le, u32le}
 use Rattle.common.specs.declared.ResChunkHeader.{ResChunkHeader}
-use Rattle.common.specs.declared.HeaderRead.{HeaderRead}
-use Rattle.common.specs.declared.HeaderRead.TheVariants.{Whole, Short}
 
-unfoldable pub header_of : List ℕ → HeaderRead
-header_of l = cond (ltb (length l) 8) Short (Whole (record { kind = u16le l 0; header_size = u16le l 2; size = u32le l 4 }))
+unfoldable pub header_of : List ℕ → Option ResChunkHeader
+header_of l = cond (ltb (length l) 8) None (Some (record { kind = u16le l 0; header_size = u16le l 2; size = u32le l 4 }))
 
 abbrev pub content_size : ResChunkHeader → ℕ
 content_size h = h.size - 8

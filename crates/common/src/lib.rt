@@ -32,13 +32,6 @@ pub struct ResChunkHeader {
     pub size: u32,
 }
 
-// The header, or that fewer than its 8 bytes are left.
-#[derive(Clone, Copy)]
-pub enum HeaderRead {
-    Whole(ResChunkHeader),
-    Short,
-}
-
 impl ResChunkHeader {
     // The bytes of content that the size promises behind the 8 of the header; none where the size is below 8.
     // Ruled out: 2 ^ 32 - 1 for size 7 (wrapped), and the size less `header_size`.
@@ -54,14 +47,14 @@ impl ResChunkHeader {
 
 // The header that the bytes from `at` on begin with.
 // Ruled out: a header made of 7 bytes and a zero, and Short where exactly 8 bytes are left.
-pub fn header_at(s: &[u8], at: usize) -> HeaderRead
+pub fn header_at(s: &[u8], at: usize) -> Option<ResChunkHeader>
     requires { at ≤ length s.now }
     ensures { result ≡ header_of (drop at s.now) }
 {
     if s.len() - at < 8 {
-        return HeaderRead::Short;
+        return None;
     }
-    HeaderRead::Whole(ResChunkHeader {
+    Some(ResChunkHeader {
         kind: u16_at(s, at),
         header_size: u16_at(s, at + 2),
         size: u32_at(s, at + 4),

@@ -1,5 +1,6 @@
 -- Laws of specs/Refusal.antt: equal numbers are equal answers (`-unique`), each by a function that leads back from the numbers (`-back`).
 -- No contract cites this file.
+use Rattle.std.specs.Prelude.{Result, Ok, Err}
 use Prim.Native.Nat.{ℕ, ◌≤◌}
 use native.Mathlib.Omega.{arith}
 use mathlib.Core.Path.{◌≡◌, refl, sym, ◌∙◌, ap}
@@ -25,20 +26,11 @@ use Rattle.errors.specs.declared.FirstNumbers.{FirstNumbers}
 use Rattle.errors.specs.declared.ValueNumbers.{ValueNumbers}
 use Rattle.errors.specs.declared.ManyNumbers.{ManyNumbers}
 use Rattle.errors.specs.declared.PairNumbers.{PairNumbers}
-use Rattle.errors.specs.declared.ReadAnswer as read
-use Rattle.errors.specs.declared.TextAnswer as text
-use Rattle.errors.specs.declared.LinesAnswer as lines
-use Rattle.errors.specs.declared.FirstAnswer as first
-use Rattle.errors.specs.declared.ValueAnswer as value'
-use Rattle.errors.specs.declared.ManyTexts as many
-use Rattle.errors.specs.declared.ManyAnswer as pairs
-use Rattle.errors.specs.declared.ReadAnswer.TheVariants as read_is
-use Rattle.errors.specs.declared.TextAnswer.TheVariants as text_is
-use Rattle.errors.specs.declared.LinesAnswer.TheVariants as lines_is
-use Rattle.errors.specs.declared.FirstAnswer.TheVariants as first_is
-use Rattle.errors.specs.declared.ValueAnswer.TheVariants as value_is
-use Rattle.errors.specs.declared.ManyTexts.TheVariants as many_is
-use Rattle.errors.specs.declared.ManyAnswer.TheVariants as pairs_is
+use Rattle.errors.specs.declared.FirstValue.{FirstValue}
+use Rattle.errors.specs.declared.ReadCounts.{ReadCounts}
+use Rattle.errors.specs.declared.TextWritten.{TextWritten}
+use Rattle.errors.specs.declared.TextsWritten.{TextsWritten}
+use Rattle.errors.specs.declared.ValueWritten.{ValueWritten}
 
 -- what leads back from its image tells two things apart
 unique : {A B : Type 0} (f : A → B) (g : B → A) → ((c : A) → g (f c) ≡ c) → (a b : A) → f a ≡ f b → a ≡ b
@@ -182,17 +174,17 @@ refusal_number-le (ResourceMapIds v) = omega arith
 
 -- ---- a reading
 
-answer_of : Numbers → read.ReadAnswer
+answer_of : Numbers → Result ReadCounts Refusal
 answer_of n =
-    cond (eqb n.refusal 0) (read_is.Done (record { starts = n.starts; nodes = n.nodes; attributes = n.attributes; notes = n.notes }))
-    (read_is.Refused (refusal_of n.refusal n.value))
+    cond (eqb n.refusal 0) (Ok (record { starts = n.starts; nodes = n.nodes; attributes = n.attributes; notes = n.notes }))
+    (Err (refusal_of n.refusal n.value))
 
-answer_of-back : (a : read.ReadAnswer) → answer_of (numbers_of a) ≡ a
+answer_of-back : (a : Result ReadCounts Refusal) → answer_of (numbers_of a) ≡ a
 unfolding answer_of numbers_of
-answer_of-back (read_is.Done c) = refl
-answer_of-back (read_is.Refused r) = rw (refusal_number-some r) (ap read_is.Refused (refusal_of-back r))
+answer_of-back (Ok c) = refl
+answer_of-back (Err r) = rw (refusal_number-some r) (ap Err (refusal_of-back r))
 
-pub numbers_of-unique : (a b : read.ReadAnswer) → numbers_of a ≡ numbers_of b → a ≡ b
+pub numbers_of-unique : (a b : Result ReadCounts Refusal) → numbers_of a ≡ numbers_of b → a ≡ b
 numbers_of-unique = unique numbers_of answer_of answer_of-back
 
 -- ---- a text
@@ -208,82 +200,82 @@ state_by-back (Replaced n) = refl
 state_by-back Unpaired = refl
 state_by-back Cut = refl
 
-text_of : TextNumbers → text.TextAnswer
-text_of n = cond (eqb n.refusal 0) (text_is.Text n.length (state_by n.state n.replaced)) (text_is.Refused (refusal_of n.refusal n.value))
+text_of : TextNumbers → Result TextWritten Refusal
+text_of n = cond (eqb n.refusal 0) (Ok (record { length = n.length; state = (state_by n.state n.replaced) })) (Err (refusal_of n.refusal n.value))
 
-text_of-back : (a : text.TextAnswer) → text_of (text_numbers_of a) ≡ a
+text_of-back : (a : Result TextWritten Refusal) → text_of (text_numbers_of a) ≡ a
 unfolding text_of text_numbers_of
-text_of-back (text_is.Text n s) = ap (text_is.Text n) (state_by-back s)
-text_of-back (text_is.Refused r) = rw (refusal_number-some r) (ap text_is.Refused (refusal_of-back r))
+text_of-back (Ok w) = ap (text_is.Text w.length) (state_by-back w.state)
+text_of-back (Err r) = rw (refusal_number-some r) (ap Err (refusal_of-back r))
 
-pub text_numbers_of-unique : (a b : text.TextAnswer) → text_numbers_of a ≡ text_numbers_of b → a ≡ b
+pub text_numbers_of-unique : (a b : Result TextWritten Refusal) → text_numbers_of a ≡ text_numbers_of b → a ≡ b
 text_numbers_of-unique = unique text_numbers_of text_of text_of-back
 
 -- ---- what was printed
 
-lines_of : LinesNumbers → lines.LinesAnswer
-lines_of n = cond (eqb n.refusal 0) (lines_is.Text n.length) (lines_is.Refused (refusal_of n.refusal n.value))
+lines_of : LinesNumbers → Result ℕ Refusal
+lines_of n = cond (eqb n.refusal 0) (Ok n.length) (Err (refusal_of n.refusal n.value))
 
-lines_of-back : (a : lines.LinesAnswer) → lines_of (lines_numbers_of a) ≡ a
+lines_of-back : (a : Result ℕ Refusal) → lines_of (lines_numbers_of a) ≡ a
 unfolding lines_of lines_numbers_of
-lines_of-back (lines_is.Text n) = refl
-lines_of-back (lines_is.Refused r) = rw (refusal_number-some r) (ap lines_is.Refused (refusal_of-back r))
+lines_of-back (Ok n) = refl
+lines_of-back (Err r) = rw (refusal_number-some r) (ap Err (refusal_of-back r))
 
-pub lines_numbers_of-unique : (a b : lines.LinesAnswer) → lines_numbers_of a ≡ lines_numbers_of b → a ≡ b
+pub lines_numbers_of-unique : (a b : Result ℕ Refusal) → lines_numbers_of a ≡ lines_numbers_of b → a ≡ b
 lines_numbers_of-unique = unique lines_numbers_of lines_of lines_of-back
 
 -- ---- a first value
 
-first_of : FirstNumbers → first.FirstAnswer
+first_of : FirstNumbers → Result FirstValue Refusal
 first_of n =
-    cond (eqb n.refusal 0) (first_is.Found n.kind n.«data» (eqb n.reference 1)) (first_is.Refused (refusal_of n.refusal n.value))
+    cond (eqb n.refusal 0) (Ok (record { kind = n.kind; «data» = n.«data»; reference = (eqb n.reference 1) })) (Err (refusal_of n.refusal n.value))
 
-first_of-back : (a : first.FirstAnswer) → first_of (first_numbers_of a) ≡ a
+first_of-back : (a : Result FirstValue Refusal) → first_of (first_numbers_of a) ≡ a
 unfolding first_of first_numbers_of
-first_of-back (first_is.Found kind «data» true) = refl
-first_of-back (first_is.Found kind «data» false) = refl
-first_of-back (first_is.Refused r) = rw (refusal_number-some r) (ap first_is.Refused (refusal_of-back r))
+first_of-back (Ok w) = refl
+first_of-back (Ok w) = refl
+first_of-back (Err r) = rw (refusal_number-some r) (ap Err (refusal_of-back r))
 
-pub first_numbers_of-unique : (a b : first.FirstAnswer) → first_numbers_of a ≡ first_numbers_of b → a ≡ b
+pub first_numbers_of-unique : (a b : Result FirstValue Refusal) → first_numbers_of a ≡ first_numbers_of b → a ≡ b
 first_numbers_of-unique = unique first_numbers_of first_of first_of-back
 
 -- ---- a value text
 
-value_text_of : ValueNumbers → value'.ValueAnswer
+value_text_of : ValueNumbers → Result ValueWritten Refusal
 value_text_of n =
-    cond (eqb n.refusal 0) (value_is.Value n.length n.uncovered (state_by n.state n.replaced))
-    (value_is.Refused (refusal_of n.refusal n.value))
+    cond (eqb n.refusal 0) (Ok (record { length = n.length; uncovered = n.uncovered; state = (state_by n.state n.replaced) }))
+    (Err (refusal_of n.refusal n.value))
 
-value_text_of-back : (a : value'.ValueAnswer) → value_text_of (value_numbers_of a) ≡ a
+value_text_of-back : (a : Result ValueWritten Refusal) → value_text_of (value_numbers_of a) ≡ a
 unfolding value_text_of value_numbers_of
-value_text_of-back (value_is.Value n u s) = ap (value_is.Value n u) (state_by-back s)
-value_text_of-back (value_is.Refused r) = rw (refusal_number-some r) (ap value_is.Refused (refusal_of-back r))
+value_text_of-back (Ok w) = ap (value_is.Value w.length w.uncovered) (state_by-back w.state)
+value_text_of-back (Err r) = rw (refusal_number-some r) (ap Err (refusal_of-back r))
 
-pub value_numbers_of-unique : (a b : value'.ValueAnswer) → value_numbers_of a ≡ value_numbers_of b → a ≡ b
+pub value_numbers_of-unique : (a b : Result ValueWritten Refusal) → value_numbers_of a ≡ value_numbers_of b → a ≡ b
 value_numbers_of-unique = unique value_numbers_of value_text_of value_text_of-back
 
 -- ---- many texts
 
-many_of : ManyNumbers → many.ManyTexts
-many_of n = cond (eqb n.refusal 0) (many_is.Answered n.count n.length) (many_is.Refused (refusal_of n.refusal n.value))
+many_of : ManyNumbers → Result TextsWritten Refusal
+many_of n = cond (eqb n.refusal 0) (Ok (record { count = n.count; length = n.length })) (Err (refusal_of n.refusal n.value))
 
-many_of-back : (a : many.ManyTexts) → many_of (many_numbers_of a) ≡ a
+many_of-back : (a : Result TextsWritten Refusal) → many_of (many_numbers_of a) ≡ a
 unfolding many_of many_numbers_of
-many_of-back (many_is.Answered n s) = refl
-many_of-back (many_is.Refused r) = rw (refusal_number-some r) (ap many_is.Refused (refusal_of-back r))
+many_of-back (Ok w) = refl
+many_of-back (Err r) = rw (refusal_number-some r) (ap Err (refusal_of-back r))
 
-pub many_numbers_of-unique : (a b : many.ManyTexts) → many_numbers_of a ≡ many_numbers_of b → a ≡ b
+pub many_numbers_of-unique : (a b : Result TextsWritten Refusal) → many_numbers_of a ≡ many_numbers_of b → a ≡ b
 many_numbers_of-unique = unique many_numbers_of many_of many_of-back
 
 -- ---- many pairs
 
-pairs_of : PairNumbers → pairs.ManyAnswer
-pairs_of n = cond (eqb n.refusal 0) (pairs_is.Answered n.count) (pairs_is.Refused (refusal_of n.refusal n.value))
+pairs_of : PairNumbers → Result ℕ Refusal
+pairs_of n = cond (eqb n.refusal 0) (Ok n.count) (Err (refusal_of n.refusal n.value))
 
-pairs_of-back : (a : pairs.ManyAnswer) → pairs_of (pair_numbers_of a) ≡ a
+pairs_of-back : (a : Result ℕ Refusal) → pairs_of (pair_numbers_of a) ≡ a
 unfolding pairs_of pair_numbers_of
-pairs_of-back (pairs_is.Answered n) = refl
-pairs_of-back (pairs_is.Refused r) = rw (refusal_number-some r) (ap pairs_is.Refused (refusal_of-back r))
+pairs_of-back (Ok n) = refl
+pairs_of-back (Err r) = rw (refusal_number-some r) (ap Err (refusal_of-back r))
 
-pub pair_numbers_of-unique : (a b : pairs.ManyAnswer) → pair_numbers_of a ≡ pair_numbers_of b → a ≡ b
+pub pair_numbers_of-unique : (a b : Result ℕ Refusal) → pair_numbers_of a ≡ pair_numbers_of b → a ≡ b
 pair_numbers_of-unique = unique pair_numbers_of pairs_of pairs_of-back

@@ -12,7 +12,7 @@
 --   pair_numbers_of    the same of many pairs at once: how many
 --
 -- Equal numbers are equal answers: `numbers_of-unique` and its like in proofs/Laws.antt.
-use Rattle.std.specs.Prelude.{ℕ, cond}
+use Rattle.std.specs.Prelude.{ℕ, cond, Result, Ok, Err}
 use Rattle.errors.specs.declared.Refusal.{Refusal}
 use Rattle.errors.specs.declared.Refusal.TheVariants.{TooSmallError, TooLargeError, HeaderSizeError}
 use Rattle.errors.specs.declared.Refusal.TheVariants.{MissingRoot, SystemNamesError, NodesFull}
@@ -31,20 +31,11 @@ use Rattle.errors.specs.declared.FirstNumbers.{FirstNumbers}
 use Rattle.errors.specs.declared.ValueNumbers.{ValueNumbers}
 use Rattle.errors.specs.declared.ManyNumbers.{ManyNumbers}
 use Rattle.errors.specs.declared.PairNumbers.{PairNumbers}
-use Rattle.errors.specs.declared.ReadAnswer as read
-use Rattle.errors.specs.declared.TextAnswer as text
-use Rattle.errors.specs.declared.LinesAnswer as lines
-use Rattle.errors.specs.declared.FirstAnswer as first
-use Rattle.errors.specs.declared.ValueAnswer as value'
-use Rattle.errors.specs.declared.ManyTexts as many
-use Rattle.errors.specs.declared.ManyAnswer as pairs
-use Rattle.errors.specs.declared.ReadAnswer.TheVariants as read_is
-use Rattle.errors.specs.declared.TextAnswer.TheVariants as text_is
-use Rattle.errors.specs.declared.LinesAnswer.TheVariants as lines_is
-use Rattle.errors.specs.declared.FirstAnswer.TheVariants as first_is
-use Rattle.errors.specs.declared.ValueAnswer.TheVariants as value_is
-use Rattle.errors.specs.declared.ManyTexts.TheVariants as many_is
-use Rattle.errors.specs.declared.ManyAnswer.TheVariants as pairs_is
+use Rattle.errors.specs.declared.FirstValue.{FirstValue}
+use Rattle.errors.specs.declared.ReadCounts.{ReadCounts}
+use Rattle.errors.specs.declared.TextWritten.{TextWritten}
+use Rattle.errors.specs.declared.TextsWritten.{TextsWritten}
+use Rattle.errors.specs.declared.ValueWritten.{ValueWritten}
 
 unfoldable pub refusal_number : Refusal → ℕ
 refusal_number (TooSmallError length) = 1
@@ -108,10 +99,10 @@ refusal_value (StringPoolData at) = at
 refusal_value (ResourceMapHeader at) = at
 refusal_value (ResourceMapIds at) = at
 
-unfoldable pub numbers_of : read.ReadAnswer → Numbers
-numbers_of (read_is.Done c) =
+unfoldable pub numbers_of : Result ReadCounts Refusal → Numbers
+numbers_of (Ok c) =
     record { refusal = 0; value = 0; starts = c.starts; nodes = c.nodes; attributes = c.attributes; notes = c.notes }
-numbers_of (read_is.Refused r) =
+numbers_of (Err r) =
     record { refusal = refusal_number r; value = refusal_value r; starts = 0; nodes = 0; attributes = 0; notes = 0 }
 
 abbrev pub state_of : TextState → ℕ
@@ -126,28 +117,28 @@ replaced_of (Replaced n) = n
 replaced_of Unpaired = 0
 replaced_of Cut = 0
 
-unfoldable pub text_numbers_of : text.TextAnswer → TextNumbers
-text_numbers_of (text_is.Text n s) = record { refusal = 0; value = 0; length = n; state = state_of s; replaced = replaced_of s }
-text_numbers_of (text_is.Refused r) = record { refusal = refusal_number r; value = refusal_value r; length = 0; state = 0; replaced = 0 }
+unfoldable pub text_numbers_of : Result TextWritten Refusal → TextNumbers
+text_numbers_of (Ok w) = record { refusal = 0; value = 0; length = w.length; state = state_of w.state; replaced = replaced_of w.state }
+text_numbers_of (Err r) = record { refusal = refusal_number r; value = refusal_value r; length = 0; state = 0; replaced = 0 }
 
-unfoldable pub lines_numbers_of : lines.LinesAnswer → LinesNumbers
-lines_numbers_of (lines_is.Text n) = record { refusal = 0; value = 0; length = n }
-lines_numbers_of (lines_is.Refused r) = record { refusal = refusal_number r; value = refusal_value r; length = 0 }
+unfoldable pub lines_numbers_of : Result ℕ Refusal → LinesNumbers
+lines_numbers_of (Ok n) = record { refusal = 0; value = 0; length = n }
+lines_numbers_of (Err r) = record { refusal = refusal_number r; value = refusal_value r; length = 0 }
 
-unfoldable pub first_numbers_of : first.FirstAnswer → FirstNumbers
-first_numbers_of (first_is.Found kind «data» reference) =
-    record { refusal = 0; value = 0; kind = kind; «data» = «data»; reference = cond reference 1 0 }
-first_numbers_of (first_is.Refused r) = record { refusal = refusal_number r; value = refusal_value r; kind = 0; «data» = 0; reference = 0 }
+unfoldable pub first_numbers_of : Result FirstValue Refusal → FirstNumbers
+first_numbers_of (Ok w) =
+    record { refusal = 0; value = 0; kind = w.kind; «data» = w.«data»; reference = cond w.reference 1 0 }
+first_numbers_of (Err r) = record { refusal = refusal_number r; value = refusal_value r; kind = 0; «data» = 0; reference = 0 }
 
-unfoldable pub value_numbers_of : value'.ValueAnswer → ValueNumbers
-value_numbers_of (value_is.Value n u s) =
-    record { refusal = 0; value = 0; length = n; uncovered = u; state = state_of s; replaced = replaced_of s }
-value_numbers_of (value_is.Refused r) = record { refusal = refusal_number r; value = refusal_value r; length = 0; uncovered = 0; state = 0; replaced = 0 }
+unfoldable pub value_numbers_of : Result ValueWritten Refusal → ValueNumbers
+value_numbers_of (Ok w) =
+    record { refusal = 0; value = 0; length = w.length; uncovered = w.uncovered; state = state_of w.state; replaced = replaced_of w.state }
+value_numbers_of (Err r) = record { refusal = refusal_number r; value = refusal_value r; length = 0; uncovered = 0; state = 0; replaced = 0 }
 
-unfoldable pub many_numbers_of : many.ManyTexts → ManyNumbers
-many_numbers_of (many_is.Answered n s) = record { refusal = 0; value = 0; count = n; length = s }
-many_numbers_of (many_is.Refused r) = record { refusal = refusal_number r; value = refusal_value r; count = 0; length = 0 }
+unfoldable pub many_numbers_of : Result TextsWritten Refusal → ManyNumbers
+many_numbers_of (Ok w) = record { refusal = 0; value = 0; count = w.count; length = w.length }
+many_numbers_of (Err r) = record { refusal = refusal_number r; value = refusal_value r; count = 0; length = 0 }
 
-unfoldable pub pair_numbers_of : pairs.ManyAnswer → PairNumbers
-pair_numbers_of (pairs_is.Answered n) = record { refusal = 0; value = 0; count = n }
-pair_numbers_of (pairs_is.Refused r) = record { refusal = refusal_number r; value = refusal_value r; count = 0 }
+unfoldable pub pair_numbers_of : Result ℕ Refusal → PairNumbers
+pair_numbers_of (Ok n) = record { refusal = 0; value = 0; count = n }
+pair_numbers_of (Err r) = record { refusal = refusal_number r; value = refusal_value r; count = 0 }

@@ -52,13 +52,6 @@ pub struct ReadCounts {
     pub notes: u32,
 }
 
-// The counts, or why there are none.
-#[derive(Clone, Copy)]
-pub enum ReadAnswer {
-    Done(ReadCounts),
-    Refused(Refusal),
-}
-
 // What became of a text. Where it is not whole, the file does not have the characters that the text has.
 #[derive(Clone, Copy)]
 pub enum TextState {
@@ -68,47 +61,34 @@ pub enum TextState {
     Cut, // 3: the string is cut or lies outside its pool, an empty text
 }
 
-// The length and the state of the text, or why there is none.
+// A text that was written: its length and its state.
 #[derive(Clone, Copy)]
-pub enum TextAnswer {
-    Text { length: usize, state: TextState },
-    Refused(Refusal),
+pub struct TextWritten {
+    pub length: usize,
+    pub state: TextState,
 }
 
-// The length of what was printed, or why nothing was.
+// The type and the data of a first value, and whether it is a reference.
 #[derive(Clone, Copy)]
-pub enum LinesAnswer {
-    Text(usize),
-    Refused(Refusal),
+pub struct FirstValue {
+    pub kind: u32,
+    pub data: u32,
+    pub reference: bool,
 }
 
-// The type and the data of the first value, and whether it is a reference; or why there is none.
+// A value's text that was written: its length, how many set bits of a flag no name covers, and its state.
 #[derive(Clone, Copy)]
-pub enum FirstAnswer {
-    Found {
-        kind: u32,
-        data: u32,
-        reference: bool,
-    },
-    Refused(Refusal),
+pub struct ValueWritten {
+    pub length: usize,
+    pub uncovered: u32,
+    pub state: TextState,
 }
 
-// The length of a value's text, how many set bits of a flag no name covers, and the text's state, or why there is no text.
+// Texts that were written at once: how many, and the bytes of all of them.
 #[derive(Clone, Copy)]
-pub enum ValueAnswer {
-    Value {
-        length: usize,
-        uncovered: u32,
-        state: TextState,
-    },
-    Refused(Refusal),
-}
-
-// How many questions were answered at once and the bytes of all their texts, or why none was.
-#[derive(Clone, Copy)]
-pub enum ManyTexts {
-    Answered { count: usize, length: usize },
-    Refused(Refusal),
+pub struct TextsWritten {
+    pub count: usize,
+    pub length: usize,
 }
 
 // The numbers of a `ReadAnswer`, as a listing prints them.
@@ -245,11 +225,11 @@ pub fn refusal_value(r: Refusal) -> u64
 }
 
 // The numbers of a reading's answer. Ruled out: a count beside a refusal, and a refusal that is told by its value alone.
-pub fn read_numbers(a: ReadAnswer) -> Numbers
+pub fn read_numbers(a: Result<ReadCounts, Refusal>) -> Numbers
     ensures { result ≡ numbers_of a }
 {
     match a {
-        ReadAnswer::Done(c) => Numbers {
+        Ok(c) => Numbers {
             refusal: 0,
             value: 0,
             starts: c.starts,
@@ -257,7 +237,7 @@ pub fn read_numbers(a: ReadAnswer) -> Numbers
             attributes: c.attributes,
             notes: c.notes,
         },
-        ReadAnswer::Refused(e) => Numbers {
+        Err(e) => Numbers {
             refusal: refusal_number(e),
             value: refusal_value(e),
             starts: 0,
@@ -293,18 +273,18 @@ pub fn replaced_number(s: TextState) -> u32
 }
 
 // The numbers of a text question's answer. Ruled out: the bytes needed as the length of a refused answer, and a state beside a refusal.
-pub fn text_numbers(a: TextAnswer) -> TextNumbers
+pub fn text_numbers(a: Result<TextWritten, Refusal>) -> TextNumbers
     ensures { result ≡ text_numbers_of a }
 {
     match a {
-        TextAnswer::Text { length, state } => TextNumbers {
+        Ok(TextWritten { length, state }) => TextNumbers {
             refusal: 0,
             value: 0,
             length: length as u64,
             state: state_number(state),
             replaced: replaced_number(state),
         },
-        TextAnswer::Refused(e) => TextNumbers {
+        Err(e) => TextNumbers {
             refusal: refusal_number(e),
             value: refusal_value(e),
             length: 0,
@@ -322,22 +302,24 @@ fn flag(b: bool) -> u32
 }
 
 // The numbers of a first-value question's answer. Ruled out: a reference in a refused answer, and type and data in each other's place.
-pub fn first_numbers(a: FirstAnswer) -> FirstNumbers
+pub fn first_numbers(a: Result<FirstValue, Refusal>) -> FirstNumbers
     ensures { result ≡ first_numbers_of a }
 {
     match a {
-        FirstAnswer::Found {
-            kind,
-            data,
-            reference,
-        } => FirstNumbers {
+        Ok(
+            FirstValue {
+                kind,
+                data,
+                reference,
+            },
+        ) => FirstNumbers {
             refusal: 0,
             value: 0,
             kind: kind,
             data: data,
             reference: flag(reference),
         },
-        FirstAnswer::Refused(e) => FirstNumbers {
+        Err(e) => FirstNumbers {
             refusal: refusal_number(e),
             value: refusal_value(e),
             kind: 0,
@@ -348,15 +330,17 @@ pub fn first_numbers(a: FirstAnswer) -> FirstNumbers
 }
 
 // The numbers of a value text's answer. Ruled out: the bytes needed as the length of a refused answer, and bits or a state beside a refusal.
-pub fn value_numbers(a: ValueAnswer) -> ValueNumbers
+pub fn value_numbers(a: Result<ValueWritten, Refusal>) -> ValueNumbers
     ensures { result ≡ value_numbers_of a }
 {
     match a {
-        ValueAnswer::Value {
-            length,
-            uncovered,
-            state,
-        } => ValueNumbers {
+        Ok(
+            ValueWritten {
+                length,
+                uncovered,
+                state,
+            },
+        ) => ValueNumbers {
             refusal: 0,
             value: 0,
             length: length as u64,
@@ -364,7 +348,7 @@ pub fn value_numbers(a: ValueAnswer) -> ValueNumbers
             state: state_number(state),
             replaced: replaced_number(state),
         },
-        ValueAnswer::Refused(e) => ValueNumbers {
+        Err(e) => ValueNumbers {
             refusal: refusal_number(e),
             value: refusal_value(e),
             length: 0,
@@ -376,17 +360,17 @@ pub fn value_numbers(a: ValueAnswer) -> ValueNumbers
 }
 
 // The numbers of many texts' answer. Ruled out: a count beside a refusal, and count and length in each other's place.
-pub fn many_numbers(a: ManyTexts) -> ManyNumbers
+pub fn many_numbers(a: Result<TextsWritten, Refusal>) -> ManyNumbers
     ensures { result ≡ many_numbers_of a }
 {
     match a {
-        ManyTexts::Answered { count, length } => ManyNumbers {
+        Ok(TextsWritten { count, length }) => ManyNumbers {
             refusal: 0,
             value: 0,
             count: count as u64,
             length: length as u64,
         },
-        ManyTexts::Refused(e) => ManyNumbers {
+        Err(e) => ManyNumbers {
             refusal: refusal_number(e),
             value: refusal_value(e),
             count: 0,
@@ -397,13 +381,6 @@ pub fn many_numbers(a: ManyTexts) -> ManyNumbers
 
 // ---- many pairs
 
-// How many pairs were answered, or why none was.
-#[derive(Clone, Copy)]
-pub enum ManyAnswer {
-    Answered(usize),
-    Refused(Refusal),
-}
-
 // The numbers of a `ManyAnswer`.
 #[derive(Clone, Copy)]
 pub struct PairNumbers {
@@ -413,16 +390,16 @@ pub struct PairNumbers {
 }
 
 // The numbers of many pairs' answer. Ruled out: a count beside a refusal, and the places as the count of a refused answer.
-pub fn pair_numbers(a: ManyAnswer) -> PairNumbers
+pub fn pair_numbers(a: Result<usize, Refusal>) -> PairNumbers
     ensures { result ≡ pair_numbers_of a }
 {
     match a {
-        ManyAnswer::Answered(n) => PairNumbers {
+        Ok(n) => PairNumbers {
             refusal: 0,
             value: 0,
             count: n as u64,
         },
-        ManyAnswer::Refused(e) => PairNumbers {
+        Err(e) => PairNumbers {
             refusal: refusal_number(e),
             value: refusal_value(e),
             count: 0,

@@ -18,6 +18,7 @@ use anomaly::ResAnomaly;
 use errors::Refusal;
 use head::{HeadEnd, Opened, outside_in, refusal_of};
 use res_string_pool::Garbage;
+use resource_map::MapShort;
 use xml_elements::trailing_of;
 
 // ---- the head

@@ -3,6 +3,7 @@
 --   head          header, pool with the one string `a`, empty map
 --   two, three    two nodes, of tags `a` and `invalid-element`, with one and two attributes
 --   cases-right   each answer is that of the table
+use Rattle.std.specs.Prelude.{Result, Ok, Err}
 use Rattle.records.specs.Words.{no_parent, node_words, attribute_words}
 use Prim.Native.Nat.{ℕ}
 use mathlib.Core.Path.{◌≡◌, refl}
@@ -19,13 +20,13 @@ use Rattle.resource_map.specs.Map.{ids_in, ids_by, map_of, id_of}
 use Rattle.utf.specs.Plain.{is_ascii}
 use Rattle.system_types.specs.Names.{lends, is_good, names_from, name_by_id}
 use Rattle.errors.specs.declared.Refusal.TheVariants.{NothingFound, TablesError}
-use Rattle.errors.specs.declared.FirstAnswer.{FirstAnswer}
-use Rattle.errors.specs.declared.FirstAnswer.TheVariants.{Found, Refused}
 use Rattle.text.specs.Content.{system_of, string_at, string_of, content_of}
 use Rattle.head.specs.Head.{tables_of, opened_of}
 use Rattle.head.specs.Entry.{length_check}
 use Rattle.head.specs.Ask.{open_of}
 use Rattle.first_value.specs.Question.{invalid_element, android_name, runs_from, fit_of, find_node, find_value, shared_of, first_answer}
+use Rattle.errors.specs.declared.FirstValue.{FirstValue}
+use Rattle.errors.specs.declared.Refusal.{Refusal}
 
 unfoldable pub head : List ℕ
 head =
@@ -40,39 +41,39 @@ three = attribute_words 0 2 0 3 9 0 ++ attribute_words 1 0 0 7 77 5 ++ attribute
 
 -- nodes, attributes, tag, name, the two counts, and the answer
 pub data Case : Type 0 where
-  asked : List ℕ → List ℕ → List ℕ → List ℕ → ℕ → ℕ → FirstAnswer → Case
+  asked : List ℕ → List ℕ → List ℕ → List ℕ → ℕ → ℕ → Result FirstValue Refusal → Case
 
 unfoldable pub cases : List Case
 cases =
     -- prefix 2 is `android`: Q8
-    asked two three (97 ∷ []) android_name 2 3 (Found 3 9 false) ∷
+    asked two three (97 ∷ []) android_name 2 3 (Ok (record { kind = 3; «data» = 9; reference = false })) ∷
     -- a fixed word of 1 is `invalid-element`, and type 7 a reference: Q7, C7
-    asked two three invalid_element (97 ∷ []) 2 3 (Found 7 77 true) ∷
+    asked two three invalid_element (97 ∷ []) 2 3 (Ok (record { kind = 7; «data» = 77; reference = true })) ∷
     -- the first node of the tag has no such attribute: Q5
-    asked two three (97 ∷ []) (97 ∷ []) 2 3 (Refused NothingFound) ∷
+    asked two three (97 ∷ []) (97 ∷ []) 2 3 (Err NothingFound) ∷
     -- an index without a text equals nothing, not even the empty name
-    asked two three invalid_element [] 2 3 (Refused NothingFound) ∷
+    asked two three invalid_element [] 2 3 (Err NothingFound) ∷
     -- node 1 passes the attribute count, though node 0 would be found: Q6
-    asked two three (97 ∷ []) android_name 2 2 (Refused (TablesError 1)) ∷
+    asked two three (97 ∷ []) android_name 2 2 (Err (TablesError 1)) ∷
     -- counts past the words, before any node
-    asked two three (97 ∷ []) android_name 3 0 (Refused (TablesError 3)) ∷
-    asked two three (97 ∷ []) android_name 2 4 (Refused (TablesError 2)) ∷
+    asked two three (97 ∷ []) android_name 3 0 (Err (TablesError 3)) ∷
+    asked two three (97 ∷ []) android_name 2 4 (Err (TablesError 2)) ∷
     -- a first attribute past the count, of a node without attributes
-    asked (node_words 0 0 0 4 0 3) three (98 ∷ []) android_name 1 3 (Refused (TablesError 0)) ∷
+    asked (node_words 0 0 0 4 0 3) three (98 ∷ []) android_name 1 3 (Err (TablesError 0)) ∷
     -- a sum that does not wrap
-    asked (node_words 0 0 0 4294967295 2 3) three (98 ∷ []) android_name 1 3 (Refused (TablesError 0)) ∷
+    asked (node_words 0 0 0 4294967295 2 3) three (98 ∷ []) android_name 1 3 (Err (TablesError 0)) ∷
     -- a fixed word of 2 leaves the text of the name
-    asked (node_words 0 2 0 0 1 3) three (97 ∷ []) android_name 1 3 (Found 3 9 false) ∷
-    asked (node_words 0 2 0 0 1 3) three invalid_element android_name 1 3 (Refused NothingFound) ∷
+    asked (node_words 0 2 0 0 1 3) three (97 ∷ []) android_name 1 3 (Ok (record { kind = 3; «data» = 9; reference = false })) ∷
+    asked (node_words 0 2 0 0 1 3) three invalid_element android_name 1 3 (Err NothingFound) ∷
     -- no nodes
-    asked two three (97 ∷ []) android_name 0 0 (Refused NothingFound) ∷
+    asked two three (97 ∷ []) android_name 0 0 (Err NothingFound) ∷
     []
 
-abbrev pub answers : List Case → List FirstAnswer
+abbrev pub answers : List Case → List (Result FirstValue Refusal)
 answers [] = []
 answers (asked ns ats tag name n a r ∷ cs) = first_answer head (lends [] []) ns ats tag name n a ∷ answers cs
 
-abbrev pub results : List Case → List FirstAnswer
+abbrev pub results : List Case → List (Result FirstValue Refusal)
 results [] = []
 results (asked ns ats tag name n a r ∷ cs) = r ∷ results cs
 

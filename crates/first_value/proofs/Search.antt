@@ -3,6 +3,7 @@
 -- (`run_inside`, `run_fits`), their values (`value-run`), what is asked once (`shared-..`), the question by whether the file is open
 -- (`first-open`, `first-closed`),
 -- and two answers that its promise allows are equal (`first-unique`).
+use Rattle.std.specs.Prelude.{Option, Some, None, Result, Ok, Err}
 use Prim.Native.Nat.{ℕ, zero, suc, ◌+◌, ◌-◌, ◌*◌, ◌≤◌, ◌<◌}
 use native.Mathlib.Omega.{arith}
 use mathlib.Core.Path.{◌≡◌, refl, sym, ◌∙◌, ap}
@@ -15,14 +16,10 @@ use lib.Dec.{ltb}
 use Rattle.errors.specs.Refusal.{first_numbers_of}
 use Rattle.errors.specs.declared.Refusal.{Refusal}
 use Rattle.errors.specs.declared.Refusal.TheVariants.{NothingFound}
-use Rattle.errors.specs.declared.FirstAnswer.{FirstAnswer}
-use Rattle.errors.specs.declared.FirstAnswer.TheVariants.{Refused}
 use Rattle.errors.proofs.Laws.{first_numbers_of-unique}
 use Rattle.text.specs.declared.Head.{Head}
 use Rattle.head.specs.Head.{tables_in}
 use Rattle.head.specs.Ask.{open_of}
-use Rattle.head.specs.declared.OpenRead.{OpenRead}
-use Rattle.head.specs.declared.OpenRead.TheVariants.{Open, Closed}
 use Rattle.head.proofs.Cases.{rest_all}
 use Rattle.records.specs.Words.{node_width, node_name, node_fixed, node_first, node_count}
 use Rattle.records.specs.Words.{attribute_width, attribute_prefix, attribute_name, attribute_type, attribute_data}
@@ -31,23 +28,20 @@ use Rattle.system_types.specs.Names.{Lent}
 use Rattle.first_value.specs.Question.{runs_from, fit_of, tag_is, name_is, found_by, find_node, find_value}
 use Rattle.first_value.specs.Question.{value_by, fitted_by, shared_by, shared_of, first_answer, FirstReads}
 use Rattle.first_value.specs.Inner.Run.{RunFits}
-use Rattle.first_value.specs.declared.Fit.{Fit}
-use Rattle.first_value.specs.declared.Fit.TheVariants.{Fitting, Unfit}
-use Rattle.first_value.specs.declared.NodeFound.{NodeFound}
-use Rattle.first_value.specs.declared.NodeFound.TheVariants.{Run, NoNode}
 use Rattle.first_value.proofs.Laws.{fit_of-fits}
+use Rattle.errors.specs.declared.FirstValue.{FirstValue}
 
 -- ---- record by record
 
 module _ (h : Head) (t : List ℕ) (lent : Lent) (s : List ℕ) (n : ℕ) (w : List ℕ) (k : ℕ) where
-  pub find_node-end : n ≤ k → find_node h t lent s (n - k) (drop (node_width * k) w) ≡ NoNode
+  pub find_node-end : n ≤ k → find_node h t lent s (n - k) (drop (node_width * k) w) ≡ None
   unfolding find_node
   find_node-end p = let e : n - k ≡ 0 = omega arith in rw e
 
   find_node-step
       : k < n
       → find_node h t lent s (n - k) (drop (node_width * k) w)
-      ≡ cond (tag_is h t lent s (get_or w (node_width * k + node_fixed) 0) (get_or w (node_width * k + node_name) 0)) (Run (get_or w (node_width * k + node_first) 0) (get_or w (node_width * k + node_count) 0))
+      ≡ cond (tag_is h t lent s (get_or w (node_width * k + node_fixed) 0) (get_or w (node_width * k + node_name) 0)) (Some ((get_or w (node_width * k + node_first) 0), (get_or w (node_width * k + node_count) 0)))
       (find_node h t lent s (n - (k + 1)) (drop (node_width * (k + 1)) w))
   unfolding find_node
   find_node-step p =
@@ -68,7 +62,7 @@ module _ (h : Head) (t : List ℕ) (lent : Lent) (s : List ℕ) (n : ℕ) (w : L
       → j ≡ node_width * k
       → b ≡ tag_is h t lent s (get_or w (j + node_fixed) 0) (get_or w (j + node_name) 0)
       → b ≡ true
-      → find_node h t lent s (n - k) (drop (node_width * k) w) ≡ Run (get_or w (j + node_first) 0) (get_or w (j + node_count) 0)
+      → find_node h t lent s (n - k) (drop (node_width * k) w) ≡ Some ((get_or w (j + node_first) 0), (get_or w (j + node_count) 0))
   find_node-found p i e q = let e' = rw i at e in rw i (find_node-step p ∙ rw (← e', q))
 
   pub find_node-next
@@ -81,7 +75,7 @@ module _ (h : Head) (t : List ℕ) (lent : Lent) (s : List ℕ) (n : ℕ) (w : L
   find_node-next p i e q = let e' = rw i at e in find_node-step p ∙ rw (← e', q)
 
 module _ (h : Head) (t : List ℕ) (lent : Lent) (s : List ℕ) (n : ℕ) (w : List ℕ) (k : ℕ) where
-  pub find_value-end : n ≤ k → find_value h t lent s (n - k) (drop (attribute_width * k) w) ≡ Refused NothingFound
+  pub find_value-end : n ≤ k → find_value h t lent s (n - k) (drop (attribute_width * k) w) ≡ Err NothingFound
   unfolding find_value
   find_value-end p = let e : n - k ≡ 0 = omega arith in rw e
 
@@ -104,7 +98,7 @@ module _ (h : Head) (t : List ℕ) (lent : Lent) (s : List ℕ) (n : ℕ) (w : L
       )
 
   pub find_value-found
-      : {j : ℕ} {b : Bool} {r : FirstAnswer}
+      : {j : ℕ} {b : Bool} {r : Result FirstValue Refusal}
       → k < n
       → j ≡ attribute_width * k
       → b ≡ name_is h t lent s (get_or w (j + attribute_prefix) 0) (get_or w (j + attribute_name) 0)
@@ -128,8 +122,8 @@ module _ (h : Head) (t : List ℕ) (lent : Lent) (s : List ℕ) (n : ℕ) (w : L
 -- the attributes of a node that is found do not pass the count
 pub run_inside
     : (h : Head) (t : List ℕ) (lent : Lent) (tag : List ℕ) (attributes k n : ℕ) (w : List ℕ) {first number : ℕ}
-    → runs_from attributes k n w ≡ Fitting
-    → find_node h t lent tag n w ≡ Run first number
+    → runs_from attributes k n w ≡ (Ok tt)
+    → find_node h t lent tag n w ≡ Some (first, number)
     → first + number ≤ attributes
 unfolding runs_from find_node
 run_inside h t lent tag attributes k zero w f e = let z : ◌≡◌ {A = ℕ} 0 1 = cc in absurd (let y : ⊥ = omega arith in y)
@@ -140,10 +134,10 @@ run_inside h t lent tag attributes k (suc n) w {first} {number} f e =
     go
         : (b : Bool)
         → ltb attributes (get_or w node_first 0 + get_or w node_count 0) ≡ b
-        → cond b (Unfit k) (runs_from attributes (k + 1) n (drop node_width w)) ≡ Fitting
+        → cond b (Err k) (runs_from attributes (k + 1) n (drop node_width w)) ≡ (Ok tt)
         → (c : Bool)
-        → cond c (Run (get_or w node_first 0) (get_or w node_count 0)) (find_node h t lent tag n (drop node_width w)) ≡ Run first number
-        → (runs_from attributes (k + 1) n (drop node_width w) ≡ Fitting → find_node h t lent tag n (drop node_width w) ≡ Run first number → first + number ≤ attributes)
+        → cond c (Some ((get_or w node_first 0), (get_or w node_count 0))) (find_node h t lent tag n (drop node_width w)) ≡ Some (first, number)
+        → (runs_from attributes (k + 1) n (drop node_width w) ≡ (Ok tt) → find_node h t lent tag n (drop node_width w) ≡ Some (first, number) → first + number ≤ attributes)
         → first + number ≤ attributes
     go true p f' c e' ind = let z : ◌≡◌ {A = ℕ} 0 1 = cc in absurd (let y : ⊥ = omega arith in y)
     go false p f' true e' ind =
@@ -155,8 +149,8 @@ run_inside h t lent tag attributes k (suc n) w {first} {number} f e =
 
 -- so they lie in the table
 pub run_fits
-    : (h : Head) (t : List ℕ) (lent : Lent) (tag ns ats : List ℕ) (n a : ℕ) {r : NodeFound}
-    → fit_of ns ats n a ≡ Fitting
+    : (h : Head) (t : List ℕ) (lent : Lent) (tag ns ats : List ℕ) (n a : ℕ) {r : Option (ℕ × ℕ)}
+    → fit_of ns ats n a ≡ (Ok tt)
     → r ≡ find_node h t lent tag n ns
     → RunFits ats r
 run_fits h t lent tag ns ats n a f e =
@@ -169,8 +163,8 @@ run_fits h t lent tag ns ats n a f e =
 
 -- its values, in the table from there on, j being where they begin
 pub value-run
-    : (h : Head) (t : List ℕ) (lent : Lent) (name ats : List ℕ) {node : NodeFound} {r : FirstAnswer} {first number j : ℕ}
-    → node ≡ Run first number
+    : (h : Head) (t : List ℕ) (lent : Lent) (name ats : List ℕ) {node : Option (ℕ × ℕ)} {r : Result FirstValue Refusal} {first number j : ℕ}
+    → node ≡ Some (first, number)
     → j ≡ attribute_width * first
     → r ≡ find_value h t lent name number (take (length ats - j) (drop j ats))
     → r ≡ value_by h t lent name ats node
@@ -180,31 +174,31 @@ value-run h t lent name ats {j = j} q i g = let g' = rw (rest_all j ats, i) at g
 
 -- a head that is opened beside tables: the file is open, and they fit
 pub record Shared (f : List ℕ) (lent : Lent) (ns ats : List ℕ) (nodes attributes : ℕ) (h : Head) : Type 0 where
-  pub opens : open_of f lent ≡ Open h
-  pub fits : fit_of ns ats nodes attributes ≡ Fitting
+  pub opens : open_of f lent ≡ Ok h
+  pub fits : fit_of ns ats nodes attributes ≡ (Ok tt)
 
 module _ (f : List ℕ) (lent : Lent) (ns ats : List ℕ) (nodes attributes : ℕ) where
-  pub shared-open : {h : Head} {fit : Fit} {r : OpenRead} → open_of f lent ≡ Open h → fit ≡ fit_of ns ats nodes attributes → r ≡ fitted_by h fit
+  pub shared-open : {h : Head} {fit : Result (Unit {0}) ℕ} {r : Result Head Refusal} → open_of f lent ≡ Ok h → fit ≡ fit_of ns ats nodes attributes → r ≡ fitted_by h fit
       → r ≡ shared_of f lent ns ats nodes attributes
   unfolding shared_of
   shared-open e q g = rw (e, ← q) g
 
-  pub shared-closed : {why : Refusal} → open_of f lent ≡ Closed why → Closed why ≡ shared_of f lent ns ats nodes attributes
+  pub shared-closed : {why : Refusal} → open_of f lent ≡ Err why → Err why ≡ shared_of f lent ns ats nodes attributes
   unfolding shared_of
   shared-closed e = rw e
 
-  pub shared-opens : {h : Head} → shared_of f lent ns ats nodes attributes ≡ Open h → Shared f lent ns ats nodes attributes h
+  pub shared-opens : {h : Head} → shared_of f lent ns ats nodes attributes ≡ Ok h → Shared f lent ns ats nodes attributes h
   unfolding shared_of
   shared-opens {h} e = go (open_of f lent) refl (fit_of ns ats nodes attributes) refl e
     where
       go
-          : (x : OpenRead) → open_of f lent ≡ x
-          → (y : Fit) → fit_of ns ats nodes attributes ≡ y
-          → shared_by y x ≡ Open h
+          : (x : Result Head Refusal) → open_of f lent ≡ x
+          → (y : Result (Unit {0}) ℕ) → fit_of ns ats nodes attributes ≡ y
+          → shared_by y x ≡ Ok h
           → Shared f lent ns ats nodes attributes h
-      go (Closed r) p y q g = let z : ◌≡◌ {A = ℕ} 0 1 = cc in absurd (let v : ⊥ = omega arith in v)
-      go (Open h') p (Unfit k) q g = let z : ◌≡◌ {A = ℕ} 0 1 = cc in absurd (let v : ⊥ = omega arith in v)
-      go (Open h') p Fitting q g = record { opens = p ∙ g; fits = q }
+      go (Err r) p y q g = let z : ◌≡◌ {A = ℕ} 0 1 = cc in absurd (let v : ⊥ = omega arith in v)
+      go (Ok h') p (Err k) q g = let z : ◌≡◌ {A = ℕ} 0 1 = cc in absurd (let v : ⊥ = omega arith in v)
+      go (Ok h') p (Ok tt) q g = record { opens = p ∙ g; fits = q }
 
 -- ---- the question
 
@@ -212,15 +206,15 @@ module _ (f : List ℕ) (lent : Lent) (ns ats tag name : List ℕ) (nodes attrib
   -- the answer where the head is open and the tables fit
   pub first-shared
       : {h : Head}
-      → shared_of f lent ns ats nodes attributes ≡ Open h
+      → shared_of f lent ns ats nodes attributes ≡ Ok h
       → first_answer f lent ns ats tag name nodes attributes
       ≡ value_by h (tables_in f h) lent name ats (find_node h (tables_in f h) lent tag nodes ns)
   unfolding first_answer
   first-shared e = rw e
 
   pub first-open
-      : {h : Head} {t : List ℕ} {r : FirstAnswer}
-      → shared_of f lent ns ats nodes attributes ≡ Open h
+      : {h : Head} {t : List ℕ} {r : Result FirstValue Refusal}
+      → shared_of f lent ns ats nodes attributes ≡ Ok h
       → t ≡ tables_in f h
       → r ≡ value_by h t lent name ats (find_node h t lent tag nodes ns)
       → FirstReads f lent ns ats tag name nodes attributes r
@@ -228,13 +222,13 @@ module _ (f : List ℕ) (lent : Lent) (ns ats tag name : List ℕ) (nodes attrib
       let same : r ≡ first_answer f lent ns ats tag name nodes attributes = rw (first-shared e) (rw q at g) in record { answer = ap first_numbers_of same }
 
   pub first-closed
-      : {why : Refusal} → shared_of f lent ns ats nodes attributes ≡ Closed why → FirstReads f lent ns ats tag name nodes attributes (Refused why)
+      : {why : Refusal} → shared_of f lent ns ats nodes attributes ≡ Err why → FirstReads f lent ns ats tag name nodes attributes (Err why)
   unfolding first_answer
   first-closed e = record { answer = rw e }
 
   -- P4
   pub first-unique
-      : {r r' : FirstAnswer}
+      : {r r' : Result FirstValue Refusal}
       → FirstReads f lent ns ats tag name nodes attributes r
       → FirstReads f lent ns ats tag name nodes attributes r'
       → r ≡ r'

@@ -9,18 +9,17 @@ pub mod called;
 pub mod once;
 pub mod runs;
 
-ghost use Rattle.std.specs.Prelude.{◌≡◌, ◌*◌, ◌≤◌, length};
+ghost use Rattle.std.specs.Prelude.{◌≡◌, ◌*◌, ◌≤◌, length, Ok};
 ghost use Rattle.records.specs.Words.{node_width, attribute_width};
 ghost use Rattle.system_types.specs.Names.{lends};
 ghost use Rattle.text.specs.Inner.Found.{Asks};
-ghost use Rattle.first_value.specs.declared.Fit.TheVariants.{Fitting};
 ghost use Rattle.first_value.specs.Question.{fit_of, found_by, find_node, find_value, value_by, fitted_by, shared_of, FirstReads};
 ghost use Rattle.first_value.specs.Inner.Run.{RunFits};
 
 use called::is_named;
 use common::{StringIndex, is_reference, value_type_of};
-use errors::{FirstAnswer, Refusal};
-use head::{OpenRead, open_file, tables_of};
+use errors::{FirstValue, Refusal};
+use head::{open_file, tables_of};
 use once::{OTHERS, is_tagged_once};
 use records::{
     ATTRIBUTE_DATA, ATTRIBUTE_NAME, ATTRIBUTE_PREFIX, ATTRIBUTE_TYPE, NODE_COUNT, NODE_FIRST,
@@ -28,20 +27,6 @@ use records::{
 };
 use runs::fit_of;
 use text::Head;
-
-// Whether the lent tables fit the counts, or the first node that does not.
-#[derive(Clone, Copy)]
-pub enum Fit {
-    Fitting,
-    Unfit(u32),
-}
-
-// The attributes of a node that was found: the first one's number, and how many.
-#[derive(Clone, Copy)]
-pub enum NodeFound {
-    Run(u32, u32),
-    NoNode,
-}
 
 // ---- the search
 
@@ -55,7 +40,7 @@ pub fn find_node(
     tag: &[u8],
     nodes: &[u32],
     count: u32,
-) -> NodeFound
+) -> Option<(u32, u32)>
     requires { Asks t.now (lends names.now area.now) h × (node_width * count ≤ length nodes.now) }
     ensures { result ≡ find_node h t.now (lends names.now area.now) tag.now count nodes.now }
 {
@@ -73,22 +58,22 @@ pub fn find_node(
             nodes[at + NODE_FIXED],
             StringIndex(nodes[at + NODE_NAME]),
         ) {
-            return NodeFound::Run(nodes[at + NODE_FIRST], nodes[at + NODE_COUNT]);
+            return Some((nodes[at + NODE_FIRST], nodes[at + NODE_COUNT]));
         }
         k += 1;
     }
-    NodeFound::NoNode
+    None
 }
 
-fn found(kind: u32, value: u32) -> FirstAnswer
+fn found(kind: u32, value: u32) -> Result<FirstValue, Refusal>
     ensures { result ≡ found_by kind value }
 {
     let reference = is_reference(value_type_of(kind));
-    FirstAnswer::Found {
+    Ok(FirstValue {
         kind,
         data: value,
         reference,
-    }
+    })
 }
 
 // The value of the first attribute of that name, among the `count` attributes of one node, whose words `attributes` begins with.
@@ -100,7 +85,7 @@ fn find_value(
     name: &[u8],
     attributes: &[u32],
     count: u32,
-) -> FirstAnswer
+) -> Result<FirstValue, Refusal>
     requires { Asks t.now (lends names.now area.now) h × (attribute_width * count ≤ length attributes.now) }
     ensures { result ≡ find_value h t.now (lends names.now area.now) name.now count attributes.now }
 {
@@ -123,7 +108,7 @@ fn find_value(
         }
         k += 1;
     }
-    FirstAnswer::Refused(Refusal::NothingFound)
+    Err(Refusal::NothingFound)
 }
 
 // In the attributes of a node that was found, which lie in the table. Ruled out: a value where no node was found.
@@ -134,13 +119,13 @@ pub fn value_of(
     h: Head,
     name: &[u8],
     attributes: &[u32],
-    node: NodeFound,
-) -> FirstAnswer
+    node: Option<(u32, u32)>,
+) -> Result<FirstValue, Refusal>
     requires { Asks t.now (lends names.now area.now) h × RunFits attributes.now node }
     ensures { result ≡ value_by h t.now (lends names.now area.now) name.now attributes.now node }
 {
     match node {
-        NodeFound::Run(first, number) => find_value(
+        Some((first, number)) => find_value(
             t,
             names,
             area,
@@ -149,7 +134,7 @@ pub fn value_of(
             &attributes[attribute_place(first)..],
             number,
         ),
-        NodeFound::NoNode => FirstAnswer::Refused(Refusal::NothingFound),
+        None => Err(Refusal::NothingFound),
     }
 }
 
@@ -165,8 +150,8 @@ fn value_in(
     name: &[u8],
     node_count: u32,
     attribute_count: u32,
-) -> FirstAnswer
-    requires { Asks t.now (lends names.now area.now) h × (fit_of nodes.now attributes.now node_count attribute_count ≡ Fitting) }
+) -> Result<FirstValue, Refusal>
+    requires { Asks t.now (lends names.now area.now) h × (fit_of nodes.now attributes.now node_count attribute_count ≡ (Ok tt)) }
     ensures { result ≡ value_by h t.now (lends names.now area.now) name.now attributes.now
         (find_node h t.now (lends names.now area.now) tag.now node_count nodes.now) }
 {
@@ -177,12 +162,12 @@ fn value_in(
 // ---- what is asked once, however many questions follow
 
 // A head beside tables that fit, or 13. Ruled out: a head beside tables that do not.
-pub fn fitted(h: Head, fit: Fit) -> OpenRead
+pub fn fitted(h: Head, fit: Result<(), u32>) -> Result<Head, Refusal>
     ensures { result ≡ fitted_by h fit }
 {
     match fit {
-        Fit::Fitting => OpenRead::Open(h),
-        Fit::Unfit(k) => OpenRead::Closed(Refusal::TablesError(k)),
+        Ok(()) => Ok(h),
+        Err(k) => Err(Refusal::TablesError(k)),
     }
 }
 
@@ -196,14 +181,14 @@ pub fn open_tables(
     attributes: &[u32],
     node_count: u32,
     attribute_count: u32,
-) -> OpenRead
+) -> Result<Head, Refusal>
     ensures { result ≡ shared_of file.now (lends names.now area.now) nodes.now attributes.now
         node_count attribute_count }
 {
     let opened = open_file(file, names, area);
     match opened {
-        OpenRead::Open(h) => fitted(h, fit_of(nodes, attributes, node_count, attribute_count)),
-        OpenRead::Closed(why) => OpenRead::Closed(why),
+        Ok(h) => fitted(h, fit_of(nodes, attributes, node_count, attribute_count)),
+        Err(why) => Err(why),
     }
 }
 
@@ -223,7 +208,7 @@ pub fn first_value(
     name: &[u8],
     node_count: u32,
     attribute_count: u32,
-) -> FirstAnswer
+) -> Result<FirstValue, Refusal>
     ensures { FirstReads file.now (lends names.now area.now) nodes.now attributes.now
         tag.now name.now node_count attribute_count result }
 {
@@ -237,7 +222,7 @@ pub fn first_value(
         attribute_count,
     );
     match opened {
-        OpenRead::Open(h) => value_in(
+        Ok(h) => value_in(
             tables_of(file, h),
             names,
             area,
@@ -249,6 +234,6 @@ pub fn first_value(
             node_count,
             attribute_count,
         ),
-        OpenRead::Closed(why) => FirstAnswer::Refused(why),
+        Err(why) => Err(why),
     }
 }

@@ -5,7 +5,6 @@ ghost use Rattle.std.specs.Prelude.{◌≡◌, ◌+◌, ◌*◌, ◌≤◌, ltb,
 ghost use Rattle.records.specs.Words.{node_width};
 ghost use Rattle.first_value.specs.Question.{runs_from, fit_of};
 
-use super::Fit;
 use records::{NODE_COUNT, NODE_FIRST, attribute_place, node_place};
 
 // Whether a node's attributes pass the count. The sum is made as usize, where it does not wrap.
@@ -16,7 +15,7 @@ fn passes(attributes: u32, first: u32, number: u32) -> bool
 }
 
 // In tables of so many nodes: the first node whose attributes pass the count.
-fn runs_fit(nodes: &[u32], node_count: u32, attribute_count: u32) -> Fit
+fn runs_fit(nodes: &[u32], node_count: u32, attribute_count: u32) -> Result<(), u32>
     requires { node_width * node_count ≤ length nodes.now }
     ensures { result ≡ runs_from attribute_count 0 node_count nodes.now }
 {
@@ -28,23 +27,28 @@ fn runs_fit(nodes: &[u32], node_count: u32, attribute_count: u32) -> Fit
             nodes[at + NODE_FIRST],
             nodes[at + NODE_COUNT],
         ) {
-            return Fit::Unfit(k);
+            return Err(k);
         }
         k += 1;
     }
-    Fit::Fitting
+    Ok(())
 }
 
 // The counts first, by the words of both tables, and then each node.
 // Ruled out: the first bad node where a count is past the words, and a fit where a node without attributes begins past the count.
-pub fn fit_of(nodes: &[u32], attributes: &[u32], node_count: u32, attribute_count: u32) -> Fit
+pub fn fit_of(
+    nodes: &[u32],
+    attributes: &[u32],
+    node_count: u32,
+    attribute_count: u32,
+) -> Result<(), u32>
     ensures { result ≡ fit_of nodes.now attributes.now node_count attribute_count }
 {
     if nodes.len() < node_place(node_count) {
-        return Fit::Unfit(node_count);
+        return Err(node_count);
     }
     if attributes.len() < attribute_place(attribute_count) {
-        return Fit::Unfit(node_count);
+        return Err(node_count);
     }
     runs_fit(nodes, node_count, attribute_count)
 }

@@ -2,6 +2,7 @@
 -- In order: a pair by the words at its place (`words-..`), the tag of the one before it (`repeats-before`), pair by pair whether it lies inside (`pairsFrom-..`, `pairsOf-..`), the answers one
 -- behind the other (`answersFrom-..`, `answers-put`), the node of a pair (`node-..`), what is left behind (`gives-..`), and the call by whether
 -- the file is open (`many-open`, `many-closed`).
+use Rattle.std.specs.Prelude.{Option, Result, Ok, Err}
 use Prim.Native.Nat.{ℕ, zero, suc, ◌+◌, ◌-◌, ◌*◌, ◌/◌, ◌%◌, ◌≤◌, ◌<◌}
 use native.Mathlib.Omega.{arith}
 use mathlib.Core.Path.{◌≡◌, refl, sym, ◌∙◌, ap}
@@ -14,12 +15,8 @@ use lib.Dec.{eqb}
 use Rattle.errors.specs.Refusal.{first_numbers_of, pair_numbers_of}
 use Rattle.errors.specs.declared.Refusal.{Refusal}
 use Rattle.errors.specs.declared.Refusal.TheVariants.{PairsError, AnswersFull}
-use Rattle.errors.specs.declared.FirstAnswer.{FirstAnswer}
 use Rattle.errors.specs.declared.FirstNumbers.{FirstNumbers}
-use Rattle.errors.specs.declared.ManyAnswer.{ManyAnswer}
-use Rattle.errors.specs.declared.ManyAnswer.TheVariants.{Answered, Refused}
 use Rattle.head.specs.Head.{tables_in}
-use Rattle.head.specs.declared.OpenRead.TheVariants.{Open, Closed}
 use Rattle.head.proofs.Zeros.{zero-behind}
 use Rattle.items.specs.Items.{part_in}
 use Rattle.records.specs.Words.{pair_width, pair_tag, pair_tag_length, pair_name, pair_name_length, answer_width}
@@ -29,13 +26,11 @@ use Rattle.utf.proofs.Equal.{eq_bytes-true}
 use Rattle.system_types.specs.Names.{Lent}
 use Rattle.text.specs.declared.Head.{Head}
 use Rattle.first_value.specs.Question.{shared_of, value_by}
-use Rattle.first_value.specs.declared.NodeFound.{NodeFound}
 use Rattle.first_value.proofs.Search.{first-shared}
 use Rattle.first_values.specs.Pairs.{is_inside, pair_inside, tag_in, name_in, tag_at, name_at, pairs_from, pairs_of, number_words, answer_to, answers_from, many_by}
 use Rattle.first_values.specs.Pairs.{asks, many_answer, answers_after, ManyReads}
 use Rattle.first_values.specs.Inner.Known.{finds_in, asks_in, NodeOf, Repeats, Gives}
-use Rattle.first_values.specs.declared.PairsRead.{PairsRead}
-use Rattle.first_values.specs.declared.PairsRead.TheVariants.{Whole, Bad}
+use Rattle.errors.specs.declared.FirstValue.{FirstValue}
 
 -- ---- a pair by the words at its place
 
@@ -75,19 +70,19 @@ repeats-before pairs area k {s} {s'} p e f g q =
 -- ---- whether all lie inside
 
 module _ (area : List ℕ) (left n : ℕ) (w : List ℕ) (k : ℕ) where
-  pub pairs_from-end : n ≤ k → pairs_from area left k (n - k) (drop (pair_width * k) w) ≡ cond (eqb left 0) (Whole k) (Bad k)
+  pub pairs_from-end : n ≤ k → pairs_from area left k (n - k) (drop (pair_width * k) w) ≡ cond (eqb left 0) (Ok k) (Err k)
   unfolding pairs_from
   pairs_from-end p = let e : n - k ≡ 0 = omega arith in rw e
 
   pairs_from-step
       : k < n
       → pairs_from area left k (n - k) (drop (pair_width * k) w)
-      ≡ cond (pair_inside area (drop (pair_width * k) w)) (pairs_from area left (k + 1) (n - (k + 1)) (drop (pair_width * (k + 1)) w)) (Bad k)
+      ≡ cond (pair_inside area (drop (pair_width * k) w)) (pairs_from area left (k + 1) (n - (k + 1)) (drop (pair_width * (k + 1)) w)) (Err k)
   unfolding pairs_from
   pairs_from-step p = let e : n - k ≡ suc (n - (k + 1)) = omega arith in rw (e, drop-record pair_width k w)
 
   pub pairs_from-bad : {b : Bool} → k < n → b ≡ pair_inside area (drop (pair_width * k) w) → b ≡ false
-      → pairs_from area left k (n - k) (drop (pair_width * k) w) ≡ Bad k
+      → pairs_from area left k (n - k) (drop (pair_width * k) w) ≡ Err k
   pairs_from-bad p e q = pairs_from-step p ∙ rw (← e, q)
 
   pub pairs_from-next : {b : Bool} → k < n → b ≡ pair_inside area (drop (pair_width * k) w) → b ≡ true
@@ -95,43 +90,43 @@ module _ (area : List ℕ) (left n : ℕ) (w : List ℕ) (k : ℕ) where
   pairs_from-next p e q = pairs_from-step p ∙ rw (← e, q)
 
   -- behind the last pair
-  pub pairs_from-left : n ≤ k → k ≤ n → (left ≡ 0 → ⊥) → pairs_from area left k (n - k) (drop (pair_width * k) w) ≡ Bad n
-  pairs_from-left p q z = pairs_from-end p ∙ rw (ne_eqb left 0 z) (ap Bad (let e : k ≡ n = omega arith in e))
+  pub pairs_from-left : n ≤ k → k ≤ n → (left ≡ 0 → ⊥) → pairs_from area left k (n - k) (drop (pair_width * k) w) ≡ Err n
+  pairs_from-left p q z = pairs_from-end p ∙ rw (ne_eqb left 0 z) (ap Err (let e : k ≡ n = omega arith in e))
 
-  pub pairs_from-whole : n ≤ k → k ≤ n → left ≡ 0 → pairs_from area left k (n - k) (drop (pair_width * k) w) ≡ Whole n
-  pairs_from-whole p q z = pairs_from-end p ∙ rw (eq-eqb left 0 z) (ap Whole (let e : k ≡ n = omega arith in e))
+  pub pairs_from-whole : n ≤ k → k ≤ n → left ≡ 0 → pairs_from area left k (n - k) (drop (pair_width * k) w) ≡ Ok n
+  pairs_from-whole p q z = pairs_from-end p ∙ rw (eq-eqb left 0 z) (ap Ok (let e : k ≡ n = omega arith in e))
 
 -- what all pairs say
-pub pairs_of-by : (pairs area : List ℕ) {n : ℕ} {x : PairsRead} → n ≡ length pairs / pair_width
+pub pairs_of-by : (pairs area : List ℕ) {n : ℕ} {x : Result ℕ ℕ} → n ≡ length pairs / pair_width
     → pairs_from area (length pairs % pair_width) 0 n pairs ≡ x → x ≡ pairs_of pairs area
 unfolding pairs_of
 pairs_of-by pairs area e f = sym f ∙ ap (λ (m : ℕ). pairs_from area (length pairs % pair_width) 0 m pairs) e
 
 -- where all are good, there are as many as were counted
-pairs_from-count : (area : List ℕ) (left k n : ℕ) (w : List ℕ) {m : ℕ} → pairs_from area left k n w ≡ Whole m → m ≡ k + n
+pairs_from-count : (area : List ℕ) (left k n : ℕ) (w : List ℕ) {m : ℕ} → pairs_from area left k n w ≡ Ok m → m ≡ k + n
 unfolding pairs_from
 pairs_from-count area left k zero w {m} e = go (eqb left 0) e
   where
-    go : (b : Bool) → cond b (Whole k) (Bad k) ≡ Whole m → m ≡ k + 0
+    go : (b : Bool) → cond b (Ok k) (Err k) ≡ Ok m → m ≡ k + 0
     go true q = let z : k ≡ m = cc in omega (arith, z)
     go false q = let z : ◌≡◌ {A = ℕ} 0 1 = cc in absurd (let v : ⊥ = omega arith in v)
 pairs_from-count area left k (suc n) w {m} e = go (pair_inside area w) e (pairs_from-count area left (k + 1) n (drop pair_width w))
   where
     go
         : (b : Bool)
-        → cond b (pairs_from area left (k + 1) n (drop pair_width w)) (Bad k) ≡ Whole m
-        → (pairs_from area left (k + 1) n (drop pair_width w) ≡ Whole m → m ≡ k + 1 + n)
+        → cond b (pairs_from area left (k + 1) n (drop pair_width w)) (Err k) ≡ Ok m
+        → (pairs_from area left (k + 1) n (drop pair_width w) ≡ Ok m → m ≡ k + 1 + n)
         → m ≡ k + suc n
     go true q ind = let z = ind q in omega (arith, z)
     go false q ind = let z : ◌≡◌ {A = ℕ} 0 1 = cc in absurd (let v : ⊥ = omega arith in v)
 
-pub pairs_of-count : (pairs area : List ℕ) {n : ℕ} → pairs_of pairs area ≡ Whole n → n ≡ length pairs / pair_width
+pub pairs_of-count : (pairs area : List ℕ) {n : ℕ} → pairs_of pairs area ≡ Ok n → n ≡ length pairs / pair_width
 unfolding pairs_of
 pairs_of-count pairs area {n} e = let z = pairs_from-count area (length pairs % pair_width) 0 (length pairs / pair_width) pairs e in omega (arith, z)
 
 -- ---- the answers one behind the other
 
-module _ (ask : List ℕ → List ℕ → FirstAnswer) (area : List ℕ) where
+module _ (ask : List ℕ → List ℕ → Result FirstValue Refusal) (area : List ℕ) where
   pub answers_from-length : (n : ℕ) (w : List ℕ) → length (answers_from ask area n w) ≡ answer_width * n
   unfolding answers_from
   answers_from-length zero w = refl
@@ -180,8 +175,8 @@ module _ (ask : List ℕ → List ℕ → FirstAnswer) (area : List ℕ) where
 
 -- the words of an answer, by what the search gave
 pub answer-words
-    : (h : Head) (t : List ℕ) (lent : Lent) (ns : List ℕ) (nodes : ℕ) (ats pairs area : List ℕ) (k : ℕ) {node : NodeFound} {name : List ℕ}
-    {value : FirstAnswer} {numbers : FirstNumbers}
+    : (h : Head) (t : List ℕ) (lent : Lent) (ns : List ℕ) (nodes : ℕ) (ats pairs area : List ℕ) (k : ℕ) {node : Option (ℕ × ℕ)} {name : List ℕ}
+    {value : Result FirstValue Refusal} {numbers : FirstNumbers}
     → node ≡ finds_in h t lent ns nodes (tag_at pairs area k)
     → name ≡ name_at pairs area k
     → value ≡ value_by h t lent name ats node
@@ -190,7 +185,7 @@ pub answer-words
 answer-words h t lent ns nodes ats pairs area k e f g q = ap number_words (q ∙ ap first_numbers_of (g ∙ rw (e, f)))
 
 pub answers_from-same
-    : (f g : List ℕ → List ℕ → FirstAnswer) → ((tag name : List ℕ) → f tag name ≡ g tag name)
+    : (f g : List ℕ → List ℕ → Result FirstValue Refusal) → ((tag name : List ℕ) → f tag name ≡ g tag name)
     → (area : List ℕ) (n : ℕ) (w : List ℕ) → answers_from f area n w ≡ answers_from g area n w
 unfolding answers_from
 answers_from-same f g e area zero w = refl
@@ -199,15 +194,15 @@ answers_from-same f g e area (suc n) w = rw (e (tag_in area w) (name_in area w),
 -- ---- the node of a pair
 
 -- nothing is known before the first
-pub node-none : (find : List ℕ → NodeFound) (pairs area : List ℕ) (node : NodeFound) → NodeOf find pairs area 0 node
+pub node-none : (find : List ℕ → Option (ℕ × ℕ)) (pairs area : List ℕ) (node : Option (ℕ × ℕ)) → NodeOf find pairs area 0 node
 node-none find pairs area node = record { known = λ j e. absurd (let z : ⊥ = omega (arith, e) in z) }
 
-pub node-next : (find : List ℕ → NodeFound) (pairs area : List ℕ) (k : ℕ) (node : NodeFound) → node ≡ find (tag_at pairs area k)
+pub node-next : (find : List ℕ → Option (ℕ × ℕ)) (pairs area : List ℕ) (k : ℕ) (node : Option (ℕ × ℕ)) → node ≡ find (tag_at pairs area k)
     → NodeOf find pairs area (k + 1) node
 node-next find pairs area k node e =
     record { known = λ j q. e ∙ ap (λ (x : ℕ). find (tag_at pairs area x)) (let z : k ≡ j = omega (arith, q) in z) }
 
-pub node-repeats : (find : List ℕ → NodeFound) (pairs area : List ℕ) (k : ℕ) (node : NodeFound) → NodeOf find pairs area k node
+pub node-repeats : (find : List ℕ → Option (ℕ × ℕ)) (pairs area : List ℕ) (k : ℕ) (node : Option (ℕ × ℕ)) → NodeOf find pairs area k node
     → Repeats pairs area k → node ≡ find (tag_at pairs area k)
 node-repeats find pairs area k node o r = o.known r.before r.next ∙ ap find (sym r.same)
 
@@ -220,7 +215,7 @@ pub gives-answers
     → n ≤ length before / answer_width
     → l ≡ words ++ drop (answer_width * n) before
     → after ≡ take (answer_width * n) l ++ replicate (length l - answer_width * n) 0
-    → Gives (length before) words (many_by (length before / answer_width) (Whole n)) (Answered n) after
+    → Gives (length before) words (many_by (length before / answer_width) (Ok n)) (Ok n) after
 gives-answers words before l after n w p e z =
     let fits : answer_width * n ≤ length before = omega arith in
     let z' = zero-behind words before l after (answer_width * n) (omega (arith, w, fits)) (sym w) (e ∙ rw w) z in
@@ -229,37 +224,37 @@ gives-answers words before l after n w p e z =
 
 -- with fewer places than pairs
 pub gives-full
-    : (m n : ℕ) (words after : List ℕ) {r : ManyAnswer}
+    : (m n : ℕ) (words after : List ℕ) {r : Result ℕ Refusal}
     → m / answer_width < n
-    → Gives m words (Refused (AnswersFull (m / answer_width))) r after
-    → Gives m words (many_by (m / answer_width) (Whole n)) r after
+    → Gives m words (Err (AnswersFull (m / answer_width))) r after
+    → Gives m words (many_by (m / answer_width) (Ok n)) r after
 gives-full m n words after p g = rw (lt-leb n (m / answer_width) p) g
 
 -- the pairs read
 pub gives_whole
-    : (ask : List ℕ → List ℕ → FirstAnswer) (pairs area : List ℕ) (m : ℕ) (after : List ℕ) {r : ManyAnswer} {x : PairsRead} {n : ℕ}
+    : (ask : List ℕ → List ℕ → Result FirstValue Refusal) (pairs area : List ℕ) (m : ℕ) (after : List ℕ) {r : Result ℕ Refusal} {x : Result ℕ ℕ} {n : ℕ}
     → x ≡ pairs_of pairs area
-    → x ≡ Whole n
-    → Gives m (answers_from ask area n pairs) (many_by (m / answer_width) (Whole n)) r after
+    → x ≡ Ok n
+    → Gives m (answers_from ask area n pairs) (many_by (m / answer_width) (Ok n)) r after
     → Gives m (answers_from ask area (length pairs / pair_width) pairs) (many_by (m / answer_width) (pairs_of pairs area)) r after
 gives_whole ask pairs area m after e q g =
     let c = pairs_of-count pairs area (sym e ∙ q) in
     rw (sym e ∙ q, ← c) g
 
 pub gives-bad
-    : (pairs area words : List ℕ) (m : ℕ) (after : List ℕ) {r : ManyAnswer} {x : PairsRead} {k : ℕ}
+    : (pairs area words : List ℕ) (m : ℕ) (after : List ℕ) {r : Result ℕ Refusal} {x : Result ℕ ℕ} {k : ℕ}
     → x ≡ pairs_of pairs area
-    → x ≡ Bad k
-    → Gives m words (Refused (PairsError k)) r after
+    → x ≡ Err k
+    → Gives m words (Err (PairsError k)) r after
     → Gives m words (many_by (m / answer_width) (pairs_of pairs area)) r after
 gives-bad pairs area words m after e q g = rw (sym e ∙ q) g
 
 -- ---- the call
 
-module _ (f : List ℕ) (lent : Lent) (ns ats pairs area before : List ℕ) (nodes attributes : ℕ) (r : ManyAnswer) (after : List ℕ) where
+module _ (f : List ℕ) (lent : Lent) (ns ats pairs area before : List ℕ) (nodes attributes : ℕ) (r : Result ℕ Refusal) (after : List ℕ) where
   pub many-open
       : {h : Head} {t : List ℕ}
-      → shared_of f lent ns ats nodes attributes ≡ Open h
+      → shared_of f lent ns ats nodes attributes ≡ Ok h
       → t ≡ tables_in f h
       → Gives (length before) (answers_from (asks_in h t lent ns nodes ats) area (length pairs / pair_width) pairs)
       (many_by (length before / answer_width) (pairs_of pairs area)) r after
@@ -275,8 +270,8 @@ module _ (f : List ℕ) (lent : Lent) (ns ats pairs area before : List ℕ) (nod
 
   pub many-closed
       : {why : Refusal}
-      → shared_of f lent ns ats nodes attributes ≡ Closed why
-      → ((words : List ℕ) → Gives (length before) words (Refused why) r after)
+      → shared_of f lent ns ats nodes attributes ≡ Err why
+      → ((words : List ℕ) → Gives (length before) words (Err why) r after)
       → ManyReads f lent ns ats pairs area before nodes attributes r after
   unfolding many_answer answers_after
   many-closed e g = record { answer = rw e (ap pair_numbers_of (g []).same); list = rw e (g []).list }

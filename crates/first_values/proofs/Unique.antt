@@ -1,6 +1,7 @@
 -- What follows from the promise of specs/Pairs.antt: two results are equal (`many-unique`); zeros beside a refusal and behind the answers
 -- (`many-refused`, `many-done`); the words of answer i are the numbers of the single question's answer to pair i (`many-asks`), which finds a
 -- value or says 12 (`many-found`). No contract cites this file.
+use Rattle.std.specs.Prelude.{Option, Some, None, Result, Ok, Err}
 use Prim.Native.Nat.{ℕ, zero, suc, ◌+◌, ◌-◌, ◌*◌, ◌/◌, ◌≤◌, ◌<◌}
 use native.Mathlib.Omega.{arith}
 use mathlib.Core.Path.{◌≡◌, refl, sym, ◌∙◌, ap}
@@ -12,28 +13,19 @@ use lib.Seq.{drop_at, drop-drop}
 use lib.Dec.{leb}
 use Rattle.errors.specs.declared.Refusal.{Refusal}
 use Rattle.errors.specs.declared.Refusal.TheVariants.{NothingFound}
-use Rattle.errors.specs.declared.FirstAnswer.{FirstAnswer}
-use Rattle.errors.specs.declared.FirstAnswer.TheVariants as one
-use Rattle.errors.specs.declared.ManyAnswer.{ManyAnswer}
-use Rattle.errors.specs.declared.ManyAnswer.TheVariants.{Answered, Refused}
 use Rattle.errors.proofs.Laws.{pair_numbers_of-unique, first_numbers_of-unique}
-use Rattle.head.specs.declared.OpenRead.{OpenRead}
-use Rattle.head.specs.declared.OpenRead.TheVariants.{Open, Closed}
 use Rattle.records.specs.Words.{pair_width, answer_width, attribute_width, attribute_prefix, attribute_name, attribute_type, attribute_data}
 use Rattle.system_types.specs.Names.{Lent}
 use Rattle.text.specs.declared.Head.{Head}
 use Rattle.head.specs.Head.{tables_in}
 use Rattle.first_value.specs.Question.{shared_of, name_is, found_by, find_node, find_value, value_by, FirstReads}
-use Rattle.first_value.specs.declared.NodeFound.{NodeFound}
-use Rattle.first_value.specs.declared.NodeFound.TheVariants.{Run, NoNode}
 use Rattle.first_value.proofs.Search.{first-shared}
 use Rattle.first_values.specs.Pairs.{tag_at, name_at, pairs_of, number_words, answer_to, answers_from, many_asked_by, asks, many_answer, answers_after, ManyReads}
-use Rattle.first_values.specs.declared.PairsRead.{PairsRead}
-use Rattle.first_values.specs.declared.PairsRead.TheVariants.{Whole, Bad}
 use Rattle.first_values.proofs.Laws.{pairs_of-count, answers_from-length}
+use Rattle.errors.specs.declared.FirstValue.{FirstValue}
 
 -- a search that finds nothing says 12
-twelve-in : (h : Head) (t : List ℕ) (lent : Lent) (name : List ℕ) (n : ℕ) (w : List ℕ) (x : Refusal) → find_value h t lent name n w ≡ one.Refused x
+twelve-in : (h : Head) (t : List ℕ) (lent : Lent) (name : List ℕ) (n : ℕ) (w : List ℕ) (x : Refusal) → find_value h t lent name n w ≡ Err x
     → x ≡ NothingFound
 unfolding find_value
 twelve-in h t lent name zero w x e = let z : NothingFound ≡ x = cc in sym z
@@ -42,20 +34,20 @@ twelve-in h t lent name (suc n) w x e =
   where
     go
         : (b : Bool)
-        → cond b (found_by (get_or w attribute_type 0) (get_or w attribute_data 0)) (find_value h t lent name n (drop attribute_width w)) ≡ one.Refused x
-        → (find_value h t lent name n (drop attribute_width w) ≡ one.Refused x → x ≡ NothingFound)
+        → cond b (found_by (get_or w attribute_type 0) (get_or w attribute_data 0)) (find_value h t lent name n (drop attribute_width w)) ≡ Err x
+        → (find_value h t lent name n (drop attribute_width w) ≡ Err x → x ≡ NothingFound)
         → x ≡ NothingFound
     go true q ind = let z : ◌≡◌ {A = ℕ} 0 1 = cc in absurd (let v : ⊥ = omega arith in v)
     go false q ind = ind q
 
-only-twelve : (h : Head) (t : List ℕ) (lent : Lent) (name ats : List ℕ) (node : NodeFound) (x : Refusal) → value_by h t lent name ats node ≡ one.Refused x
+only-twelve : (h : Head) (t : List ℕ) (lent : Lent) (name ats : List ℕ) (node : Option (ℕ × ℕ)) (x : Refusal) → value_by h t lent name ats node ≡ Err x
     → x ≡ NothingFound
-only-twelve h t lent name ats NoNode x e = let z : NothingFound ≡ x = cc in sym z
-only-twelve h t lent name ats (Run first number) x e = twelve-in h t lent name number (drop (attribute_width * first) ats) x e
+only-twelve h t lent name ats None x e = let z : NothingFound ≡ x = cc in sym z
+only-twelve h t lent name ats (Some (first, number)) x e = twelve-in h t lent name number (drop (attribute_width * first) ats) x e
 
 -- the words of answer i, whatever follows all of them
 answer_at
-    : (ask : List ℕ → List ℕ → FirstAnswer) (area z : List ℕ) (i n : ℕ) (w : List ℕ) → i < n
+    : (ask : List ℕ → List ℕ → Result FirstValue Refusal) (area z : List ℕ) (i n : ℕ) (w : List ℕ) → i < n
     → take answer_width (drop (answer_width * i) (answers_from ask area n w ++ z)) ≡ answer_to (ask (tag_at w area i) (name_at w area i))
 unfolding answers_from
 answer_at ask area z i zero w h = absurd (let v : ⊥ = omega (arith, h) in v)
@@ -72,27 +64,27 @@ answer_at ask area z (suc i) (suc n) w h =
 
 module _ (f : List ℕ) (lent : Lent) (ns ats pairs area before : List ℕ) (nodes attributes : ℕ) where
   -- P4
-  pub many-unique : {r r' : ManyAnswer} {after after' : List ℕ} → ManyReads f lent ns ats pairs area before nodes attributes r after
+  pub many-unique : {r r' : Result ℕ Refusal} {after after' : List ℕ} → ManyReads f lent ns ats pairs area before nodes attributes r after
       → ManyReads f lent ns ats pairs area before nodes attributes r' after' → (r ≡ r') × (after ≡ after')
   many-unique p q = (pair_numbers_of-unique _ _ (p.answer ∙ sym q.answer), p.list ∙ sym q.list)
 
-  told : {r : ManyAnswer} {after : List ℕ} → ManyReads f lent ns ats pairs area before nodes attributes r after
+  told : {r : Result ℕ Refusal} {after : List ℕ} → ManyReads f lent ns ats pairs area before nodes attributes r after
       → many_answer f lent ns ats nodes attributes pairs area (length before) ≡ r
   told p = sym (pair_numbers_of-unique _ _ p.answer)
 
-  pub many-refused : (x : Refusal) (after : List ℕ) → ManyReads f lent ns ats pairs area before nodes attributes (Refused x) after
+  pub many-refused : (x : Refusal) (after : List ℕ) → ManyReads f lent ns ats pairs area before nodes attributes (Err x) after
       → after ≡ replicate (length before) 0
   unfolding answers_after
   many-refused x after p = p.list ∙ rw (told p)
 
   -- how many were answered: all pairs, and there are places
-  answered : {n : ℕ} → many_answer f lent ns ats nodes attributes pairs area (length before) ≡ Answered n
+  answered : {n : ℕ} → many_answer f lent ns ats nodes attributes pairs area (length before) ≡ Ok n
       → (n ≡ length pairs / pair_width) × (answer_width * n ≤ length before)
   unfolding many_answer
   answered {n} e = go (shared_of f lent ns ats nodes attributes) (pairs_of pairs area) refl e
     where
-      fits : (k : ℕ) → pairs_of pairs area ≡ Whole k → (b : Bool) → leb k (length before / answer_width) ≡ b
-          → cond b (Answered k) (Refused (Rattle.errors.specs.declared.Refusal.TheVariants.AnswersFull (length before / answer_width))) ≡ Answered n
+      fits : (k : ℕ) → pairs_of pairs area ≡ Ok k → (b : Bool) → leb k (length before / answer_width) ≡ b
+          → cond b (Ok k) (Err (Rattle.errors.specs.declared.Refusal.TheVariants.AnswersFull (length before / answer_width))) ≡ Ok n
           → (n ≡ length pairs / pair_width) × (answer_width * n ≤ length before)
       fits k c false l q = let z : ◌≡◌ {A = ℕ} 0 1 = cc in absurd (let v : ⊥ = omega arith in v)
       fits k c true l q =
@@ -101,24 +93,24 @@ module _ (f : List ℕ) (lent : Lent) (ns ats pairs area before : List ℕ) (nod
           let s = pairs_of-count pairs area c in
           (omega (arith, y, s), omega (arith, y, p))
 
-      go : (x : OpenRead) (y : PairsRead) → pairs_of pairs area ≡ y → many_asked_by (length before / answer_width) y x ≡ Answered n
+      go : (x : Result Head Refusal) (y : Result ℕ ℕ) → pairs_of pairs area ≡ y → many_asked_by (length before / answer_width) y x ≡ Ok n
           → (n ≡ length pairs / pair_width) × (answer_width * n ≤ length before)
-      go (Closed r) y c q = let z : ◌≡◌ {A = ℕ} 0 1 = cc in absurd (let v : ⊥ = omega arith in v)
-      go (Open h) (Bad k) c q = let z : ◌≡◌ {A = ℕ} 0 1 = cc in absurd (let v : ⊥ = omega arith in v)
-      go (Open h) (Whole k) c q = fits k c (leb k (length before / answer_width)) refl q
+      go (Err r) y c q = let z : ◌≡◌ {A = ℕ} 0 1 = cc in absurd (let v : ⊥ = omega arith in v)
+      go (Ok h) (Err k) c q = let z : ◌≡◌ {A = ℕ} 0 1 = cc in absurd (let v : ⊥ = omega arith in v)
+      go (Ok h) (Ok k) c q = fits k c (leb k (length before / answer_width)) refl q
 
   -- and then the head is open and the tables fit
-  opened : {n : ℕ} → many_answer f lent ns ats nodes attributes pairs area (length before) ≡ Answered n
-      → (h : Head) × (shared_of f lent ns ats nodes attributes ≡ Open h)
+  opened : {n : ℕ} → many_answer f lent ns ats nodes attributes pairs area (length before) ≡ Ok n
+      → (h : Head) × (shared_of f lent ns ats nodes attributes ≡ Ok h)
   unfolding many_answer
   opened {n} e = go (shared_of f lent ns ats nodes attributes) refl e
     where
-      go : (x : OpenRead) → shared_of f lent ns ats nodes attributes ≡ x → many_asked_by (length before / answer_width) (pairs_of pairs area) x ≡ Answered n
-          → (h : Head) × (shared_of f lent ns ats nodes attributes ≡ Open h)
-      go (Closed r) c q = let z : ◌≡◌ {A = ℕ} 0 1 = cc in absurd (let v : ⊥ = omega arith in v)
-      go (Open h) c q = (h, c)
+      go : (x : Result Head Refusal) → shared_of f lent ns ats nodes attributes ≡ x → many_asked_by (length before / answer_width) (pairs_of pairs area) x ≡ Ok n
+          → (h : Head) × (shared_of f lent ns ats nodes attributes ≡ Ok h)
+      go (Err r) c q = let z : ◌≡◌ {A = ℕ} 0 1 = cc in absurd (let v : ⊥ = omega arith in v)
+      go (Ok h) c q = (h, c)
 
-  module _ (n : ℕ) (after : List ℕ) (p : ManyReads f lent ns ats pairs area before nodes attributes (Answered n) after) where
+  module _ (n : ℕ) (after : List ℕ) (p : ManyReads f lent ns ats pairs area before nodes attributes (Ok n) after) where
     abbrev words : List ℕ
     words = answers_from (asks f lent ns ats nodes attributes) area n pairs
 
@@ -143,7 +135,7 @@ module _ (f : List ℕ) (lent : Lent) (ns ats pairs area before : List ℕ) (nod
         (a.0, a.1, l, ap (drop (answer_width * n)) list ∙ drop_at words (replicate (length before - answer_width * n) 0) (answer_width * n) long)
 
     -- answer i is that of the single question to pair i
-    pub many-asks : (i : ℕ) → i < n → (a : FirstAnswer) → FirstReads f lent ns ats (tag_at pairs area i) (name_at pairs area i) nodes attributes a
+    pub many-asks : (i : ℕ) → i < n → (a : Result FirstValue Refusal) → FirstReads f lent ns ats (tag_at pairs area i) (name_at pairs area i) nodes attributes a
         → take answer_width (drop (answer_width * i) after) ≡ answer_to a
     many-asks i h a q =
         ap (λ (l : List ℕ). take answer_width (drop (answer_width * i) l)) list
@@ -151,7 +143,7 @@ module _ (f : List ℕ) (lent : Lent) (ns ats pairs area before : List ℕ) (nod
         ∙ ap number_words (sym q.answer)
 
     -- which says 12 or finds a value: what refuses any question would have refused the call
-    pub many-found : (tag name : List ℕ) (x : Refusal) → FirstReads f lent ns ats tag name nodes attributes (one.Refused x) → x ≡ NothingFound
+    pub many-found : (tag name : List ℕ) (x : Refusal) → FirstReads f lent ns ats tag name nodes attributes (Err x) → x ≡ NothingFound
     many-found tag name x q =
         let s = opened (told p) in
         let e = first_numbers_of-unique _ _ q.answer ∙ first-shared f lent ns ats tag name nodes attributes s.1 in

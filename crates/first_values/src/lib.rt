@@ -7,31 +7,21 @@
 
 pub mod pairs;
 
-ghost use Rattle.std.specs.Prelude.{◌≡◌, List, ◌++◌, ◌+◌, ◌*◌, ◌/◌, ◌≤◌, length, take, drop};
-ghost use Rattle.errors.specs.declared.ManyAnswer.TheVariants.{Refused};
+ghost use Rattle.std.specs.Prelude.{◌≡◌, List, ◌++◌, ◌+◌, ◌*◌, ◌/◌, ◌≤◌, length, take, drop, Ok, Err};
 ghost use Rattle.records.specs.Words.{node_width, pair_width, answer_width};
 ghost use Rattle.system_types.specs.Names.{lends};
 ghost use Rattle.text.specs.Inner.Found.{Asks};
-ghost use Rattle.first_value.specs.declared.Fit.TheVariants.{Fitting};
 ghost use Rattle.first_value.specs.Question.{fit_of};
-ghost use Rattle.first_values.specs.declared.PairsRead.TheVariants.{Whole};
 ghost use Rattle.first_values.specs.Pairs.{tag_at, pairs_of, number_words, answers_from, many_by, ManyReads};
 ghost use Rattle.first_values.specs.Inner.Known.{finds_in, asks_in, NodeOf, Gives};
 
-use errors::{FirstNumbers, ManyAnswer, Refusal, first_numbers};
-use first_value::{NodeFound, find_node, open_tables, value_of};
-use head::{OpenRead, tables_of};
+use errors::{FirstNumbers, Refusal, first_numbers};
+use first_value::{find_node, open_tables, value_of};
+use head::tables_of;
 use pairs::{name_at, read_pairs, repeats_tag, tag_at};
 use records::{ANSWER_DATA, ANSWER_REFERENCE, ANSWER_REFUSAL, ANSWER_TYPE, ANSWER_WORDS};
 use tables::{zero_all, zero_from};
 use text::Head;
-
-// How many pairs there are, or the first that does not lie in the area, or how many whole ones there are where words remain.
-#[derive(Clone, Copy)]
-pub enum PairsRead {
-    Whole(usize),
-    Bad(usize),
-}
 
 // ---- one pair
 
@@ -46,8 +36,8 @@ fn node_for(
     pair_area: &[u8],
     node_count: u32,
     k: usize,
-    last: NodeFound,
-) -> NodeFound
+    last: Option<(u32, u32)>,
+) -> Option<(u32, u32)>
     requires { Asks t.now (lends names.now area.now) h × (node_width * node_count ≤ length nodes.now)
         × (pair_width * k + pair_width ≤ length pairs.now)
         × NodeOf (finds_in h t.now (lends names.now area.now) nodes.now node_count) pairs.now pair_area.now k last }
@@ -98,14 +88,14 @@ fn answer_each(
     attribute_count: u32,
     n: usize,
 )
-    requires { Asks t.now (lends names.now area.now) h × (fit_of nodes.now attributes.now node_count attribute_count ≡ Fitting)
+    requires { Asks t.now (lends names.now area.now) h × (fit_of nodes.now attributes.now node_count attribute_count ≡ (Ok tt))
         × (pair_width * n ≤ length pairs.now) × (answer_width * n ≤ length answers.old) }
     ensures { answers.new
         ≡ answers_from (asks_in h t.now (lends names.now area.now) nodes.now node_count attributes.now)
         pair_area.now n pairs.now ++ drop (answer_width * n) answers.old }
 {
     let mut k: usize = 0;
-    let mut node = NodeFound::NoNode;
+    let mut node = None;
     while k < n {
         node = node_for(
             t, names, area, h, nodes, pairs, pair_area, node_count, k, node,
@@ -125,11 +115,11 @@ fn answer_each(
 }
 
 // Zeros all over, and the refusal.
-fn refuse(answers: &mut [u32], why: Refusal) -> ManyAnswer
-    ensures { (words : List _) → Gives (length answers.old) words (Refused why) result answers.new }
+fn refuse(answers: &mut [u32], why: Refusal) -> Result<usize, Refusal>
+    ensures { (words : List _) → Gives (length answers.old) words (Err why) result answers.new }
 {
     zero_all(answers);
-    ManyAnswer::Refused(why)
+    Err(why)
 }
 
 // Of n pairs that lie in the area, where the list has a place for each.
@@ -146,13 +136,13 @@ fn answer_pairs(
     node_count: u32,
     attribute_count: u32,
     n: usize,
-) -> ManyAnswer
-    requires { Asks t.now (lends names.now area.now) h × (fit_of nodes.now attributes.now node_count attribute_count ≡ Fitting)
+) -> Result<usize, Refusal>
+    requires { Asks t.now (lends names.now area.now) h × (fit_of nodes.now attributes.now node_count attribute_count ≡ (Ok tt))
         × (pair_width * n ≤ length pairs.now) }
     ensures { Gives (length answers.old)
         (answers_from (asks_in h t.now (lends names.now area.now) nodes.now node_count attributes.now)
         pair_area.now n pairs.now)
-        (many_by (length answers.old / answer_width) (Whole n)) result answers.new }
+        (many_by (length answers.old / answer_width) (Ok n)) result answers.new }
 {
     let places = answers.len() / ANSWER_WORDS;
     if places < n {
@@ -173,7 +163,7 @@ fn answer_pairs(
         n,
     );
     zero_from(answers, ANSWER_WORDS * n);
-    ManyAnswer::Answered(n)
+    Ok(n)
 }
 
 // All pairs are looked at before any is answered.
@@ -189,8 +179,8 @@ fn answers_in(
     answers: &mut [u32],
     node_count: u32,
     attribute_count: u32,
-) -> ManyAnswer
-    requires { Asks t.now (lends names.now area.now) h × (fit_of nodes.now attributes.now node_count attribute_count ≡ Fitting) }
+) -> Result<usize, Refusal>
+    requires { Asks t.now (lends names.now area.now) h × (fit_of nodes.now attributes.now node_count attribute_count ≡ (Ok tt)) }
     ensures { Gives (length answers.old)
         (answers_from (asks_in h t.now (lends names.now area.now) nodes.now node_count attributes.now)
         pair_area.now (length pairs.now / pair_width) pairs.now)
@@ -198,7 +188,7 @@ fn answers_in(
 {
     let read = read_pairs(pairs, pair_area);
     match read {
-        PairsRead::Whole(n) => answer_pairs(
+        Ok(n) => answer_pairs(
             t,
             names,
             area,
@@ -212,7 +202,7 @@ fn answers_in(
             attribute_count,
             n,
         ),
-        PairsRead::Bad(k) => refuse(answers, Refusal::PairsError(k)),
+        Err(k) => refuse(answers, Refusal::PairsError(k)),
     }
 }
 
@@ -231,7 +221,7 @@ pub fn first_values(
     answers: &mut [u32],
     node_count: u32,
     attribute_count: u32,
-) -> ManyAnswer
+) -> Result<usize, Refusal>
     ensures { ManyReads file.now (lends names.now area.now) nodes.now attributes.now
         pairs.now pair_area.now answers.old node_count attribute_count result answers.new }
 {
@@ -245,7 +235,7 @@ pub fn first_values(
         attribute_count,
     );
     match opened {
-        OpenRead::Open(h) => answers_in(
+        Ok(h) => answers_in(
             tables_of(file, h),
             names,
             area,
@@ -258,6 +248,6 @@ pub fn first_values(
             node_count,
             attribute_count,
         ),
-        OpenRead::Closed(why) => refuse(answers, why),
+        Err(why) => refuse(answers, why),
     }
 }

@@ -6,7 +6,6 @@ ghost use Rattle.records.specs.Words.{pair_width};
 ghost use Rattle.first_values.specs.Pairs.{is_inside, pair_inside, tag_at, name_at, pairs_of};
 ghost use Rattle.first_values.specs.Inner.Known.{Repeats};
 
-use super::PairsRead;
 use items::part_of;
 use records::{PAIR_NAME, PAIR_NAME_LENGTH, PAIR_TAG, PAIR_TAG_LENGTH, PAIR_WORDS};
 use utf::same::same_bytes;
@@ -32,21 +31,21 @@ fn is_pair_inside(pairs: &[u32], area: &[u8], k: usize) -> bool
 
 // All pairs in turn, and then the words that are left.
 // Ruled out: a pair refused that ends with the area, and words left over told where a pair before them does not lie inside.
-pub fn read_pairs(pairs: &[u32], area: &[u8]) -> PairsRead
+pub fn read_pairs(pairs: &[u32], area: &[u8]) -> Result<usize, usize>
     ensures { result ≡ pairs_of pairs.now area.now }
 {
     let n = pairs.len() / PAIR_WORDS;
     let mut k: usize = 0;
     while k < n {
         if !is_pair_inside(pairs, area, k) {
-            return PairsRead::Bad(k);
+            return Err(k);
         }
         k += 1;
     }
     if pairs.len() % PAIR_WORDS != 0 {
-        return PairsRead::Bad(n);
+        return Err(n);
     }
-    PairsRead::Whole(n)
+    Ok(n)
 }
 
 // The tag of pair k.

@@ -1,6 +1,7 @@
 -- The cases of specs/Head.antt, and the parts of a file by a head. No contract cites this file.
 -- In order: the map (`mapped_by-of`), the pool (`tables_of-complete`, `tables_of-cut`), the file's header (`opened_of-small`, `-size`,
 -- `-tables`); as many bytes as are there (`take_min`, `drop_min`, `tables_in-by`, `body_in-by`); the offsets (`outside_in-by`).
+use Rattle.std.specs.Prelude.{Result}
 use Prim.Native.Nat.{ℕ, ◌+◌, ◌-◌, ◌*◌, ◌/◌, ◌≤◌, ◌<◌, min}
 use native.Mathlib.Omega.{arith}
 use native.Mathlib.Nat.{le_of_eq}
@@ -21,12 +22,12 @@ use Rattle.res_string_pool.specs.declared.PoolEnd.TheVariants.{Complete}
 use Rattle.res_string_pool.proofs.Offsets.{outside_of-take}
 use Rattle.res_string_pool.proofs.Laws.{pool_of-fits}
 use Rattle.resource_map.specs.Map.{map_of}
-use Rattle.resource_map.specs.declared.MapRead.{MapRead}
 use Rattle.text.specs.declared.Head.{Head}
 use Rattle.text.specs.Inner.Found.{Fits}
 use Rattle.head.specs.Head.{cut_pool, mapped_by, pooled_by, unopened, tables_of, opened_of, head_len, tables_in, body_in, outside_in}
 use Rattle.head.specs.declared.HeadEnd.TheVariants.{TooSmall, HeaderSize}
 use Rattle.head.specs.declared.PoolPart.{PoolPart}
+use Rattle.resource_map.specs.declared.MapShort.{MapShort}
 
 -- all that follows a place, as a range gives it
 pub rest_all : (at : ℕ) (l : List ℕ) → take (length l - at) (drop at l) ≡ drop at l
@@ -35,7 +36,7 @@ rest_all at l = take_all (length l - at) (drop at l) (le_of_eq (length-drop at l
 -- ---- the map
 
 pub mapped_by-of
-    : (g : Garbage) (p : Pool) (at : ℕ) (t : List ℕ) {r m : MapRead}
+    : (g : Garbage) (p : Pool) (at : ℕ) (t : List ℕ) {r m : Result ℕ MapShort}
     → r ≡ map_of (take (length t - at) (drop at t))
     → r ≡ m
     → mapped_by t g p m ≡ mapped_by t g p (map_of (drop at t))

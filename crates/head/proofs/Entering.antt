@@ -1,5 +1,6 @@
 -- Laws of specs/Entry.antt, for every entry point. No contract cites this file.
 -- In order: one check (`lengthCheck-..`, `cap-..`, `mode-..`), what all of them say (`passed`, `passes-all`), and what `enter` gives (`entered-..`).
+use Rattle.std.specs.Prelude.{Result, Ok, Err}
 use Prim.Native.Nat.{ℕ, zero, suc, ◌≤◌, ◌<◌}
 use native.Mathlib.Omega.{arith}
 use mathlib.Core.Path.{◌≡◌, refl, sym, ap, ◌∙◌}
@@ -12,15 +13,12 @@ use Rattle.records.specs.Limits.{file_limit}
 use Rattle.errors.specs.declared.Refusal.{Refusal}
 use Rattle.errors.specs.declared.Refusal.TheVariants.{TooLargeError, SystemNamesError, NotesOff, ModeError}
 use Rattle.system_types.specs.Names.{Lent, names_of}
-use Rattle.system_types.specs.declared.NamesRead.{NamesRead}
-use Rattle.system_types.specs.declared.NamesRead.TheVariants.{Good, Bad}
 use Rattle.head.specs.Head.{opened_of}
 use Rattle.head.specs.Entry.{Terms, Check, passes, fails, first_of, entry_checks}
 use Rattle.head.specs.Entry.{length_check, keeps_none, cap_check, names_check_by, names_check, mode_of, is_mode, mode_check, items_check}
 use Rattle.head.specs.Inner.Entered.{entered_by, entered_of}
 use Rattle.head.specs.declared.Asker.TheVariants.{Reading}
 use Rattle.head.specs.declared.Opened.{Opened}
-use Rattle.head.specs.declared.Entered.TheVariants.{In, Out}
 
 passes-not : {r : Refusal} → fails r ≡ passes → ⊥
 passes-not e = let z : ◌≡◌ {A = ℕ} 0 1 = cc in omega arith
@@ -62,9 +60,9 @@ mode-known cap mode e = go (is_mode mode) refl e
     go true p q = p
     go false p q = absurd (passes-not q)
 
-good : (n : NamesRead) → names_check_by n ≡ passes → n ≡ Good
-good Good e = refl
-good (Bad k) e = absurd (passes-not e)
+good : (n : Result (Unit {0}) ℕ) → names_check_by n ≡ passes → n ≡ (Ok tt)
+good (Ok tt) e = refl
+good (Err k) e = absurd (passes-not e)
 
 -- ---- all of them
 
@@ -76,7 +74,7 @@ both (fails r) cs e = absurd (passes-not e)
 pub record Passed (f : List ℕ) (lent : Lent) (t : Terms) : Type 0 where
   pub short : length f ≤ file_limit
   pub cap : cap_check t.asker ≡ passes
-  pub good : names_of lent ≡ Good
+  pub good : names_of lent ≡ (Ok tt)
   pub mode : mode_check t.asker ≡ passes
   pub items : items_check t.items ≡ passes
 
@@ -90,7 +88,7 @@ module _ (f : List ℕ) (lent : Lent) (t : Terms) where
       let d = both (items_check t.items) [] m.1 in
       record { short = short f a.0; cap = b.0; good = good (names_of lent) c.0; mode = m.0; items = d.0 }
 
-  pub passes-all : length f ≤ file_limit → cap_check t.asker ≡ passes → names_of lent ≡ Good → mode_check t.asker ≡ passes
+  pub passes-all : length f ≤ file_limit → cap_check t.asker ≡ passes → names_of lent ≡ (Ok tt) → mode_check t.asker ≡ passes
       → items_check t.items ≡ passes → first_of (entry_checks f lent t) ≡ passes
   passes-all p c e m i = rw (length_check-short f p, c, e, m, i)
 
@@ -100,37 +98,37 @@ module _ (f : List ℕ) (lent : Lent) (t : Terms) where
   unfolding entered_of
   entered_by_lem c e = sym (ap (entered_by (opened_of f)) e)
 
-  pub entered-long : file_limit < length f → Out TooLargeError ≡ entered_of f lent t
+  pub entered-long : file_limit < length f → Err TooLargeError ≡ entered_of f lent t
   entered-long h = entered_by_lem (fails TooLargeError) (rw (length_check-long f h))
 
-  pub entered-off : length f ≤ file_limit → keeps_none t.asker ≡ true → Out NotesOff ≡ entered_of f lent t
+  pub entered-off : length f ≤ file_limit → keeps_none t.asker ≡ true → Err NotesOff ≡ entered_of f lent t
   entered-off h z = entered_by_lem (fails NotesOff) (rw (length_check-short f h, z))
 
-  pub entered-names : length f ≤ file_limit → keeps_none t.asker ≡ false → {k : ℕ} → names_of lent ≡ Bad k
-      → Out (SystemNamesError k) ≡ entered_of f lent t
+  pub entered-names : length f ≤ file_limit → keeps_none t.asker ≡ false → {k : ℕ} → names_of lent ≡ Err k
+      → Err (SystemNamesError k) ≡ entered_of f lent t
   entered-names h z {k} e = entered_by_lem (fails (SystemNamesError k)) (rw (length_check-short f h, z, e))
 
-  pub entered-good : length f ≤ file_limit → keeps_none t.asker ≡ false → names_of lent ≡ Good → items_check t.items ≡ passes
-      → cond (is_mode (mode_of t.asker)) (In (opened_of f)) (Out (ModeError (mode_of t.asker))) ≡ entered_of f lent t
+  pub entered-good : length f ≤ file_limit → keeps_none t.asker ≡ false → names_of lent ≡ (Ok tt) → items_check t.items ≡ passes
+      → cond (is_mode (mode_of t.asker)) (Ok (opened_of f)) (Err (ModeError (mode_of t.asker))) ≡ entered_of f lent t
   entered-good h z e i = go (is_mode (mode_of t.asker)) refl
     where
-      go : (b : Bool) → is_mode (mode_of t.asker) ≡ b → cond b (In (opened_of f)) (Out (ModeError (mode_of t.asker))) ≡ entered_of f lent t
+      go : (b : Bool) → is_mode (mode_of t.asker) ≡ b → cond b (Ok (opened_of f)) (Err (ModeError (mode_of t.asker))) ≡ entered_of f lent t
       go true m = entered_by_lem passes (passes-all h (rw z) e (rw m) i)
       go false m = entered_by_lem (fails (ModeError (mode_of t.asker))) (rw (length_check-short f h, z, e, m))
 
-  pub entered-in : {o : Opened} → entered_of f lent t ≡ In o → (first_of (entry_checks f lent t) ≡ passes) × (o ≡ opened_of f)
+  pub entered-in : {o : Opened} → entered_of f lent t ≡ Ok o → (first_of (entry_checks f lent t) ≡ passes) × (o ≡ opened_of f)
   unfolding entered_of
   entered-in {o} e = go (first_of (entry_checks f lent t)) refl e
     where
-      go : (c : Check) → first_of (entry_checks f lent t) ≡ c → entered_by (opened_of f) c ≡ In o
+      go : (c : Check) → first_of (entry_checks f lent t) ≡ c → entered_by (opened_of f) c ≡ Ok o
           → (first_of (entry_checks f lent t) ≡ passes) × (o ≡ opened_of f)
       go passes p q = (p, cc)
       go (fails r) p q = let z : ◌≡◌ {A = ℕ} 0 1 = cc in absurd (let y : ⊥ = omega arith in y)
 
-  pub entered-out : {x : Refusal} → entered_of f lent t ≡ Out x → first_of (entry_checks f lent t) ≡ fails x
+  pub entered-out : {x : Refusal} → entered_of f lent t ≡ Err x → first_of (entry_checks f lent t) ≡ fails x
   unfolding entered_of
   entered-out {x} e = go (first_of (entry_checks f lent t)) refl e
     where
-      go : (c : Check) → first_of (entry_checks f lent t) ≡ c → entered_by (opened_of f) c ≡ Out x → first_of (entry_checks f lent t) ≡ fails x
+      go : (c : Check) → first_of (entry_checks f lent t) ≡ c → entered_by (opened_of f) c ≡ Err x → first_of (entry_checks f lent t) ≡ fails x
       go passes p q = let z : ◌≡◌ {A = ℕ} 0 1 = cc in absurd (let y : ⊥ = omega arith in y)
       go (fails r) p q = let w : r ≡ x = cc in p ∙ ap fails w

@@ -1,6 +1,7 @@
 -- Laws of specs/Head.antt, for the crates above. No contract cites this file.
 -- In order: the file's header by its header size alone (`opened_of-same`); where the pool is there, the head's places lie in its
 -- tables (`opened_of-fits`); a whole head looks at nothing behind its map (`opened_of-append`, `tables_in-append`, `body_in-append`).
+use Rattle.std.specs.Prelude.{Result, Ok, Err}
 use Prim.Native.Nat.{ℕ, ◌+◌, ◌-◌, ◌*◌, ◌≤◌}
 use native.Mathlib.Omega.{arith}
 use native.Mathlib.Nat.{le_trans}
@@ -22,8 +23,6 @@ use Rattle.res_string_pool.specs.declared.PoolEnd.TheVariants.{Complete, Garbage
 use Rattle.res_string_pool.proofs.Laws.{Parts, pool_of-parts}
 use Rattle.res_string_pool.proofs.Append.{pool_of-append}
 use Rattle.resource_map.specs.Map.{map_of}
-use Rattle.resource_map.specs.declared.MapRead.{MapRead}
-use Rattle.resource_map.specs.declared.MapRead.TheVariants.{Ids, HeaderShort as MapHeaderShort, IdsShort}
 use Rattle.resource_map.proofs.Laws.{map_of-fits, map_of-append}
 use Rattle.text.specs.declared.Head.{Head}
 use Rattle.text.specs.Inner.Found.{Fits}
@@ -31,6 +30,8 @@ use Rattle.head.specs.Head.{head_by, mapped_by, pooled_by, tables_of, opened_of,
 use Rattle.head.specs.declared.HeadEnd.TheVariants.{Whole}
 use Rattle.head.specs.declared.Opened.{Opened}
 use Rattle.head.proofs.Cases.{opened_of-small, opened_of-size, opened_of-tables}
+use Rattle.resource_map.specs.declared.MapShort.{MapShort}
+use Rattle.resource_map.specs.declared.MapShort.TheVariants as map_short
 
 -- ---- of the file's header its size alone is looked at, not the type and not the total size
 
@@ -64,16 +65,16 @@ mapped_by-fits
     : (t : List ℕ) (g : Garbage) (p : Pool)
     → length t ≤ file_limit
     → Parts p 0 (length t)
-    → (m : MapRead)
+    → (m : Result ℕ MapShort)
     → map_of (drop (p.strings + p.size) t) ≡ m
     → FitsIn t (mapped_by t g p m)
-mapped_by-fits t g p short parts (Ids n) e there =
+mapped_by-fits t g p short parts (Ok n) e there =
     let at = p.strings + p.size in
     let q = map_of-fits (drop at t) e in
     let l : length (drop at t) ≡ length t - at = length-drop at t in
     fits_by t p (at + 8) n short parts (omega arith) (omega arith)
-mapped_by-fits t g p short parts (MapHeaderShort k) e there = fits_by t p (p.strings + p.size) 0 short parts (omega arith) (omega arith)
-mapped_by-fits t g p short parts (IdsShort k) e there = fits_by t p (p.strings + p.size) 0 short parts (omega arith) (omega arith)
+mapped_by-fits t g p short parts (Err (map_short.Header k)) e there = fits_by t p (p.strings + p.size) 0 short parts (omega arith) (omega arith)
+mapped_by-fits t g p short parts (Err (map_short.Ids k)) e there = fits_by t p (p.strings + p.size) 0 short parts (omega arith) (omega arith)
 
 tables_of-fits : (t : List ℕ) → length t ≤ file_limit → FitsIn t (tables_of t)
 unfolding tables_of
@@ -115,28 +116,28 @@ opened_of-fits f short there = go (ltb (length f) 8) refl (eqb (u16le f 2) 8) re
 -- ---- a whole head looks at nothing behind its map
 
 mapped_by-behind
-    : (t : List ℕ) (g : Garbage) (p : Pool) (r : MapRead)
+    : (t : List ℕ) (g : Garbage) (p : Pool) (r : Result ℕ MapShort)
     → (mapped_by t g p r).end ≡ Whole
     → p.strings + p.size ≤ head_len (mapped_by t g p r).head
-mapped_by-behind t g p (Ids n) w = omega arith
-mapped_by-behind t g p (MapHeaderShort k) w = omega arith
-mapped_by-behind t g p (IdsShort k) w = omega arith
+mapped_by-behind t g p (Ok n) w = omega arith
+mapped_by-behind t g p (Err (map_short.Header k)) w = omega arith
+mapped_by-behind t g p (Err (map_short.Ids k)) w = omega arith
 
 module _ (c m m' : List ℕ) where
   mapped_by-append
-      : (g : Garbage) (p : Pool) (at : ℕ) (r : MapRead)
+      : (g : Garbage) (p : Pool) (at : ℕ) (r : Result ℕ MapShort)
       → at ≡ p.strings + p.size
       → map_of (drop at (c ++ m)) ≡ r
       → (mapped_by (c ++ m) g p r).end ≡ Whole
       → head_len (mapped_by (c ++ m) g p r).head ≤ length c
       → mapped_by (c ++ m') g p (map_of (drop at (c ++ m'))) ≡ mapped_by (c ++ m) g p r
-  mapped_by-append g p at (Ids n) a e w h =
+  mapped_by-append g p at (Ok n) a e w h =
       let split : drop at (c ++ m) ≡ drop at c ++ m = drop-append-le at c m (omega arith) in
       let split' : drop at (c ++ m') ≡ drop at c ++ m' = drop-append-le at c m' (omega arith) in
       let room : 8 + 4 * n ≤ length (drop at c) = rw length-drop (omega arith) in
       ap (mapped_by (c ++ m') g p) (ap map_of split' ∙ map_of-append (drop at c) m m' (sym (ap map_of split) ∙ e) room)
-  mapped_by-append g p at (MapHeaderShort k) a e w h = let z : ◌≡◌ {A = ℕ} 0 1 = cc in absurd (let y : ⊥ = omega arith in y)
-  mapped_by-append g p at (IdsShort k) a e w h = let z : ◌≡◌ {A = ℕ} 0 1 = cc in absurd (let y : ⊥ = omega arith in y)
+  mapped_by-append g p at (Err (map_short.Header k)) a e w h = let z : ◌≡◌ {A = ℕ} 0 1 = cc in absurd (let y : ⊥ = omega arith in y)
+  mapped_by-append g p at (Err (map_short.Ids k)) a e w h = let z : ◌≡◌ {A = ℕ} 0 1 = cc in absurd (let y : ⊥ = omega arith in y)
 
   tables_of-append
       : (tables_of (c ++ m)).end ≡ Whole

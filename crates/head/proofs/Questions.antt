@@ -2,6 +2,7 @@
 -- In order: the head, or the first refusal (`headRead-..`, `open_of-in`, `open_of-out`); what an open file tells (`open_of-open`, `open_of-asks`);
 -- the text question (`gives-..`, `reads-open`, `reads-closed`) and the content question (`content-open`, `content-closed`). What
 -- follows from the promises: proofs/Unique.antt.
+use Rattle.std.specs.Prelude.{Result, Ok, Err}
 use Prim.Native.Nat.{ℕ, ◌-◌, ◌≤◌, ◌<◌}
 use native.Mathlib.Omega.{arith}
 use mathlib.Core.Path.{◌≡◌, refl, sym, ap, ◌∙◌}
@@ -17,8 +18,6 @@ use Rattle.errors.specs.declared.Refusal.{Refusal}
 use Rattle.errors.specs.declared.Refusal.TheVariants.{NothingFound, TextShort}
 use Rattle.errors.specs.declared.TextState.{TextState}
 use Rattle.errors.specs.declared.TextState.TheVariants as state_is
-use Rattle.errors.specs.declared.TextAnswer.{TextAnswer}
-use Rattle.errors.specs.declared.TextAnswer.TheVariants.{Text, Refused}
 use Rattle.system_types.specs.Names.{Lent}
 use Rattle.text.specs.declared.Head.{Head}
 use Rattle.text.specs.declared.Found.{Found}
@@ -33,26 +32,25 @@ use Rattle.head.specs.Ask.{text_buffer, content_answer, Gives, TextReads}
 use Rattle.head.specs.declared.HeadEnd.{HeadEnd}
 use Rattle.head.specs.declared.HeadEnd.TheVariants.{Whole, TooSmall, HeaderSize, PoolShort, MapShort}
 use Rattle.head.specs.declared.Opened.{Opened}
-use Rattle.head.specs.declared.OpenRead.TheVariants.{Open, Closed}
-use Rattle.head.specs.declared.Entered.TheVariants.{In, Out}
 use Rattle.head.proofs.Laws.{opened_of-fits}
 use Rattle.head.proofs.Entering.{Passed, passed, entered-in, entered-out}
 use Rattle.head.proofs.Zeros.{zero-behind}
+use Rattle.errors.specs.declared.TextWritten.{TextWritten}
 
 -- ---- the head, or the first refusal
 
-pub head_read-whole : (o : Opened) → head_is_whole o.end ≡ true → Open o.head ≡ head_read o
+pub head_read-whole : (o : Opened) → head_is_whole o.end ≡ true → Ok o.head ≡ head_read o
 head_read-whole o w = rw w
 
-pub head_read-cut : (o : Opened) → head_is_whole o.end ≡ false → Closed (refusal_of o.end) ≡ head_read o
+pub head_read-cut : (o : Opened) → head_is_whole o.end ≡ false → Err (refusal_of o.end) ≡ head_read o
 head_read-cut o w = rw w
 
 module _ (f : List ℕ) (lent : Lent) where
-  pub open_of-in : {o : Opened} → entered_of f lent question ≡ In o → head_read o ≡ open_of f lent
+  pub open_of-in : {o : Opened} → entered_of f lent question ≡ Ok o → head_read o ≡ open_of f lent
   unfolding open_of
   open_of-in {o} e = let q = entered-in f lent question e in rw (q.1, q.0)
 
-  pub open_of-out : {why : Refusal} → entered_of f lent question ≡ Out why → Closed why ≡ open_of f lent
+  pub open_of-out : {why : Refusal} → entered_of f lent question ≡ Err why → Err why ≡ open_of f lent
   unfolding open_of
   open_of-out {why} e = rw (entered-out f lent question e)
 
@@ -70,7 +68,7 @@ there-of-whole (TooSmall n) w = let z : ◌≡◌ {A = ℕ} 0 1 = cc in absurd (
 there-of-whole (HeaderSize n) w = let z : ◌≡◌ {A = ℕ} 0 1 = cc in absurd (let y : ⊥ = omega arith in y)
 there-of-whole (PoolShort p) w = let z : ◌≡◌ {A = ℕ} 0 1 = cc in absurd (let y : ⊥ = omega arith in y)
 
-module _ (f : List ℕ) (lent : Lent) {h : Head} (open' : open_of f lent ≡ Open h) where
+module _ (f : List ℕ) (lent : Lent) {h : Head} (open' : open_of f lent ≡ Ok h) where
   pub open_of-open : Opens f lent h
   unfolding open_of
   open_of-open = go (first_of (entry_checks f lent question)) refl (head_is_whole (opened_of f).end) refl open'
@@ -78,7 +76,7 @@ module _ (f : List ℕ) (lent : Lent) {h : Head} (open' : open_of f lent ≡ Ope
       go
           : (c : Check) → first_of (entry_checks f lent question) ≡ c
           → (w : Bool) → head_is_whole (opened_of f).end ≡ w
-          → open_by (opened_of f) c ≡ Open h
+          → open_by (opened_of f) c ≡ Ok h
           → Opens f lent h
       go (fails r) p w q e = let z : ◌≡◌ {A = ℕ} 0 1 = cc in absurd (let y : ⊥ = omega arith in y)
       go passes p false q e =
@@ -131,7 +129,7 @@ module _ (text before after out : List ℕ) (n : ℕ) (w : Wrote text before out
       : (state : TextState)
       → length out < n
       → after ≡ replicate (length out - 0) 0
-      → Gives (length before) text (fitted (length before) text state) (Refused (TextShort n)) after
+      → Gives (length before) text (fitted (length before) text state) (Err (TextShort n)) after
   gives-short state p z =
       let m : length out - 0 ≡ length before = omega (arith, as_long) in
       let q : leb (length text) (length before) ≡ false = lt-leb (length text) (length before) (omega (arith, as_long, w.count)) in
@@ -142,7 +140,7 @@ module _ (text before after out : List ℕ) (n : ℕ) (w : Wrote text before out
       → n ≤ length out
       → after ≡ take n out ++ replicate (length out - n) 0
       → told ≡ state
-      → Gives (length before) text (fitted (length before) text state) (Text n told) after
+      → Gives (length before) text (fitted (length before) text state) (Ok (record { length = n; state = told })) after
   gives-text state p z e =
       let l : length text ≤ length before = omega (arith, as_long, w.count) in
       let q : leb (length text) (length before) ≡ true = le-leb (length text) (length before) l in
@@ -164,8 +162,8 @@ text_by-found n w t area Cut e = refl
 text_by-found n w t area (System at k) e = refl
 text_by-found n w t area (Pool at k) e = refl
 
-module _ (n : ℕ) (w : Bool) (t area : List ℕ) (f : Found) {c : Content} (e : part_of w t area f ≡ c) {r : TextAnswer} {after : List ℕ} where
-  pub gives_none : is_found f ≡ false → Gives n (text_in c) (Refused NothingFound) r after → Gives n (text_in c) (text_by n c) r after
+module _ (n : ℕ) (w : Bool) (t area : List ℕ) (f : Found) {c : Content} (e : part_of w t area f ≡ c) {r : Result TextWritten Refusal} {after : List ℕ} where
+  pub gives_none : is_found f ≡ false → Gives n (text_in c) (Err NothingFound) r after → Gives n (text_in c) (text_by n c) r after
   gives_none p g = let q : none ≡ c = sym (part_of-none w t area f p) ∙ e in rw (← q) (rw (← q) at g)
 
   pub Gives-found
@@ -174,10 +172,10 @@ module _ (n : ℕ) (w : Bool) (t area : List ℕ) (f : Found) {c : Content} (e :
       → Gives n (text_in c) (text_by n c) r after
   Gives-found p g = rw (← e, text_by-found n w t area f p) g
 
-module _ (f : List ℕ) (lent : Lent) (before after : List ℕ) (i : ℕ) {r : TextAnswer} where
+module _ (f : List ℕ) (lent : Lent) (before after : List ℕ) (i : ℕ) {r : Result TextWritten Refusal} where
   pub reads-open
       : {h : Head} {t : List ℕ}
-      → open_of f lent ≡ Open h
+      → open_of f lent ≡ Ok h
       → t ≡ tables_in f h
       → Gives (length before) (text_in (content_of h t lent i)) (text_by (length before) (content_of h t lent i)) r after
       → TextReads f lent before i r after
@@ -186,8 +184,8 @@ module _ (f : List ℕ) (lent : Lent) (before after : List ℕ) (i : ℕ) {r : T
 
   pub reads-closed
       : {why : Refusal}
-      → open_of f lent ≡ Closed why
-      → Gives (length before) [] (Refused why) r after
+      → open_of f lent ≡ Err why
+      → Gives (length before) [] (Err why) r after
       → TextReads f lent before i r after
   unfolding text_answer text_buffer
   reads-closed e g = record { answer = rw e (ap text_numbers_of g.same); out = rw e g.out }
@@ -197,12 +195,12 @@ module _ (f : List ℕ) (lent : Lent) (before after : List ℕ) (i : ℕ) {r : T
 module _ (f : List ℕ) (lent : Lent) (i : ℕ) where
   pub content-open
       : {h : Head} {t : List ℕ}
-      → open_of f lent ≡ Open h
+      → open_of f lent ≡ Ok h
       → t ≡ tables_in f h
       → raw_of (content_of h t lent i) ≡ content_answer f lent i
   unfolding content_answer
   content-open e q = rw (q, e)
 
-  pub content-closed : {why : Refusal} → open_of f lent ≡ Closed why → [] ≡ content_answer f lent i
+  pub content-closed : {why : Refusal} → open_of f lent ≡ Err why → [] ≡ content_answer f lent i
   unfolding content_answer
   content-closed e = rw e

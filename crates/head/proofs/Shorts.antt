@@ -1,6 +1,7 @@
 -- Laws of a head of which a part is short (41 to 45, 51, 52): its refusal's value is where the part should begin, and what stands behind that place can go. No
 -- contract cites this file.
 -- In order: the pool (`pool-cut`), the map (`map-cut`), the head of a file (`opened-cut`).
+use Rattle.std.specs.Prelude.{Result, Ok, Err}
 use Prim.Native.Nat.{ℕ, ◌+◌, ◌-◌, ◌≤◌}
 use native.Mathlib.Omega.{arith}
 use mathlib.Core.Path.{◌≡◌, refl, sym, ap, ◌∙◌}
@@ -24,8 +25,6 @@ use Rattle.res_string_pool.proofs.Laws.{pool_of-fits}
 use Rattle.res_string_pool.proofs.Append.{pool_of-append}
 use Rattle.res_string_pool.proofs.Shorts.{left_of, emptied, IsShort, pool_of-left, pool_of-cut}
 use Rattle.resource_map.specs.Map.{map_of}
-use Rattle.resource_map.specs.declared.MapRead.{MapRead}
-use Rattle.resource_map.specs.declared.MapRead.TheVariants.{Ids, HeaderShort as MapHeaderShort, IdsShort}
 use Rattle.resource_map.proofs.Laws.{left_of as map_left, none_left as map_none, IsShort as MapIsShort, map_of-left, map_of-cut}
 use Rattle.head.specs.Head.{cut_pool, cut_map, mapped_by, pooled_by, pool_refusal, map_refusal, tables_of, opened_of, head_len}
 use Rattle.head.specs.declared.HeadEnd.{HeadEnd}
@@ -33,6 +32,7 @@ use Rattle.head.specs.declared.HeadEnd.TheVariants.{Whole, TooSmall, HeaderSize,
 use Rattle.head.specs.declared.PoolPart.TheVariants.{Skipped, Header, Offsets, Styles, Data}
 use Rattle.head.specs.declared.MapPart.TheVariants.{MapHeader, MapIds}
 use Rattle.head.proofs.Cases.{opened_of-small, opened_of-size, opened_of-tables}
+use Rattle.resource_map.specs.declared.MapShort.TheVariants as map_short
 
 append-nil : (l : List ℕ) → l ++ [] ≡ l
 append-nil [] = refl
@@ -105,22 +105,22 @@ pool-cut t short =
 -- ---- the map
 
 mapped_by-none
-    : (c t : List ℕ) (g : Garbage) (p : Pool) (r : MapRead)
+    : (c t : List ℕ) (g : Garbage) (p : Pool) (r : Result ℕ MapShort)
     → MapIsShort r
     → 8 + length c - 0 ≡ 8 + length t - map_left r
     → mapped_by c g p (map_none r) ≡ mapped_by t g p r
-mapped_by-none c t g p (Ids n) s q = absurd s
-mapped_by-none c t g p (MapHeaderShort k) s q = ap (λ (v : ℕ). cut_map g p (p.strings + p.size) (MapHeader v)) q
-mapped_by-none c t g p (IdsShort k) s q = ap (λ (v : ℕ). cut_map g p (p.strings + p.size) (MapIds v)) q
+mapped_by-none c t g p (Ok n) s q = absurd s
+mapped_by-none c t g p (Err (map_short.Header k)) s q = ap (λ (v : ℕ). cut_map g p (p.strings + p.size) (MapHeader v)) q
+mapped_by-none c t g p (Err (map_short.Ids k)) s q = ap (λ (v : ℕ). cut_map g p (p.strings + p.size) (MapIds v)) q
 
 -- a short map leaves the pool to read from
-mapped_by-bare : (t : List ℕ) (g : Garbage) (p : Pool) (r : MapRead) → MapIsShort r → head_len (mapped_by t g p r).head ≡ p.strings + p.size
-mapped_by-bare t g p (Ids n) s = absurd s
-mapped_by-bare t g p (MapHeaderShort k) s = omega arith
-mapped_by-bare t g p (IdsShort k) s = omega arith
+mapped_by-bare : (t : List ℕ) (g : Garbage) (p : Pool) (r : Result ℕ MapShort) → MapIsShort r → head_len (mapped_by t g p r).head ≡ p.strings + p.size
+mapped_by-bare t g p (Ok n) s = absurd s
+mapped_by-bare t g p (Err (map_short.Header k)) s = omega arith
+mapped_by-bare t g p (Err (map_short.Ids k)) s = omega arith
 
 -- the map behind a pool that is complete
-abbrev map_in : List ℕ → MapRead
+abbrev map_in : List ℕ → Result ℕ MapShort
 map_in t = map_of (drop ((pool_of t).pool.strings + (pool_of t).pool.size) t)
 
 tables-map
@@ -178,13 +178,13 @@ value-by t v r e c = rw e c
 
 mapped-short
     : (t : List ℕ) (r : Refusal) (all : (pool_of t).end ≡ Complete)
-    → (x : MapRead) → map_in t ≡ x
+    → (x : Result ℕ MapShort) → map_in t ≡ x
     → ShortBy (mapped_by t (pool_of t).garbage (pool_of t).pool x).end r
     → TablesCut t (refusal_value r)
 unfolding refusal_value
-mapped-short t r all (Ids n) e s = absurd s
-mapped-short t r all (MapHeaderShort k) e s = value-by t _ r (ap refusal_value (sym s)) (rw e at (map-cut t all (rw e tt)))
-mapped-short t r all (IdsShort k) e s = value-by t _ r (ap refusal_value (sym s)) (rw e at (map-cut t all (rw e tt)))
+mapped-short t r all (Ok n) e s = absurd s
+mapped-short t r all (Err (map_short.Header k)) e s = value-by t _ r (ap refusal_value (sym s)) (rw e at (map-cut t all (rw e tt)))
+mapped-short t r all (Err (map_short.Ids k)) e s = value-by t _ r (ap refusal_value (sym s)) (rw e at (map-cut t all (rw e tt)))
 
 tables-short : (t : List ℕ) (r : Refusal) → ShortBy (tables_of t).end r → TablesCut t (refusal_value r)
 unfolding tables_of refusal_value

@@ -7,33 +7,32 @@
 --   content_answer the answer of the content question: empty on a refusal, for no text, and for a string cut or outside
 --
 -- An empty text is an answer of length 0, also where the buffer has no bytes. A refused answer tells no state, 11 neither. Laws: proofs/Questions.antt, proofs/Unique.antt.
-use Rattle.std.specs.Prelude.{ℕ, ◌-◌, ◌≡◌, List, ◌++◌, cond, length, replicate, leb}
+use Rattle.std.specs.Prelude.{ℕ, ◌-◌, ◌≡◌, List, ◌++◌, cond, length, replicate, leb, Result, Ok, Err}
 use Rattle.errors.specs.Refusal.{text_numbers_of}
 use Rattle.errors.specs.declared.Refusal.TheVariants.{NothingFound, TextShort}
 use Rattle.errors.specs.declared.TextState.{TextState}
 use Rattle.errors.specs.declared.TextState.TheVariants as state_is
-use Rattle.errors.specs.declared.TextAnswer.{TextAnswer}
-use Rattle.errors.specs.declared.TextAnswer.TheVariants.{Text, Refused}
 use Rattle.utf.specs.Text.{Damage, whole, replaced, unpaired, cut as cut_text}
 use Rattle.system_types.specs.Names.{Lent}
 use Rattle.text.specs.Content.{Content, none, cut, some, content_of, text_in, damage_in, raw_of}
 use Rattle.head.specs.Head.{opened_of, head_is_whole, refusal_of, tables_in}
 use Rattle.head.specs.Entry.{question, Check, passes, fails, first_of, entry_checks}
 use Rattle.head.specs.declared.Opened.{Opened}
-use Rattle.head.specs.declared.OpenRead.{OpenRead}
-use Rattle.head.specs.declared.OpenRead.TheVariants.{Open, Closed}
+use Rattle.errors.specs.declared.Refusal.{Refusal}
+use Rattle.errors.specs.declared.TextWritten.{TextWritten}
+use Rattle.text.specs.declared.Head.{Head}
 
 -- ---- the head, or the first refusal
 
 -- of a file that the entry checks pass
-abbrev pub head_read : Opened → OpenRead
-head_read o = cond (head_is_whole o.end) (Open o.head) (Closed (refusal_of o.end))
+abbrev pub head_read : Opened → Result Head Refusal
+head_read o = cond (head_is_whole o.end) (Ok o.head) (Err (refusal_of o.end))
 
-abbrev pub open_by : Opened → Check → OpenRead
+abbrev pub open_by : Opened → Check → Result Head Refusal
 open_by o passes = head_read o
-open_by o (fails r) = Closed r
+open_by o (fails r) = Err r
 
-unfoldable pub open_of : List ℕ → Lent → OpenRead
+unfoldable pub open_of : List ℕ → Lent → Result Head Refusal
 open_of f lent = open_by (opened_of f) (first_of (entry_checks f lent question))
 
 -- ---- the text question
@@ -45,43 +44,43 @@ state_told unpaired = state_is.Unpaired
 state_told cut_text = state_is.Cut
 
 -- with room for n bytes
-abbrev pub fitted : ℕ → List ℕ → TextState → TextAnswer
-fitted n text state = cond (leb (length text) n) (Text (length text) state) (Refused (TextShort (length text)))
+abbrev pub fitted : ℕ → List ℕ → TextState → Result TextWritten Refusal
+fitted n text state = cond (leb (length text) n) (Ok (record { length = (length text); state = state })) (Err (TextShort (length text)))
 
-abbrev pub text_by : ℕ → Content → TextAnswer
-text_by n none = Refused NothingFound
+abbrev pub text_by : ℕ → Content → Result TextWritten Refusal
+text_by n none = Err NothingFound
 text_by n cut = fitted n (text_in cut) (state_told (damage_in cut))
 text_by n (some w s) = fitted n (text_in (some w s)) (state_told (damage_in (some w s)))
 
-abbrev pub content_asked_by : List ℕ → Lent → ℕ → OpenRead → Content
-content_asked_by f lent i (Closed r) = none
-content_asked_by f lent i (Open h) = content_of h (tables_in f h) lent i
+abbrev pub content_asked_by : List ℕ → Lent → ℕ → Result Head Refusal → Content
+content_asked_by f lent i (Err r) = none
+content_asked_by f lent i (Ok h) = content_of h (tables_in f h) lent i
 
 abbrev pub content_asked : List ℕ → Lent → ℕ → Content
 content_asked f lent i = content_asked_by f lent i (open_of f lent)
 
-abbrev pub text_answer_by : ℕ → Content → OpenRead → TextAnswer
-text_answer_by n c (Closed r) = Refused r
-text_answer_by n c (Open h) = text_by n c
+abbrev pub text_answer_by : ℕ → Content → Result Head Refusal → Result TextWritten Refusal
+text_answer_by n c (Err r) = Err r
+text_answer_by n c (Ok h) = text_by n c
 
-unfoldable pub text_answer : List ℕ → Lent → ℕ → ℕ → TextAnswer
+unfoldable pub text_answer : List ℕ → Lent → ℕ → ℕ → Result TextWritten Refusal
 text_answer f lent n i = text_answer_by n (content_asked f lent i) (open_of f lent)
 
 -- the lent buffer of n bytes afterwards: the text and zeros, or zeros
-abbrev pub buffer_by : ℕ → List ℕ → TextAnswer → List ℕ
-buffer_by n text (Refused r) = replicate n 0
-buffer_by n text (Text k state) = text ++ replicate (n - k) 0
+abbrev pub buffer_by : ℕ → List ℕ → Result TextWritten Refusal → List ℕ
+buffer_by n text (Err r) = replicate n 0
+buffer_by n text (Ok w) = text ++ replicate (n - w.length) 0
 
 unfoldable pub text_buffer : List ℕ → Lent → ℕ → ℕ → List ℕ
 text_buffer f lent n i = buffer_by n (text_in (content_asked f lent i)) (text_answer f lent n i)
 
 -- what the code returns and leaves behind, for an answer a
-pub record Gives (n : ℕ) (text : List ℕ) (a r : TextAnswer) (after : List ℕ) : Type 0 where
+pub record Gives (n : ℕ) (text : List ℕ) (a r : Result TextWritten Refusal) (after : List ℕ) : Type 0 where
   pub same : r ≡ a
   pub out : after ≡ buffer_by n text a
 
 -- the promise of the text question: the numbers of its answer, and the whole buffer
-pub record TextReads (f : List ℕ) (lent : Lent) (before : List ℕ) (i : ℕ) (r : TextAnswer) (after : List ℕ) : Type 0 where
+pub record TextReads (f : List ℕ) (lent : Lent) (before : List ℕ) (i : ℕ) (r : Result TextWritten Refusal) (after : List ℕ) : Type 0 where
   pub answer : text_numbers_of r ≡ text_numbers_of (text_answer f lent (length before) i)
   pub out : after ≡ text_buffer f lent (length before) i
 

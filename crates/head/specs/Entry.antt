@@ -6,17 +6,13 @@
 --
 -- What the file's own bytes refuse comes behind them: for `read` in file order among the notes (events/specs/Events.antt), for the
 -- questions at once (specs/Ask.antt). Laws: proofs/Entering.antt.
-use Rattle.std.specs.Prelude.{ℕ, List, [], ◌∷◌, Bool, false, cond, ◌||◌, length, ltb, eqb}
+use Rattle.std.specs.Prelude.{ℕ, List, [], ◌∷◌, Bool, false, cond, ◌||◌, length, ltb, eqb, Result, Ok, Err}
 use Rattle.records.specs.Limits.{file_limit}
 use Rattle.records.specs.Words.{merged, apart}
 use Rattle.errors.specs.declared.Refusal.{Refusal}
 use Rattle.errors.specs.declared.Refusal.TheVariants.{TooLargeError, SystemNamesError, ItemsError, NotesOff, ModeError}
 use Rattle.system_types.specs.Names.{Lent, names_of}
-use Rattle.system_types.specs.declared.NamesRead.{NamesRead}
-use Rattle.system_types.specs.declared.NamesRead.TheVariants.{Good, Bad}
 use Rattle.items.specs.Items.{table_of}
-use Rattle.items.specs.declared.ItemsRead.{ItemsRead}
-use Rattle.items.specs.declared.ItemsRead.TheVariants.{Good as ItemsGood, Bad as ItemsBad}
 use Rattle.head.specs.declared.Asker.{Asker}
 use Rattle.head.specs.declared.Asker.TheVariants.{Question, Reading}
 
@@ -68,9 +64,9 @@ keeps_none (Reading cap mode) = eqb cap 0
 abbrev pub cap_check : Asker → Check
 cap_check a = cond (keeps_none a) (fails NotesOff) passes
 
-abbrev pub names_check_by : NamesRead → Check
-names_check_by Good = passes
-names_check_by (Bad k) = fails (SystemNamesError k)
+abbrev pub names_check_by : Result (Unit {0}) ℕ → Check
+names_check_by (Ok tt) = passes
+names_check_by (Err k) = fails (SystemNamesError k)
 
 abbrev pub names_check : Lent → Check
 names_check lent = names_check_by (names_of lent)
@@ -86,9 +82,9 @@ is_mode m = eqb m merged || eqb m apart
 abbrev pub mode_check : Asker → Check
 mode_check a = cond (is_mode (mode_of a)) passes (fails (ModeError (mode_of a)))
 
-abbrev pub items_check_by : ItemsRead → Check
-items_check_by ItemsGood = passes
-items_check_by (ItemsBad k) = fails (ItemsError k)
+abbrev pub items_check_by : Result (Unit {0}) ℕ → Check
+items_check_by (Ok tt) = passes
+items_check_by (Err k) = fails (ItemsError k)
 
 abbrev pub items_check : Items → Check
 items_check no_items = passes

@@ -9,7 +9,7 @@
 --
 -- The type and the total size of the file's header are not looked at. A number that the bytes do not reach is 0. A place is counted
 -- from the first byte behind the file's header, a file offset from the file's first. Laws: proofs/Laws.antt, proofs/Shorts.antt.
-use Rattle.std.specs.Prelude.{ℕ, ◌+◌, ◌-◌, ◌*◌, List, [], ◌∷◌, Bool, true, false, cond, not, length, take, drop, ltb, eqb}
+use Rattle.std.specs.Prelude.{ℕ, ◌+◌, ◌-◌, ◌*◌, List, [], ◌∷◌, Bool, true, false, cond, not, length, take, drop, ltb, eqb, Result, Ok, Err}
 use Rattle.field.specs.Le.{u16le}
 use Rattle.errors.specs.declared.Refusal.{Refusal}
 use Rattle.errors.specs.declared.Refusal.TheVariants.{TooSmallError, HeaderSizeError, MissingRoot, StringPoolGarbage, StringPoolHeader}
@@ -22,8 +22,6 @@ use Rattle.res_string_pool.specs.declared.Pool.{Pool}
 use Rattle.res_string_pool.specs.declared.PoolEnd.{PoolEnd}
 use Rattle.res_string_pool.specs.declared.PoolEnd.TheVariants.{Complete, GarbageShort, HeaderShort, OffsetsShort, StylesShort, DataShort}
 use Rattle.resource_map.specs.Map.{map_of}
-use Rattle.resource_map.specs.declared.MapRead.{MapRead}
-use Rattle.resource_map.specs.declared.MapRead.TheVariants.{Ids, HeaderShort as MapHeaderShort, IdsShort}
 use Rattle.text.specs.declared.Head.{Head}
 use Rattle.head.specs.declared.HeadEnd.{HeadEnd}
 use Rattle.head.specs.declared.HeadEnd.TheVariants.{Whole, TooSmall, HeaderSize, PoolShort, MapShort}
@@ -32,6 +30,7 @@ use Rattle.head.specs.declared.PoolPart.TheVariants.{Skipped, Header, Offsets, S
 use Rattle.head.specs.declared.MapPart.{MapPart}
 use Rattle.head.specs.declared.MapPart.TheVariants.{MapHeader, MapIds}
 use Rattle.head.specs.declared.Opened.{Opened}
+use Rattle.resource_map.specs.declared.MapShort.TheVariants as map_short
 
 -- ---- what the head says
 
@@ -61,10 +60,10 @@ abbrev pub begins_at : List ℕ → ℕ → ℕ
 begins_at t left = 8 + length t - left
 
 -- behind a whole pool the map
-abbrev pub mapped_by : List ℕ → Garbage → Pool → MapRead → Opened
-mapped_by t g p (Ids n) = whole_head g p (p.strings + p.size + 8) n
-mapped_by t g p (MapHeaderShort left) = cut_map g p (p.strings + p.size) (MapHeader (begins_at t left))
-mapped_by t g p (IdsShort left) = cut_map g p (p.strings + p.size) (MapIds (begins_at t left))
+abbrev pub mapped_by : List ℕ → Garbage → Pool → Result ℕ MapShort → Opened
+mapped_by t g p (Ok n) = whole_head g p (p.strings + p.size + 8) n
+mapped_by t g p (Err (map_short.Header left)) = cut_map g p (p.strings + p.size) (MapHeader (begins_at t left))
+mapped_by t g p (Err (map_short.Ids left)) = cut_map g p (p.strings + p.size) (MapIds (begins_at t left))
 
 abbrev pub pooled_by : List ℕ → Garbage → Pool → PoolEnd → Opened
 pooled_by t g p Complete = mapped_by t g p (map_of (drop (p.strings + p.size) t))

@@ -2,43 +2,42 @@
 //
 // Mirrors structs/res_string_pool.rs (apk-info 13770539b8), `get_with_resources`, for a caller who holds the file alone.
 // Answers: `TextAnswer`, the length and the state of the text or a refusal. Definitions: specs/Ask.antt.
-ghost use Rattle.std.specs.Prelude.{◌≡◌, ◌++◌, List, ◌-◌, ◌≤◌, length, take, replicate};
+ghost use Rattle.std.specs.Prelude.{◌≡◌, ◌++◌, List, ◌-◌, ◌≤◌, length, take, replicate, Err};
 ghost use Rattle.records.specs.Limits.{file_limit};
-ghost use Rattle.errors.specs.declared.TextAnswer.TheVariants.{Refused};
 ghost use Rattle.system_types.specs.Names.{lends};
 ghost use Rattle.text.specs.Content.{content_of, raw_of, text_in, damage_in};
 ghost use Rattle.text.specs.Inner.Found.{part_of, Inside, is_found, Asks};
 ghost use Rattle.head.specs.Ask.{head_read, open_of, state_told, fitted, text_by, content_answer, Gives, TextReads};
 
-use super::{Asker, Entered, OpenRead, Opened, enter, is_whole, refusal_of, tables_of};
+use super::{Asker, Opened, enter, is_whole, refusal_of, tables_of};
 use common::StringIndex;
-use errors::{Refusal, TextAnswer, TextState};
+use errors::{Refusal, TextState, TextWritten};
 use text::{
     Found, Head, content_of, find, found_into, is_found, replaced_of_found, state_of_found,
 };
 
 // ---- what refuses before an index is looked at
 
-fn head_read(opened: Opened) -> OpenRead
+fn head_read(opened: Opened) -> Result<Head, Refusal>
     ensures { result ≡ head_read opened }
 {
     let end = opened.end;
     let head = opened.head;
     if is_whole(end) {
-        return OpenRead::Open(head);
+        return Ok(head);
     }
-    OpenRead::Closed(refusal_of(end))
+    Err(refusal_of(end))
 }
 
 // The head of a file, or the first refusal: what every entry point checks, then the head.
 // Ruled out: a head for a file of which a part of the pool is short.
-pub fn open_file(file: &[u8], names: &[u32], area: &[u8]) -> OpenRead
+pub fn open_file(file: &[u8], names: &[u32], area: &[u8]) -> Result<Head, Refusal>
     ensures { result ≡ open_of file.now (lends names.now area.now) }
 {
     let entered = enter(file, names, area, Asker::Question);
     match entered {
-        Entered::In(opened) => head_read(opened),
-        Entered::Out(why) => OpenRead::Closed(why),
+        Ok(opened) => head_read(opened),
+        Err(why) => Err(why),
     }
 }
 
@@ -61,11 +60,11 @@ fn zero_from(out: &mut [u8], from: usize)
     zero_all(&mut out[from..]);
 }
 
-fn refuse(out: &mut [u8], why: Refusal) -> TextAnswer
-    ensures { (text : List _) → Gives (length out.old) text (Refused why) result out.new }
+fn refuse(out: &mut [u8], why: Refusal) -> Result<TextWritten, Refusal>
+    ensures { (text : List _) → Gives (length out.old) text (Err why) result out.new }
 {
     zero_all(out);
-    TextAnswer::Refused(why)
+    Err(why)
 }
 
 // What became of the text that was found. Only one with characters that were replaced is looked at again, to count them.
@@ -88,7 +87,13 @@ pub fn found_told(t: &[u8], area: &[u8], utf16: bool, f: Found) -> TextState
 }
 
 // The text of what was found, if the buffer holds it whole.
-fn write_found(t: &[u8], area: &[u8], utf16: bool, f: Found, out: &mut [u8]) -> TextAnswer
+fn write_found(
+    t: &[u8],
+    area: &[u8],
+    utf16: bool,
+    f: Found,
+    out: &mut [u8],
+) -> Result<TextWritten, Refusal>
     requires { Inside t.now area.now f × (length t.now ≤ file_limit) }
     ensures { Gives (length out.old) (text_in (part_of utf16 t.now area.now f))
         (fitted (length out.old) (text_in (part_of utf16 t.now area.now f))
@@ -97,11 +102,11 @@ fn write_found(t: &[u8], area: &[u8], utf16: bool, f: Found, out: &mut [u8]) -> 
     let n = found_into(t, area, utf16, f, out);
     if out.len() < n {
         zero_from(out, 0);
-        return TextAnswer::Refused(Refusal::TextShort(n));
+        return Err(Refusal::TextShort(n));
     }
     zero_from(out, n);
     let state = found_told(t, area, utf16, f);
-    TextAnswer::Text { length: n, state }
+    Ok(TextWritten { length: n, state })
 }
 
 fn text_in(
@@ -111,7 +116,7 @@ fn text_in(
     h: Head,
     out: &mut [u8],
     index: StringIndex,
-) -> TextAnswer
+) -> Result<TextWritten, Refusal>
     requires { Asks t.now (lends names.now area.now) h }
     ensures { Gives (length out.old) (text_in (content_of h t.now (lends names.now area.now) index.0))
         (text_by (length out.old) (content_of h t.now (lends names.now area.now) index.0)) result out.new }
@@ -132,13 +137,13 @@ pub fn text(
     area: &[u8],
     out: &mut [u8],
     index: StringIndex,
-) -> TextAnswer
+) -> Result<TextWritten, Refusal>
     ensures { TextReads file.now (lends names.now area.now) out.old index.0 result out.new }
 {
     let opened = open_file(file, names, area);
     match opened {
-        OpenRead::Open(h) => text_in(tables_of(file, h), names, area, h, out, index),
-        OpenRead::Closed(why) => refuse(out, why),
+        Ok(h) => text_in(tables_of(file, h), names, area, h, out, index),
+        Err(why) => refuse(out, why),
     }
 }
 
@@ -167,7 +172,7 @@ pub fn content<'a>(file: &'a [u8], names: &[u32], area: &'a [u8], index: StringI
 {
     let opened = open_file(file, names, area);
     match opened {
-        OpenRead::Open(h) => content_in(tables_of(file, h), names, area, h, index),
-        OpenRead::Closed(_) => &file[0..0],
+        Ok(h) => content_in(tables_of(file, h), names, area, h, index),
+        Err(_) => &file[0..0],
     }
 }

@@ -7,7 +7,7 @@
 
 pub mod ask;
 
-ghost use Rattle.std.specs.Prelude.{◌≡◌, cond, ◌+◌, ◌-◌, ◌*◌, ◌≤◌, min, length, drop};
+ghost use Rattle.std.specs.Prelude.{◌≡◌, cond, ◌+◌, ◌-◌, ◌*◌, ◌≤◌, min, length, drop, Ok, Err};
 ghost use Rattle.records.specs.Limits.{file_limit};
 ghost use Rattle.system_types.specs.Names.{lends};
 ghost use Rattle.resource_map.specs.Map.{map_of};
@@ -16,7 +16,6 @@ ghost use Rattle.head.specs.Head.{head_by, unopened, whole_head, cut_pool, cut_m
 ghost use Rattle.head.specs.Head.{head_len, tables_in, body_in, head_is_whole, pool_refusal, map_refusal, refusal_of, outside_in};
 ghost use Rattle.head.specs.Entry.{keeps_none, mode_of, is_mode};
 ghost use Rattle.head.specs.Inner.Entered.{terms_of, entered_of};
-ghost use Rattle.head.specs.declared.Entered.TheVariants.{In, Out};
 ghost use Rattle.errors.specs.declared.Refusal.TheVariants.{ModeError};
 
 pub use ask::{content, found_told, open_file, text};
@@ -24,8 +23,8 @@ use errors::Refusal;
 use field::u16_at;
 use records::{APART, FILE_LIMIT, MERGED};
 use res_string_pool::{Garbage, Pool, PoolEnd, outside_of, pool_of};
-use resource_map::{MapRead, map_of};
-use system_types::{NamesRead, check_names};
+use resource_map::{MapShort, map_of};
+use system_types::check_names;
 use text::Head;
 
 // The part of the pool that ran out, with the file offset at which it should begin.
@@ -73,21 +72,6 @@ pub struct Opened {
 pub enum Asker {
     Question,
     Reading(u32, u32),
-}
-
-// A file behind what every entry point checks: its head, opened, which may still be amiss.
-#[derive(Clone, Copy)]
-pub enum Entered {
-    In(Opened),
-    // the first check that fails
-    Out(Refusal),
-}
-
-// The head of a file that is not refused before its body is looked at.
-#[derive(Clone, Copy)]
-pub enum OpenRead {
-    Open(Head),
-    Closed(Refusal),
 }
 
 // ---- the head
@@ -182,14 +166,14 @@ fn mapped(t: &[u8], garbage: Garbage, p: Pool) -> Opened
     let at = p.strings + p.size;
     let read = map_of(&t[at..]);
     match read {
-        MapRead::Ids(n) => whole(garbage, p, at + 8, n),
-        MapRead::HeaderShort(left) => map_short(
+        Ok(n) => whole(garbage, p, at + 8, n),
+        Err(MapShort::Header(left)) => map_short(
             garbage,
             p,
             at,
             MapPart::MapHeader(begins_at(t.len(), left)),
         ),
-        MapRead::IdsShort(left) => map_short(
+        Err(MapShort::Ids(left)) => map_short(
             garbage,
             p,
             at,
@@ -287,32 +271,32 @@ fn is_mode(mode: u32) -> bool
 }
 
 // The file behind its length, the cap and the names: the mode, and then the head opened.
-fn enter_in(file: &[u8], mode: u32) -> Entered
+fn enter_in(file: &[u8], mode: u32) -> Result<Opened, Refusal>
     requires { length file.now ≤ file_limit }
-    ensures { result ≡ cond (is_mode mode) (In (opened_of file.now)) (Out (ModeError mode)) }
+    ensures { result ≡ cond (is_mode mode) (Ok (opened_of file.now)) (Err (ModeError mode)) }
 {
     if is_mode(mode) {
-        return Entered::In(open_head(file));
+        return Ok(open_head(file));
     }
-    Entered::Out(Refusal::ModeError(mode))
+    Err(Refusal::ModeError(mode))
 }
 
 // The way into a file, for every entry point: its length, the cap, the lent names, the mode, then the head opened. What is amiss with the head is
 // the caller's to say, since notes can come before it; a caller that is lent items checks them behind this.
 // Ruled out: 1 for a file of 7 bytes with names that break their rule, a head for a file past the limit, and 7 for a cap of 0.
-pub fn enter(file: &[u8], names: &[u32], area: &[u8], asker: Asker) -> Entered
+pub fn enter(file: &[u8], names: &[u32], area: &[u8], asker: Asker) -> Result<Opened, Refusal>
     ensures { result ≡ entered_of file.now (lends names.now area.now) (terms_of asker) }
 {
     if FILE_LIMIT < file.len() {
-        return Entered::Out(Refusal::TooLargeError);
+        return Err(Refusal::TooLargeError);
     }
     if keeps_none(asker) {
-        return Entered::Out(Refusal::NotesOff);
+        return Err(Refusal::NotesOff);
     }
     let read = check_names(names, area);
     match read {
-        NamesRead::Good => enter_in(file, mode_of(asker)),
-        NamesRead::Bad(k) => Entered::Out(Refusal::SystemNamesError(k)),
+        Ok(()) => enter_in(file, mode_of(asker)),
+        Err(k) => Err(Refusal::SystemNamesError(k)),
     }
 }
 

@@ -1,6 +1,7 @@
 -- Laws of specs/Items.antt, for this crate and those above. No contract cites this file.
 -- In order: the items before one (`back-..`, `isNew-..`, `stands-..`); a name (`isName-..`); a good item (`isGood-..`); the table item
 -- by item (`rule-..`). What the rule says of all items of an attribute: proofs/Together.antt.
+use Rattle.std.specs.Prelude.{Result, Ok, Err}
 use Prim.Native.Nat.{ℕ, zero, suc, ◌+◌, ◌-◌, ◌/◌, ◌%◌, ◌≤◌, ◌<◌}
 use native.Mathlib.Omega.{arith}
 use native.Mathlib.Nat.{sub-zero}
@@ -18,8 +19,6 @@ use Rattle.utf.proofs.Ascii.{is_ascii-drop, is_ascii-take}
 use Rattle.items.specs.Items.{item_at, items_from, part_in, same_attribute, is_name, is_new, stands, is_good, rule_from, end_of, table_of}
 use Rattle.items.specs.Inner.Back.{back_to}
 use Rattle.items.specs.declared.Item.{Item}
-use Rattle.items.specs.declared.ItemsRead.{ItemsRead}
-use Rattle.items.specs.declared.ItemsRead.TheVariants.{Good, Bad}
 
 -- ---- a part of the area
 
@@ -156,16 +155,16 @@ module _ (area : List ℕ) (before : List Item) (i : Item) where
 
 -- ---- the table, item by item
 
-module _ (area w : List ℕ) (end : ItemsRead) (n : ℕ) where
+module _ (area w : List ℕ) (end : Result (Unit {0}) ℕ) (n : ℕ) where
   -- what is said from item k on
-  abbrev pub said_from : ℕ → ItemsRead
+  abbrev pub said_from : ℕ → Result (Unit {0}) ℕ
   said_from k = rule_from area end (back_to w k) k (items_from w k (n - k))
 
   pub rule_end : (k : ℕ) → n ≤ k → said_from k ≡ end
   unfolding rule_from items_from
   rule_end k p = let e : n - k ≡ 0 = omega arith in rw e
 
-  pub rule-step : (k : ℕ) → k < n → said_from k ≡ cond (is_good area (back_to w k) (item_at w k)) (said_from (k + 1)) (Bad k)
+  pub rule-step : (k : ℕ) → k < n → said_from k ≡ cond (is_good area (back_to w k) (item_at w k)) (said_from (k + 1)) (Err k)
   unfolding rule_from items_from back_to
   rule-step k p = let e : n - k ≡ suc (n - suc k) = omega arith in rw (e, add-one k)
 
@@ -175,7 +174,7 @@ module _ (area w : List ℕ) (end : ItemsRead) (n : ℕ) where
       → i ≡ item_at w k
       → b ≡ is_good area (back_to w k) i
       → b ≡ false
-      → Bad k ≡ said_from k
+      → Err k ≡ said_from k
   rule-bad k {i} {b} p q e f = sym (rule-step k p ∙ rw (← q, ← e, f))
 
   pub rule-next
@@ -193,8 +192,8 @@ module _ (area w : List ℕ) where
   unfolding table_of back_to
   table-first = rw sub-zero
 
-  pub table-rest : (length w % item_width ≡ 0 → ⊥) → end_of w ≡ Bad (length w / item_width)
+  pub table-rest : (length w % item_width ≡ 0 → ⊥) → end_of w ≡ Err (length w / item_width)
   table-rest p = rw (ne_eqb (length w % item_width) 0 p)
 
-  pub table-whole : length w % item_width ≡ 0 → end_of w ≡ Good
+  pub table-whole : length w % item_width ≡ 0 → end_of w ≡ (Ok tt)
   table-whole p = rw (eq-eqb (length w % item_width) 0 p)

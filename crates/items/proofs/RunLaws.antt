@@ -1,6 +1,7 @@
 -- Laws of specs/Inner/Firsts.antt and of the runs of specs/Inner/Turns.antt: which items are those of a name. No contract cites this file.
 -- In order: items left out (`rest-..`); the place of a name (`place-..`); the first item at each place (`firsts-..`), and what stands before it
 -- (`named-from`, `new-before`); the first item of a name (`first-..`); where its items end (`end-..`); all of them (`run-..`).
+use Rattle.std.specs.Prelude.{Ok}
 use Prim.Native.Nat.{ℕ, zero, suc, ◌+◌, ◌-◌, ◌*◌, ◌/◌, ◌%◌, ◌≤◌, ◌<◌}
 use mathlib.Core.Path.{◌≡◌, refl, sym, ap, ◌∙◌}
 use mathlib.Core.List.{List, [], ◌∷◌}
@@ -18,7 +19,6 @@ use Rattle.utf.specs.Plain.{is_ascii}
 use Rattle.utf.proofs.Equal.{eq_bytes-refl, eq_bytes-true, eq_bytes-false, eq_bytes-not}
 use Rattle.utf.proofs.Tables.{both_true}
 use Rattle.items.specs.declared.Item.{Item}
-use Rattle.items.specs.declared.ItemsRead.TheVariants.{Good}
 use Rattle.items.specs.Items.{item_at, items_from, items_of, part_in, attribute_of, same_attribute, named_in, is_new, table_of}
 use Rattle.items.specs.Inner.Back.{back_to}
 use Rattle.items.specs.Inner.Firsts.{place_count, place_of, Firsts}
@@ -316,7 +316,7 @@ module _ (area name w : List ℕ) where
 
   pub run-all :
       {first : ℕ} {r : Run} →
-      table_of area w ≡ Good →
+      table_of area w ≡ (Ok tt) →
       FirstNamed area name w first →
       first < length w / item_width →
       r.first ≡ first →

@@ -1,6 +1,7 @@
 -- What the rule of specs/Items.antt says of a table that keeps it. No contract cites this file.
 -- In order: every item is good (`good-at`), so that its attribute's name is ASCII (`good-ascii`); items of one attribute stand together
 -- and have one kind (`together`).
+use Rattle.std.specs.Prelude.{Ok, Err}
 use Prim.Native.Nat.{ℕ, zero, suc, ◌+◌, ◌/◌, ◌≤◌, ◌<◌}
 use native.Mathlib.Omega.{arith}
 use native.Mathlib.Numerals.{add-one}
@@ -15,33 +16,32 @@ use Rattle.utf.specs.Plain.{is_ascii}
 use Rattle.utf.proofs.Tables.{both_true}
 use Rattle.utf.proofs.Equal.{eq_bytes-true, eq_bytes-false}
 use Rattle.items.specs.declared.Item.{Item}
-use Rattle.items.specs.declared.ItemsRead.TheVariants.{Good, Bad}
 use Rattle.items.specs.Items.{item_at, attribute_of, same_attribute, is_name, is_new, stands, is_good, end_of, table_of}
 use Rattle.items.specs.Inner.Back.{back_to}
 use Rattle.items.proofs.Laws.{said_from, rule-step, table-first}
 
 -- ---- every item is good
 
-module _ (area w : List ℕ) (good : table_of area w ≡ Good) where
+module _ (area w : List ℕ) (good : table_of area w ≡ (Ok tt)) where
   said-good :
       (k : ℕ) →
       k < length w / item_width →
-      said_from area w (end_of w) (length w / item_width) k ≡ Good →
-      (is_good area (back_to w k) (item_at w k) ≡ true) × (said_from area w (end_of w) (length w / item_width) (k + 1) ≡ Good)
+      said_from area w (end_of w) (length w / item_width) k ≡ (Ok tt) →
+      (is_good area (back_to w k) (item_at w k) ≡ true) × (said_from area w (end_of w) (length w / item_width) (k + 1) ≡ (Ok tt))
   said-good k p e = go (is_good area (back_to w k) (item_at w k)) refl (sym (rule-step area w (end_of w) (length w / item_width) k p) ∙ e)
     where
       go :
           (b : Bool) →
           is_good area (back_to w k) (item_at w k) ≡ b →
-          cond (is_good area (back_to w k) (item_at w k)) (said_from area w (end_of w) (length w / item_width) (k + 1)) (Bad k) ≡ Good →
-          (is_good area (back_to w k) (item_at w k) ≡ true) × (said_from area w (end_of w) (length w / item_width) (k + 1) ≡ Good)
+          cond (is_good area (back_to w k) (item_at w k)) (said_from area w (end_of w) (length w / item_width) (k + 1)) (Err k) ≡ (Ok tt) →
+          (is_good area (back_to w k) (item_at w k) ≡ true) × (said_from area w (end_of w) (length w / item_width) (k + 1) ≡ (Ok tt))
       go true q h = (q, rw q at h)
       go false q h =
-          let h' : Bad k ≡ Good = rw q at h in
+          let h' : Err k ≡ (Ok tt) = rw q at h in
           let z : ◌≡◌ {A = ℕ} 0 1 = cc in
           absurd (let y : ⊥ = omega arith in y)
 
-  said_all : (k : ℕ) → k ≤ length w / item_width → said_from area w (end_of w) (length w / item_width) k ≡ Good
+  said_all : (k : ℕ) → k ≤ length w / item_width → said_from area w (end_of w) (length w / item_width) k ≡ (Ok tt)
   said_all zero p = sym (table-first area w) ∙ good
   said_all (suc k) p =
       let h = (said-good k (omega arith) (said_all k (omega arith))).1 in
@@ -89,7 +89,7 @@ module _ (area w : List ℕ) where
     pub kind : (item_at w i).kind ≡ (item_at w j).kind
     pub all : (m : ℕ) → i ≤ m → m ≤ j → called m ≡ called j
 
-  module _ (good : table_of area w ≡ Good) where
+  module _ (good : table_of area w ≡ (Ok tt)) where
     good-stands : (k : ℕ) → k < length w / item_width → stands area (back_to w k) (item_at w k) ≡ true
     unfolding is_good
     good-stands k p = stands_of (item_at w k) (back_to w k) (good-at area w good k p)

@@ -1,6 +1,7 @@
 -- Laws of specs/Inner/Turns.antt: the items of an attribute one after the other. No contract cites this file.
 -- In order: a name's length; the items left of a run (`run-..`); one item of a flag (`turned-..`) and all of them (`going-..`); the
 -- first item with a value (`valued-..`); what all of them say (`spoken-..`). Which items are those of a name: proofs/RunLaws.antt.
+use Rattle.std.specs.Prelude.{Option, Some}
 use Prim.Native.Nat.{ℕ, suc, ◌+◌, ◌-◌, ◌*◌, ◌≤◌, ◌<◌}
 use mathlib.Core.Path.{◌≡◌, refl, sym, ap, ◌∙◌}
 use mathlib.Core.List.{List, [], ◌∷◌, ◌++◌}
@@ -15,8 +16,6 @@ use Rattle.digits.proofs.Written.{wrote_none, wrote-more, wrote-append, Left, le
 use Rattle.items.specs.declared.Item.{Item}
 use Rattle.items.specs.declared.Flags.{Flags}
 use Rattle.items.specs.declared.Said.{Said}
-use Rattle.items.specs.declared.EnumFound.{EnumFound}
-use Rattle.items.specs.declared.EnumFound.TheVariants.{Named}
 use Rattle.items.specs.Items.{item_at, items_from, part_in, item_name_of, enum_of}
 use Rattle.items.specs.Flags.{takes, left_after, taken, left_of, bit_sum, bar, joined_from, joined}
 use Rattle.items.specs.Values.{enum_text, flag_text, is_said, said, attr_text, uncovered_of}
@@ -181,7 +180,7 @@ module _ (area : List ℕ) (n : ℕ) (all : List Item) (p₀ : ℕ) (l₀ : List
 -- ---- the first item with a value
 
 module _ (v : ℕ) (i : Item) (is : List Item) {j : Item} (q : j ≡ i) where
-  pub valued-here : j.value ≡ v → enum_of v (i ∷ is) ≡ Named i
+  pub valued-here : j.value ≡ v → enum_of v (i ∷ is) ≡ Some i
   unfolding enum_of
   valued-here e = let f : i.value ≡ v = rw q at e in rw (eq-eqb i.value v f)
 
@@ -214,7 +213,7 @@ module _
     {l l' : List ℕ}
   where
     pub spoken-enum :
-        {n : ℕ} {f : EnumFound} →
+        {n : ℕ} {f : Option Item} →
         head.kind ≡ 0 →
         f ≡ enum_of v is →
         Wrote 4294967296 0 (enum_text area v f) l n l' →

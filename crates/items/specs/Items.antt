@@ -10,15 +10,11 @@
 -- attribute stand together and have one kind: behind an item of the same attribute comes the same kind, behind one of another
 -- attribute an attribute that no earlier item has. Names are compared by their bytes, not by where they stand. No words at all are
 -- Good. Laws: proofs/Laws.antt, proofs/Together.antt.
-use Rattle.std.specs.Prelude.{ℕ, zero, suc, ◌+◌, ◌*◌, ◌/◌, ◌%◌, List, [], ◌∷◌, Bool, true, false, cond, not, ◌&&◌, length, take, drop, get_or, leb, eqb}
+use Rattle.std.specs.Prelude.{ℕ, zero, suc, ◌+◌, ◌*◌, ◌/◌, ◌%◌, List, [], ◌∷◌, Bool, true, false, cond, not, ◌&&◌, length, take, drop, get_or, leb, eqb, Option, Some, None, Result, Ok, Err}
 use Rattle.records.specs.Words.{item_width, item_attribute, item_attribute_length, item_kind, item_name, item_name_length, item_value}
 use Rattle.utf.specs.Text.{eq_bytes}
 use Rattle.utf.specs.Plain.{is_ascii}
 use Rattle.items.specs.declared.Item.{Item}
-use Rattle.items.specs.declared.ItemsRead.{ItemsRead}
-use Rattle.items.specs.declared.ItemsRead.TheVariants.{Good, Bad}
-use Rattle.items.specs.declared.EnumFound.{EnumFound}
-use Rattle.items.specs.declared.EnumFound.TheVariants.{Named, Unnamed}
 
 -- ---- the items
 
@@ -74,15 +70,15 @@ is_good area before i =
     is_name area i.attribute i.attribute_len && (is_name area i.name i.name_len && (leb i.kind 1 && stands area before i))
 
 -- the items from number k on, behind those before; `end` where all keep the rule
-unfoldable pub rule_from : List ℕ → ItemsRead → List Item → ℕ → List Item → ItemsRead
+unfoldable pub rule_from : List ℕ → Result (Unit {0}) ℕ → List Item → ℕ → List Item → Result (Unit {0}) ℕ
 rule_from area end before k [] = end
-rule_from area end before k (i ∷ is) = cond (is_good area before i) (rule_from area end (i ∷ before) (suc k) is) (Bad k)
+rule_from area end before k (i ∷ is) = cond (is_good area before i) (rule_from area end (i ∷ before) (suc k) is) (Err k)
 
 -- words that remain behind the whole items
-abbrev pub end_of : List ℕ → ItemsRead
-end_of w = cond (eqb (length w % item_width) 0) Good (Bad (length w / item_width))
+abbrev pub end_of : List ℕ → Result (Unit {0}) ℕ
+end_of w = cond (eqb (length w % item_width) 0) (Ok tt) (Err (length w / item_width))
 
-unfoldable pub table_of : List ℕ → List ℕ → ItemsRead
+unfoldable pub table_of : List ℕ → List ℕ → Result (Unit {0}) ℕ
 table_of area w = rule_from area (end_of w) [] 0 (items_of w)
 
 -- ---- looking up
@@ -95,6 +91,6 @@ unfoldable pub named_in : List ℕ → List ℕ → List Item → List Item
 named_in area name [] = []
 named_in area name (i ∷ is) = when_named (eq_bytes (attribute_of area i) name) i (named_in area name is)
 
-unfoldable pub enum_of : ℕ → List Item → EnumFound
-enum_of v [] = Unnamed
-enum_of v (i ∷ is) = cond (eqb i.value v) (Named i) (enum_of v is)
+unfoldable pub enum_of : ℕ → List Item → Option Item
+enum_of v [] = None
+enum_of v (i ∷ is) = cond (eqb i.value v) (Some i) (enum_of v is)

@@ -4,11 +4,9 @@
 --   uncovered_of   how many set bits of a flag no name covered; 0 for an enum, and where no item has the attribute's name
 --
 -- The items given are those of one attribute (`named_in`), which have one kind: that of the first.
-use Rattle.std.specs.Prelude.{ℕ, Bool, true, false, cond, List, [], ◌∷◌, eqb}
+use Rattle.std.specs.Prelude.{ℕ, Bool, true, false, cond, List, [], ◌∷◌, eqb, Option, Some, None}
 use Rattle.digits.specs.Digits.{decimal}
 use Rattle.items.specs.declared.Item.{Item}
-use Rattle.items.specs.declared.EnumFound.{EnumFound}
-use Rattle.items.specs.declared.EnumFound.TheVariants.{Named, Unnamed}
 use Rattle.items.specs.Items.{item_name_of, enum_of}
 use Rattle.items.specs.Flags.{taken, uncovered, joined}
 
@@ -25,9 +23,9 @@ said nothing = []
 said (says s) = s
 
 -- the first item with the value, else the number without a sign
-abbrev pub enum_text : List ℕ → ℕ → EnumFound → List ℕ
-enum_text area v (Named i) = item_name_of area i
-enum_text area v Unnamed = decimal v
+abbrev pub enum_text : List ℕ → ℕ → Option Item → List ℕ
+enum_text area v (Some i) = item_name_of area i
+enum_text area v None = decimal v
 
 abbrev pub flag_text : List ℕ → List Item → Text
 flag_text area [] = nothing

@@ -38,19 +38,6 @@ pub struct Item {
     pub value: u32,
 }
 
-#[derive(Clone, Copy)]
-pub enum ItemsRead {
-    Good,
-    // the first item that breaks the rule, or how many whole items there are where words remain
-    Bad(usize),
-}
-
-#[derive(Clone, Copy)]
-pub enum EnumFound {
-    Named(Item),
-    Unnamed,
-}
-
 // Items that stand together: the number of the first, and that behind the last; as many as there are, twice, for none.
 #[derive(Clone, Copy)]
 pub struct Run {
@@ -206,7 +193,7 @@ fn is_good(items: &[u32], area: &[u8], plain: bool, firsts: &[usize], k: usize, 
 }
 
 // What the items say, item by item up to the first that breaks the rule; `plain` where the area is known to be ASCII as a whole.
-fn check_each(items: &[u32], area: &[u8], plain: bool, firsts: &[usize]) -> ItemsRead
+fn check_each(items: &[u32], area: &[u8], plain: bool, firsts: &[usize]) -> Result<(), usize>
     requires { (plain ≡ true → is_ascii area.now ≡ true) × Firsts area.now items.now firsts.now }
     ensures { result ≡ table_of area.now items.now }
 {
@@ -214,20 +201,20 @@ fn check_each(items: &[u32], area: &[u8], plain: bool, firsts: &[usize]) -> Item
     let mut k = 0;
     while k < whole {
         if !is_good(items, area, plain, firsts, k, item_at(items, k)) {
-            return ItemsRead::Bad(k);
+            return Err(k);
         }
         k += 1;
     }
     if items.len() % ITEM_WORDS != 0 {
-        return ItemsRead::Bad(k);
+        return Err(k);
     }
-    ItemsRead::Good
+    Ok(())
 }
 
 // Whether the lent items keep their rule, where the first item at each place of a name is known. All of them are looked at, each time; the first
 // item of an attribute is compared with those before it only from the first on that stands at the same place by its name (looking.rt).
 // Ruled out: Good for items of one attribute apart, and the earlier of two items whose kinds differ.
-pub fn check_known(items: &[u32], area: &[u8], firsts: &[usize]) -> ItemsRead
+pub fn check_known(items: &[u32], area: &[u8], firsts: &[usize]) -> Result<(), usize>
     requires { Firsts area.now items.now firsts.now }
     ensures { result ≡ table_of area.now items.now }
 {
@@ -241,7 +228,7 @@ pub fn check_known(items: &[u32], area: &[u8], firsts: &[usize]) -> ItemsRead
 
 // The same for items of which nothing is known.
 // Ruled out: as above.
-pub fn check_items(items: &[u32], area: &[u8]) -> ItemsRead
+pub fn check_items(items: &[u32], area: &[u8]) -> Result<(), usize>
     ensures { result ≡ table_of area.now items.now }
 {
     let mut firsts = [NO_ITEM; PLACES];

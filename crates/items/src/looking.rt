@@ -3,11 +3,10 @@
 // Mirrors the `match` over names in the Rust's table (apk-info 13770539b8, structs/attrs_manifest.rs, `attr`), which is compiled in. Names are
 // spread over places by their length and two of their bytes, and for each place the first item is kept, so that most names are found, or
 // known to have no item, at once. Definitions: specs/Items.antt, specs/Inner/Firsts.antt.
-ghost use Rattle.std.specs.Prelude.{◌≡◌, List, ◌+◌, ◌*◌, ◌/◌, ◌≤◌, ◌<◌, length};
+ghost use Rattle.std.specs.Prelude.{◌≡◌, List, ◌+◌, ◌*◌, ◌/◌, ◌≤◌, ◌<◌, length, Ok};
 ghost use Rattle.utf.specs.Text.{eq_bytes};
 ghost use Rattle.records.specs.Words.{item_width};
 ghost use Rattle.items.specs.Items.{item_at, attribute_of, table_of};
-ghost use Rattle.items.specs.declared.ItemsRead.TheVariants.{Good};
 ghost use Rattle.items.specs.Inner.Firsts.{place_count, place_of, Firsts};
 ghost use Rattle.items.specs.Inner.Turns.{FirstNamed, RunOf, EndOf};
 
@@ -99,7 +98,7 @@ fn end_of(items: &[u32], area: &[u8], first: usize) -> usize
 // All items of an attribute, by the first of them or the number of items: they stand together.
 // Ruled out: the first alone, and an item of the next attribute.
 pub fn run_of(items: &[u32], area: &[u8], first: usize) -> Run
-    requires { table_of area.now items.now ≡ Good }
+    requires { table_of area.now items.now ≡ (Ok tt) }
     ensures { (name : List _) → FirstNamed area.now name items.now first
         → RunOf area.now name items.now result }
 {

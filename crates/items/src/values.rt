@@ -11,11 +11,11 @@ ghost use Rattle.items.specs.Values.{enum_text};
 ghost use Rattle.items.specs.Inner.Turns.{run_items, Spoken};
 
 use super::taking::put_flags;
-use super::{EnumFound, Flags, Run, Said, item_at, part_of};
+use super::{Flags, Item, Run, Said, item_at, part_of};
 use digits::{put_bytes, put_word};
 
 // The first item with a value, of those from number `first` up to `end`.
-fn find_value(items: &[u32], first: usize, end: usize, value: u32) -> EnumFound
+fn find_value(items: &[u32], first: usize, end: usize, value: u32) -> Option<Item>
     requires { item_width * end ≤ length items.now }
     ensures { result ≡ enum_of value (items_from items.now first (end - first)) }
 {
@@ -23,20 +23,20 @@ fn find_value(items: &[u32], first: usize, end: usize, value: u32) -> EnumFound
     while k < end {
         let i = item_at(items, k);
         if i.value == value {
-            return EnumFound::Named(i);
+            return Some(i);
         }
         k += 1;
     }
-    EnumFound::Unnamed
+    None
 }
 
 // The name of an enum's value at the front of a buffer, or the value in decimal.
-fn put_enum(out: &mut [u8], area: &[u8], found: EnumFound, value: u32) -> usize
+fn put_enum(out: &mut [u8], area: &[u8], found: Option<Item>, value: u32) -> usize
     ensures { Wrote 4294967296 0 (enum_text area.now value found) out.old result out.new }
 {
     match found {
-        EnumFound::Named(i) => put_bytes(out, 0, part_of(area, i.name, i.name_len)),
-        EnumFound::Unnamed => put_word(out, 0, value),
+        Some(i) => put_bytes(out, 0, part_of(area, i.name, i.name_len)),
+        None => put_word(out, 0, value),
     }
 }
 

@@ -1,7 +1,7 @@
 // The numbers of one anomaly of each kind, and of one refusal of each.
 use anomaly::{ResAnomaly, note_of};
 use common::StringIndex;
-use errors::{ReadAnswer, Refusal, read_numbers};
+use errors::{Refusal, read_numbers};
 use std::io;
 
 fn print_note(rt: &impl Print, x: ResAnomaly) -> io::Result<()> {
@@ -27,7 +27,7 @@ pub(crate) fn print_notes(rt: &impl Print) -> io::Result<()> {
 }
 
 fn print_refusal(rt: &impl Print, r: Refusal) -> io::Result<()> {
-    let n = read_numbers(ReadAnswer::Refused(r));
+    let n = read_numbers(Err(r));
     println!(rt; "refusal={} value={}", n.refusal, n.value)
 }
 

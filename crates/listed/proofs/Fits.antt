@@ -4,6 +4,7 @@
 --   reading-le        so a reading leaves no more words and notes than there is room for
 --   listed_text-fits   so the buffer of `Roomy` takes every listing
 --   lists-answer      and the answer of `list_into` in that room is a text
+use Rattle.std.specs.Prelude.{Result, Ok, Err}
 use Prim.Native.Nat.{ℕ, ◌+◌, ◌-◌, ◌*◌, ◌/◌, ◌≤◌}
 use native.Mathlib.Omega.{arith}
 use mathlib.Core.Path.{◌≡◌, sym, ◌∙◌}
@@ -16,8 +17,6 @@ use Rattle.anomaly.specs.Note.{kind_index}
 use Rattle.errors.specs.Refusal.{numbers_of}
 use Rattle.errors.specs.declared.Refusal.{Refusal}
 use Rattle.errors.specs.declared.Refusal.TheVariants.{AttributesFull, NotesFull, TooLargeError}
-use Rattle.errors.specs.declared.LinesAnswer.{LinesAnswer}
-use Rattle.errors.specs.declared.LinesAnswer.TheVariants.{Text, Refused}
 use Rattle.errors.proofs.Laws.{lines_numbers_of-unique}
 use Rattle.head.specs.Entry.{reading_at, Check, passes, fails, first_of, entry_checks}
 use Rattle.head.specs.Head.{opened_of}
@@ -143,7 +142,7 @@ listed_text-fits f ns ats h i =
 -- ---- so that the answer is a text
 
 module _ (f ns ats before ns' ats' after : List ℕ) where
-  pub lists-text : (r : LinesAnswer) (n : ℕ) → r ≡ Text n → Lists f ns ats before r ns' ats' after → Lists f ns ats before (Text n) ns' ats' after
+  pub lists-text : (r : Result ℕ Refusal) (n : ℕ) → r ≡ Ok n → Lists f ns ats before r ns' ats' after → Lists f ns ats before (Ok n) ns' ats' after
   lists-text r n e h = rw e at h
 
   module _ (room : Roomy (length ns) (length ats) (length before)) where
@@ -152,21 +151,21 @@ module _ (f ns ats before ns' ats' after : List ℕ) where
         let h = listed_text-fits f (length ns) (length ats) (omega (arith, room.nodes)) (omega (arith, room.attributes)) in
         omega (arith, h, room.out)
 
-    pub lists-answer : (r : LinesAnswer) → Lists f ns ats before r ns' ats' after → r ≡ Text (length (listed_text f (length ns) (length ats)))
+    pub lists-answer : (r : Result ℕ Refusal) → Lists f ns ats before r ns' ats' after → r ≡ Ok (length (listed_text f (length ns) (length ats)))
     unfolding listing_answer
     lists-answer r h =
-        lines_numbers_of-unique r (Text (length (listed_text f (length ns) (length ats))))
+        lines_numbers_of-unique r (Ok (length (listed_text f (length ns) (length ats))))
         (h.printed.answer ∙ rw (le-leb (length (listed_text f (length ns) (length ats))) (length before) fits))
 
-    pub lists-never : (r : LinesAnswer) (x : Refusal) → r ≡ Refused x → Lists f ns ats before r ns' ats' after → ⊥
+    pub lists-never : (r : Result ℕ Refusal) (x : Refusal) → r ≡ Err x → Lists f ns ats before r ns' ats' after → ⊥
     lists-never r x e h =
-        let q : Refused x ≡ Text (length (listed_text f (length ns) (length ats))) = sym e ∙ lists-answer r h in
+        let q : Err x ≡ Ok (length (listed_text f (length ns) (length ats))) = sym e ∙ lists-answer r h in
         let z : ◌≡◌ {A = ℕ} 1 0 = cc in
         let w : ⊥ = omega arith in
         w
 
-    pub lists-le : (n : ℕ) → Lists f ns ats before (Text n) ns' ats' after → n ≤ length before
+    pub lists-le : (n : ℕ) → Lists f ns ats before (Ok n) ns' ats' after → n ≤ length before
     lists-le n h =
-        let q : Text n ≡ Text (length (listed_text f (length ns) (length ats))) = lists-answer (Text n) h in
+        let q : Ok n ≡ Ok (length (listed_text f (length ns) (length ats))) = lists-answer (Ok n) h in
         let e : n ≡ length (listed_text f (length ns) (length ats)) = cc in
         omega (arith, fits)

@@ -1,4 +1,5 @@
 -- Laws of specs/Lists.antt for `list_into`: the listing of what was read, and of refusal 2. No contract cites this file.
+use Rattle.std.specs.Prelude.{Result, Err}
 use Prim.Native.Nat.{ℕ, ◌≤◌, ◌<◌}
 use native.Mathlib.Omega.{arith}
 use mathlib.Core.Path.{◌≡◌, sym, ◌∙◌}
@@ -8,10 +9,7 @@ use lib.ListN.{length, replicate, length-append}
 use Rattle.anomaly.specs.declared.Note.{Note}
 use Rattle.errors.specs.Refusal.{numbers_of}
 use Rattle.errors.specs.declared.Numbers.{Numbers}
-use Rattle.errors.specs.declared.ReadAnswer.{ReadAnswer}
-use Rattle.errors.specs.declared.ReadAnswer.TheVariants.{Refused}
 use Rattle.errors.specs.declared.Refusal.TheVariants.{TooLargeError}
-use Rattle.errors.specs.declared.LinesAnswer.{LinesAnswer}
 use Rattle.records.specs.Limits.{listed_file, listed_notes, listed_cap}
 use Rattle.records.specs.Words.{merged}
 use Rattle.system_types.specs.Names.{lends}
@@ -19,18 +17,20 @@ use Rattle.walk.specs.Reading.{Reads, zero_note, refuses}
 use Rattle.listing_text.specs.Listing.{record_lines, note_lines, listing, listing_text}
 use Rattle.listing_text.specs.Printed.{Printed}
 use Rattle.listed.specs.Lists.{listed_room, listed, listed_text, Lists}
+use Rattle.errors.specs.declared.ReadCounts.{ReadCounts}
+use Rattle.errors.specs.declared.Refusal.{Refusal}
 
 -- a refusal's listing has no line of a table
 refused-same :
-    (n : Numbers) (ns ats ns' ats' : List ℕ) (os os' : List Note) → n ≡ numbers_of (Refused TooLargeError) →
-    listing_text listed_cap n ns ats os ≡ listing_text listed_cap (numbers_of (Refused TooLargeError)) ns' ats' os'
+    (n : Numbers) (ns ats ns' ats' : List ℕ) (os os' : List Note) → n ≡ numbers_of (Err TooLargeError) →
+    listing_text listed_cap n ns ats os ≡ listing_text listed_cap (numbers_of (Err TooLargeError)) ns' ats' os'
 unfolding numbers_of listing_text listing record_lines note_lines
 refused-same n ns ats ns' ats' os os' e = rw e
 
-module _ (f ns ats before after ns' ats' : List ℕ) (n : Numbers) (r : LinesAnswer) where
+module _ (f ns ats before after ns' ats' : List ℕ) (n : Numbers) (r : Result ℕ Refusal) where
   pub lists-large :
       (os : List Note) → listed_file < length f → ns' ≡ replicate (length ns) 0 → ats' ≡ replicate (length ats) 0 →
-      n ≡ numbers_of (Refused TooLargeError) → Printed (listing_text listed_cap n ns' ats' os) before r after → Lists f ns ats before r ns' ats' after
+      n ≡ numbers_of (Err TooLargeError) → Printed (listing_text listed_cap n ns' ats' os) before r after → Lists f ns ats before r ns' ats' after
   unfolding listed
   lists-large os h e g k p =
       let q : listed_text f (length ns) (length ats) ≡ listing_text listed_cap n ns' ats' os =
@@ -39,7 +39,7 @@ module _ (f ns ats before after ns' ats' : List ℕ) (n : Numbers) (r : LinesAns
       record { printed = rw q p; nodes = rw (lt-ltb listed_file (length f) h) e; attributes = rw (lt-ltb listed_file (length f) h) g }
 
   pub lists-read :
-      (x : ReadAnswer) (os' : List Note) → length f ≤ listed_file → Reads f (lends [] []) ns ats (replicate listed_notes zero_note) listed_cap merged x ns' ats' os' →
+      (x : Result ReadCounts Refusal) (os' : List Note) → length f ≤ listed_file → Reads f (lends [] []) ns ats (replicate listed_notes zero_note) listed_cap merged x ns' ats' os' →
       n ≡ numbers_of x → Printed (listing_text listed_cap n ns' ats' os') before r after → Lists f ns ats before r ns' ats' after
   unfolding listed
   lists-read x os' h g e p =
@@ -54,7 +54,7 @@ unfolding listed
 listed-large f a b h = rw (lt-ltb listed_file (length f) h)
 
 pub lists-longer :
-    (f more ns ats before : List ℕ) (r : LinesAnswer) (ns' ats' after : List ℕ) → listed_file < length f → Lists f ns ats before r ns' ats' after →
+    (f more ns ats before : List ℕ) (r : Result ℕ Refusal) (ns' ats' after : List ℕ) → listed_file < length f → Lists f ns ats before r ns' ats' after →
     Lists (f ++ more) ns ats before r ns' ats' after
 lists-longer f more ns ats before r ns' ats' after h p =
     let l : listed_file < length (f ++ more) = rw (length-append f more) (omega arith) in

@@ -6,10 +6,9 @@
 --   Lists        what `list_into` promises: the answer and the buffer (listing_text, `Printed`), and every word of both tables
 --
 -- That the program's room suffices: proofs/Fits.antt, `listed_text-fits`.
-use Rattle.std.specs.Prelude.{ℕ, ◌≡◌, cond, List, [], length, ltb}
+use Rattle.std.specs.Prelude.{ℕ, ◌≡◌, cond, List, [], length, ltb, Result}
 use Rattle.errors.specs.Refusal.{numbers_of}
 use Rattle.errors.specs.declared.Refusal.TheVariants.{TooLargeError}
-use Rattle.errors.specs.declared.LinesAnswer.{LinesAnswer}
 use Rattle.records.specs.Limits.{listed_file, listed_notes, listed_cap}
 use Rattle.records.specs.Words.{merged}
 use Rattle.system_types.specs.Names.{lends}
@@ -17,6 +16,7 @@ use Rattle.walk.specs.Settle.{Room}
 use Rattle.walk.specs.Reading.{Reading, refuses, reading}
 use Rattle.listing_text.specs.Listing.{listing_text}
 use Rattle.listing_text.specs.Printed.{Printed}
+use Rattle.errors.specs.declared.Refusal.{Refusal}
 
 abbrev pub listed_room : ℕ → ℕ → Room
 listed_room ns ats = record { nodes = ns; attributes = ats; notes = listed_notes; cap = listed_cap; mode = merged }
@@ -31,7 +31,7 @@ text_in g = listing_text listed_cap (numbers_of g.answer) g.nodes g.attributes g
 abbrev pub listed_text : List ℕ → ℕ → ℕ → List ℕ
 listed_text f ns ats = text_in (listed f ns ats)
 
-pub record Lists (f ns ats before : List ℕ) (r : LinesAnswer) (ns' ats' after : List ℕ) : Type 0 where
+pub record Lists (f ns ats before : List ℕ) (r : Result ℕ Refusal) (ns' ats' after : List ℕ) : Type 0 where
   pub printed : Printed (listed_text f (length ns) (length ats)) before r after
   pub nodes : ns' ≡ (listed f (length ns) (length ats)).nodes
   pub attributes : ats' ≡ (listed f (length ns) (length ats)).attributes

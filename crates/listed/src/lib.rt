@@ -7,7 +7,7 @@
 ghost use Rattle.listed.specs.Lists.{Lists};
 
 use anomaly::Note;
-use errors::{LinesAnswer, ReadAnswer, Refusal};
+use errors::Refusal;
 use records::{LISTED_CAP, LISTED_FILE, LISTED_NOTES};
 
 // The listing of `file`, with the reading that it lists in the two tables: more bytes than the limit are refused with 2, unread. Every length
@@ -18,7 +18,7 @@ pub fn list_into(
     nodes: &mut [u32],
     attributes: &mut [u32],
     out: &mut [u8],
-) -> LinesAnswer
+) -> Result<usize, Refusal>
     ensures { Lists file.now nodes.old attributes.old out.old result
         nodes.new attributes.new out.new }
 {
@@ -30,7 +30,7 @@ pub fn list_into(
             a: 0,
             b: 0,
         }; LISTED_NOTES];
-        let n = errors::read_numbers(ReadAnswer::Refused(Refusal::TooLargeError));
+        let n = errors::read_numbers(Err(Refusal::TooLargeError));
         return listing_text::listing_into(LISTED_CAP, n, nodes, attributes, notes, out);
     }
     let l = axml::read_listed(file, nodes, attributes);

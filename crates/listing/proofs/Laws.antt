@@ -7,7 +7,6 @@ use Rattle.std.specs.declared.result.Result.{Result}
 use Rattle.std.specs.declared.result.Result.TheVariants.{Ok, Err}
 use Rattle.std.specs.Io.KnownBytes.{Appends}
 use Rattle.digits.specs.Written.{fitted}
-use Rattle.errors.specs.declared.LinesAnswer.TheVariants.{Text}
 use Rattle.records.specs.Limits.{listed_file}
 use Rattle.listed.specs.Roomy.{Roomy}
 use Rattle.listed.specs.Lists.{listed_text, Lists}
@@ -22,14 +21,14 @@ unfolding Within
 within-whole x n room e h = rw e at h
 
 module _ (x : Input) (f ns ats before : List ℕ) (r : ℕ) (ns' ats' after : List ℕ) where
-  pub runs-whole : (n : ℕ) → x ≡ Whole n → Lists (take n f) ns ats before (Text r) ns' ats' after → Runs x f ns ats before r ns' ats' after
+  pub runs-whole : (n : ℕ) → x ≡ Whole n → Lists (take n f) ns ats before (Ok r) ns' ats' after → Runs x f ns ats before r ns' ats' after
   unfolding Runs
   runs-whole n e p = rw e p
 
   -- whatever follows what is in a full room
-  pub runs-full : x ≡ Full → listed_file < length f → Lists f ns ats before (Text r) ns' ats' after → Runs x f ns ats before r ns' ats' after
+  pub runs-full : x ≡ Full → listed_file < length f → Lists f ns ats before (Ok r) ns' ats' after → Runs x f ns ats before r ns' ats' after
   unfolding Runs
-  runs-full e h p = rw e (λ (more : List ℕ). lists-longer f more ns ats before (Text r) ns' ats' after h p)
+  runs-full e h p = rw e (λ (more : List ℕ). lists-longer f more ns ats before (Ok r) ns' ats' after h p)
 
   pub runs-failed : x ≡ Failed → Runs x f ns ats before r ns' ats' after
   unfolding Runs
@@ -47,11 +46,11 @@ fitted-front text room r h e = rw (le-leb (length text) room h) (take_at text (r
 
 -- the listing of known bytes stands at the front of the buffer
 pub lists-front :
-    (f ns ats before : List ℕ) (r : ℕ) (ns' ats' after : List ℕ) → Roomy (length ns) (length ats) (length before) → Lists f ns ats before (Text r) ns' ats' after →
+    (f ns ats before : List ℕ) (r : ℕ) (ns' ats' after : List ℕ) → Roomy (length ns) (length ats) (length before) → Lists f ns ats before (Ok r) ns' ats' after →
     take r after ≡ listed_text f (length ns) (length ats)
 lists-front f ns ats before r ns' ats' after room h =
     let text = listed_text f (length ns) (length ats) in
-    let q : Text r ≡ Text (length text) = lists-answer f ns ats before ns' ats' after room (Text r) h in
+    let q : Ok r ≡ Ok (length text) = lists-answer f ns ats before ns' ats' after room (Ok r) h in
     let e : r ≡ length text = cc in
     let fits : r ≤ length before = lists-le f ns ats before ns' ats' after room r h in
     let g : length text ≤ length before = omega arith in

@@ -6,14 +6,12 @@
 // so does a write that fails, for what was written then is a part of the listing.
 #![tactic(auto)]
 
-ghost use Rattle.std.specs.Prelude.{◌≡◌, ◌≤◌, ◌<◌, length, OnOk};
+ghost use Rattle.std.specs.Prelude.{◌≡◌, ◌≤◌, ◌<◌, length, OnOk, Ok};
 ghost use Rattle.records.specs.Limits.{listed_file};
-ghost use Rattle.errors.specs.declared.LinesAnswer.TheVariants.{Text};
 ghost use Rattle.listed.specs.Lists.{Lists};
 ghost use Rattle.listed.specs.Roomy.{Roomy};
 ghost use Rattle.listing.specs.Inner.Input.{Within, Came, Runs, Listed};
 
-use errors::LinesAnswer;
 use listing_text::LISTED_BYTES;
 use records::{ATTRIBUTE_WORDS, LISTED_ATTRIBUTES, LISTED_FILE, LISTED_NODES, NODE_WORDS};
 use std::io;
@@ -51,13 +49,13 @@ fn take_in<R: Read>(reader: &mut R, room: &mut [u8]) -> Input
 // Ruled out: a listing that does not fit the buffer, and one of other tables.
 fn list_whole(file: &[u8], nodes: &mut [u32], attributes: &mut [u32], out: &mut [u8]) -> usize
     requires { Roomy (length nodes.old) (length attributes.old) (length out.old) }
-    ensures { Lists file.now nodes.old attributes.old out.old (Text result)
+    ensures { Lists file.now nodes.old attributes.old out.old (Ok result)
         nodes.new attributes.new out.new }
 {
     let answer = listed::list_into(file, nodes, attributes, out);
     match answer {
-        LinesAnswer::Text(length) => length,
-        LinesAnswer::Refused(_) => 0, // never: the buffer takes every listing
+        Ok(length) => length,
+        Err(_) => 0, // never: the buffer takes every listing
     }
 }
 

@@ -1,5 +1,6 @@
 -- The whole of `read_listing`, from what its parts promise. No contract cites this file.
 -- In order: the head, the tables, the reader's own refusals, refusals from their numbers, zeros.
+use Rattle.std.specs.Prelude.{Err}
 use Prim.Native.Nat.{ℕ, zero, suc, ◌+◌, ◌*◌, ◌-◌, ◌/◌, ◌≤◌, ◌<◌}
 use mathlib.Core.Path.{◌≡◌, refl, sym, ap, subst, ◌∙◌}
 use mathlib.Core.Bool.{Bool, true, false, cond, not, ◌&&◌, ◌||◌}
@@ -13,7 +14,6 @@ use lib.Seq.{length-take-le}
 use Rattle.digits.specs.Written.{fitted}
 use Rattle.errors.specs.declared.Numbers.{Numbers}
 use Rattle.errors.specs.declared.Refusal.{Refusal}
-use Rattle.errors.specs.declared.ReadAnswer.TheVariants.{Refused}
 use Rattle.errors.specs.Refusal.{numbers_of}
 use Rattle.records.specs.Words.{node_width, attribute_width, note_width}
 use Rattle.listing_text.specs.Keys.{refusal_key, value_key, cap_key, starts_key, nodes_key, attributes_key, notes_key}
@@ -419,13 +419,13 @@ answer-counted h e t = numbers-by (sym e) (plain-zero h.refusal h.value (ap is_p
 pub heading-sayable : (h : Heading) → (h.refusal ≡ 0 → ⊥) → TestedHeading h → Sayable h.refusal h.value
 heading-sayable h z t = record { listed = t.listed; value = t.value; some = z }
 
-pub answer-refused : (h : Heading) (x : Refusal) → (h.refusal ≡ 0 → ⊥) → TestedHeading h → Says h.refusal h.value x → numbers_of (Refused x) ≡ heading_numbers h
+pub answer-refused : (h : Heading) (x : Refusal) → (h.refusal ≡ 0 → ⊥) → TestedHeading h → Says h.refusal h.value x → numbers_of (Err x) ≡ heading_numbers h
 unfolding numbers_of
 answer-refused h x z t s =
     numbers-by s.number s.value (none-counted h.refusal h.starts z t.starts) (none-counted h.refusal h.nodes z t.nodes)
     (none-counted h.refusal h.attributes z t.attributes) (none-counted h.refusal h.notes z t.notes)
 
-pub answer-fault : (n v : ℕ) (x : Refusal) → Says n v x → numbers_of (Refused x) ≡ fault_numbers n v
+pub answer-fault : (n v : ℕ) (x : Refusal) → Says n v x → numbers_of (Err x) ≡ fault_numbers n v
 unfolding numbers_of
 answer-fault n v x s = numbers-by s.number s.value refl refl refl refl
 

@@ -4,7 +4,7 @@ ghost use Rattle.errors.specs.Refusal.{numbers_of};
 ghost use Rattle.listing_back.specs.Inner.Whole.{is_own, Says, Sayable, heading_numbers, TestedHeading};
 
 use crate::opening::Heading;
-use errors::{ReadAnswer, ReadCounts, Refusal};
+use errors::{ReadCounts, Refusal};
 
 // A refusal of the reader's own.
 pub fn own_refusal(number: u32, value: usize) -> Refusal
@@ -75,7 +75,7 @@ fn listed_refusal(number: u32, value: u32) -> Refusal
     Refusal::MissingRoot
 }
 
-fn counted(h: Heading) -> ReadAnswer
+fn counted(h: Heading) -> Result<ReadCounts, Refusal>
     ensures { numbers_of result ≡ record {
       refusal = 0;
       value = 0;
@@ -85,7 +85,7 @@ fn counted(h: Heading) -> ReadAnswer
       notes = h.notes;
     } }
 {
-    ReadAnswer::Done(ReadCounts {
+    Ok(ReadCounts {
         starts: h.starts,
         nodes: h.nodes,
         attributes: h.attributes,
@@ -94,12 +94,12 @@ fn counted(h: Heading) -> ReadAnswer
 }
 
 // The answer that a head says.
-pub fn listed_answer(h: Heading) -> ReadAnswer
+pub fn listed_answer(h: Heading) -> Result<ReadCounts, Refusal>
     requires { TestedHeading h }
     ensures { numbers_of result ≡ heading_numbers h }
 {
     if h.refusal == 0 {
         return counted(h);
     }
-    ReadAnswer::Refused(listed_refusal(h.refusal, h.value))
+    Err(listed_refusal(h.refusal, h.value))
 }

@@ -16,7 +16,7 @@ ghost use Rattle.listing_back.specs.Back.{Relists, fault_numbers};
 ghost use Rattle.listing_back.specs.Inner.Whole.{ReadsHead, ReadsAll, TestedHeading, heading_numbers, is_own};
 
 use answering::{listed_answer, own_refusal};
-use errors::ReadAnswer;
+use errors::{ReadCounts, Refusal};
 use opening::{Heading, read_head, spot_of};
 use records::{ATTRIBUTE_WORDS, NODE_WORDS, NOTE_WORDS, attribute_place, node_place};
 use stepping::{Spot, read_end, read_records};
@@ -25,7 +25,7 @@ use tables::{zero_all, zero_from};
 // What a listing says: the answer that was listed, or why the text is none; and its cap, where 0 says that notes are unknown.
 #[derive(Clone, Copy)]
 pub struct Relisted {
-    pub answer: ReadAnswer,
+    pub answer: Result<ReadCounts, Refusal>,
     pub cap: u32,
 }
 
@@ -63,7 +63,7 @@ fn refused(number: u32, value: usize) -> Relisted
     ensures { (numbers_of result.answer ≡ fault_numbers number value) × (result.cap ≡ 0) }
 {
     Relisted {
-        answer: ReadAnswer::Refused(own_refusal(number, value)),
+        answer: Err(own_refusal(number, value)),
         cap: 0,
     }
 }

@@ -1,5 +1,6 @@
 -- Laws of specs/Listing.antt, for this crate and for whoever reads a listing. In order: lines, the words of a record.
 -- Not here: decimal numbers (crate digits), greatest lengths (proofs/Lengths.antt).
+use Rattle.std.specs.Prelude.{Err}
 use Prim.Native.Nat.{ℕ, ◌+◌}
 use mathlib.Core.Path.{◌≡◌, refl}
 use mathlib.Core.List.{List, [], ◌∷◌, ◌++◌, append_assoc}
@@ -7,7 +8,6 @@ use lib.ListN.{get_or, drop}
 use lib.Seq.{get_or-drop}
 use Rattle.anomaly.specs.declared.Note.{Note}
 use Rattle.errors.specs.declared.Refusal.{Refusal}
-use Rattle.errors.specs.declared.ReadAnswer.TheVariants.{Refused}
 use Rattle.errors.specs.Refusal.{numbers_of}
 use Rattle.records.specs.Words.{node_name, node_fixed, node_parent, node_first, node_count, node_line as line_word}
 use Rattle.records.specs.Words.{attribute_owner, attribute_prefix, attribute_name, attribute_type, attribute_data, attribute_namespace}
@@ -25,7 +25,7 @@ lines_text-append (x ∷ a) b = rw (lines_text-append a b, append_assoc)
 
 -- a refusal has the seven lines alone
 pub listing-refused :
-    (most : ℕ) (r : Refusal) (ns ats : List ℕ) (os : List Note) → listing most (numbers_of (Refused r)) ns ats os ≡ head_lines most (numbers_of (Refused r))
+    (most : ℕ) (r : Refusal) (ns ats : List ℕ) (os : List Note) → listing most (numbers_of (Err r)) ns ats os ≡ head_lines most (numbers_of (Err r))
 unfolding listing record_lines note_lines numbers_of
 listing-refused most r ns ats os = refl
 

@@ -1,4 +1,5 @@
 -- The buffer at the end: the whole text and zeros behind it, or zeros alone. No contract cites this file.
+use Rattle.std.specs.Prelude.{Ok, Err}
 use Prim.Native.Nat.{ℕ, ◌-◌, ◌≤◌, ◌<◌}
 use mathlib.Core.Path.{◌≡◌}
 use mathlib.Core.List.{List, ◌++◌}
@@ -8,7 +9,6 @@ use borrow.Rule.Slice.PartMut.{put_mid, mid_of}
 use lib.ListN.{length, replicate}
 use Rattle.anomaly.specs.declared.Note.{Note}
 use Rattle.errors.specs.declared.Numbers.{Numbers}
-use Rattle.errors.specs.declared.LinesAnswer.TheVariants.{Text, Refused}
 use Rattle.errors.specs.declared.Refusal.TheVariants.{TextShort}
 use Rattle.listing_text.specs.Listing.{Line, lines_text, head_lines, node_lines, attribute_lines, note_lines, listing, listing_text}
 use Rattle.listing_text.specs.Printed.{Printed, listing_answer}
@@ -32,7 +32,7 @@ module _ {m end : ℕ} {text l k : List ℕ} (w : Wrote m 0 text l end k) where
   -- zeros in the part from the end of the text on
   pub printed-whole :
       (ys : List ℕ) → end ≤ length k → ys ≡ replicate (length (mid_of end (length k - end) k)) 0 →
-      Printed text l (Text end) (put_mid end (length k - end) k ys)
+      Printed text l (Ok end) (put_mid end (length k - end) k ys)
   unfolding listing_answer
   printed-whole ys h e =
       let a = wrote-length w in
@@ -40,7 +40,7 @@ module _ {m end : ℕ} {text l k : List ℕ} (w : Wrote m 0 text l end k) where
       let f : length text ≤ length l = omega arith in
       record { answer = rw (le-leb (length text) (length l) f, a); out = fitted-whole w ys h e }
 
-  pub printed-short : (ys : List ℕ) → length k < end → ys ≡ replicate (length k) 0 → Printed text l (Refused (TextShort end)) ys
+  pub printed-short : (ys : List ℕ) → length k < end → ys ≡ replicate (length k) 0 → Printed text l (Err (TextShort end)) ys
   unfolding listing_answer
   printed-short ys h e =
       let a = wrote-length w in

@@ -18,7 +18,7 @@ ghost use Rattle.listing_text.specs.Printed.{Printed};
 
 use anomaly::Note;
 use digits::zero;
-use errors::{LinesAnswer, Numbers, Refusal};
+use errors::{Numbers, Refusal};
 use fields::{put_field, put_three};
 use records::{
     ATTRIBUTE_DATA, ATTRIBUTE_NAME, ATTRIBUTE_NAMESPACE, ATTRIBUTE_OWNER, ATTRIBUTE_PREFIX,
@@ -228,14 +228,14 @@ pub fn listing_into(
     attributes: &[u32],
     notes: [Note; LISTED_NOTES],
     out: &mut [u8],
-) -> LinesAnswer
+) -> Result<usize, Refusal>
     ensures { Printed (listing_text cap n nodes.now attributes.now notes) out.old result out.new }
 {
     let end = put_listing(out, cap, n, nodes, attributes, notes);
     if out.len() < end {
         zero(out);
-        return LinesAnswer::Refused(Refusal::TextShort(end));
+        return Err(Refusal::TextShort(end));
     }
     zero(&mut out[end..]);
-    LinesAnswer::Text(end)
+    Ok(end)
 }

@@ -1,6 +1,7 @@
 -- Laws of specs/Activities.antt on children and of specs/Inner/Pass.antt on the pass over the nodes. No contract cites this file.
 -- In order: the children from a record on (`rest-..`); tests and numbers of them (`any-..`, `flat-..`); what was passed over (`within-..`);
 -- a filter (`filtering-..`), an activity (`seeking-..`); attributes (`from-..`).
+use Rattle.std.specs.Prelude.{Option, Some, None}
 use Prim.Native.Nat.{ℕ, zero, suc, ◌+◌, ◌-◌, ◌≤◌, ◌<◌}
 use native.Mathlib.Omega.{arith}
 use mathlib.Core.Path.{◌≡◌, refl, sym, ap, ◌∙◌}
@@ -11,8 +12,6 @@ use lib.Dec.{ltb, eqb}
 use Rattle.value_text.specs.Value.{false_text, attribute_value}
 use Rattle.value_text.specs.declared.Attribute.{Attribute}
 use Rattle.many_texts.specs.Many.{attribute_at}
-use Rattle.main_activities.specs.declared.AttributeFound.{AttributeFound}
-use Rattle.main_activities.specs.declared.AttributeFound.TheVariants.{At, NoAttribute}
 use Rattle.main_activities.specs.Activities.{Tree, parent_of, children_from, children_of, any_of, tagged, named, attribute_from, filter_tag}
 use Rattle.main_activities.specs.Activities.{is_main, is_launcher, is_filter, is_activity, is_enabled, starts, says, says_by, shown_as}
 use Rattle.main_activities.specs.Activities.{attribute_of, action_tag, category_tag, name_name, main_text, launcher_text, info_text, enabled_name}
@@ -234,21 +233,21 @@ module _ (w : Tree) (a : ℕ) where
 -- ---- attributes
 
 module _ (w : Tree) (name : List ℕ) (first n i : ℕ) where
-  pub from_end : n ≤ i → attribute_from w name (first + i) (n - i) ≡ NoAttribute
+  pub from_end : n ≤ i → attribute_from w name (first + i) (n - i) ≡ None
   unfolding attribute_from
   from_end q = let e : n - i ≡ 0 = omega arith in rw e
 
   from_step :
       i < n →
       attribute_from w name (first + i) (n - i)
-      ≡ cond (named w name (first + i)) (At (first + i)) (attribute_from w name (first + (i + 1)) (n - (i + 1)))
+      ≡ cond (named w name (first + i)) (Some (first + i)) (attribute_from w name (first + (i + 1)) (n - (i + 1)))
   unfolding attribute_from
   from_step q =
       let e : n - i ≡ suc (n - (i + 1)) = omega arith in
       let g : first + i + 1 ≡ first + (i + 1) = omega arith in
       rw (e, g)
 
-  pub from_found : {b : Bool} → i < n → b ≡ named w name (first + i) → b ≡ true → attribute_from w name (first + i) (n - i) ≡ At (first + i)
+  pub from_found : {b : Bool} → i < n → b ≡ named w name (first + i) → b ≡ true → attribute_from w name (first + i) (n - i) ≡ Some (first + i)
   from_found q e t = from_step q ∙ rw (← e, t)
 
   pub from_next :
@@ -257,19 +256,19 @@ module _ (w : Tree) (name : List ℕ) (first n i : ℕ) where
   from_next q e t = from_step q ∙ rw (← e, t)
 
 -- the number that is found is one of them
-pub from-below : (w : Tree) (name : List ℕ) (j n : ℕ) {i : ℕ} → attribute_from w name j n ≡ At i → i < j + n
+pub from-below : (w : Tree) (name : List ℕ) (j n : ℕ) {i : ℕ} → attribute_from w name j n ≡ Some i → i < j + n
 unfolding attribute_from
 from-below w name j zero e = let z : ◌≡◌ {A = ℕ} 0 1 = cc in absurd (let y : ⊥ = omega arith in y)
 from-below w name j (suc n) {i} e = go (named w name j) e (λ g. from-below w name (j + 1) n g)
   where
-    go : (b : Bool) → cond b (At j) (attribute_from w name (j + 1) n) ≡ At i → (attribute_from w name (j + 1) n ≡ At i → i < j + 1 + n) → i < j + suc n
+    go : (b : Bool) → cond b (Some j) (attribute_from w name (j + 1) n) ≡ Some i → (attribute_from w name (j + 1) n ≡ Some i → i < j + 1 + n) → i < j + suc n
     go true g h = let f : j ≡ i = cc in omega arith
     go false g h = let f = h g in omega arith
 
-module _ (w : Tree) (name s : List ℕ) (k : ℕ) {x : AttributeFound} (e : x ≡ attribute_of w name k) where
+module _ (w : Tree) (name s : List ℕ) (k : ℕ) {x : Option ℕ} (e : x ≡ attribute_of w name k) where
   pub saying :
       {j : ℕ} {a : Attribute} {r : Bool} →
-      x ≡ At j →
+      x ≡ Some j →
       a ≡ attribute_at w.attributes j →
       r ≡ shown_as s (attribute_value w.head w.bytes w.lent w.items w.item_area a) →
       r ≡ says w name s k
@@ -278,6 +277,6 @@ module _ (w : Tree) (name s : List ℕ) (k : ℕ) {x : AttributeFound} (e : x �
       let h' = rw g at h in
       h' ∙ sym (ap (says_by w s) (sym e ∙ f))
 
-  pub saying-none : x ≡ NoAttribute → false ≡ says w name s k
+  pub saying-none : x ≡ None → false ≡ says w name s k
   unfolding says
   saying-none f = sym (ap (says_by w s) (sym e ∙ f))

@@ -1,5 +1,6 @@
 -- Laws of the lent list of specs/Inner/Pass.antt, and of what stands in it. No contract cites this file.
 -- In order: one number more (`put-..`); an application (`listing-..`), all of them (`all-..`); what is answered (`gives-..`).
+use Rattle.std.specs.Prelude.{Option, Some, None, Result, Ok, Err}
 use Prim.Native.Nat.{ℕ, suc, ◌+◌, ◌-◌, ◌≤◌, ◌<◌}
 use native.Mathlib.Omega.{arith}
 use mathlib.Core.Path.{◌≡◌, refl, sym, ap, ◌∙◌}
@@ -10,14 +11,11 @@ use lib.ListN.{length, take, set, replicate, length-append, length-set}
 use lib.Seq.{length-take-le, take-suc-set, append_snoc}
 use lib.Dec.{ltb, eqb}
 use Rattle.errors.specs.declared.Refusal.TheVariants.{ListFull}
-use Rattle.main_activities.specs.declared.AttributeFound.{AttributeFound}
-use Rattle.main_activities.specs.declared.AttributeFound.TheVariants.{At, NoAttribute}
-use Rattle.main_activities.specs.declared.MainAnswer.{MainAnswer}
-use Rattle.main_activities.specs.declared.MainAnswer.TheVariants.{Found, Refused}
 use Rattle.main_activities.specs.Activities.{Tree, parent_of, children_of, tagged, number_by, attribute_of, name_name, application_tag}
 use Rattle.main_activities.specs.Activities.{starts, given, in_application, main_activities}
 use Rattle.main_activities.specs.Inner.Pass.{rest, Within, Holds, Gives}
 use Rattle.main_activities.proofs.Laws.{flat_step, flat-none, within-start, within-over}
+use Rattle.errors.specs.declared.Refusal.{Refusal}
 
 -- ---- one number more
 
@@ -61,16 +59,16 @@ unfolding given
 given_by w k b e = cond-and b (starts w k) (number_by (attribute_of w name_name k)) ∙ ap
     (λ (x : Bool). cond x (number_by (attribute_of w name_name k)) []) (sym e)
 
-module _ (w : Tree) (k : ℕ) {yes : Bool} {x : AttributeFound} {z after l : List ℕ} {n : ℕ} (e : yes ≡ true) (f : x ≡ attribute_of w name_name k) where
-  pub given-at : {j : ℕ} → x ≡ At j → Holds z (cond yes (number_by (attribute_of w name_name k)) [] ++ after) l n → Holds z (j ∷ after) l n
+module _ (w : Tree) (k : ℕ) {yes : Bool} {x : Option ℕ} {z after l : List ℕ} {n : ℕ} (e : yes ≡ true) (f : x ≡ attribute_of w name_name k) where
+  pub given-at : {j : ℕ} → x ≡ Some j → Holds z (cond yes (number_by (attribute_of w name_name k)) [] ++ after) l n → Holds z (j ∷ after) l n
   given-at {j} g h =
       holds_same (ap (λ (b : Bool). cond b (number_by (attribute_of w name_name k)) [] ++ after) e ∙ ap
-      (λ (y : AttributeFound). number_by y ++ after) (sym f ∙ g)) h
+      (λ (y : Option ℕ). number_by y ++ after) (sym f ∙ g)) h
 
-  pub given-none : x ≡ NoAttribute → Holds z (cond yes (number_by (attribute_of w name_name k)) [] ++ after) l n → Holds z after l n
+  pub given-none : x ≡ None → Holds z (cond yes (number_by (attribute_of w name_name k)) [] ++ after) l n → Holds z after l n
   given-none g h =
       holds_same (ap (λ (b : Bool). cond b (number_by (attribute_of w name_name k)) [] ++ after) e ∙ ap
-      (λ (y : AttributeFound). number_by y ++ after) (sym f ∙ g)) h
+      (λ (y : Option ℕ). number_by y ++ after) (sym f ∙ g)) h
 
 -- an application p, listed up to k, behind what the list l₀ with n₀ numbers in it held before
 pub record Listing (w : Tree) (p k : ℕ) (l₀ : List ℕ) (n₀ : ℕ) (l : List ℕ) (n : ℕ) : Type 0 where
@@ -178,9 +176,9 @@ all_end w k e i = holds_same (flat-none (in_application w) e) i.holds
 
 module _ {z l : List ℕ} {n : ℕ} (h : Holds z [] l n) where
   pub gives-full :
-      {r : MainAnswer} (ys : List ℕ) →
+      {r : Result ℕ Refusal} (ys : List ℕ) →
       length l < n →
-      (r ≡ Refused (ListFull (length l))) × (ys ≡ replicate (length l) 0) →
+      (r ≡ Err (ListFull (length l))) × (ys ≡ replicate (length l) 0) →
       Gives (length l) z r ys
   gives-full ys q g = let e = lt-leb (length z) (length l) (h.full q) in record { same = g.0 ∙ rw e; list = g.1 ∙ rw e }
 
@@ -188,7 +186,7 @@ module _ {z l : List ℕ} {n : ℕ} (h : Holds z [] l n) where
       (ys : List ℕ) →
       n ≤ length l →
       ys ≡ take n l ++ replicate (length l - n) 0 →
-      Gives (length l) z (Found n) ys
+      Gives (length l) z (Ok n) ys
   gives-list ys q g =
       let e : z ≡ take n l = h.kept q ∙ append-nil (take n l) in
       let m : length z ≡ n = ap length e ∙ length-take-le n l q in

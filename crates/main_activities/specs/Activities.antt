@@ -11,7 +11,7 @@
 --
 -- The tables may be any words: nothing is asked of them but that they fit their counts (13). A record is read where it stands.
 -- Laws: proofs/Laws.antt. On the tables of a reading a child is a record whose parent word says so: claims/proofs/Claims, `main-children`.
-use Rattle.std.specs.Prelude.{ℕ, zero, suc, ◌+◌, ◌-◌, ◌*◌, ◌≡◌, Bool, false, cond, not, ◌&&◌, ◌||◌, length, get_or, replicate, ltb, leb, eqb}
+use Rattle.std.specs.Prelude.{ℕ, zero, suc, ◌+◌, ◌-◌, ◌*◌, ◌≡◌, Bool, false, cond, not, ◌&&◌, ◌||◌, length, get_or, replicate, ltb, leb, eqb, Option, Some, None, Result, Ok, Err}
 use mathlib.Core.List.{List, [], ◌∷◌, ◌++◌, flat_map}
 use Rattle.utf.specs.Text.{eq_bytes}
 use Rattle.errors.specs.Refusal.{refusal_number, refusal_value as value_number}
@@ -19,18 +19,13 @@ use Rattle.errors.specs.declared.Refusal.TheVariants.{ListFull}
 use Rattle.system_types.specs.Names.{Lent}
 use Rattle.text.specs.declared.Head.{Head}
 use Rattle.head.specs.Head.{tables_in}
-use Rattle.head.specs.declared.OpenRead.{OpenRead}
-use Rattle.head.specs.declared.OpenRead.TheVariants.{Open, Closed}
 use Rattle.records.specs.Words.{node_width, node_name, node_fixed, node_parent, node_first, node_count}
 use Rattle.records.specs.Words.{attribute_width, attribute_prefix, attribute_name}
 use Rattle.first_value.specs.Question.{tag_is, name_is, fit_of, shared_by}
 use Rattle.value_text.specs.Value.{Value, no_name, no_text, shows, false_text, attribute_value, value_open}
 use Rattle.many_texts.specs.Many.{attribute_at}
-use Rattle.main_activities.specs.declared.AttributeFound.{AttributeFound}
-use Rattle.main_activities.specs.declared.AttributeFound.TheVariants.{At, NoAttribute}
-use Rattle.main_activities.specs.declared.MainAnswer.{MainAnswer}
-use Rattle.main_activities.specs.declared.MainAnswer.TheVariants.{Found, Refused}
 use Rattle.main_activities.specs.declared.MainNumbers.{MainNumbers}
+use Rattle.errors.specs.declared.Refusal.{Refusal}
 
 -- ---- fixed texts
 
@@ -134,12 +129,12 @@ named w name j =
     (get_or w.attributes (attribute_width * j + attribute_name) 0)
 
 -- the first with the name, of n attributes numbered from j
-unfoldable pub attribute_from : Tree → List ℕ → ℕ → ℕ → AttributeFound
-attribute_from w name j zero = NoAttribute
-attribute_from w name j (suc n) = cond (named w name j) (At j) (attribute_from w name (j + 1) n)
+unfoldable pub attribute_from : Tree → List ℕ → ℕ → ℕ → Option ℕ
+attribute_from w name j zero = None
+attribute_from w name j (suc n) = cond (named w name j) (Some j) (attribute_from w name (j + 1) n)
 
 -- of node k
-abbrev pub attribute_of : Tree → List ℕ → ℕ → AttributeFound
+abbrev pub attribute_of : Tree → List ℕ → ℕ → Option ℕ
 attribute_of w name k =
     attribute_from w name (get_or w.nodes (node_width * k + node_first) 0) (get_or w.nodes (node_width * k + node_count) 0)
 
@@ -149,9 +144,9 @@ shown_as s no_name = false
 shown_as s no_text = false
 shown_as s (shows x u d) = eq_bytes x s
 
-abbrev pub says_by : Tree → List ℕ → AttributeFound → Bool
-says_by w s NoAttribute = false
-says_by w s (At j) = shown_as s (attribute_value w.head w.bytes w.lent w.items w.item_area (attribute_at w.attributes j))
+abbrev pub says_by : Tree → List ℕ → Option ℕ → Bool
+says_by w s None = false
+says_by w s (Some j) = shown_as s (attribute_value w.head w.bytes w.lent w.items w.item_area (attribute_at w.attributes j))
 
 unfoldable pub says : Tree → List ℕ → List ℕ → ℕ → Bool
 says w name s k = says_by w s (attribute_of w name k)
@@ -181,9 +176,9 @@ starts w k = is_enabled w k && any_of (is_filter w) (children_of w k)
 -- ---- what is given: S1, S9
 
 -- the number of an attribute, nothing where there is none
-abbrev pub number_by : AttributeFound → List ℕ
-number_by NoAttribute = []
-number_by (At j) = j ∷ []
+abbrev pub number_by : Option ℕ → List ℕ
+number_by None = []
+number_by (Some j) = j ∷ []
 
 unfoldable pub given : Tree → ℕ → List ℕ
 given w k = cond (starts w k) (number_by (attribute_of w name_name k)) []
@@ -198,41 +193,41 @@ main_activities w = flat_map (in_application w) (children_of w 0)
 -- ---- the answer: S10
 
 -- z are the numbers, m the words of the lent list
-abbrev pub answer_by : ℕ → List ℕ → MainAnswer
-answer_by m z = cond (leb (length z) m) (Found (length z)) (Refused (ListFull m))
+abbrev pub answer_by : ℕ → List ℕ → Result ℕ Refusal
+answer_by m z = cond (leb (length z) m) (Ok (length z)) (Err (ListFull m))
 
-abbrev pub list_by : ℕ → List ℕ → MainAnswer → List ℕ
-list_by m z (Refused r) = replicate m 0
-list_by m z (Found n) = z ++ replicate (m - n) 0
+abbrev pub list_by : ℕ → List ℕ → Result ℕ Refusal → List ℕ
+list_by m z (Err r) = replicate m 0
+list_by m z (Ok n) = z ++ replicate (m - n) 0
 
-abbrev pub answer_in : ℕ → (Head → List ℕ) → OpenRead → MainAnswer
-answer_in m z (Closed r) = Refused r
-answer_in m z (Open h) = answer_by m (z h)
+abbrev pub answer_in : ℕ → (Head → List ℕ) → Result Head Refusal → Result ℕ Refusal
+answer_in m z (Err r) = Err r
+answer_in m z (Ok h) = answer_by m (z h)
 
-abbrev pub list_in : ℕ → (Head → List ℕ) → OpenRead → List ℕ
-list_in m z (Closed r) = replicate m 0
-list_in m z (Open h) = list_by m (z h) (answer_by m (z h))
+abbrev pub list_in : ℕ → (Head → List ℕ) → Result Head Refusal → List ℕ
+list_in m z (Err r) = replicate m 0
+list_in m z (Ok h) = list_by m (z h) (answer_by m (z h))
 
 module _ (f : List ℕ) (lent : Lent) (items area ns ats : List ℕ) (nodes attributes : ℕ) where
   -- names, items and head first, then the tables
-  unfoldable pub main_open : OpenRead
+  unfoldable pub main_open : Result Head Refusal
   main_open = shared_by (fit_of ns ats nodes attributes) (value_open f lent items area)
 
   abbrev pub activities_in : Head → List ℕ
   activities_in h = main_activities (tree_of h (tables_in f h) lent items area ns ats nodes)
 
-  unfoldable pub main_answer : ℕ → MainAnswer
+  unfoldable pub main_answer : ℕ → Result ℕ Refusal
   main_answer m = answer_in m activities_in main_open
 
   unfoldable pub list_after : ℕ → List ℕ
   list_after m = list_in m activities_in main_open
 
 -- the numbers of an answer: how many, or a refusal and its value
-unfoldable pub main_numbers_of : MainAnswer → MainNumbers
-main_numbers_of (Found n) = record { refusal = 0; value = 0; count = n }
-main_numbers_of (Refused r) = record { refusal = refusal_number r; value = value_number r; count = 0 }
+unfoldable pub main_numbers_of : Result ℕ Refusal → MainNumbers
+main_numbers_of (Ok n) = record { refusal = 0; value = 0; count = n }
+main_numbers_of (Err r) = record { refusal = refusal_number r; value = value_number r; count = 0 }
 
 pub record MainReads
-    (f : List ℕ) (lent : Lent) (items area ns ats before : List ℕ) (nodes attributes : ℕ) (r : MainAnswer) (after : List ℕ) : Type 0 where
+    (f : List ℕ) (lent : Lent) (items area ns ats before : List ℕ) (nodes attributes : ℕ) (r : Result ℕ Refusal) (after : List ℕ) : Type 0 where
   pub answer : main_numbers_of r ≡ main_numbers_of (main_answer f lent items area ns ats nodes attributes (length before))
   pub list : after ≡ list_after f lent items area ns ats nodes attributes (length before)

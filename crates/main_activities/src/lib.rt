@@ -8,11 +8,10 @@
 pub mod says;
 pub mod tests;
 
-ghost use Rattle.std.specs.Prelude.{◌≡◌, cond, ◌&&◌, ◌+◌, ◌*◌, ◌≤◌, ◌<◌, length, replicate, eqb};
+ghost use Rattle.std.specs.Prelude.{◌≡◌, cond, ◌&&◌, ◌+◌, ◌*◌, ◌≤◌, ◌<◌, length, replicate, eqb, Err};
 ghost use mathlib.Core.List.{List, [], ◌∷◌, ◌++◌, flat_map};
 ghost use Rattle.records.specs.Words.{node_width};
 ghost use Rattle.system_types.specs.Names.{lends};
-ghost use Rattle.main_activities.specs.declared.MainAnswer.TheVariants.{Refused as RefusedAnswer};
 ghost use Rattle.main_activities.specs.Activities.{tree_of, parent_of, children_of, any_of, is_main, is_launcher, is_filter, starts, given, in_application};
 ghost use Rattle.main_activities.specs.Activities.{number_by, attribute_of, name_name, main_activities, main_open, main_numbers_of, MainReads};
 ghost use Rattle.main_activities.specs.Inner.Pass.{Ready, Within, Holds, Gives};
@@ -20,25 +19,11 @@ ghost use Rattle.main_activities.specs.Inner.Pass.{Ready, Within, Holds, Gives};
 use errors::{Refusal, refusal_number, refusal_value};
 use first_value::fitted;
 use first_value::runs::fit_of;
-use head::{OpenRead, tables_of};
+use head::tables_of;
 use tables::{zero_all, zero_from};
 use tests::{find_named, has_tag, is_enabled, is_launcher_child, is_main_child, parent_at};
 use text::Head;
 use value_text::open_value;
-
-// The number of the first attribute of a name, or that there is none.
-#[derive(Clone, Copy)]
-pub enum AttributeFound {
-    At(u32),
-    NoAttribute,
-}
-
-// How many activities start, or why that is not told.
-#[derive(Clone, Copy)]
-pub enum MainAnswer {
-    Found(usize),
-    Refused(Refusal),
-}
 
 // The numbers of a `MainAnswer`.
 #[derive(Clone, Copy)]
@@ -63,16 +48,16 @@ pub struct Going {
 }
 
 // The numbers of an answer. Ruled out: a count beside a refusal, and a refusal that is told by its value alone.
-pub fn main_numbers(a: MainAnswer) -> MainNumbers
+pub fn main_numbers(a: Result<usize, Refusal>) -> MainNumbers
     ensures { result ≡ main_numbers_of a }
 {
     match a {
-        MainAnswer::Found(n) => MainNumbers {
+        Ok(n) => MainNumbers {
             refusal: 0,
             value: 0,
             count: n as u64,
         },
-        MainAnswer::Refused(e) => MainNumbers {
+        Err(e) => MainNumbers {
             refusal: refusal_number(e),
             value: refusal_value(e),
             count: 0,
@@ -303,8 +288,8 @@ fn put_given(
         t, names, area, h, items, item_area, nodes, attributes, b"name", count, k,
     );
     match name {
-        AttributeFound::At(j) => put_number(list, n, j),
-        AttributeFound::NoAttribute => n,
+        Some(j) => put_number(list, n, j),
+        None => n,
     }
 }
 
@@ -426,15 +411,15 @@ fn list_all(
 }
 
 // Zeros all over, and the refusal.
-fn refuse(list: &mut [u32], why: Refusal) -> MainAnswer
-    ensures { (result ≡ RefusedAnswer why) × (list.new ≡ replicate (length list.old) 0) }
+fn refuse(list: &mut [u32], why: Refusal) -> Result<usize, Refusal>
+    ensures { (result ≡ Err why) × (list.new ≡ replicate (length list.old) 0) }
 {
     zero_all(list);
-    MainAnswer::Refused(why)
+    Err(why)
 }
 
 // The names that stand at the front of the list and zeros behind them, or 28.
-fn settle(list: &mut [u32], n: usize) -> MainAnswer
+fn settle(list: &mut [u32], n: usize) -> Result<usize, Refusal>
     ensures { (z : List _) → Holds z [] list.old n → Gives (length list.old) z result list.new }
 {
     let places = list.len();
@@ -442,7 +427,7 @@ fn settle(list: &mut [u32], n: usize) -> MainAnswer
         return refuse(list, Refusal::ListFull(places));
     }
     zero_from(list, n);
-    MainAnswer::Found(n)
+    Ok(n)
 }
 
 // Of an open file beside tables that fit.
@@ -457,7 +442,7 @@ fn main_in(
     attributes: &[u32],
     list: &mut [u32],
     count: u32,
-) -> MainAnswer
+) -> Result<usize, Refusal>
     requires { Ready (tree_of h t.now (lends names.now area.now) items.now item_area.now nodes.now attributes.now count) }
     ensures { Gives (length list.old)
         (main_activities (tree_of h t.now (lends names.now area.now) items.now
@@ -481,14 +466,14 @@ fn open_main(
     attributes: &[u32],
     node_count: u32,
     attribute_count: u32,
-) -> OpenRead
+) -> Result<Head, Refusal>
     ensures { result ≡ main_open file.now (lends names.now area.now) items.now item_area.now
         nodes.now attributes.now node_count attribute_count }
 {
     let opened = open_value(file, names, area, items, item_area);
     match opened {
-        OpenRead::Open(h) => fitted(h, fit_of(nodes, attributes, node_count, attribute_count)),
-        OpenRead::Closed(why) => OpenRead::Closed(why),
+        Ok(h) => fitted(h, fit_of(nodes, attributes, node_count, attribute_count)),
+        Err(why) => Err(why),
     }
 }
 
@@ -507,7 +492,7 @@ pub fn main_activities(
     list: &mut [u32],
     node_count: u32,
     attribute_count: u32,
-) -> MainAnswer
+) -> Result<usize, Refusal>
     ensures { MainReads file.now (lends names.now area.now) items.now item_area.now
         nodes.now attributes.now list.old node_count attribute_count result list.new }
 {
@@ -523,7 +508,7 @@ pub fn main_activities(
         attribute_count,
     );
     match opened {
-        OpenRead::Open(h) => main_in(
+        Ok(h) => main_in(
             tables_of(file, h),
             names,
             area,
@@ -535,6 +520,6 @@ pub fn main_activities(
             list,
             node_count,
         ),
-        OpenRead::Closed(why) => refuse(list, why),
+        Err(why) => refuse(list, why),
     }
 }

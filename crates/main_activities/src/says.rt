@@ -2,13 +2,12 @@
 // other text is written into a few bytes.
 //
 // Mirrors nothing of the Rust's, whose values are texts. Definitions: crate value_text, and `shown_as` of specs/Activities.antt.
-ghost use Rattle.std.specs.Prelude.{◌≡◌, List, ◌/◌, ◌≤◌, ◌<◌, length};
+ghost use Rattle.std.specs.Prelude.{◌≡◌, List, ◌/◌, ◌≤◌, ◌<◌, length, Ok};
 ghost use Rattle.utf.specs.Text.{eq_bytes};
 ghost use Rattle.system_types.specs.Names.{lends};
 ghost use Rattle.text.specs.Content.{string_of, text_in};
 ghost use Rattle.text.specs.Inner.Found.{Asks};
 ghost use Rattle.items.specs.Items.{table_of};
-ghost use Rattle.items.specs.declared.ItemsRead.TheVariants.{Good};
 ghost use Rattle.records.specs.Words.{item_width};
 ghost use Rattle.items.specs.Inner.Turns.{RunOf};
 ghost use Rattle.common.specs.ValueType.{value_type_of};
@@ -126,7 +125,7 @@ pub fn value_is(
     a: Attribute,
     expected: &[u8],
 ) -> bool
-    requires { Asks t.now (lends names.now area.now) h × (table_of item_area.now items.now ≡ Good)
+    requires { Asks t.now (lends names.now area.now) h × (table_of item_area.now items.now ≡ (Ok tt))
         × (0 < length expected.now) × (length expected.now ≤ 32) }
     ensures { result ≡ shown_as expected.now
         (attribute_value h t.now (lends names.now area.now) items.now item_area.now a) }

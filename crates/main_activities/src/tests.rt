@@ -10,7 +10,6 @@ ghost use Rattle.main_activities.specs.Activities.{tree_of, parent_of, tagged, a
 ghost use Rattle.main_activities.specs.Activities.{name_name, launcher_text, info_text};
 ghost use Rattle.main_activities.specs.Inner.Pass.{Ready};
 
-use super::AttributeFound;
 use super::says::value_is;
 use common::StringIndex;
 use first_value::called::{is_named, is_tagged};
@@ -70,7 +69,7 @@ fn find_from(
     count: u32,
     first: u32,
     number: u32,
-) -> AttributeFound
+) -> Option<u32>
     requires { Asks t.now (lends names.now area.now) h × (first + number < 4294967296) ×
         (attribute_width * (first + number) ≤ length attributes.now) }
     ensures { result ≡ attribute_from (tree_of h t.now (lends names.now area.now) items.now
@@ -89,11 +88,11 @@ fn find_from(
             attributes[at + ATTRIBUTE_PREFIX],
             StringIndex(attributes[at + ATTRIBUTE_NAME]),
         ) {
-            return AttributeFound::At(j);
+            return Some(j);
         }
         i += 1;
     }
-    AttributeFound::NoAttribute
+    None
 }
 
 // The first attribute of node k with the name.
@@ -109,7 +108,7 @@ pub fn find_named(
     name: &[u8],
     count: u32,
     k: u32,
-) -> AttributeFound
+) -> Option<u32>
     requires { Ready (tree_of h t.now (lends names.now area.now) items.now item_area.now nodes.now attributes.now count) ×
         (k < count) }
     ensures { result ≡ attribute_of (tree_of h t.now (lends names.now area.now) items.now
@@ -157,7 +156,7 @@ fn has_value(
         t, names, area, h, items, item_area, nodes, attributes, name, count, k,
     );
     match found {
-        AttributeFound::At(j) => value_is(
+        Some(j) => value_is(
             t,
             names,
             area,
@@ -167,7 +166,7 @@ fn has_value(
             attribute_at(attributes, j as usize),
             expected,
         ),
-        AttributeFound::NoAttribute => false,
+        None => false,
     }
 }
 

@@ -1,6 +1,7 @@
 -- What follows from the promises of specs/Many.antt. No contract cites this file.
 -- In order: two results that they allow are equal (`values-unique`, `texts-unique`); a refusal leaves zeros alone (`..-refused-zeros`), an
 -- answer zeros behind its texts and words (`..-done-zeros`); each answer is that of the single question (`values-single`, `texts-single`).
+use Rattle.std.specs.Prelude.{Result, Ok, Err}
 use Prim.Native.Nat.{ℕ, zero, suc, ◌+◌, ◌-◌, ◌*◌, ◌/◌, ◌≤◌, ◌<◌, min}
 use native.Mathlib.Omega.{arith}
 use mathlib.Core.Path.{◌≡◌, refl, sym, ap, ◌∙◌}
@@ -13,11 +14,7 @@ use lib.Dec.{eqb, ltb, leb}
 use Rattle.errors.specs.Refusal.{state_of, replaced_of, refusal_number, text_numbers_of, value_numbers_of}
 use Rattle.errors.specs.declared.Refusal.{Refusal}
 use Rattle.errors.specs.declared.Refusal.TheVariants.{TextShort, TablesError, AnswersFull}
-use Rattle.errors.specs.declared.ManyTexts.{ManyTexts}
-use Rattle.errors.specs.declared.ManyTexts.TheVariants.{Answered, Refused}
 use Rattle.errors.specs.declared.TextState.{TextState}
-use Rattle.errors.specs.declared.TextAnswer.TheVariants.{Text as Text', Refused as TextRefused}
-use Rattle.errors.specs.declared.ValueAnswer.TheVariants.{Value as Value', Refused as Refused'}
 use Rattle.errors.proofs.Laws.{many_numbers_of-unique}
 use Rattle.digits.specs.Written.{fitted}
 use Rattle.records.specs.Words.{attribute_width}
@@ -26,19 +23,19 @@ use Rattle.system_types.specs.Names.{Lent}
 use Rattle.text.specs.Content.{Content, none, cut, some, content_of, text_in, damage_in}
 use Rattle.head.specs.Head.{tables_in}
 use Rattle.head.specs.Ask.{open_of, state_told, fitted as fits, text_by, content_asked_by as content_by, text_answer_by, text_answer, buffer_by as buffered, text_buffer}
-use Rattle.head.specs.declared.OpenRead.{OpenRead}
-use Rattle.head.specs.declared.OpenRead.TheVariants.{Open, Closed}
 use Rattle.value_text.specs.Value.{Value, no_name, no_text, shows, shown, attribute_value, value_open}
 use Rattle.value_text.specs.Value.{answer_by, buffer_by, answer_in, buffer_in, value_answer, value_buffer}
 use Rattle.many_texts.specs.Single.{IsPart}
 use Rattle.many_texts.specs.Many.{value_asked_by, value_in, attribute_at, words_at, texts_to, words_to, many_by, most_bytes, most_count, leaves}
 use Rattle.many_texts.specs.Many.{value_one, values_by, values_answer, ReadsValues, text_one, texts_by, texts_answer, ReadsTexts}
 use Rattle.many_texts.proofs.Going.{words_at-length, length-words}
+use Rattle.errors.specs.declared.TextsWritten.{TextsWritten}
+use Rattle.text.specs.declared.Head.{Head}
 
 -- ---- one answer
 
 pub values-unique :
-    (f : List ℕ) (lent : Lent) (items area ats out₀ table₀ : List ℕ) (count : ℕ) {r r' : ManyTexts} {out out' table table' : List ℕ} →
+    (f : List ℕ) (lent : Lent) (items area ats out₀ table₀ : List ℕ) (count : ℕ) {r r' : Result TextsWritten Refusal} {out out' table table' : List ℕ} →
     ReadsValues f lent items area ats out₀ table₀ count r out table →
     ReadsValues f lent items area ats out₀ table₀ count r' out' table' →
     (r ≡ r') × (out ≡ out') × (table ≡ table')
@@ -46,7 +43,7 @@ values-unique f lent items area ats out₀ table₀ count {r} {r'} x y =
     (many_numbers_of-unique r r' (x.answer ∙ sym y.answer), x.bytes ∙ sym y.bytes, x.words ∙ sym y.words)
 
 pub texts-unique :
-    (f : List ℕ) (lent : Lent) (indices out₀ table₀ : List ℕ) {r r' : ManyTexts} {out out' table table' : List ℕ} →
+    (f : List ℕ) (lent : Lent) (indices out₀ table₀ : List ℕ) {r r' : Result TextsWritten Refusal} {out out' table table' : List ℕ} →
     ReadsTexts f lent indices out₀ table₀ r out table →
     ReadsTexts f lent indices out₀ table₀ r' out' table' →
     (r ≡ r') × (out ≡ out') × (table ≡ table')
@@ -60,14 +57,14 @@ pub record Tells (count : ℕ) (one : ℕ → Value) (k b : ℕ) : Type 0 where
   pub all : k ≡ count
   pub long : b ≡ length (texts_to one count)
 
-tells-many : (count : ℕ) (one : ℕ → Value) (room places k b : ℕ) → many_by count one room places ≡ Answered k b → Tells count one k b
+tells-many : (count : ℕ) (one : ℕ → Value) (room places k b : ℕ) → many_by count one room places ≡ Ok (record { count = k; length = b }) → Tells count one k b
 unfolding many_by
 tells-many count one room places k b e = go (ltb places count) (leb (length (texts_to one count)) (min room most_bytes)) e
   where
     go :
         (x y : Bool) →
-        cond x (Refused (AnswersFull places))
-        (cond y (Answered count (length (texts_to one count))) (Refused (TextShort (min (length (texts_to one count)) most_count)))) ≡ Answered k b →
+        cond x (Err (AnswersFull places))
+        (cond y (Ok (record { count = count; length = (length (texts_to one count)) })) (Err (TextShort (min (length (texts_to one count)) most_count)))) ≡ Ok (record { count = k; length = b }) →
         Tells count one k b
     go true y q = let z : ◌≡◌ {A = ℕ} 0 1 = cc in absurd (let w : ⊥ = omega arith in w)
     go false false q = let z : ◌≡◌ {A = ℕ} 0 1 = cc in absurd (let w : ⊥ = omega arith in w)
@@ -206,12 +203,12 @@ module _ (start i : ℕ) (out table : List ℕ) where
     where
       go :
           (b : Bool) →
-          ((value_numbers_of (cond b (Value' (length s) u d) (Refused' (TextShort (length s))))).refusal ≡ 11 → ⊥) →
-          IsPart (value_numbers_of (cond b (Value' (length s) u d) (Refused' (TextShort (length s))))).refusal
-          (value_numbers_of (cond b (Value' (length s) u d) (Refused' (TextShort (length s))))).length
-          (value_numbers_of (cond b (Value' (length s) u d) (Refused' (TextShort (length s))))).uncovered
-          (value_numbers_of (cond b (Value' (length s) u d) (Refused' (TextShort (length s))))).state
-          (value_numbers_of (cond b (Value' (length s) u d) (Refused' (TextShort (length s))))).replaced
+          ((value_numbers_of (cond b (Ok (record { length = (length s); uncovered = u; state = d })) (Err (TextShort (length s))))).refusal ≡ 11 → ⊥) →
+          IsPart (value_numbers_of (cond b (Ok (record { length = (length s); uncovered = u; state = d })) (Err (TextShort (length s))))).refusal
+          (value_numbers_of (cond b (Ok (record { length = (length s); uncovered = u; state = d })) (Err (TextShort (length s))))).length
+          (value_numbers_of (cond b (Ok (record { length = (length s); uncovered = u; state = d })) (Err (TextShort (length s))))).uncovered
+          (value_numbers_of (cond b (Ok (record { length = (length s); uncovered = u; state = d })) (Err (TextShort (length s))))).state
+          (value_numbers_of (cond b (Ok (record { length = (length s); uncovered = u; state = d })) (Err (TextShort (length s))))).replaced
           (cond b (s ++ replicate (room - length s) 0) (replicate room 0)) i out table
       go true n = part-some u d s (replicate (room - length s) 0) p
       go false n = absurd (n refl)
@@ -228,12 +225,12 @@ module _ (start i : ℕ) (out table : List ℕ) where
     where
       go :
           (b : Bool) →
-          ((text_numbers_of (cond b (Text' (length s) t) (TextRefused (TextShort (length s))))).refusal ≡ 11 → ⊥) →
-          IsPart (text_numbers_of (cond b (Text' (length s) t) (TextRefused (TextShort (length s))))).refusal
-          (text_numbers_of (cond b (Text' (length s) t) (TextRefused (TextShort (length s))))).length 0
-          (text_numbers_of (cond b (Text' (length s) t) (TextRefused (TextShort (length s))))).state
-          (text_numbers_of (cond b (Text' (length s) t) (TextRefused (TextShort (length s))))).replaced
-          (buffered room s (cond b (Text' (length s) t) (TextRefused (TextShort (length s))))) i out table
+          ((text_numbers_of (cond b (Ok (record { length = (length s); state = t })) (Err (TextShort (length s))))).refusal ≡ 11 → ⊥) →
+          IsPart (text_numbers_of (cond b (Ok (record { length = (length s); state = t })) (Err (TextShort (length s))))).refusal
+          (text_numbers_of (cond b (Ok (record { length = (length s); state = t })) (Err (TextShort (length s))))).length 0
+          (text_numbers_of (cond b (Ok (record { length = (length s); state = t })) (Err (TextShort (length s))))).state
+          (text_numbers_of (cond b (Ok (record { length = (length s); state = t })) (Err (TextShort (length s))))).replaced
+          (buffered room s (cond b (Ok (record { length = (length s); state = t })) (Err (TextShort (length s))))) i out table
       go true d = part-some 0 t s (replicate (room - length s) 0) p
       go false d = absurd (d refl)
 
@@ -253,19 +250,19 @@ module _ (start i : ℕ) (out table : List ℕ) where
 module _ (f : List ℕ) (lent : Lent) (items area ats out₀ table₀ : List ℕ) (count : ℕ) (out table : List ℕ) where
   pub values-refused-zeros :
       (why : Refusal) →
-      ReadsValues f lent items area ats out₀ table₀ count (Refused why) out table →
+      ReadsValues f lent items area ats out₀ table₀ count (Err why) out table →
       (out ≡ replicate (length out₀) 0) × (table ≡ replicate (length table₀) 0)
   values-refused-zeros why x =
       let a = values_answer f lent items area ats count (length out₀) (length table₀) in
-      let e : a ≡ Refused why = sym (many_numbers_of-unique (Refused why) a x.answer) in (
-        x.bytes ∙ ap (λ (y : ManyTexts). leaves (length out₀) (texts_to (value_one f lent items area ats) count) y) e,
-        x.words ∙ ap (λ (y : ManyTexts). leaves (length table₀) (words_to (value_one f lent items area ats) count) y) e,
+      let e : a ≡ Err why = sym (many_numbers_of-unique (Err why) a x.answer) in (
+        x.bytes ∙ ap (λ (y : Result TextsWritten Refusal). leaves (length out₀) (texts_to (value_one f lent items area ats) count) y) e,
+        x.words ∙ ap (λ (y : Result TextsWritten Refusal). leaves (length table₀) (words_to (value_one f lent items area ats) count) y) e,
       )
 
-  module _ (k b : ℕ) (x : ReadsValues f lent items area ats out₀ table₀ count (Answered k b) out table) where
-    values-answered : values_answer f lent items area ats count (length out₀) (length table₀) ≡ Answered k b
+  module _ (k b : ℕ) (x : ReadsValues f lent items area ats out₀ table₀ count (Ok (record { count = k; length = b })) out table) where
+    values-answered : values_answer f lent items area ats count (length out₀) (length table₀) ≡ Ok (record { count = k; length = b })
     values-answered =
-        sym (many_numbers_of-unique (Answered k b) (values_answer f lent items area ats count (length out₀) (length table₀)) x.answer)
+        sym (many_numbers_of-unique (Ok (record { count = k; length = b })) (values_answer f lent items area ats count (length out₀) (length table₀)) x.answer)
 
     values-tell : Tells count (value_one f lent items area ats) k b
     unfolding values_answer
@@ -273,24 +270,24 @@ module _ (f : List ℕ) (lent : Lent) (items area ats out₀ table₀ : List ℕ
       where
         fit :
             (t : Bool) →
-            cond t (Refused (TablesError count)) (many_by count (value_one f lent items area ats) (length out₀) (length table₀ / answer_width)) ≡ Answered k b →
+            cond t (Err (TablesError count)) (many_by count (value_one f lent items area ats) (length out₀) (length table₀ / answer_width)) ≡ Ok (record { count = k; length = b }) →
             Tells count (value_one f lent items area ats) k b
         fit true e = let z : ◌≡◌ {A = ℕ} 0 1 = cc in absurd (let w : ⊥ = omega arith in w)
         fit false e = tells-many count (value_one f lent items area ats) (length out₀) (length table₀ / answer_width) k b e
 
         go :
-            (o : OpenRead) →
-            values_by f lent items area ats count (length out₀) (length table₀) o ≡ Answered k b →
+            (o : Result Head Refusal) →
+            values_by f lent items area ats count (length out₀) (length table₀) o ≡ Ok (record { count = k; length = b }) →
             Tells count (value_one f lent items area ats) k b
-        go (Closed r) e = let z : ◌≡◌ {A = ℕ} 0 1 = cc in absurd (let w : ⊥ = omega arith in w)
-        go (Open h) e = fit (ltb (length ats) (attribute_width * count)) e
+        go (Err r) e = let z : ◌≡◌ {A = ℕ} 0 1 = cc in absurd (let w : ⊥ = omega arith in w)
+        go (Ok h) e = fit (ltb (length ats) (attribute_width * count)) e
 
     values-out : out ≡ texts_to (value_one f lent items area ats) count ++ replicate (length out₀ - length (texts_to (value_one f lent items area ats) count)) 0
-    values-out = x.bytes ∙ ap (λ (y : ManyTexts). leaves (length out₀) (texts_to (value_one f lent items area ats) count) y) values-answered
+    values-out = x.bytes ∙ ap (λ (y : Result TextsWritten Refusal). leaves (length out₀) (texts_to (value_one f lent items area ats) count) y) values-answered
 
     values-table :
         table ≡ words_to (value_one f lent items area ats) count ++ replicate (length table₀ - length (words_to (value_one f lent items area ats) count)) 0
-    values-table = x.words ∙ ap (λ (y : ManyTexts). leaves (length table₀) (words_to (value_one f lent items area ats) count) y) values-answered
+    values-table = x.words ∙ ap (λ (y : Result TextsWritten Refusal). leaves (length table₀) (words_to (value_one f lent items area ats) count) y) values-answered
 
     pub values-done-zeros : ZerosBehind (length out₀) (length table₀) k b out table
     values-done-zeros = zeros-behind (length out₀) (length table₀) count (value_one f lent items area ats) values-tell values-out values-table
@@ -302,8 +299,8 @@ module _ (f : List ℕ) (lent : Lent) (items area ats out₀ table₀ : List ℕ
 
     -- of an open file
     values-by :
-        (o : OpenRead) (i start room : ℕ) →
-        ((r : Refusal) → o ≡ Closed r → ⊥) →
+        (o : Result Head Refusal) (i start room : ℕ) →
+        ((r : Refusal) → o ≡ Err r → ⊥) →
         PartAt (value_asked_by f lent items area (attribute_at ats i) o) start i out table →
         ((value_numbers_of (answer_in f lent items area room (attribute_at ats i) o)).refusal ≡ 11 → ⊥) →
         IsPart (value_numbers_of (answer_in f lent items area room (attribute_at ats i) o)).refusal
@@ -312,8 +309,8 @@ module _ (f : List ℕ) (lent : Lent) (items area ats out₀ table₀ : List ℕ
         (value_numbers_of (answer_in f lent items area room (attribute_at ats i) o)).state
         (value_numbers_of (answer_in f lent items area room (attribute_at ats i) o)).replaced (buffer_in f lent items area room (attribute_at ats i) o) i out
         table
-    values-by (Closed r) i start room c p d = absurd (c r refl)
-    values-by (Open h) i start room c p d =
+    values-by (Err r) i start room c p d = absurd (c r refl)
+    values-by (Ok h) i start room c p d =
         part-is start i out table (attribute_value h (tables_in f h) lent items area (attribute_at ats i)) room (attribute_at ats i).kind p d
 
     pub values-single :
@@ -330,8 +327,8 @@ module _ (f : List ℕ) (lent : Lent) (items area ats out₀ table₀ : List ℕ
     values-single i room h d =
         values-by (value_open f lent items area) i (length (texts_to (value_one f lent items area ats) i)) room
         (λ r e.
-        let q : Refused r ≡ Answered k b =
-        sym (ap (λ (o : OpenRead). values_by f lent items area ats count (length out₀) (length table₀) o) e) ∙ values-answered in
+        let q : Err r ≡ Ok (record { count = k; length = b }) =
+        sym (ap (λ (o : Result Head Refusal). values_by f lent items area ats count (length out₀) (length table₀) o) e) ∙ values-answered in
         let z : ◌≡◌ {A = ℕ} 0 1 = cc in
         let w : ⊥ = omega arith in
         w)
@@ -340,33 +337,33 @@ module _ (f : List ℕ) (lent : Lent) (items area ats out₀ table₀ : List ℕ
 module _ (f : List ℕ) (lent : Lent) (indices out₀ table₀ out table : List ℕ) where
   pub texts-refused-zeros :
       (why : Refusal) →
-      ReadsTexts f lent indices out₀ table₀ (Refused why) out table →
+      ReadsTexts f lent indices out₀ table₀ (Err why) out table →
       (out ≡ replicate (length out₀) 0) × (table ≡ replicate (length table₀) 0)
   texts-refused-zeros why x =
       let a = texts_answer f lent indices (length out₀) (length table₀) in
-      let e : a ≡ Refused why = sym (many_numbers_of-unique (Refused why) a x.answer) in (
-        x.bytes ∙ ap (λ (y : ManyTexts). leaves (length out₀) (texts_to (text_one f lent indices) (length indices)) y) e,
-        x.words ∙ ap (λ (y : ManyTexts). leaves (length table₀) (words_to (text_one f lent indices) (length indices)) y) e,
+      let e : a ≡ Err why = sym (many_numbers_of-unique (Err why) a x.answer) in (
+        x.bytes ∙ ap (λ (y : Result TextsWritten Refusal). leaves (length out₀) (texts_to (text_one f lent indices) (length indices)) y) e,
+        x.words ∙ ap (λ (y : Result TextsWritten Refusal). leaves (length table₀) (words_to (text_one f lent indices) (length indices)) y) e,
       )
 
-  module _ (k b : ℕ) (x : ReadsTexts f lent indices out₀ table₀ (Answered k b) out table) where
-    texts-answered : texts_answer f lent indices (length out₀) (length table₀) ≡ Answered k b
-    texts-answered = sym (many_numbers_of-unique (Answered k b) (texts_answer f lent indices (length out₀) (length table₀)) x.answer)
+  module _ (k b : ℕ) (x : ReadsTexts f lent indices out₀ table₀ (Ok (record { count = k; length = b })) out table) where
+    texts-answered : texts_answer f lent indices (length out₀) (length table₀) ≡ Ok (record { count = k; length = b })
+    texts-answered = sym (many_numbers_of-unique (Ok (record { count = k; length = b })) (texts_answer f lent indices (length out₀) (length table₀)) x.answer)
 
     texts-tell : Tells (length indices) (text_one f lent indices) k b
     unfolding texts_answer
     texts-tell = go (open_of f lent) texts-answered
       where
-        go : (o : OpenRead) → texts_by f lent indices (length out₀) (length table₀) o ≡ Answered k b → Tells (length indices) (text_one f lent indices) k b
-        go (Closed r) e = let z : ◌≡◌ {A = ℕ} 0 1 = cc in absurd (let w : ⊥ = omega arith in w)
-        go (Open h) e = tells-many (length indices) (text_one f lent indices) (length out₀) (length table₀ / answer_width) k b e
+        go : (o : Result Head Refusal) → texts_by f lent indices (length out₀) (length table₀) o ≡ Ok (record { count = k; length = b }) → Tells (length indices) (text_one f lent indices) k b
+        go (Err r) e = let z : ◌≡◌ {A = ℕ} 0 1 = cc in absurd (let w : ⊥ = omega arith in w)
+        go (Ok h) e = tells-many (length indices) (text_one f lent indices) (length out₀) (length table₀ / answer_width) k b e
 
     texts-out : out ≡ texts_to (text_one f lent indices) (length indices) ++ replicate (length out₀ - length (texts_to (text_one f lent indices) (length indices))) 0
-    texts-out = x.bytes ∙ ap (λ (y : ManyTexts). leaves (length out₀) (texts_to (text_one f lent indices) (length indices)) y) texts-answered
+    texts-out = x.bytes ∙ ap (λ (y : Result TextsWritten Refusal). leaves (length out₀) (texts_to (text_one f lent indices) (length indices)) y) texts-answered
 
     texts-table :
         table ≡ words_to (text_one f lent indices) (length indices) ++ replicate (length table₀ - length (words_to (text_one f lent indices) (length indices))) 0
-    texts-table = x.words ∙ ap (λ (y : ManyTexts). leaves (length table₀) (words_to (text_one f lent indices) (length indices)) y) texts-answered
+    texts-table = x.words ∙ ap (λ (y : Result TextsWritten Refusal). leaves (length table₀) (words_to (text_one f lent indices) (length indices)) y) texts-answered
 
     pub texts-done-zeros : ZerosBehind (length out₀) (length table₀) k b out table
     texts-done-zeros = zeros-behind (length out₀) (length table₀) (length indices) (text_one f lent indices) texts-tell texts-out texts-table
@@ -377,8 +374,8 @@ module _ (f : List ℕ) (lent : Lent) (indices out₀ table₀ out table : List 
         part_at (length indices) (text_one f lent indices) i _ _ (omega arith) texts-out texts-table
 
     texts-by :
-        (o : OpenRead) (i start room : ℕ) →
-        ((r : Refusal) → o ≡ Closed r → ⊥) →
+        (o : Result Head Refusal) (i start room : ℕ) →
+        ((r : Refusal) → o ≡ Err r → ⊥) →
         PartAt (value_in (content_by f lent (get_or indices i 0) o)) start i out table →
         ((text_numbers_of (text_answer_by room (content_by f lent (get_or indices i 0) o) o)).refusal ≡ 11 → ⊥) →
         IsPart (text_numbers_of (text_answer_by room (content_by f lent (get_or indices i 0) o) o)).refusal
@@ -386,8 +383,8 @@ module _ (f : List ℕ) (lent : Lent) (indices out₀ table₀ out table : List 
         (text_numbers_of (text_answer_by room (content_by f lent (get_or indices i 0) o) o)).state
         (text_numbers_of (text_answer_by room (content_by f lent (get_or indices i 0) o) o)).replaced
         (buffered room (text_in (content_by f lent (get_or indices i 0) o)) (text_answer_by room (content_by f lent (get_or indices i 0) o) o)) i out table
-    texts-by (Closed r) i start room c p d = absurd (c r refl)
-    texts-by (Open h) i start room c p d = text-is start i out table (content_of h (tables_in f h) lent (get_or indices i 0)) room p d
+    texts-by (Err r) i start room c p d = absurd (c r refl)
+    texts-by (Ok h) i start room c p d = text-is start i out table (content_of h (tables_in f h) lent (get_or indices i 0)) room p d
 
     pub texts-single :
         (i room : ℕ) →
@@ -400,8 +397,8 @@ module _ (f : List ℕ) (lent : Lent) (indices out₀ table₀ out table : List 
     texts-single i room h d =
         texts-by (open_of f lent) i (length (texts_to (text_one f lent indices) i)) room
         (λ r e.
-        let q : Refused r ≡ Answered k b =
-        sym (ap (λ (o : OpenRead). texts_by f lent indices (length out₀) (length table₀) o) e) ∙ texts-answered in
+        let q : Err r ≡ Ok (record { count = k; length = b }) =
+        sym (ap (λ (o : Result Head Refusal). texts_by f lent indices (length out₀) (length table₀) o) e) ∙ texts-answered in
         let z : ◌≡◌ {A = ℕ} 0 1 = cc in
         let w : ⊥ = omega arith in
         w)

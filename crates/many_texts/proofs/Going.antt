@@ -1,6 +1,7 @@
 -- Laws of specs/Inner/Going.antt. No contract cites this file.
 -- In order: a text at a place (`tells-..`); the words of an answer (`puts-..`); one more (`done-..`); the whole outputs (`gives-..`); the
 -- promises (`values-..`, `texts-..`).
+use Rattle.std.specs.Prelude.{Result, Ok, Err}
 use Prim.Native.Nat.{ℕ, zero, suc, ◌+◌, ◌-◌, ◌*◌, ◌/◌, ◌≤◌, ◌<◌, min}
 use native.Mathlib.Omega.{arith}
 use native.Mathlib.Numerals.{add-one}
@@ -16,8 +17,6 @@ use lib.Dec.{ltb, leb}
 use Rattle.errors.specs.Refusal.{many_numbers_of}
 use Rattle.errors.specs.declared.Refusal.{Refusal}
 use Rattle.errors.specs.declared.Refusal.TheVariants.{TextShort, TablesError, AnswersFull}
-use Rattle.errors.specs.declared.ManyTexts.{ManyTexts}
-use Rattle.errors.specs.declared.ManyTexts.TheVariants.{Answered, Refused}
 use Rattle.records.specs.Words.{attribute_width}
 use Rattle.many_texts.specs.Words.{answer_width, answer_words}
 use Rattle.system_types.specs.Names.{Lent}
@@ -29,8 +28,6 @@ use Rattle.text.specs.Inner.Found.{Wrote as Put, part_of, is_found, ascii_in}
 use Rattle.text.proofs.Read.{ascii-whole}
 use Rattle.head.specs.Head.{tables_in}
 use Rattle.head.specs.Ask.{open_of, state_told, content_asked_by as content_by}
-use Rattle.head.specs.declared.OpenRead.{OpenRead}
-use Rattle.head.specs.declared.OpenRead.TheVariants.{Open, Closed}
 use Rattle.value_text.specs.declared.Attribute.{Attribute}
 use Rattle.value_text.specs.declared.Told.{Told}
 use Rattle.errors.specs.Refusal.{state_of, replaced_of}
@@ -43,6 +40,7 @@ use Rattle.value_text.proofs.Front.{leads-put, tells-text}
 use Rattle.many_texts.specs.Many.{value_asked_by, value_in, attribute_at, words_at, texts_to, words_to, many_by, most_bytes, most_count, leaves}
 use Rattle.many_texts.specs.Many.{values_by, values_answer, ReadsValues, texts_by, texts_answer, ReadsTexts}
 use Rattle.many_texts.specs.Inner.Going.{TellsAt, Puts, Done, Gives, record_value, index_value}
+use Rattle.errors.specs.declared.TextsWritten.{TextsWritten}
 
 -- ---- a text at a place
 
@@ -306,29 +304,29 @@ done_all e d = rw (← e) d
 -- ---- the whole outputs
 
 pub gives_same :
-    {n m count : ℕ} {one : ℕ → Value} {a b r : ManyTexts} {out table : List ℕ} →
+    {n m count : ℕ} {one : ℕ → Value} {a b r : Result TextsWritten Refusal} {out table : List ℕ} →
     a ≡ b →
     Gives n m count one b r out table →
     Gives n m count one a r out table
 gives_same e g = rw e g
 
 -- whether the table has as many records
-module _ (ats : List ℕ) (count : ℕ) (b : ManyTexts) where
+module _ (ats : List ℕ) (count : ℕ) (b : Result TextsWritten Refusal) where
   pub values-unfit :
       length ats < attribute_width * count →
-      cond (ltb (length ats) (attribute_width * count)) (Refused (TablesError count)) b ≡ Refused (TablesError count)
+      cond (ltb (length ats) (attribute_width * count)) (Err (TablesError count)) b ≡ Err (TablesError count)
   values-unfit h = rw (lt-ltb (length ats) (attribute_width * count) h)
 
   pub values-fit :
       attribute_width * count ≤ length ats →
-      cond (ltb (length ats) (attribute_width * count)) (Refused (TablesError count)) b ≡ b
+      cond (ltb (length ats) (attribute_width * count)) (Err (TablesError count)) b ≡ b
   values-fit h = rw (le-ltb (length ats) (attribute_width * count) h)
 
 -- refused, whatever was asked
 pub gives-refused :
-    {n m count : ℕ} {one : ℕ → Value} {a r : ManyTexts} {why : Refusal} {out table : List ℕ} →
-    a ≡ Refused why →
-    (r ≡ Refused why) × (out ≡ replicate n 0) × (table ≡ replicate m 0) →
+    {n m count : ℕ} {one : ℕ → Value} {a r : Result TextsWritten Refusal} {why : Refusal} {out table : List ℕ} →
+    a ≡ Err why →
+    (r ≡ Err why) × (out ≡ replicate n 0) × (table ≡ replicate m 0) →
     Gives n m count one a r out table
 gives-refused e z = rw e (record { same = z.0; bytes = z.1; words = z.2 })
 
@@ -336,7 +334,7 @@ gives-refused e z = rw e (record { same = z.0; bytes = z.1; words = z.2 })
 pub gives-full :
     (count : ℕ) (one : ℕ → Value) (n places : ℕ) →
     places < count →
-    many_by count one n places ≡ Refused (AnswersFull places)
+    many_by count one n places ≡ Err (AnswersFull places)
 unfolding many_by
 gives-full count one n places h = rw (lt-ltb places count h)
 
@@ -344,7 +342,7 @@ module _ {count n m at : ℕ} {one : ℕ → Value} {out table : List ℕ} (d : 
   enough : ltb (m / answer_width) count ≡ false
   enough = le-ltb (m / answer_width) count (omega arith)
 
-  pub gives-short : n ≤ most_count → min n most_bytes < at → many_by count one n (m / answer_width) ≡ Refused (TextShort at)
+  pub gives-short : n ≤ most_count → min n most_bytes < at → many_by count one n (m / answer_width) ≡ Err (TextShort at)
   unfolding many_by
   gives-short b h =
       let c = d.place in
@@ -357,7 +355,7 @@ module _ {count n m at : ℕ} {one : ℕ → Value} {out table : List ℕ} (d : 
       at ≤ most_bytes →
       out' ≡ take at out ++ replicate (length out - at) 0 →
       table' ≡ take (answer_width * count) table ++ replicate (length table - answer_width * count) 0 →
-      Gives n m count one (many_by count one n (m / answer_width)) (Answered count at) out' table'
+      Gives n m count one (many_by count one n (m / answer_width)) (Ok (record { count = count; length = at })) out' table'
   unfolding many_by
   gives_all {out'} {table'} f g e i =
       let c = d.place in
@@ -374,7 +372,7 @@ module _ {count n m at : ℕ} {one : ℕ → Value} {out table : List ℕ} (d : 
 
 -- the same of the buffers that came in
 pub settled :
-    {n m count at : ℕ} {one : ℕ → Value} {r : ManyTexts} {out table out' table' : List ℕ} →
+    {n m count at : ℕ} {one : ℕ → Value} {r : Result TextsWritten Refusal} {out table out' table' : List ℕ} →
     Done one n m count at out table →
     ((one : ℕ → Value) →
     Done one (length out) (length table) count at out table →
@@ -386,55 +384,55 @@ settled {one = one} d s =
 
 -- ---- the promises
 
-module _ (f : List ℕ) (lent : Lent) (items area ats out₀ table₀ : List ℕ) (count : ℕ) {r : ManyTexts} {out table : List ℕ} where
+module _ (f : List ℕ) (lent : Lent) (items area ats out₀ table₀ : List ℕ) (count : ℕ) {r : Result TextsWritten Refusal} {out table : List ℕ} where
   pub values-closed :
       {why : Refusal} →
-      value_open f lent items area ≡ Closed why →
-      (r ≡ Refused why) × (out ≡ replicate (length out₀) 0) × (table ≡ replicate (length table₀) 0) →
+      value_open f lent items area ≡ Err why →
+      (r ≡ Err why) × (out ≡ replicate (length out₀) 0) × (table ≡ replicate (length table₀) 0) →
       ReadsValues f lent items area ats out₀ table₀ count r out table
   unfolding values_answer
   values-closed e g = record { answer = rw e (ap many_numbers_of g.0); bytes = rw e g.1; words = rw e g.2 }
 
   pub values-open :
       {h : Head} {t : List ℕ} →
-      value_open f lent items area ≡ Open h →
+      value_open f lent items area ≡ Ok h →
       t ≡ tables_in f h →
       Gives (length out₀) (length table₀) count (record_value h t lent items area ats)
-      (cond (ltb (length ats) (attribute_width * count)) (Refused (TablesError count))
+      (cond (ltb (length ats) (attribute_width * count)) (Err (TablesError count))
       (many_by count (record_value h t lent items area ats) (length out₀) (length table₀ / answer_width))) r out table →
       ReadsValues f lent items area ats out₀ table₀ count r out table
   unfolding values_answer
   values-open {h} e q g =
       let g' = rw q at g in
-      let one : OpenRead → ℕ → Value = λ o k. value_asked_by f lent items area (attribute_at ats k) o in
-      let many : OpenRead → ManyTexts =
-      λ o. cond (ltb (length ats) (attribute_width * count)) (Refused (TablesError count))
+      let one : Result Head Refusal → ℕ → Value = λ o k. value_asked_by f lent items area (attribute_at ats k) o in
+      let many : Result Head Refusal → Result TextsWritten Refusal =
+      λ o. cond (ltb (length ats) (attribute_width * count)) (Err (TablesError count))
       (many_by count (one o) (length out₀) (length table₀ / answer_width)) in
-      let a : values_answer f lent items area ats count (length out₀) (length table₀) ≡ many (Open h) =
-      ap (λ (o : OpenRead). values_by f lent items area ats count (length out₀) (length table₀) o) e ∙ ap many e in
+      let a : values_answer f lent items area ats count (length out₀) (length table₀) ≡ many (Ok h) =
+      ap (λ (o : Result Head Refusal). values_by f lent items area ats count (length out₀) (length table₀) o) e ∙ ap many e in
       let b = values_answer f lent items area ats count (length out₀) (length table₀) in
       record {
         answer = ap many_numbers_of (g'.same ∙ sym a);
         bytes =
-            g'.bytes ∙ ap (λ (x : ManyTexts). leaves (length out₀) (texts_to (one (Open h)) count) x) (sym a)
-            ∙ ap (λ (o : OpenRead). leaves (length out₀) (texts_to (one o) count) b) (sym e);
+            g'.bytes ∙ ap (λ (x : Result TextsWritten Refusal). leaves (length out₀) (texts_to (one (Ok h)) count) x) (sym a)
+            ∙ ap (λ (o : Result Head Refusal). leaves (length out₀) (texts_to (one o) count) b) (sym e);
         words =
-            g'.words ∙ ap (λ (x : ManyTexts). leaves (length table₀) (words_to (one (Open h)) count) x) (sym a)
-            ∙ ap (λ (o : OpenRead). leaves (length table₀) (words_to (one o) count) b) (sym e);
+            g'.words ∙ ap (λ (x : Result TextsWritten Refusal). leaves (length table₀) (words_to (one (Ok h)) count) x) (sym a)
+            ∙ ap (λ (o : Result Head Refusal). leaves (length table₀) (words_to (one o) count) b) (sym e);
       }
 
-module _ (f : List ℕ) (lent : Lent) (indices out₀ table₀ : List ℕ) {r : ManyTexts} {out table : List ℕ} where
+module _ (f : List ℕ) (lent : Lent) (indices out₀ table₀ : List ℕ) {r : Result TextsWritten Refusal} {out table : List ℕ} where
   pub texts-closed :
       {why : Refusal} →
-      open_of f lent ≡ Closed why →
-      (r ≡ Refused why) × (out ≡ replicate (length out₀) 0) × (table ≡ replicate (length table₀) 0) →
+      open_of f lent ≡ Err why →
+      (r ≡ Err why) × (out ≡ replicate (length out₀) 0) × (table ≡ replicate (length table₀) 0) →
       ReadsTexts f lent indices out₀ table₀ r out table
   unfolding texts_answer
   texts-closed e g = record { answer = rw e (ap many_numbers_of g.0); bytes = rw e g.1; words = rw e g.2 }
 
   pub texts-open :
       {h : Head} {t : List ℕ} →
-      open_of f lent ≡ Open h →
+      open_of f lent ≡ Ok h →
       t ≡ tables_in f h →
       Gives (length out₀) (length table₀) (length indices) (index_value h t lent indices)
       (many_by (length indices) (index_value h t lent indices) (length out₀) (length table₀ / answer_width)) r out table →
@@ -442,17 +440,17 @@ module _ (f : List ℕ) (lent : Lent) (indices out₀ table₀ : List ℕ) {r : 
   unfolding texts_answer
   texts-open {h} e q g =
       let g' = rw q at g in
-      let one : OpenRead → ℕ → Value = λ o k. value_in (content_by f lent (get_or indices k 0) o) in
-      let many : OpenRead → ManyTexts = λ o. many_by (length indices) (one o) (length out₀) (length table₀ / answer_width) in
-      let a : texts_answer f lent indices (length out₀) (length table₀) ≡ many (Open h) =
-      ap (λ (o : OpenRead). texts_by f lent indices (length out₀) (length table₀) o) e ∙ ap many e in
+      let one : Result Head Refusal → ℕ → Value = λ o k. value_in (content_by f lent (get_or indices k 0) o) in
+      let many : Result Head Refusal → Result TextsWritten Refusal = λ o. many_by (length indices) (one o) (length out₀) (length table₀ / answer_width) in
+      let a : texts_answer f lent indices (length out₀) (length table₀) ≡ many (Ok h) =
+      ap (λ (o : Result Head Refusal). texts_by f lent indices (length out₀) (length table₀) o) e ∙ ap many e in
       let b = texts_answer f lent indices (length out₀) (length table₀) in
       record {
         answer = ap many_numbers_of (g'.same ∙ sym a);
         bytes =
-            g'.bytes ∙ ap (λ (x : ManyTexts). leaves (length out₀) (texts_to (one (Open h)) (length indices)) x) (sym a)
-            ∙ ap (λ (o : OpenRead). leaves (length out₀) (texts_to (one o) (length indices)) b) (sym e);
+            g'.bytes ∙ ap (λ (x : Result TextsWritten Refusal). leaves (length out₀) (texts_to (one (Ok h)) (length indices)) x) (sym a)
+            ∙ ap (λ (o : Result Head Refusal). leaves (length out₀) (texts_to (one o) (length indices)) b) (sym e);
         words =
-            g'.words ∙ ap (λ (x : ManyTexts). leaves (length table₀) (words_to (one (Open h)) (length indices)) x) (sym a)
-            ∙ ap (λ (o : OpenRead). leaves (length table₀) (words_to (one o) (length indices)) b) (sym e);
+            g'.words ∙ ap (λ (x : Result TextsWritten Refusal). leaves (length table₀) (words_to (one (Ok h)) (length indices)) x) (sym a)
+            ∙ ap (λ (o : Result Head Refusal). leaves (length table₀) (words_to (one o) (length indices)) b) (sym e);
       }

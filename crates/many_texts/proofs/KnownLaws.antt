@@ -1,5 +1,6 @@
 -- Laws of specs/Inner/Known.antt: nothing is known at first (`knows-none`), a name more (`knows_more`), and what is looked up (`looks-..`). No
 -- contract cites this file.
+use Rattle.std.specs.Prelude.{Option}
 use Prim.Native.Nat.{ℕ, zero, suc, ◌+◌, ◌-◌, ◌<◌}
 use native.Mathlib.Omega.{arith}
 use mathlib.Core.Path.{◌≡◌, refl, sym, ◌∙◌}
@@ -19,7 +20,6 @@ use Rattle.items.specs.declared.Run.{Run}
 use Rattle.items.specs.Inner.Turns.{RunOf}
 use Rattle.value_text.proofs.Looking.{part-text}
 use Rattle.many_texts.specs.Inner.Known.{known_count, HasRun, Looks, Knows}
-use Rattle.many_texts.specs.declared.known.Looked.{Looked}
 
 get_d-zeros : (n j : ℕ) → ◌≡◌ {A = ℕ} (get_or (replicate n 0) j 0) 0
 get_d-zeros zero j = refl
@@ -74,5 +74,5 @@ module _ (h : Head) (t : List ℕ) (lent : Lent) (items area : List ℕ) where
   looks-at i f e p g = record { named = rw (← e) (part-text h.utf16 t lent.area f p); run = rw (← e) g }
 
   -- by which case was told
-  pub looks-same : (i : ℕ) {x y : Looked} → x ≡ y → Looks h t lent items area i x → Looks h t lent items area i y
+  pub looks-same : (i : ℕ) {x y : Option Run} → x ≡ y → Looks h t lent items area i x → Looks h t lent items area i y
   looks-same i e g = rw (← e) g

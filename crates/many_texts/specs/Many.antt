@@ -11,27 +11,26 @@
 --
 -- `one` says for each number of a question what is asked. A start is a word, so that texts of more than `most_bytes` have no room in any
 -- buffer; where not even `most_count` counts their bytes, 11 tells that number. Laws: proofs/Going.antt, proofs/Claimed.antt.
-use Rattle.std.specs.Prelude.{ℕ, zero, suc, ◌+◌, ◌-◌, ◌*◌, ◌/◌, min, ◌≡◌, List, [], ◌++◌, cond, length, replicate, get_or, ltb, leb}
+use Rattle.std.specs.Prelude.{ℕ, zero, suc, ◌+◌, ◌-◌, ◌*◌, ◌/◌, min, ◌≡◌, List, [], ◌++◌, cond, length, replicate, get_or, ltb, leb, Result, Ok, Err}
 use Rattle.errors.specs.Refusal.{refusal_number, state_of, replaced_of, many_numbers_of}
 use Rattle.errors.specs.declared.Refusal.TheVariants.{NothingFound, TextShort, TablesError, NoPlainText, AnswersFull}
-use Rattle.errors.specs.declared.ManyTexts.{ManyTexts}
-use Rattle.errors.specs.declared.ManyTexts.TheVariants.{Answered, Refused}
 use Rattle.records.specs.Words.{attribute_width, attribute_owner, attribute_prefix, attribute_name, attribute_type, attribute_data, attribute_namespace}
 use Rattle.many_texts.specs.Words.{answer_width, answer_words}
 use Rattle.system_types.specs.Names.{Lent}
 use Rattle.text.specs.Content.{Content, none, cut, some, text_in, damage_in}
 use Rattle.head.specs.Head.{tables_in}
 use Rattle.head.specs.Ask.{open_of, content_asked, state_told}
-use Rattle.head.specs.declared.OpenRead.{OpenRead}
-use Rattle.head.specs.declared.OpenRead.TheVariants.{Open, Closed}
 use Rattle.value_text.specs.declared.Attribute.{Attribute}
 use Rattle.value_text.specs.Value.{Value, no_name, no_text, shows, shown, attribute_value, value_open}
+use Rattle.errors.specs.declared.Refusal.{Refusal}
+use Rattle.errors.specs.declared.TextsWritten.{TextsWritten}
+use Rattle.text.specs.declared.Head.{Head}
 
 -- ---- one question
 
-abbrev pub value_asked_by : List ℕ → Lent → List ℕ → List ℕ → Attribute → OpenRead → Value
-value_asked_by f lent items area a (Closed r) = no_name
-value_asked_by f lent items area a (Open h) = attribute_value h (tables_in f h) lent items area a
+abbrev pub value_asked_by : List ℕ → Lent → List ℕ → List ℕ → Attribute → Result Head Refusal → Value
+value_asked_by f lent items area a (Err r) = no_name
+value_asked_by f lent items area a (Ok h) = attribute_value h (tables_in f h) lent items area a
 
 abbrev pub value_asked : List ℕ → Lent → List ℕ → List ℕ → Attribute → Value
 value_asked f lent items area a = value_asked_by f lent items area a (value_open f lent items area)
@@ -82,15 +81,15 @@ abbrev pub most_count : ℕ
 most_count = 18446744073709551615
 
 -- with room for the texts of so many bytes, and so many answers
-unfoldable pub many_by : ℕ → (ℕ → Value) → ℕ → ℕ → ManyTexts
+unfoldable pub many_by : ℕ → (ℕ → Value) → ℕ → ℕ → Result TextsWritten Refusal
 many_by n one room places =
-    cond (ltb places n) (Refused (AnswersFull places))
-    (cond (leb (length (texts_to one n)) (min room most_bytes)) (Answered n (length (texts_to one n)))
-    (Refused (TextShort (min (length (texts_to one n)) most_count))))
+    cond (ltb places n) (Err (AnswersFull places))
+    (cond (leb (length (texts_to one n)) (min room most_bytes)) (Ok (record { count = n; length = (length (texts_to one n)) }))
+    (Err (TextShort (min (length (texts_to one n)) most_count))))
 
-abbrev pub leaves : ℕ → List ℕ → ManyTexts → List ℕ
-leaves n s (Refused r) = replicate n 0
-leaves n s (Answered count bytes) = s ++ replicate (n - length s) 0
+abbrev pub leaves : ℕ → List ℕ → Result TextsWritten Refusal → List ℕ
+leaves n s (Err r) = replicate n 0
+leaves n s (Ok w) = s ++ replicate (n - length s) 0
 
 -- ---- the values of a table's records
 
@@ -99,15 +98,15 @@ module _ (f : List ℕ) (lent : Lent) (items area ats : List ℕ) where
   value_one k = value_asked f lent items area (attribute_at ats k)
 
   -- 13 where there are not so many records
-  abbrev pub values_by : ℕ → ℕ → ℕ → OpenRead → ManyTexts
-  values_by count room words (Closed r) = Refused r
-  values_by count room words (Open h) =
-      cond (ltb (length ats) (attribute_width * count)) (Refused (TablesError count)) (many_by count value_one room (words / answer_width))
+  abbrev pub values_by : ℕ → ℕ → ℕ → Result Head Refusal → Result TextsWritten Refusal
+  values_by count room words (Err r) = Err r
+  values_by count room words (Ok h) =
+      cond (ltb (length ats) (attribute_width * count)) (Err (TablesError count)) (many_by count value_one room (words / answer_width))
 
-  unfoldable pub values_answer : ℕ → ℕ → ℕ → ManyTexts
+  unfoldable pub values_answer : ℕ → ℕ → ℕ → Result TextsWritten Refusal
   values_answer count room words = values_by count room words (value_open f lent items area)
 
-  pub record ReadsValues (out₀ table₀ : List ℕ) (count : ℕ) (r : ManyTexts) (out table : List ℕ) : Type 0 where
+  pub record ReadsValues (out₀ table₀ : List ℕ) (count : ℕ) (r : Result TextsWritten Refusal) (out table : List ℕ) : Type 0 where
     pub answer : many_numbers_of r ≡ many_numbers_of (values_answer count (length out₀) (length table₀))
     pub bytes : out ≡ leaves (length out₀) (texts_to value_one count) (values_answer count (length out₀) (length table₀))
     pub words : table ≡ leaves (length table₀) (words_to value_one count) (values_answer count (length out₀) (length table₀))
@@ -118,14 +117,14 @@ module _ (f : List ℕ) (lent : Lent) (indices : List ℕ) where
   abbrev pub text_one : ℕ → Value
   text_one k = index_asked f lent (get_or indices k 0)
 
-  abbrev pub texts_by : ℕ → ℕ → OpenRead → ManyTexts
-  texts_by room words (Closed r) = Refused r
-  texts_by room words (Open h) = many_by (length indices) text_one room (words / answer_width)
+  abbrev pub texts_by : ℕ → ℕ → Result Head Refusal → Result TextsWritten Refusal
+  texts_by room words (Err r) = Err r
+  texts_by room words (Ok h) = many_by (length indices) text_one room (words / answer_width)
 
-  unfoldable pub texts_answer : ℕ → ℕ → ManyTexts
+  unfoldable pub texts_answer : ℕ → ℕ → Result TextsWritten Refusal
   texts_answer room words = texts_by room words (open_of f lent)
 
-  pub record ReadsTexts (out₀ table₀ : List ℕ) (r : ManyTexts) (out table : List ℕ) : Type 0 where
+  pub record ReadsTexts (out₀ table₀ : List ℕ) (r : Result TextsWritten Refusal) (out table : List ℕ) : Type 0 where
     pub answer : many_numbers_of r ≡ many_numbers_of (texts_answer (length out₀) (length table₀))
     pub bytes : out ≡ leaves (length out₀) (texts_to text_one (length indices)) (texts_answer (length out₀) (length table₀))
     pub words : table ≡ leaves (length table₀) (words_to text_one (length indices)) (texts_answer (length out₀) (length table₀))

@@ -2,11 +2,10 @@
 // looked up again.
 //
 // Mirrors nothing of the Rust's, which compares each name with those of its table. Definitions: specs/Inner/Known.antt.
-ghost use Rattle.std.specs.Prelude.{◌≡◌, ◌<◌};
+ghost use Rattle.std.specs.Prelude.{◌≡◌, ◌<◌, Ok};
 ghost use Rattle.system_types.specs.Names.{lends};
 ghost use Rattle.text.specs.Inner.Found.{Asks};
 ghost use Rattle.items.specs.Items.{table_of};
-ghost use Rattle.items.specs.declared.ItemsRead.TheVariants.{Good};
 ghost use Rattle.items.specs.Inner.Firsts.{Firsts};
 ghost use Rattle.many_texts.specs.Inner.Known.{Looks, Knows};
 
@@ -18,13 +17,6 @@ use value_text::known_run;
 // How many names can be known: those with the lowest indices, which are the attributes' in every manifest that aapt makes.
 pub const KNOWN: usize = 128;
 
-// The items of an index's text, or that it has none.
-#[derive(Clone, Copy)]
-pub enum Looked {
-    NoName,
-    At(Run),
-}
-
 fn look(
     t: &[u8],
     names: &[u32],
@@ -34,16 +26,16 @@ fn look(
     item_area: &[u8],
     firsts: &[usize],
     index: StringIndex,
-) -> Looked
-    requires { Asks t.now (lends names.now area.now) h × (table_of item_area.now items.now ≡ Good)
+) -> Option<Run>
+    requires { Asks t.now (lends names.now area.now) h × (table_of item_area.now items.now ≡ (Ok tt))
         × Firsts item_area.now items.now firsts.now }
     ensures { Looks h t.now (lends names.now area.now) items.now item_area.now index.0 result }
 {
     let f = find(t, names, area, h, index);
     if !is_found(f) {
-        return Looked::NoName;
+        return None;
     }
-    Looked::At(known_run(t, area, h.utf16, f, items, item_area, firsts))
+    Some(known_run(t, area, h.utf16, f, items, item_area, firsts))
 }
 
 // The items of an index's text. In `ends` stands for a name that is known the number behind the last of them and one more, 0 for a name that
@@ -60,8 +52,8 @@ pub fn look_up(
     starts: &mut [usize],
     ends: &mut [usize],
     index: StringIndex,
-) -> Looked
-    requires { Asks t.now (lends names.now area.now) h × (table_of item_area.now items.now ≡ Good)
+) -> Option<Run>
+    requires { Asks t.now (lends names.now area.now) h × (table_of item_area.now items.now ≡ (Ok tt))
         × Firsts item_area.now items.now firsts.now × Knows h t.now (lends names.now area.now) items.now item_area.now starts.old ends.old }
     ensures { Looks h t.now (lends names.now area.now) items.now item_area.now index.0 result
         × Knows h t.now (lends names.now area.now) items.now item_area.now starts.new ends.new }
@@ -71,18 +63,18 @@ pub fn look_up(
         return look(t, names, area, h, items, item_area, firsts, index);
     }
     if 0 < ends[place] {
-        return Looked::At(Run {
+        return Some(Run {
             first: starts[place],
             end: ends[place] - 1,
         });
     }
     let looked = look(t, names, area, h, items, item_area, firsts, index);
     match looked {
-        Looked::NoName => Looked::NoName,
-        Looked::At(run) => {
+        None => None,
+        Some(run) => {
             starts[place] = run.first;
             ends[place] = run.end + 1;
-            Looked::At(run)
+            Some(run)
         }
     }
 }

@@ -7,16 +7,14 @@
 
 pub mod known;
 
-ghost use Rattle.std.specs.Prelude.{◌≡◌, cond, List, [], ◌++◌, ◌+◌, ◌-◌, ◌*◌, ◌/◌, ◌≤◌, ◌<◌, min, ℕ, length, take, drop, replicate, ltb, leb};
+ghost use Rattle.std.specs.Prelude.{◌≡◌, cond, List, [], ◌++◌, ◌+◌, ◌-◌, ◌*◌, ◌/◌, ◌≤◌, ◌<◌, min, ℕ, length, take, drop, replicate, ltb, leb, Ok, Err};
 ghost use Rattle.errors.specs.declared.Refusal.TheVariants.{TablesError};
-ghost use Rattle.errors.specs.declared.ManyTexts.TheVariants.{Refused};
 ghost use Rattle.records.specs.Words.{attribute_width};
 ghost use Rattle.many_texts.specs.Words.{answer_width, answer_words};
 ghost use Rattle.system_types.specs.Names.{lends};
 ghost use Rattle.text.specs.Content.{content_of};
 ghost use Rattle.text.specs.Inner.Found.{Asks};
 ghost use Rattle.items.specs.Items.{table_of};
-ghost use Rattle.items.specs.declared.ItemsRead.TheVariants.{Good};
 ghost use Rattle.items.specs.Inner.Firsts.{Firsts};
 ghost use Rattle.value_text.specs.Value.{Value, shows, shown, attribute_value};
 ghost use Rattle.value_text.specs.Inner.Leads.{Tells, told_of};
@@ -26,10 +24,10 @@ ghost use Rattle.many_texts.specs.Inner.Going.{TellsAt, Puts, Done, Gives, recor
 
 use common::StringIndex;
 use digits::zero;
-use errors::{ManyTexts, Refusal, TextState, replaced_number, state_number};
-use head::{OpenRead, found_told, open_file, tables_of};
+use errors::{Refusal, TextState, TextsWritten, replaced_number, state_number};
+use head::{found_told, open_file, tables_of};
 use items::{NO_ITEM, PLACES, put_firsts};
-use known::{KNOWN, Looked, look_up};
+use known::{KNOWN, look_up};
 use records::{
     ATTRIBUTE_DATA, ATTRIBUTE_NAME, ATTRIBUTE_NAMESPACE, ATTRIBUTE_OWNER, ATTRIBUTE_PREFIX,
     ATTRIBUTE_TYPE, ATTRIBUTE_WORDS, attribute_place,
@@ -189,7 +187,7 @@ fn value_by(
     out: &mut [u8],
     a: Attribute,
 ) -> Told
-    requires { Asks t.now (lends names.now area.now) h × (table_of item_area.now items.now ≡ Good)
+    requires { Asks t.now (lends names.now area.now) h × (table_of item_area.now items.now ≡ (Ok tt))
         × Firsts item_area.now items.now firsts.now × Knows h t.now (lends names.now area.now) items.now item_area.now starts.old ends.old }
     ensures { Tells (attribute_value h t.now (lends names.now area.now) items.now item_area.now a)
         out.old result out.new
@@ -202,8 +200,8 @@ fn value_by(
         t, names, area, h, items, item_area, firsts, starts, ends, a.name,
     );
     match looked {
-        Looked::NoName => Told::NoName,
-        Looked::At(run) => named_into(
+        None => Told::NoName,
+        Some(run) => named_into(
             t, names, area, h, items, item_area, out, run, a.kind, a.data,
         ),
     }
@@ -223,7 +221,7 @@ fn value_at(
     at: usize,
     a: Attribute,
 ) -> Told
-    requires { Asks t.now (lends names.now area.now) h × (table_of item_area.now items.now ≡ Good)
+    requires { Asks t.now (lends names.now area.now) h × (table_of item_area.now items.now ≡ (Ok tt))
         × Firsts item_area.now items.now firsts.now × Knows h t.now (lends names.now area.now) items.now item_area.now starts.old ends.old }
     ensures { TellsAt at (attribute_value h t.now (lends names.now area.now) items.now item_area.now a)
         out.old result out.new
@@ -301,7 +299,7 @@ fn put_values(
     answers: &mut [u32],
     count: usize,
 ) -> usize
-    requires { Asks t.now (lends names.now area.now) h × (table_of item_area.now items.now ≡ Good)
+    requires { Asks t.now (lends names.now area.now) h × (table_of item_area.now items.now ≡ (Ok tt))
         × Firsts item_area.now items.now firsts.now × (attribute_width * count ≤ length attributes.now) × (answer_width * count ≤ length answers.old) }
     ensures { Done (record_value h t.now (lends names.now area.now) items.now item_area.now attributes.now)
         (length out.old) (length answers.old) count result out.new answers.new }
@@ -356,12 +354,12 @@ fn put_texts(
 
 // ---- the answer
 
-fn refuse(out: &mut [u8], answers: &mut [u32], why: Refusal) -> ManyTexts
-    ensures { (result ≡ Refused why) × (out.new ≡ replicate (length out.old) 0) × (answers.new ≡ replicate (length answers.old) 0) }
+fn refuse(out: &mut [u8], answers: &mut [u32], why: Refusal) -> Result<TextsWritten, Refusal>
+    ensures { (result ≡ Err why) × (out.new ≡ replicate (length out.old) 0) × (answers.new ≡ replicate (length answers.old) 0) }
 {
     zero(out);
     zero_from(answers, 0);
-    ManyTexts::Refused(why)
+    Err(why)
 }
 
 fn zero_behind(out: &mut [u8], from: usize)
@@ -372,7 +370,12 @@ fn zero_behind(out: &mut [u8], from: usize)
 }
 
 // Texts that end at a place, if they fit.
-fn settle(out: &mut [u8], answers: &mut [u32], count: usize, at: usize) -> ManyTexts
+fn settle(
+    out: &mut [u8],
+    answers: &mut [u32],
+    count: usize,
+    at: usize,
+) -> Result<TextsWritten, Refusal>
     requires { answer_width * count ≤ length answers.old }
     ensures { (one : ℕ → Value) → Done one (length out.old) (length answers.old) count at out.old answers.old
         → Gives (length out.old) (length answers.old) count one
@@ -383,7 +386,7 @@ fn settle(out: &mut [u8], answers: &mut [u32], count: usize, at: usize) -> ManyT
     }
     zero_behind(out, at);
     zero_from(answers, ANSWER_WORDS * count);
-    ManyTexts::Answered { count, length: at }
+    Ok(TextsWritten { count, length: at })
 }
 
 // The values of an open file's table.
@@ -399,12 +402,12 @@ fn values_in(
     out: &mut [u8],
     answers: &mut [u32],
     attribute_count: u32,
-) -> ManyTexts
-    requires { Asks t.now (lends names.now area.now) h × (table_of item_area.now items.now ≡ Good)
+) -> Result<TextsWritten, Refusal>
+    requires { Asks t.now (lends names.now area.now) h × (table_of item_area.now items.now ≡ (Ok tt))
         × Firsts item_area.now items.now firsts.now }
     ensures { Gives (length out.old) (length answers.old) attribute_count
         (record_value h t.now (lends names.now area.now) items.now item_area.now attributes.now)
-        (cond (ltb (length attributes.now) (attribute_width * attribute_count)) (Refused (TablesError attribute_count))
+        (cond (ltb (length attributes.now) (attribute_width * attribute_count)) (Err (TablesError attribute_count))
         (many_by attribute_count (record_value h t.now (lends names.now area.now) items.now item_area.now attributes.now)
         (length out.old) (length answers.old / answer_width))) result out.new answers.new }
 {
@@ -431,7 +434,7 @@ fn texts_in(
     indices: &[u32],
     out: &mut [u8],
     answers: &mut [u32],
-) -> ManyTexts
+) -> Result<TextsWritten, Refusal>
     requires { Asks t.now (lends names.now area.now) h }
     ensures { Gives (length out.old) (length answers.old) (length indices.now)
         (index_value h t.now (lends names.now area.now) indices.now)
@@ -461,7 +464,7 @@ pub fn value_texts(
     out: &mut [u8],
     answers: &mut [u32],
     attribute_count: u32,
-) -> ManyTexts
+) -> Result<TextsWritten, Refusal>
     ensures { ReadsValues file.now (lends names.now area.now) items.now item_area.now
         attributes.now out.old answers.old attribute_count result out.new answers.new }
 {
@@ -469,7 +472,7 @@ pub fn value_texts(
     put_firsts(items, item_area, &mut firsts);
     let opened = open_known(file, names, area, items, item_area, &firsts);
     match opened {
-        OpenRead::Open(h) => values_in(
+        Ok(h) => values_in(
             tables_of(file, h),
             names,
             area,
@@ -482,7 +485,7 @@ pub fn value_texts(
             answers,
             attribute_count,
         ),
-        OpenRead::Closed(why) => refuse(out, answers, why),
+        Err(why) => refuse(out, answers, why),
     }
 }
 
@@ -495,13 +498,13 @@ pub fn texts(
     indices: &[u32],
     out: &mut [u8],
     answers: &mut [u32],
-) -> ManyTexts
+) -> Result<TextsWritten, Refusal>
     ensures { ReadsTexts file.now (lends names.now area.now) indices.now out.old
         answers.old result out.new answers.new }
 {
     let opened = open_file(file, names, area);
     match opened {
-        OpenRead::Open(h) => texts_in(tables_of(file, h), names, area, h, indices, out, answers),
-        OpenRead::Closed(why) => refuse(out, answers, why),
+        Ok(h) => texts_in(tables_of(file, h), names, area, h, indices, out, answers),
+        Err(why) => refuse(out, answers, why),
     }
 }

@@ -1,5 +1,6 @@
 -- What is told of a text, from the promises of `read_listing` and of the printer. No contract cites this file.
 -- In order: the reader's own refusals; notes as the printer takes them; tables with zeros behind their records print the same; a fault, a listing.
+use Rattle.std.specs.Prelude.{Result, Ok}
 use Prim.Native.Nat.{ℕ, zero, suc, ◌+◌, ◌-◌, ◌*◌, ◌/◌, ◌≤◌, ◌<◌}
 use mathlib.Core.Path.{◌≡◌, refl, sym, ap, ◌∙◌}
 use mathlib.Core.Bool.{true, false}
@@ -15,8 +16,6 @@ use Rattle.anomaly.specs.declared.Note.{Note}
 use Rattle.digits.specs.Written.{fitted}
 use Rattle.errors.specs.Refusal.{numbers_of}
 use Rattle.errors.specs.declared.Numbers.{Numbers}
-use Rattle.errors.specs.declared.LinesAnswer.{LinesAnswer}
-use Rattle.errors.specs.declared.LinesAnswer.TheVariants as text_is
 use Rattle.errors.proofs.Laws.{lines_numbers_of-unique}
 use Rattle.records.specs.Words.{node_width, attribute_width, note_width, note_kind, note_a, note_b}
 use Rattle.records.specs.Limits.{listed_notes}
@@ -31,6 +30,7 @@ use Rattle.listing_back.proofs.Whole.{Filled, filled-le, Leading, trimmed, relis
 use Rattle.listing_back.proofs.Endings.{relisting-own, own-never, listed-own}
 use Rattle.relist.specs.Inner.Judged.{note_in, notes_from, verdict_of, Judges}
 use Rattle.relist.specs.declared.Verdict.{Verdict}
+use Rattle.errors.specs.declared.Refusal.{Refusal}
 
 module _ (n : ℕ) where
   pub own-low : n < 8 → false ≡ is_own n
@@ -188,12 +188,12 @@ judged-own w text (found x) n v out e q o p =
 -- ---- a listing
 
 printed-whole :
-    (text t before after : List ℕ) (a : LinesAnswer) → t ≡ text → Printed t before a after → length text ≤ length before →
-    (a ≡ text_is.Text (length text)) × (take (length text) after ≡ text) × (length text ≤ length after)
+    (text t before after : List ℕ) (a : Result ℕ Refusal) → t ≡ text → Printed t before a after → length text ≤ length before →
+    (a ≡ Ok (length text)) × (take (length text) after ≡ text) × (length text ≤ length after)
 unfolding listing_answer
 printed-whole text t before after a e p h =
     let q : after ≡ text ++ replicate (length before - length text) 0 = p.out ∙ (ap (λ (x : List ℕ). fitted x (length before)) e ∙ fitted-long text (length before) h) in (
-      lines_numbers_of-unique a (text_is.Text (length text)) (p.answer ∙ rw (e, le-leb (length text) (length before) h)),
+      lines_numbers_of-unique a (Ok (length text)) (p.answer ∙ rw (e, le-leb (length text) (length before) h)),
       ap (take (length text)) q ∙ take_at text (replicate (length before - length text) 0) (length text) refl,
       let l : length after ≡ length before = ap length p.out ∙ (ap (λ (x : List ℕ). length (fitted x (length before))) e ∙ length-fitted text (length before) h) in
           omega (arith, l, h),
@@ -208,7 +208,7 @@ module _ {text ns ats os : List ℕ} {r : Relisted} {ns' ats' os' : List ℕ} (h
   judges-own out o p = judged-own w text _ n v out refl (q ∙ h.answer) o p
 
   module _
-      (before after : List ℕ) (a : LinesAnswer) (notes : List Note) (places : length os ≡ note_width * listed_notes) (room : length text ≤ length before)
+      (before after : List ℕ) (a : Result ℕ Refusal) (notes : List Note) (places : length os ≡ note_width * listed_notes) (room : length text ≤ length before)
       (records : notes ≡ notes_from listed_notes os') (p : Printed (listing_text r.cap n ns' ats' notes) before a after) (is : v ≡ verdict_of a)
       (o : is_own n.refusal ≡ false) where
     by-found : (x : Found) → relisting w text ≡ x → n ≡ (told x).numbers → r.cap ≡ (told x).cap → ns' ≡ fitted (told x).nodes (length ns) →

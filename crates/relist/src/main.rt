@@ -16,7 +16,7 @@ ghost use Rattle.listing_back.specs.Inner.Whole.{is_own};
 ghost use Rattle.relist.specs.Inner.Judged.{note_in, notes_from, verdict_of, Judges, RelistsOut};
 
 use anomaly::Note;
-use errors::{LinesAnswer, read_numbers};
+use errors::{Refusal, read_numbers};
 use listing_back::read_listing;
 use listing_text::{LISTED_BYTES, listing_into};
 use records::{
@@ -105,12 +105,12 @@ fn notes_of(words: &[u32]) -> [Note; LISTED_NOTES]
     notes
 }
 
-fn verdict_of(answer: LinesAnswer) -> Verdict
+fn verdict_of(answer: Result<usize, Refusal>) -> Verdict
     ensures { result ≡ verdict_of answer }
 {
     match answer {
-        LinesAnswer::Text(length) => told(0, 0, length),
-        LinesAnswer::Refused(_) => told(0, 0, 0), // never: the text is as long as the one that came in
+        Ok(length) => told(0, 0, length),
+        Err(_) => told(0, 0, 0), // never: the text is as long as the one that came in
     }
 }
 

@@ -1,5 +1,6 @@
 -- Laws of specs/Pool.antt: a complete pool looks at nothing behind itself. No contract cites this file.
 -- In order: the numbers, the pool from its header on, behind garbage, the whole (`pool_of-append`).
+use Rattle.std.specs.Prelude.{Some}
 use Prim.Native.Nat.{ℕ, ◌+◌, ◌-◌, ◌*◌, ◌≤◌}
 use native.Mathlib.Omega.{arith}
 use mathlib.Core.Path.{◌≡◌, refl, sym, ◌∙◌}
@@ -14,7 +15,6 @@ use Rattle.field.proofs.Laws.{u16le-append, u32le-append}
 use Rattle.common.specs.Header.{header_of, content_size}
 use Rattle.common.proofs.Laws.{header_here, header_of-whole, header_of-append}
 use Rattle.common.specs.declared.ResChunkHeader.{ResChunkHeader}
-use Rattle.common.specs.declared.HeaderRead.TheVariants.{Whole}
 use Rattle.res_string_pool.specs.Pool.{count_of, no_garbage, numbered, pool_from, behind_garbage, pool_of}
 use Rattle.res_string_pool.specs.declared.Garbage.{Garbage}
 use Rattle.res_string_pool.specs.declared.PoolEnd.TheVariants.{Complete}
@@ -125,7 +125,7 @@ pool_of-append c m m' all p = go (eqb (header_here c).kind 1) refl
     long : 8 ≤ length c
     long = let parts = pool_of-parts (c ++ m) all in omega arith
 
-    whole : (x : List ℕ) → header_of (c ++ x) ≡ Whole (header_here c)
+    whole : (x : List ℕ) → header_of (c ++ x) ≡ Some (header_here c)
     whole x = header_of-append c x (header_of-whole c long)
 
     go : (b : Bool) → eqb (header_here c).kind 1 ≡ b → pool_of (c ++ m') ≡ pool_of (c ++ m)

@@ -1,6 +1,7 @@
 -- The cases of specs/Pool.antt, one law for each, for the functions and for proofs/Laws.antt. No contract cites this file.
 -- In order: which part runs out (`endOf-..`), and when none does; the pool from its header on (`poolFrom-..`); garbage
 -- (`behindGarbage-..`); the whole (`poolOf-..`).
+use Rattle.std.specs.Prelude.{Some, None}
 use Prim.Native.Nat.{ℕ, ◌+◌, ◌-◌, ◌*◌, ◌≤◌, ◌<◌}
 use native.Mathlib.Omega.{arith}
 use mathlib.Core.Path.{◌≡◌, refl, sym}
@@ -14,7 +15,6 @@ use lib.Dec.{ltb}
 use Rattle.field.specs.Le.{u32le}
 use Rattle.common.specs.Header.{header_of, content_size}
 use Rattle.common.specs.declared.ResChunkHeader.{ResChunkHeader}
-use Rattle.common.specs.declared.HeaderRead.TheVariants.{Whole, Short}
 use Rattle.res_string_pool.specs.Pool.{count_of, is_utf16, no_garbage, unread, numbered, end_of, pool_from, second_by, behind_garbage, pool_of}
 use Rattle.res_string_pool.specs.declared.Garbage.{Garbage}
 use Rattle.res_string_pool.specs.declared.Pool.{Pool}
@@ -126,10 +126,10 @@ module _ (g : Garbage) (at : ℕ) (h : ResChunkHeader) (m : List ℕ) where
 -- ---- the second header
 
 module _ (g : Garbage) (at : ℕ) (m : List ℕ) where
-  pub second_by-short : header_of m ≡ Short → second_by g at m (header_of m) ≡ unread g (HeaderShort (length m))
+  pub second_by-short : header_of m ≡ None → second_by g at m (header_of m) ≡ unread g (HeaderShort (length m))
   second_by-short w = rw w
 
-  pub second_by-whole : {h : ResChunkHeader} → header_of m ≡ Whole h → second_by g at m (header_of m) ≡ pool_from g at h m
+  pub second_by-whole : {h : ResChunkHeader} → header_of m ≡ Some h → second_by g at m (header_of m) ≡ pool_from g at h m
   second_by-whole w = rw w
 
 -- ---- garbage
@@ -168,14 +168,14 @@ module _ (h : ResChunkHeader) (l : List ℕ) where
 -- ---- the whole
 
 module _ (l : List ℕ) where
-  pub pool_of-short : header_of l ≡ Short → pool_of l ≡ unread no_garbage (HeaderShort (length l))
+  pub pool_of-short : header_of l ≡ None → pool_of l ≡ unread no_garbage (HeaderShort (length l))
   unfolding pool_of
   pool_of-short w = rw w
 
-  pub pool_of-pool : {h : ResChunkHeader} → header_of l ≡ Whole h → h.kind ≡ 1 → pool_of l ≡ pool_from no_garbage 0 h l
+  pub pool_of-pool : {h : ResChunkHeader} → header_of l ≡ Some h → h.kind ≡ 1 → pool_of l ≡ pool_from no_garbage 0 h l
   unfolding pool_of
   pool_of-pool {h} w k = rw (w, eq-eqb h.kind 1 k)
 
-  pub pool_of-garbage : {h : ResChunkHeader} → header_of l ≡ Whole h → (h.kind ≡ 1 → ⊥) → pool_of l ≡ behind_garbage h l
+  pub pool_of-garbage : {h : ResChunkHeader} → header_of l ≡ Some h → (h.kind ≡ 1 → ⊥) → pool_of l ≡ behind_garbage h l
   unfolding pool_of
   pool_of-garbage {h} w k = rw (w, ne_eqb h.kind 1 k)

@@ -1,6 +1,7 @@
 -- Laws of specs/Pool.antt: of a pool that is short, the bytes from the short part on can go, and it is short there with none left. No contract cites this file.
 -- In order: how many bytes are left and what is short with none (`left_of`, `none_left`), which part runs out (`end_of-cut`), the pool from its header on
 -- (`pool_from-cut`), behind garbage (`behind_garbage-cut`), the whole (`pool_of-left`, `pool_of-cut`).
+use Rattle.std.specs.Prelude.{Option, Some, None}
 use Prim.Native.Nat.{ℕ, ◌+◌, ◌-◌, ◌*◌, ◌≤◌}
 use native.Mathlib.Omega.{arith}
 use mathlib.Core.Path.{◌≡◌, refl, sym, ap, ◌∙◌}
@@ -15,8 +16,6 @@ use Rattle.field.proofs.Laws.{u32le-append}
 use Rattle.common.specs.Header.{header_of, content_size}
 use Rattle.common.proofs.Laws.{header_here, header_of-whole, header_of-long, header_of-short}
 use Rattle.common.specs.declared.ResChunkHeader.{ResChunkHeader}
-use Rattle.common.specs.declared.HeaderRead.{HeaderRead}
-use Rattle.common.specs.declared.HeaderRead.TheVariants.{Whole, Short}
 use Rattle.res_string_pool.specs.Pool.{count_of, no_garbage, unread, end_of, pool_from, behind_garbage, pool_of}
 use Rattle.res_string_pool.specs.declared.Garbage.{Garbage}
 use Rattle.res_string_pool.specs.declared.PoolEnd.{PoolEnd}
@@ -26,8 +25,8 @@ use Rattle.res_string_pool.proofs.Ends.{end_of-offsets, end_of-styles, end_of-da
 use Rattle.res_string_pool.proofs.Ends.{garbage_in, behind_garbage-short, behind_garbage-skipped, pool_of-short, pool_of-pool, pool_of-garbage}
 use Rattle.res_string_pool.proofs.Append.{numbered-append, header_here-append}
 
-header_of-here : (l : List ℕ) {h : ResChunkHeader} → header_of l ≡ Whole h → h ≡ header_here l
-header_of-here l {h} w = let e : Whole h ≡ Whole (header_here l) = sym w ∙ header_of-whole l (header_of-long l w) in cc
+header_of-here : (l : List ℕ) {h : ResChunkHeader} → header_of l ≡ Some h → h ≡ header_here l
+header_of-here l {h} w = let e : Some h ≡ Some (header_here l) = sym w ∙ header_of-whole l (header_of-long l w) in cc
 
 -- ---- how many bytes are left
 
@@ -159,10 +158,10 @@ module _ (h : ResChunkHeader) where
     abbrev at : ℕ
     at = 8 + content_size h
 
-    behind-short : header_of (drop at l) ≡ Short → behind_garbage h l ≡ unread (garbage_in h) (HeaderShort (length (drop at l)))
+    behind-short : header_of (drop at l) ≡ None → behind_garbage h l ≡ unread (garbage_in h) (HeaderShort (length (drop at l)))
     behind-short w = behind_garbage-skipped h l skipped ∙ rw w
 
-    behind-whole : {x : ResChunkHeader} → header_of (drop at l) ≡ Whole x → behind_garbage h l ≡ pool_from (garbage_in h) at x (drop at l)
+    behind-whole : {x : ResChunkHeader} → header_of (drop at l) ≡ Some x → behind_garbage h l ≡ pool_from (garbage_in h) at x (drop at l)
     behind-whole w = behind_garbage-skipped h l skipped ∙ rw w
 
   pub behind_garbage-left : (l : List ℕ) → 8 ≤ length l → IsShort (behind_garbage h l).end → left_of (behind_garbage h l).end ≤ length l - 8
@@ -171,9 +170,9 @@ module _ (h : ResChunkHeader) where
       len : length (drop (8 + content_size h) l) ≡ length l - (8 + content_size h)
       len = length-drop (8 + content_size h) l
 
-      second : content_size h ≤ length l - 8 → (r : HeaderRead) → header_of (drop (8 + content_size h) l) ≡ r → left_of (behind_garbage h l).end ≤ length l - 8
-      second s Short w = rw (behind-short l s w) (omega (arith, len))
-      second s (Whole x) w =
+      second : content_size h ≤ length l - 8 → (r : Option ResChunkHeader) → header_of (drop (8 + content_size h) l) ≡ r → left_of (behind_garbage h l).end ≤ length l - 8
+      second s None w = rw (behind-short l s w) (omega (arith, len))
+      second s (Some x) w =
           let e = behind-whole l s w in
           let short' = rw e at short in
           let long = header_of-long (drop (8 + content_size h) l) w in
@@ -202,15 +201,15 @@ module _ (h : ResChunkHeader) where
 
       second
           : content_size h ≤ length (c ++ m) - 8
-          → (r : HeaderRead) → header_of (drop k (c ++ m)) ≡ r
+          → (r : Option ResChunkHeader) → header_of (drop k (c ++ m)) ≡ r
           → behind_garbage h c ≡ none_left (behind_garbage h (c ++ m))
-      second s Short w =
+      second s None w =
           let e = behind-short (c ++ m) s w in
           let left' : length (drop k (c ++ m)) ≡ length m = rw e at left in
           let is : length c ≡ k = omega (arith, sum, len, left', s, p) in
           let nil : drop k c ≡ [] = drop_of_length-le c {i = k} (omega (arith, is)) in
           rw (e, behind-short c (omega (arith, is)) (header_of-short (drop k c) (rw nil (omega arith))), nil)
-      second s (Whole x) w =
+      second s (Some x) w =
           let e = behind-whole (c ++ m) s w in
           let short' = rw e at short in
           let left' = rw e at left in
@@ -221,7 +220,7 @@ module _ (h : ResChunkHeader) where
           let size : 8 ≤ length (drop k c) = rw length-drop (omega (arith, much)) in
           let here : x ≡ header_here (drop k c) =
           header_of-here (drop k (c ++ m)) w ∙ ap header_here split ∙ header_here-append (drop k c) m size in
-          let w' : header_of (drop k c) ≡ Whole x = header_of-whole (drop k c) size ∙ ap Whole (sym here) in
+          let w' : header_of (drop k c) ≡ Some x = header_of-whole (drop k c) size ∙ ap Some (sym here) in
           let short'' = rw split at short' in
           let left'' = rw split at left' in
           rw (e, behind-whole c (omega (arith, much)) w', split) (pool_from-cut (garbage_in h) k x (drop k c) m size short'' left'')
@@ -241,7 +240,7 @@ module _ (h : ResChunkHeader) where
 pub pool_of-left : (l : List ℕ) → IsShort (pool_of l).end → left_of (pool_of l).end ≤ length l
 pool_of-left l short = go (header_of l) refl
   where
-    kind : (h : ResChunkHeader) → header_of l ≡ Whole h → (b : Bool) → eqb h.kind 1 ≡ b → left_of (pool_of l).end ≤ length l
+    kind : (h : ResChunkHeader) → header_of l ≡ Some h → (b : Bool) → eqb h.kind 1 ≡ b → left_of (pool_of l).end ≤ length l
     kind h w true t =
         let e = pool_of-pool l w (eqb-true h.kind 1 t) in
         let short' = rw e at short in
@@ -251,9 +250,9 @@ pool_of-left l short = go (header_of l) refl
         let short' = rw e at short in
         rw e (omega (arith, behind_garbage-left h l (header_of-long l w) short'))
 
-    go : (r : HeaderRead) → header_of l ≡ r → left_of (pool_of l).end ≤ length l
-    go Short w = rw (pool_of-short l w) (omega arith)
-    go (Whole h) w = kind h w (eqb h.kind 1) refl
+    go : (r : Option ResChunkHeader) → header_of l ≡ r → left_of (pool_of l).end ≤ length l
+    go None w = rw (pool_of-short l w) (omega arith)
+    go (Some h) w = kind h w (eqb h.kind 1) refl
 
 -- a short pool, and c what stands before the short part: c alone says the same, with none left
 pub pool_of-cut
@@ -267,11 +266,11 @@ pool_of-cut c m short left = go (header_of (c ++ m)) refl
     sum = length-append c m
 
     -- the header stands in c
-    same : (h : ResChunkHeader) → header_of (c ++ m) ≡ Whole h → 8 ≤ length c → header_of c ≡ Whole h
-    same h w p = header_of-whole c p ∙ ap Whole (sym (header_of-here (c ++ m) w ∙ header_here-append c m p))
+    same : (h : ResChunkHeader) → header_of (c ++ m) ≡ Some h → 8 ≤ length c → header_of c ≡ Some h
+    same h w p = header_of-whole c p ∙ ap Some (sym (header_of-here (c ++ m) w ∙ header_here-append c m p))
 
     kind
-        : (h : ResChunkHeader) → header_of (c ++ m) ≡ Whole h
+        : (h : ResChunkHeader) → header_of (c ++ m) ≡ Some h
         → (b : Bool) → eqb h.kind 1 ≡ b
         → pool_of c ≡ none_left (pool_of (c ++ m))
     kind h w true t =
@@ -294,9 +293,9 @@ pool_of-cut c m short left = go (header_of (c ++ m)) refl
     empty : (l : List ℕ) → length l ≡ 0 → pool_of l ≡ unread no_garbage (HeaderShort 0)
     empty l e = pool_of-short l (header_of-short l (omega (arith, e))) ∙ ap (λ (n : ℕ). unread no_garbage (HeaderShort n)) e
 
-    go : (r : HeaderRead) → header_of (c ++ m) ≡ r → pool_of c ≡ none_left (pool_of (c ++ m))
-    go Short w =
+    go : (r : Option ResChunkHeader) → header_of (c ++ m) ≡ r → pool_of c ≡ none_left (pool_of (c ++ m))
+    go None w =
         let e = pool_of-short (c ++ m) w in
         let left' : length (c ++ m) ≡ length m = rw e at left in
         rw e (empty c (omega (arith, sum, left')))
-    go (Whole h) w = kind h w (eqb h.kind 1) refl
+    go (Some h) w = kind h w (eqb h.kind 1) refl

@@ -1,6 +1,7 @@
 -- Laws of specs/Content.antt, for the functions and for the crates above. No contract cites this file.
 -- In order: the cases of a length (`width8-..`, `length8-..`, `split16-..`); a content lies in its list, with its closing bytes
 -- (`split_of-fits`, `split_of-closed`); UTF-16 content is whole units (`split_of-utf16`).
+use Rattle.std.specs.Prelude.{Some, None}
 use Prim.Native.Nat.{ℕ, ◌+◌, ◌*◌, ◌%◌, ◌≤◌, ◌<◌}
 use native.Mathlib.Omega.{arith}
 use mathlib.Core.Path.{◌≡◌, refl, sym}
@@ -11,7 +12,6 @@ use lib.ListN.{length}
 use lib.Dec.{leb}
 use Rattle.field.specs.Le.{u8le, u16le}
 use Rattle.res_string_pool.specs.Content.{width8, length8, width16, length16, within, split8, split16, split_of}
-use Rattle.res_string_pool.specs.declared.Split.TheVariants.{Content, Cut}
 
 -- ---- the cases of a length
 
@@ -51,13 +51,13 @@ split16-by-one l n p e = rw e (sym (split16-one l p))
 -- ---- a content lies in its list
 
 module _ (l : List ℕ) (at n closing : ℕ) where
-  pub within-content : at + n + closing ≤ length l → within l at n closing ≡ Content at n
+  pub within-content : at + n + closing ≤ length l → within l at n closing ≡ Some (at, n)
   within-content p = rw (le-leb (at + n + closing) (length l) p)
 
-  pub within-cut : length l < at + n + closing → within l at n closing ≡ Cut
+  pub within-cut : length l < at + n + closing → within l at n closing ≡ None
   within-cut p = rw (lt-leb (at + n + closing) (length l) p)
 
-  pub within-fits : {k u : ℕ} → within l at n closing ≡ Content k u → (at ≡ k) × (n ≡ u) × (k + u + closing ≤ length l)
+  pub within-fits : {k u : ℕ} → within l at n closing ≡ Some (k, u) → (at ≡ k) × (n ≡ u) × (k + u + closing ≤ length l)
   within-fits {k} {u} e = go (leb (at + n + closing) (length l)) refl
     where
       go : (b : Bool) → leb (at + n + closing) (length l) ≡ b → (at ≡ k) × (n ≡ u) × (k + u + closing ≤ length l)
@@ -73,16 +73,16 @@ module _ (l : List ℕ) (at n closing : ℕ) where
           absurd (let y : ⊥ = omega arith in y)
 
 -- with at least one closing byte behind it
-pub split_of-closed : (utf16 : Bool) (l : List ℕ) {k n : ℕ} → split_of utf16 l ≡ Content k n → k + n + 1 ≤ length l
+pub split_of-closed : (utf16 : Bool) (l : List ℕ) {k n : ℕ} → split_of utf16 l ≡ Some (k, n) → k + n + 1 ≤ length l
 unfolding split8 split16
 split_of-closed true l e = let q = within-fits l (width16 l) (2 * length16 l) 2 e in omega arith
 split_of-closed false l e = let q = within-fits l (width8 l 0 + width8 l (width8 l 0)) (length8 l (width8 l 0)) 1 e in omega arith
 
-pub split_of-fits : (utf16 : Bool) (l : List ℕ) {k n : ℕ} → split_of utf16 l ≡ Content k n → k + n ≤ length l
+pub split_of-fits : (utf16 : Bool) (l : List ℕ) {k n : ℕ} → split_of utf16 l ≡ Some (k, n) → k + n ≤ length l
 split_of-fits utf16 l e = let q = split_of-closed utf16 l e in omega arith
 
 -- ---- UTF-16 content is whole units
 
-pub split_of-utf16 : (l : List ℕ) {k n : ℕ} → split_of true l ≡ Content k n → n ≡ 2 * length16 l
+pub split_of-utf16 : (l : List ℕ) {k n : ℕ} → split_of true l ≡ Some (k, n) → n ≡ 2 * length16 l
 unfolding split16
 split_of-utf16 l e = sym (within-fits l (width16 l) (2 * length16 l) 2 e).1

@@ -7,12 +7,10 @@
 --
 -- The list is the bytes behind the file's first 8; a place is counted from its front. `◌-◌` stops at 0. A number that the
 -- bytes do not reach is 0, so a note speaks only of what was read. Laws: proofs/Laws.antt.
-use Rattle.std.specs.Prelude.{ℕ, zero, suc, ◌+◌, ◌-◌, ◌*◌, ◌/◌, ◌%◌, min, List, Bool, true, false, cond, length, drop, ltb, leb, eqb}
+use Rattle.std.specs.Prelude.{ℕ, zero, suc, ◌+◌, ◌-◌, ◌*◌, ◌/◌, ◌%◌, min, List, Bool, true, false, cond, length, drop, ltb, leb, eqb, Option, Some, None}
 use Rattle.field.specs.Le.{u32le}
 use Rattle.common.specs.Header.{header_of, content_size}
 use Rattle.common.specs.declared.ResChunkHeader.{ResChunkHeader}
-use Rattle.common.specs.declared.HeaderRead.{HeaderRead}
-use Rattle.common.specs.declared.HeaderRead.TheVariants.{Whole, Short}
 use Rattle.res_string_pool.specs.declared.Garbage.{Garbage}
 use Rattle.res_string_pool.specs.declared.Pool.{Pool}
 use Rattle.res_string_pool.specs.declared.PoolEnd.{PoolEnd}
@@ -71,9 +69,9 @@ pool_from g at h m =
     (record { garbage = g; pool = pool; end = end_of (length m - 28) pool.count (u32le m 12) pool.size })
 
 -- the second header, behind a chunk that was skipped: its type is not tested
-abbrev pub second_by : Garbage → ℕ → List ℕ → HeaderRead → PoolRead
-second_by g at m Short = unread g (HeaderShort (length m))
-second_by g at m (Whole h) = pool_from g at h m
+abbrev pub second_by : Garbage → ℕ → List ℕ → Option ResChunkHeader → PoolRead
+second_by g at m None = unread g (HeaderShort (length m))
+second_by g at m (Some h) = pool_from g at h m
 
 -- a chunk of another type in the pool's place is skipped by its size
 unfoldable pub behind_garbage : ResChunkHeader → List ℕ → PoolRead
@@ -83,9 +81,9 @@ behind_garbage h l =
     cond (ltb (length l - 8) skipped) (unread no_garbage (GarbageShort (length l - 8)))
     (second_by (record { found = true; kind = h.kind; skipped = skipped }) (8 + skipped) m (header_of m))
 
-abbrev pub pool_by : List ℕ → HeaderRead → PoolRead
-pool_by l Short = unread no_garbage (HeaderShort (length l))
-pool_by l (Whole h) = cond (eqb h.kind 1) (pool_from no_garbage 0 h l) (behind_garbage h l)
+abbrev pub pool_by : List ℕ → Option ResChunkHeader → PoolRead
+pool_by l None = unread no_garbage (HeaderShort (length l))
+pool_by l (Some h) = cond (eqb h.kind 1) (pool_from no_garbage 0 h l) (behind_garbage h l)
 
 unfoldable pub pool_of : List ℕ → PoolRead
 pool_of l = pool_by l (header_of l)

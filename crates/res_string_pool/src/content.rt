@@ -6,7 +6,7 @@ ghost use Rattle.std.specs.Prelude.{◌≡◌, ◌≤◌, ◌<◌};
 ghost use Rattle.field.specs.Le.{u8le, u16le};
 ghost use Rattle.res_string_pool.specs.Content.{within, width8, length8, split8, split16, split_of};
 
-use super::{Split, to_usize};
+use super::to_usize;
 use field::u8_at;
 
 // The byte at a place, and 0 past the end: a string that lacks a byte of its lengths lacks its closing bytes too.
@@ -48,17 +48,17 @@ fn length8_at(s: &[u8], at: usize) -> usize
 }
 
 // A content of n bytes at the place `at`, if it and the closing bytes behind it are there.
-fn content_in(s: &[u8], at: usize, n: usize, closing: usize) -> Split
+fn content_in(s: &[u8], at: usize, n: usize, closing: usize) -> Option<(usize, usize)>
     requires { (at ≤ 4) × (n < 8589934592) × (closing ≤ 2) }
     ensures { result ≡ within s.now at n closing }
 {
     if at + n + closing <= s.len() {
-        return Split::Content(at, n);
+        return Some((at, n));
     }
-    Split::Cut
+    None
 }
 
-fn split_utf8(s: &[u8]) -> Split
+fn split_utf8(s: &[u8]) -> Option<(usize, usize)>
     ensures { result ≡ split8 s.now }
 {
     let first = width8_at(s, 0);
@@ -66,7 +66,7 @@ fn split_utf8(s: &[u8]) -> Split
     content_in(s, first + width8_at(s, first), n, 1)
 }
 
-fn split_utf16(s: &[u8]) -> Split
+fn split_utf16(s: &[u8]) -> Option<(usize, usize)>
     ensures { result ≡ split16 s.now }
 {
     let u = unit_at(s, 0);
@@ -80,7 +80,7 @@ fn split_utf16(s: &[u8]) -> Split
 
 // The string at the front of s, which is the pool's data from an offset on.
 // Ruled out: the character length of a UTF-8 string for its byte length, and a length of two parts with the low part first.
-pub fn split_string(utf16: bool, s: &[u8]) -> Split
+pub fn split_string(utf16: bool, s: &[u8]) -> Option<(usize, usize)>
     ensures { result ≡ split_of utf16 s.now }
 {
     if utf16 {

@@ -11,7 +11,7 @@ ghost use Rattle.common.specs.Header.{header_of};
 ghost use Rattle.res_string_pool.specs.Pool.{capped, count_of, no_garbage, unread, end_of, numbered, pool_from, second_by};
 ghost use Rattle.res_string_pool.specs.Pool.{behind_garbage, pool_of, outside_of};
 
-use common::{HeaderRead, ResChunkHeader, header_at};
+use common::{ResChunkHeader, header_at};
 use field::u32_at;
 
 pub mod content;
@@ -54,14 +54,6 @@ pub struct PoolRead {
     pub garbage: Garbage,
     pub pool: Pool,
     pub end: PoolEnd,
-}
-
-// Where the content of the string at the front lies, or that it is cut.
-#[derive(Clone, Copy)]
-pub enum Split {
-    // its first byte's place, and how many bytes it has
-    Content(usize, usize),
-    Cut,
 }
 
 // ---- numbers
@@ -186,8 +178,8 @@ fn second(garbage: Garbage, at: usize, m: &[u8]) -> PoolRead
 {
     let read = header_at(m, 0);
     match read {
-        HeaderRead::Short => short(garbage, PoolEnd::HeaderShort(m.len())),
-        HeaderRead::Whole(h) => pool_from(garbage, at, h, m),
+        None => short(garbage, PoolEnd::HeaderShort(m.len())),
+        Some(h) => pool_from(garbage, at, h, m),
     }
 }
 
@@ -219,8 +211,8 @@ pub fn pool_of(s: &[u8]) -> PoolRead
 {
     let read = header_at(s, 0);
     match read {
-        HeaderRead::Short => short(no_garbage(), PoolEnd::HeaderShort(s.len())),
-        HeaderRead::Whole(h) => {
+        None => short(no_garbage(), PoolEnd::HeaderShort(s.len())),
+        Some(h) => {
             if h.kind == 1 {
                 pool_from(no_garbage(), 0, h, s)
             } else {

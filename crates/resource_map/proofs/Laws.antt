@@ -2,6 +2,7 @@
 -- In order: a map lies in its list (`map_of-fits`); it looks at nothing behind itself (`map_of-append`); a short one cut where
 -- its short part should begin (`map_of-left`, `map_of-cut`); one id of a rest or of a
 -- front (`id_of-drop`, `id_of-append`).
+use Rattle.std.specs.Prelude.{Some, None, Result, Ok, Err}
 use Prim.Native.Nat.{ℕ, ◌+◌, ◌-◌, ◌*◌, ◌≤◌, ◌<◌}
 use native.Mathlib.Omega.{arith}
 use mathlib.Core.Path.{◌≡◌, refl, sym, ◌∙◌}
@@ -15,23 +16,22 @@ use Rattle.field.proofs.Laws.{u16le-append, u32le-append, u32le-drop}
 use Rattle.common.specs.Header.{header_of}
 use Rattle.common.proofs.Laws.{header_here, header_of-whole, header_of-short}
 use Rattle.common.specs.declared.ResChunkHeader.{ResChunkHeader}
-use Rattle.common.specs.declared.HeaderRead.TheVariants.{Whole, Short}
 use Rattle.resource_map.specs.Map.{ids_in, ids_by, map_of, id_of}
-use Rattle.resource_map.specs.declared.MapRead.{MapRead}
-use Rattle.resource_map.specs.declared.MapRead.TheVariants.{Ids, HeaderShort, IdsShort}
+use Rattle.resource_map.specs.declared.MapShort.{MapShort}
+use Rattle.resource_map.specs.declared.MapShort.TheVariants as map_short
 
 -- ---- the cases
 
-pub ids_by-short : (n : ℕ) (h : ResChunkHeader) → n < 4 * ids_in h → ids_by n h ≡ IdsShort n
+pub ids_by-short : (n : ℕ) (h : ResChunkHeader) → n < 4 * ids_in h → ids_by n h ≡ Err (map_short.Ids n)
 unfolding ids_by
 ids_by-short n h p = rw (lt-ltb n (4 * ids_in h) p)
 
-pub ids_by-whole : (n : ℕ) (h : ResChunkHeader) → 4 * ids_in h ≤ n → ids_by n h ≡ Ids (ids_in h)
+pub ids_by-whole : (n : ℕ) (h : ResChunkHeader) → 4 * ids_in h ≤ n → ids_by n h ≡ Ok (ids_in h)
 unfolding ids_by
 ids_by-whole n h p = rw (le-ltb n (4 * ids_in h) p)
 
 -- there are ids: as many as the header says, and their bytes are there
-pub ids_by-ids : (n : ℕ) (h : ResChunkHeader) {k : ℕ} → ids_by n h ≡ Ids k → (ids_in h ≡ k) × (4 * k ≤ n)
+pub ids_by-ids : (n : ℕ) (h : ResChunkHeader) {k : ℕ} → ids_by n h ≡ Ok k → (ids_in h ≡ k) × (4 * k ≤ n)
 ids_by-ids n h {k} e = go (ltb n (4 * ids_in h)) refl
   where
     go : (b : Bool) → ltb n (4 * ids_in h) ≡ b → (ids_in h ≡ k) × (4 * k ≤ n)
@@ -44,15 +44,15 @@ ids_by-ids n h {k} e = go (ltb n (4 * ids_in h)) refl
         let q : ids_in h ≡ k = cc in
         (q, omega (arith, ltb-false n (4 * ids_in h) t))
 
-pub map_of-of-short : (l : List ℕ) → header_of l ≡ Short → map_of l ≡ HeaderShort (length l)
+pub map_of-of-short : (l : List ℕ) → header_of l ≡ None → map_of l ≡ Err (map_short.Header (length l))
 unfolding map_of
 map_of-of-short l w = rw w
 
-pub map_of-of-whole : (l : List ℕ) {h : ResChunkHeader} → header_of l ≡ Whole h → map_of l ≡ ids_by (length l - 8) h
+pub map_of-of-whole : (l : List ℕ) {h : ResChunkHeader} → header_of l ≡ Some h → map_of l ≡ ids_by (length l - 8) h
 unfolding map_of
 map_of-of-whole l w = rw w
 
-pub map_of-short : (l : List ℕ) → length l < 8 → map_of l ≡ HeaderShort (length l)
+pub map_of-short : (l : List ℕ) → length l < 8 → map_of l ≡ Err (map_short.Header (length l))
 map_of-short l p = map_of-of-short l (header_of-short l p)
 
 pub map_of-behind : (l : List ℕ) → 8 ≤ length l → map_of l ≡ ids_by (length l - 8) (header_here l)
@@ -60,7 +60,7 @@ map_of-behind l p = map_of-of-whole l (header_of-whole l p)
 
 -- ---- a map lies in its list
 
-pub map_of-fits : (l : List ℕ) {n : ℕ} → map_of l ≡ Ids n → 8 + 4 * n ≤ length l
+pub map_of-fits : (l : List ℕ) {n : ℕ} → map_of l ≡ Ok n → 8 + 4 * n ≤ length l
 map_of-fits l {n} e = go (ltb (length l) 8) refl
   where
     go : (b : Bool) → ltb (length l) 8 ≡ b → 8 + 4 * n ≤ length l
@@ -75,7 +75,7 @@ map_of-fits l {n} e = go (ltb (length l) 8) refl
 
 -- ---- it looks at nothing behind itself
 
-pub map_of-append : (c m m' : List ℕ) {n : ℕ} → map_of (c ++ m) ≡ Ids n → 8 + 4 * n ≤ length c → map_of (c ++ m') ≡ Ids n
+pub map_of-append : (c m m' : List ℕ) {n : ℕ} → map_of (c ++ m) ≡ Ok n → 8 + 4 * n ≤ length c → map_of (c ++ m') ≡ Ok n
 map_of-append c m m' {n} e p =
     let a : length (c ++ m) ≡ length c + length m = length-append c m in
     let a' : length (c ++ m') ≡ length c + length m' = length-append c m' in
@@ -94,20 +94,20 @@ map_of-append c m m' {n} e p =
 
 -- ---- of a map that is short, the bytes from the short part on can go, and it is short there with none left
 
-abbrev pub left_of : MapRead → ℕ
-left_of (Ids n) = 0
-left_of (HeaderShort k) = k
-left_of (IdsShort k) = k
+abbrev pub left_of : Result ℕ MapShort → ℕ
+left_of (Ok n) = 0
+left_of (Err (map_short.Header k)) = k
+left_of (Err (map_short.Ids k)) = k
 
-abbrev pub none_left : MapRead → MapRead
-none_left (Ids n) = Ids n
-none_left (HeaderShort k) = HeaderShort 0
-none_left (IdsShort k) = IdsShort 0
+abbrev pub none_left : Result ℕ MapShort → Result ℕ MapShort
+none_left (Ok n) = Ok n
+none_left (Err (map_short.Header k)) = Err (map_short.Header 0)
+none_left (Err (map_short.Ids k)) = Err (map_short.Ids 0)
 
-abbrev pub IsShort : MapRead → Type 0
-IsShort (Ids n) = ⊥
-IsShort (HeaderShort k) = Unit {0}
-IsShort (IdsShort k) = Unit {0}
+abbrev pub IsShort : Result ℕ MapShort → Type 0
+IsShort (Ok n) = ⊥
+IsShort (Err (map_short.Header k)) = Unit {0}
+IsShort (Err (map_short.Ids k)) = Unit {0}
 
 pub map_of-left : (l : List ℕ) → IsShort (map_of l) → left_of (map_of l) ≤ length l
 map_of-left l short = go (ltb (length l) 8) refl

@@ -7,16 +7,14 @@
 ghost use Rattle.std.specs.Prelude.{◌≡◌, ◌+◌, ◌*◌, ◌≤◌, length};
 ghost use Rattle.resource_map.specs.Map.{ids_in, ids_by, map_of, id_of};
 
-use common::{HeaderRead, ResChunkHeader, ResourceId, StringIndex, header_at};
+use common::{ResChunkHeader, ResourceId, StringIndex, header_at};
 use field::u32_at;
 
+// The part of a map that ran out, with the bytes left where it begins.
 #[derive(Clone, Copy)]
-pub enum MapRead {
-    // how many ids it has
-    Ids(u32),
-    // the part that ran out, and the bytes left where it begins
-    HeaderShort(usize),
-    IdsShort(usize),
+pub enum MapShort {
+    Header(usize),
+    Ids(usize),
 }
 
 fn ids_in(h: ResChunkHeader) -> u32
@@ -29,26 +27,26 @@ fn ids_in(h: ResChunkHeader) -> u32
 }
 
 // The ids behind the header h, with `left` bytes there.
-fn ids_of(h: ResChunkHeader, left: usize) -> MapRead
+fn ids_of(h: ResChunkHeader, left: usize) -> Result<u32, MapShort>
     ensures { result ≡ ids_by left h }
 {
     let n = ids_in(h);
     if left < 4 * (n as usize) {
-        return MapRead::IdsShort(left);
+        return Err(MapShort::Ids(left));
     }
-    MapRead::Ids(n)
+    Ok(n)
 }
 
 // The map at the front of s, the bytes behind the pool.
 // Ruled out: one id for size 12 and header size 12 (the ids are counted from the header size, not from 8), and a map whose last
 // id is cut.
-pub fn map_of(s: &[u8]) -> MapRead
+pub fn map_of(s: &[u8]) -> Result<u32, MapShort>
     ensures { result ≡ map_of s.now }
 {
     let read = header_at(s, 0);
     match read {
-        HeaderRead::Short => MapRead::HeaderShort(s.len()),
-        HeaderRead::Whole(h) => ids_of(h, s.len() - 8),
+        None => Err(MapShort::Header(s.len())),
+        Some(h) => ids_of(h, s.len() - 8),
     }
 }
 

@@ -1,4 +1,5 @@
 -- Laws of what a file adds (specs/RoundUp.antt): classes, rows, and the turns of `read_share`. No contract cites this file.
+use Rattle.std.specs.Prelude.{Result, Ok, Err}
 use Prim.Native.Nat.{ℕ, suc, ◌+◌, ◌-◌, ◌*◌, ◌≤◌, ◌<◌}
 use native.Mathlib.Omega.{arith}
 use native.Mathlib.Numerals.{add-one}
@@ -10,8 +11,6 @@ use lib.Seq.{take-suc, take_all, length-take-le, set-append_left}
 use lib.Dec.{leb, eqb}
 use borrow.Author.Tests.{eq-eqb, ne_eqb}
 use Rattle.errors.specs.Refusal.{numbers_of}
-use Rattle.errors.specs.declared.ReadAnswer.{ReadAnswer}
-use Rattle.errors.specs.declared.ReadAnswer.TheVariants.{Done, Refused}
 use Rattle.errors.proofs.Laws.{refusal_number-le}
 use Rattle.errors.specs.declared.Numbers.{Numbers}
 use Rattle.round_up.specs.declared.Added.{Added}
@@ -19,6 +18,8 @@ use Rattle.round_up.specs.declared.RoundUp.{RoundUp}
 use Rattle.round_up.specs.RoundUp.{kinds, classes, numbers, places, refused_from, grid_from, class_bound, class_of, row_of, cells_of, head_of, read_share}
 use Rattle.round_up.specs.RoundUp.{refused_share, share_by, share_of, sums, has_room, AddsShare, added_of, full_of, added_to}
 use Rattle.round_up.specs.Inner.Turns.{laid_of}
+use Rattle.errors.specs.declared.ReadCounts.{ReadCounts}
+use Rattle.errors.specs.declared.Refusal.{Refusal}
 
 pub class_of-lt : (n : ℕ) → class_of n < classes
 unfolding class_of
@@ -99,10 +100,10 @@ module _ (class : ℕ) (counts : List ℕ) (inside : class < classes) (whole : l
 -- ---- a share
 
 -- the number of an answer has a place
-pub number_lt : (a : ReadAnswer) → (numbers_of a).refusal < numbers
+pub number_lt : (a : Result ReadCounts Refusal) → (numbers_of a).refusal < numbers
 unfolding numbers_of
-number_lt (Done c) = omega arith
-number_lt (Refused r) = omega (arith, refusal_number-le r)
+number_lt (Ok c) = omega arith
+number_lt (Err r) = omega (arith, refusal_number-le r)
 
 pub share_by-read : (counts : List ℕ) (number len : ℕ) → number ≡ 0 → share_by counts number len ≡ read_share counts (class_of len)
 unfolding share_by
@@ -129,7 +130,7 @@ module _ (before share : List ℕ) (room : Bool) (told : room ≡ has_room befor
   pub adds_none : room ≡ false → AddsShare before share false before
   adds_none h = let q = sym told ∙ h in record { room = sym q; counts = rw q }
 
-module _ (r : RoundUp) (counts : List ℕ) (a : ReadAnswer) (len : ℕ) (n : Numbers) (share : List ℕ) (told : n ≡ numbers_of a)
+module _ (r : RoundUp) (counts : List ℕ) (a : Result ReadCounts Refusal) (len : ℕ) (n : Numbers) (share : List ℕ) (told : n ≡ numbers_of a)
     (shared : share ≡ share_by counts n.refusal len) (room : Bool) (after : List ℕ) (adds : AddsShare r.counts share room after) where
   share-told : share ≡ share_of counts a len
   share-told = shared ∙ ap (λ (m : Numbers). share_by counts m.refusal len) told

@@ -3,6 +3,7 @@
 --   total-sums    the sum of sums is the sum of both
 --   share-grid    what a file adds to the grid is its kept notes, in its class alone; nothing where it was refused
 --   grid-total    after any files the grid's sum is the kept notes of those that were added, beside what stood there before
+use Rattle.std.specs.Prelude.{Result, Ok, Err}
 use Prim.Native.Nat.{ℕ, zero, suc, ◌+◌, ◌-◌, ◌<◌}
 use native.Mathlib.Omega.{arith}
 use mathlib.Core.Path.{◌≡◌, refl, sym, ◌∙◌, ap}
@@ -11,8 +12,6 @@ use mathlib.Core.Bool.{Bool, true, false, cond}
 use lib.ListN.{length, set, drop, replicate, length-drop}
 use lib.Seq.{drop-set-lt, drop-append_seam}
 use Rattle.errors.specs.Refusal.{refusal_number, numbers_of}
-use Rattle.errors.specs.declared.ReadAnswer.{ReadAnswer}
-use Rattle.errors.specs.declared.ReadAnswer.TheVariants.{Done, Refused}
 use Rattle.errors.proofs.Laws.{refusal_number-le, refusal_number-some}
 use Rattle.round_up.specs.declared.RoundUp.{RoundUp}
 use Rattle.round_up.specs.RoundUp.{classes, places, grid_from, refused_from, empty_round_up, grid_of, row_of, cells_of, class_of, head_of}
@@ -20,6 +19,8 @@ use Rattle.round_up.specs.RoundUp.{refused_share, share_by, share_of, sums, has_
 use Rattle.round_up.specs.History.{File, share_in, next, after, is_added, added_in, total, kept_by, kept_in}
 use Rattle.round_up.proofs.Laws.{sums-length}
 use Rattle.round_up.proofs.Shares.{class_of-lt, share_by-length}
+use Rattle.errors.specs.declared.ReadCounts.{ReadCounts}
+use Rattle.errors.specs.declared.Refusal.{Refusal}
 
 -- ---- sums of numbers
 
@@ -62,11 +63,11 @@ sums-drop (suc n) (x ∷ a) (y ∷ b) h = sums-drop n a b (omega arith)
 
 -- ---- what a file adds to the grid
 
-pub share-grid : (counts : List ℕ) (a : ReadAnswer) (len : ℕ) → total (drop grid_from (share_of counts a len)) ≡ kept_by a counts
+pub share-grid : (counts : List ℕ) (a : Result ReadCounts Refusal) (len : ℕ) → total (drop grid_from (share_of counts a len)) ≡ kept_by a counts
 unfolding share_by numbers_of
-share-grid counts (Done c) len =
+share-grid counts (Ok c) len =
     ap total (drop-append_seam head_of (cells_of (class_of len) counts)) ∙ total-cells (class_of len) counts (class_of-lt len)
-share-grid counts (Refused x) len =
+share-grid counts (Err x) len =
     let none : drop grid_from (refused_share (refusal_number x)) ≡ drop grid_from (replicate places 0) =
     drop-set-lt grid_from (replicate places 0) (refused_from + refusal_number x) 1 (omega (arith, refusal_number-le x)) in
     rw (refusal_number-some x) (ap total none ∙ total-zeros 78)

@@ -10,18 +10,16 @@
 --   total       the sum of numbers
 --   kept_of      the kept notes of kinds 0 to 12 of a file: 0 for one that was refused
 --   kept_in      of all of these
-use Rattle.std.specs.Prelude.{ℕ, ◌+◌, ◌≡◌, Bool, true, false, cond, List, [], ◌∷◌, ◌++◌, length}
-use Rattle.errors.specs.declared.ReadAnswer.{ReadAnswer}
-use Rattle.errors.specs.declared.ReadAnswer.TheVariants as read
-use Rattle.round_up.specs.declared.AddAnswer.{AddAnswer}
-use Rattle.round_up.specs.declared.AddAnswer.TheVariants as add
+use Rattle.std.specs.Prelude.{ℕ, ◌+◌, ◌≡◌, Bool, true, false, cond, List, [], ◌∷◌, ◌++◌, length, Result, Ok, Err}
 use Rattle.round_up.specs.declared.RoundUp.{RoundUp}
 use Rattle.round_up.specs.RoundUp.{kinds, share_of, added_to}
+use Rattle.errors.specs.declared.ReadCounts.{ReadCounts}
+use Rattle.errors.specs.declared.Refusal.{Refusal}
 
 pub record File : Type 0 where
   pub kept : List ℕ
   pub thirteen : length kept ≡ kinds
-  pub answer : ReadAnswer
+  pub answer : Result ReadCounts Refusal
   pub bytes : ℕ
 
 abbrev pub share_in : File → List ℕ
@@ -34,13 +32,13 @@ unfoldable pub after : RoundUp → List File → RoundUp
 after r [] = r
 after r (f ∷ fs) = after (next r f) fs
 
-abbrev pub is_added : AddAnswer → Bool
-is_added add.Added = true
-is_added (add.Refused x) = false
+abbrev pub is_added : Result (Unit {0}) Refusal → Bool
+is_added (Ok tt) = true
+is_added (Err x) = false
 
 unfoldable pub NoneFull : RoundUp → List File → Type 0
 NoneFull r [] = Unit {0}
-NoneFull r (f ∷ fs) = ((added_to r (share_in f)).answer ≡ add.Added) × NoneFull (next r f) fs
+NoneFull r (f ∷ fs) = ((added_to r (share_in f)).answer ≡ (Ok tt)) × NoneFull (next r f) fs
 
 unfoldable pub added_in : RoundUp → List File → List File
 added_in r [] = []
@@ -50,9 +48,9 @@ unfoldable pub total : List ℕ → ℕ
 total [] = 0
 total (n ∷ l) = n + total l
 
-abbrev pub kept_by : ReadAnswer → List ℕ → ℕ
-kept_by (read.Done c) counts = total counts
-kept_by (read.Refused x) counts = 0
+abbrev pub kept_by : Result ReadCounts Refusal → List ℕ → ℕ
+kept_by (Ok c) counts = total counts
+kept_by (Err x) counts = 0
 
 abbrev pub kept_of : File → ℕ
 kept_of f = kept_by f.answer f.kept

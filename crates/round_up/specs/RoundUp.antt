@@ -17,15 +17,14 @@
 --   added_to        THE PROMISE of `add_reading`: with the share added; or 29, and the round-up that came in
 --   add_numbers     the numbers of its answer
 --   files_read, refused_by, notes_of, grid_of   what stands where; 0 for a number, a kind or a class that there is not
-use Rattle.std.specs.Prelude.{ℕ, ◌+◌, ◌*◌, ◌^◌, ◌≡◌, Bool, true, cond, ◌&&◌, List, [], ◌∷◌, ◌++◌, get_or, set, drop, replicate, ltb, leb, eqb}
+use Rattle.std.specs.Prelude.{ℕ, ◌+◌, ◌*◌, ◌^◌, ◌≡◌, Bool, true, cond, ◌&&◌, List, [], ◌∷◌, ◌++◌, get_or, set, drop, replicate, ltb, leb, eqb, Result, Ok, Err}
 use Rattle.errors.specs.Refusal.{refusal_number, refusal_value, numbers_of}
-use Rattle.errors.specs.declared.ReadAnswer.{ReadAnswer}
 use Rattle.errors.specs.declared.Refusal.TheVariants.{RoundUpFull}
 use Rattle.round_up.specs.declared.Added.{Added}
-use Rattle.round_up.specs.declared.AddAnswer.{AddAnswer}
-use Rattle.round_up.specs.declared.AddAnswer.TheVariants as add
 use Rattle.round_up.specs.declared.AddNumbers.{AddNumbers}
 use Rattle.round_up.specs.declared.RoundUp.{RoundUp}
+use Rattle.errors.specs.declared.ReadCounts.{ReadCounts}
+use Rattle.errors.specs.declared.Refusal.{Refusal}
 
 -- ---- the counts
 
@@ -98,7 +97,7 @@ refused_share number = set (replicate places 0) (refused_from + number) 1
 unfoldable pub share_by : List ℕ → ℕ → ℕ → List ℕ
 share_by counts number length = cond (eqb number 0) (read_share counts (class_of length)) (refused_share number)
 
-abbrev pub share_of : List ℕ → ReadAnswer → ℕ → List ℕ
+abbrev pub share_of : List ℕ → Result ReadCounts Refusal → ℕ → List ℕ
 share_of counts answer length = share_by counts (numbers_of answer).refusal length
 
 -- ---- adding
@@ -122,14 +121,14 @@ pub record AddsShare (before share : List ℕ) (r : Bool) (after : List ℕ) : T
   pub counts : after ≡ cond (has_room before share) (sums before share) before
 
 abbrev pub added_of : List ℕ → Added
-added_of counts = record { answer = add.Added; round_up = record { counts = counts } }
+added_of counts = record { answer = (Ok tt); round_up = record { counts = counts } }
 
 abbrev pub full_of : RoundUp → Added
-full_of r = record { answer = add.Refused RoundUpFull; round_up = r }
+full_of r = record { answer = Err RoundUpFull; round_up = r }
 
 unfoldable pub added_to : RoundUp → List ℕ → Added
 added_to r share = cond (has_room r.counts share) (added_of (sums r.counts share)) (full_of r)
 
-unfoldable pub add_numbers : AddAnswer → AddNumbers
-add_numbers add.Added = record { refusal = 0; value = 0 }
-add_numbers (add.Refused r) = record { refusal = refusal_number r; value = refusal_value r }
+unfoldable pub add_numbers : Result (Unit {0}) Refusal → AddNumbers
+add_numbers (Ok tt) = record { refusal = 0; value = 0 }
+add_numbers (Err r) = record { refusal = refusal_number r; value = refusal_value r }

@@ -12,7 +12,7 @@ ghost use Rattle.round_up.specs.RoundUp.{sums, has_room, AddsShare, added_of, fu
 ghost use Rattle.round_up.specs.Kinds.{kinds_in};
 ghost use Rattle.round_up.specs.Inner.Turns.{counted_in};
 
-use errors::{ReadAnswer, Refusal, read_numbers, refusal_number, refusal_value};
+use errors::{ReadCounts, Refusal, read_numbers, refusal_number, refusal_value};
 use records::NOTE_WORDS;
 
 // The Rust's kinds, 0 to 12, which have a row in the grid; the size classes; and the numbers of refusals, 0 to 52.
@@ -37,17 +37,10 @@ pub struct RoundUp {
     pub counts: [u32; PLACES],
 }
 
-// Whether a file was added, or why it was not: 29 alone.
-#[derive(Clone, Copy)]
-pub enum AddAnswer {
-    Added,
-    Refused(Refusal),
-}
-
 // The answer, and the round-up from now on.
 #[derive(Clone, Copy)]
 pub struct Added {
-    pub answer: AddAnswer,
+    pub answer: Result<(), Refusal>,
     pub round_up: RoundUp,
 }
 
@@ -247,7 +240,7 @@ fn full(round_up: RoundUp) -> Added
     ensures { result ≡ full_of round_up }
 {
     Added {
-        answer: AddAnswer::Refused(Refusal::RoundUpFull),
+        answer: Err(Refusal::RoundUpFull),
         round_up,
     }
 }
@@ -258,7 +251,7 @@ fn with_counts(counts: [u32; PLACES]) -> Added
 {
     let next = RoundUp { counts };
     Added {
-        answer: AddAnswer::Added,
+        answer: Ok(()),
         round_up: next,
     }
 }
@@ -268,7 +261,7 @@ fn with_counts(counts: [u32; PLACES]) -> Added
 pub fn add_reading(
     round_up: RoundUp,
     kinds: [u32; ROUND_UP_KINDS],
-    answer: ReadAnswer,
+    answer: Result<ReadCounts, Refusal>,
     file_length: usize,
 ) -> Added
     ensures { result ≡ added_to round_up (share_of kinds answer file_length) }
@@ -283,15 +276,15 @@ pub fn add_reading(
 }
 
 // The numbers of an answer. Ruled out: 0 beside 29.
-pub fn add_numbers(answer: AddAnswer) -> AddNumbers
+pub fn add_numbers(answer: Result<(), Refusal>) -> AddNumbers
     ensures { result ≡ add_numbers answer }
 {
     match answer {
-        AddAnswer::Added => AddNumbers {
+        Ok(()) => AddNumbers {
             refusal: 0,
             value: 0,
         },
-        AddAnswer::Refused(e) => AddNumbers {
+        Err(e) => AddNumbers {
             refusal: refusal_number(e),
             value: refusal_value(e),
         },

@@ -1,12 +1,10 @@
 -- Laws of the rule of specs/Names.antt, for this crate and those above. No contract cites this file.
 -- In order: what a good entry is (`isGood-..`); the table entry by entry (`namesFrom-..`); good names rise (`rising-of-good`); a
 -- name that is found lies in the area, is not empty and is ASCII (`system_name-of-good`).
+use Rattle.std.specs.Prelude.{Some, None, Result, Ok, Err}
 use Rattle.std.proofs.Common.{◌≡◌, ℕ, zero, suc, ◌+◌, ◌-◌, ◌*◌, ◌<◌, ◌≤◌, Bool, true, false, cond, not, ◌&&◌, eqb, ltb, leb, List, [], ◌∷◌, length, get_or, take, drop, sym, refl, ◌∙◌, add-one, arith, drop-cons, ltb-true, le-ltb, lt-ltb, eq-eqb, ne_eqb, eqb-true, le-leb, leb-true}
 use borrow.Author.Tests.{not-true, not-false, lt-leb}
 use Rattle.system_types.specs.Names.{Lent, top_byte, is_good, names_from, names_of, Rising, name_by_id, system_name}
-use Rattle.system_types.specs.declared.NamesRead.{NamesRead}
-use Rattle.system_types.specs.declared.NamesRead.TheVariants.{Good, Bad}
-use Rattle.system_types.specs.declared.Lookup.TheVariants.{Name, Missing}
 use Rattle.utf.specs.Plain.{is_ascii}
 use Rattle.utf.proofs.Tables.{both_true}
 use Rattle.utf.proofs.Ascii.{is_ascii-drop, is_ascii-take}
@@ -110,13 +108,13 @@ module _ (area : List ℕ) (last : ℕ) (w : List ℕ) (k : ℕ) (h : 3 * k + 3 
 
   pub names_from-bad
       : is_good area last (get_or w (3 * k) 0) (get_or w (3 * k + 1) 0) (get_or w (3 * k + 2) 0) ≡ false
-      → names_from area last k (drop (3 * k) w) ≡ Bad k
+      → names_from area last k (drop (3 * k) w) ≡ Err k
   unfolding names_from
   names_from-bad e = rw (drop-entry w k h, e)
 
   -- the entry was looked at, and r said whether it is good; o is what all the entries say
-  module _ (r : Bool) (o : NamesRead) (is : r ≡ is_good area last (get_or w (3 * k) 0) (get_or w (3 * k + 1) 0) (get_or w (3 * k + 2) 0)) where
-    pub names_from-refused : not r ≡ true → names_from area last k (drop (3 * k) w) ≡ o → Bad k ≡ o
+  module _ (r : Bool) (o : Result (Unit {0}) ℕ) (is : r ≡ is_good area last (get_or w (3 * k) 0) (get_or w (3 * k + 1) 0) (get_or w (3 * k + 2) 0)) where
+    pub names_from-refused : not r ≡ true → names_from area last k (drop (3 * k) w) ≡ o → Err k ≡ o
     names_from-refused t e = sym (names_from-bad (sym is ∙ not-true r t)) ∙ e
 
     pub names_from-passed
@@ -126,13 +124,13 @@ module _ (area : List ℕ) (last : ℕ) (w : List ℕ) (k : ℕ) (h : 3 * k + 3 
     names_from-passed t e = sym (names_from-step (sym is ∙ not-false r t)) ∙ e
 
 -- no word is left
-pub names_from-stop : (area : List ℕ) (last k : ℕ) (w : List ℕ) → length w ≡ 0 → names_from area last k w ≡ Good
+pub names_from-stop : (area : List ℕ) (last k : ℕ) (w : List ℕ) → length w ≡ 0 → names_from area last k w ≡ (Ok tt)
 unfolding names_from
 names_from-stop area last k [] h = refl
 names_from-stop area last k (x ∷ w) h = absurd (let y : ⊥ = omega arith in y)
 
 -- one or two words are left
-pub names_from-left : (area : List ℕ) (last k : ℕ) (w : List ℕ) → 1 ≤ length w → length w < 3 → names_from area last k w ≡ Bad k
+pub names_from-left : (area : List ℕ) (last k : ℕ) (w : List ℕ) → 1 ≤ length w → length w < 3 → names_from area last k w ≡ Err k
 unfolding names_from
 names_from-left area last k [] h p = absurd (let y : ⊥ = omega arith in y)
 names_from-left area last k (x ∷ []) h p = refl
@@ -165,7 +163,7 @@ record Rises (last : ℕ) (w : List ℕ) : Type 0 where
   above : Above last w
   rising : Rising w
 
-names_from-rises : (area : List ℕ) (last k : ℕ) (w : List ℕ) → names_from area last k w ≡ Good → Rises last w
+names_from-rises : (area : List ℕ) (last k : ℕ) (w : List ℕ) → names_from area last k w ≡ (Ok tt) → Rises last w
 unfolding names_from
 names_from-rises area last k [] e =
     record {
@@ -179,8 +177,8 @@ names_from-rises area last k (id ∷ start ∷ n ∷ w) e = go (is_good area las
     go
         : (b : Bool)
         → is_good area last id start n ≡ b
-        → cond b (names_from area id (k + 1) w) (Bad k) ≡ Good
-        → (names_from area id (k + 1) w ≡ Good → Rises id w)
+        → cond b (names_from area id (k + 1) w) (Err k) ≡ (Ok tt)
+        → (names_from area id (k + 1) w ≡ (Ok tt) → Rises id w)
         → Rises last (id ∷ start ∷ n ∷ w)
     go true t f more =
         let r = more f in
@@ -188,15 +186,15 @@ names_from-rises area last k (id ∷ start ∷ n ∷ w) e = go (is_good area las
         record { above = above_more last id start n w p.rises r.above; rising = rising-more id start n w r.above r.rising }
     go false t f more = let z : ◌≡◌ {A = ℕ} 0 1 = cc in absurd (let y : ⊥ = omega arith in y)
 
-pub rising-of-good : (lent : Lent) → names_of lent ≡ Good → Rising lent.names
+pub rising-of-good : (lent : Lent) → names_of lent ≡ (Ok tt) → Rising lent.names
 rising-of-good lent e = (names_from-rises lent.area 0 0 lent.names e).rising
 
 -- ---- a name that is found
 
 name_of-of-good
     : (area : List ℕ) (last k : ℕ) (w : List ℕ) (id s n : ℕ)
-    → names_from area last k w ≡ Good
-    → name_by_id id w ≡ Name s n
+    → names_from area last k w ≡ (Ok tt)
+    → name_by_id id w ≡ Some (s, n)
     → (s + n ≤ length area) × (1 ≤ n) × (is_ascii (take n (drop s area)) ≡ true)
 unfolding names_from name_by_id
 name_of-of-good area last k [] id s n e f = let z : ◌≡◌ {A = ℕ} 0 1 = cc in absurd (let y : ⊥ = omega arith in y)
@@ -208,11 +206,11 @@ name_of-of-good area last k (x ∷ start ∷ m ∷ w) id s n e f =
     go
         : (b : Bool)
         → is_good area last x start m ≡ b
-        → cond b (names_from area x (k + 1) w) (Bad k) ≡ Good
+        → cond b (names_from area x (k + 1) w) (Err k) ≡ (Ok tt)
         → (d : Bool)
-        → cond d (Name start m) (name_by_id id w) ≡ Name s n
-        → (names_from area x (k + 1) w ≡ Good
-        → name_by_id id w ≡ Name s n
+        → cond d (Some (start, m)) (name_by_id id w) ≡ Some (s, n)
+        → (names_from area x (k + 1) w ≡ (Ok tt)
+        → name_by_id id w ≡ Some (s, n)
         → (s + n ≤ length area) × (1 ≤ n) × (is_ascii (take n (drop s area)) ≡ true))
         → (s + n ≤ length area) × (1 ≤ n) × (is_ascii (take n (drop s area)) ≡ true)
     go false t g d f more = let z : ◌≡◌ {A = ℕ} 0 1 = cc in absurd (let y : ⊥ = omega arith in y)
@@ -225,14 +223,14 @@ name_of-of-good area last k (x ∷ start ∷ m ∷ w) id s n e f =
 
 pub system_name-of-good
     : (lent : Lent) (id s n : ℕ)
-    → names_of lent ≡ Good
-    → system_name id lent.names ≡ Name s n
+    → names_of lent ≡ (Ok tt)
+    → system_name id lent.names ≡ Some (s, n)
     → (s + n ≤ length lent.area) × (1 ≤ n) × (is_ascii (take n (drop s lent.area)) ≡ true)
 system_name-of-good lent id s n e f = go (eqb (top_byte id) 1) f
   where
     go
         : (b : Bool)
-        → cond b (name_by_id id lent.names) Missing ≡ Name s n
+        → cond b (name_by_id id lent.names) None ≡ Some (s, n)
         → (s + n ≤ length lent.area) × (1 ≤ n) × (is_ascii (take n (drop s lent.area)) ≡ true)
     go true g = name_of-of-good lent.area 0 0 lent.names id s n e g
     go false g = let z : ◌≡◌ {A = ℕ} 0 1 = cc in absurd (let y : ⊥ = omega arith in y)

@@ -2,14 +2,14 @@
 -- In order: the entry with the id, where none before it has it (`name_of-at`); no entry has it (`name_by_id-missing`); of a table whose
 -- ids rise, how far an entry's id is from the first (`rises_by`), an entry with the id (`rising-found`), and the two parts that a
 -- search by halves knows (`Between`), one law for each way that a turn goes.
+use Rattle.std.specs.Prelude.{Some, None}
 use Rattle.std.proofs.Common.{◌≡◌, ℕ, zero, suc, ◌+◌, ◌*◌, ◌/◌, ◌<◌, ◌≤◌, Bool, true, false, ltb, List, [], ◌∷◌, length, get_or, sym, refl, ◌∙◌, arith, ltb-false, ltb-true, eq-eqb, ne_eqb}
 use Rattle.system_types.specs.Names.{top_byte, Rising, name_by_id, system_name}
-use Rattle.system_types.specs.declared.Lookup.TheVariants.{Name, Missing}
 use Rattle.system_types.proofs.Laws.{get_d-behind}
 
 -- ---- one entry after the other
 
-pub name_by_id-missing : (id : ℕ) (w : List ℕ) → ((i : ℕ) → 3 * i + 3 ≤ length w → get_or w (3 * i) 0 ≡ id → ⊥) → name_by_id id w ≡ Missing
+pub name_by_id-missing : (id : ℕ) (w : List ℕ) → ((i : ℕ) → 3 * i + 3 ≤ length w → get_or w (3 * i) 0 ≡ id → ⊥) → name_by_id id w ≡ None
 unfolding name_by_id
 name_by_id-missing id [] h = refl
 name_by_id-missing id (x ∷ []) h = refl
@@ -22,7 +22,7 @@ pub name_of-at
     → 3 * i + 3 ≤ length w
     → get_or w (3 * i) 0 ≡ id
     → ((j : ℕ) → j < i → get_or w (3 * j) 0 ≡ id → ⊥)
-    → name_by_id id w ≡ Name (get_or w (3 * i + 1) 0) (get_or w (3 * i + 2) 0)
+    → name_by_id id w ≡ Some ((get_or w (3 * i + 1) 0), (get_or w (3 * i + 2) 0))
 unfolding name_by_id
 name_of-at id [] i p e h = absurd (let y : ⊥ = omega arith in y)
 name_of-at id (x ∷ []) i p e h = absurd (let y : ⊥ = omega arith in y)
@@ -37,7 +37,7 @@ name_of-at id (x ∷ y ∷ z ∷ w) (suc i) p e h =
 pub system_name-top : (id : ℕ) (w : List ℕ) → top_byte id ≡ 1 → system_name id w ≡ name_by_id id w
 system_name-top id w e = rw (eq-eqb (top_byte id) 1 e)
 
-pub system_name-other : (id : ℕ) (w : List ℕ) → (top_byte id ≡ 1 → ⊥) → system_name id w ≡ Missing
+pub system_name-other : (id : ℕ) (w : List ℕ) → (top_byte id ≡ 1 → ⊥) → system_name id w ≡ None
 system_name-other id w e = rw (ne_eqb (top_byte id) 1 e)
 
 -- ---- ids that rise
@@ -56,7 +56,7 @@ pub rising-found
     → Rising w
     → i < length w / 3
     → get_or w (3 * i) 0 ≡ id
-    → name_by_id id w ≡ Name (get_or w (3 * i + 1) 0) (get_or w (3 * i + 2) 0)
+    → name_by_id id w ≡ Some ((get_or w (3 * i + 1) 0), (get_or w (3 * i + 2) 0))
 rising-found id w i r p e = name_of-at id w i (omega arith) e (λ j k g. let s = r.rises j i k (omega arith) in omega arith)
 
 -- ---- by halves
@@ -100,7 +100,7 @@ module _ (w : List ℕ) (id low high middle : ℕ) (r : Rising w) (b : Between w
           at true e = let s = r.rises middle j (ltb-true middle j e) l in omega arith
           at false e = let f = ltb-false middle j e in let g : j ≡ middle = omega arith in rw g h
 
-pub between-missing : (w : List ℕ) (id low high : ℕ) → Between w id low high → high ≤ low → name_by_id id w ≡ Missing
+pub between-missing : (w : List ℕ) (id low high : ℕ) → Between w id low high → high ≤ low → name_by_id id w ≡ None
 between-missing w id low high b p = name_by_id-missing id w go
   where
     go : (i : ℕ) → 3 * i + 3 ≤ length w → get_or w (3 * i) 0 ≡ id → ⊥

@@ -8,12 +8,8 @@
 --
 -- The rule: ids strictly rise and have top byte 1, a length is at least 1, the part lies in the area, its bytes are below 128 (`is_ascii` of utf).
 -- A list of words is those left. No words at all are Good. Laws: proofs/Laws.antt.
-use Rattle.std.specs.Prelude.{ℕ, ◌+◌, ◌*◌, ◌/◌, ◌<◌, ◌≤◌, Bool, true, false, cond, ◌&&◌, List, [], ◌∷◌, length, take, drop, ◌==◌, nat_le, nat_lt, slice_index}
+use Rattle.std.specs.Prelude.{ℕ, ◌+◌, ◌*◌, ◌/◌, ◌<◌, ◌≤◌, Bool, true, false, cond, ◌&&◌, List, [], ◌∷◌, length, take, drop, ◌==◌, nat_le, nat_lt, slice_index, Option, Some, None, Result, Ok, Err}
 use Rattle.utf.specs.Plain.{is_ascii}
-use Rattle.system_types.specs.declared.NamesRead.{NamesRead}
-use Rattle.system_types.specs.declared.NamesRead.TheVariants.{Good, Bad}
-use Rattle.system_types.specs.declared.Lookup.{Lookup}
-use Rattle.system_types.specs.declared.Lookup.TheVariants.{Name, Missing}
 
 -- ---- what is lent
 
@@ -39,13 +35,13 @@ is_good area last id start n =
     && is_ascii (take n (drop start area)))))
 
 -- the entries from number k on, behind one with the id `last`
-unfoldable pub names_from : List ℕ → ℕ → ℕ → List ℕ → NamesRead
-names_from area last k [] = Good
-names_from area last k (id ∷ []) = Bad k
-names_from area last k (id ∷ start ∷ []) = Bad k
-names_from area last k (id ∷ start ∷ n ∷ w) = cond (is_good area last id start n) (names_from area id (k + 1) w) (Bad k)
+unfoldable pub names_from : List ℕ → ℕ → ℕ → List ℕ → Result (Unit {0}) ℕ
+names_from area last k [] = (Ok tt)
+names_from area last k (id ∷ []) = Err k
+names_from area last k (id ∷ start ∷ []) = Err k
+names_from area last k (id ∷ start ∷ n ∷ w) = cond (is_good area last id start n) (names_from area id (k + 1) w) (Err k)
 
-abbrev pub names_of : Lent → NamesRead
+abbrev pub names_of : Lent → Result (Unit {0}) ℕ
 names_of lent = names_from lent.area 0 0 lent.names
 
 -- ---- looking a name up
@@ -54,15 +50,15 @@ names_of lent = names_from lent.area 0 0 lent.names
 pub record Rising (w : List ℕ) : Type 0 where
   pub rises : (i j : ℕ) → i < j → 3 * j + 3 ≤ length w → slice_index w (3 * i) < slice_index w (3 * j)
 
-unfoldable pub name_by_id : ℕ → List ℕ → Lookup
-name_by_id id [] = Missing
-name_by_id id (x ∷ []) = Missing
-name_by_id id (x ∷ start ∷ []) = Missing
-name_by_id id (x ∷ start ∷ n ∷ w) = cond (x == id) (Name start n) (name_by_id id w)
+unfoldable pub name_by_id : ℕ → List ℕ → Option (ℕ × ℕ)
+name_by_id id [] = None
+name_by_id id (x ∷ []) = None
+name_by_id id (x ∷ start ∷ []) = None
+name_by_id id (x ∷ start ∷ n ∷ w) = cond (x == id) (Some (start, n)) (name_by_id id w)
 
 -- only an id with top byte 1 has a system name
-abbrev pub system_name : ℕ → List ℕ → Lookup
-system_name id w = cond (top_byte id == 1) (name_by_id id w) Missing
+abbrev pub system_name : ℕ → List ℕ → Option (ℕ × ℕ)
+system_name id w = cond (top_byte id == 1) (name_by_id id w) None
 
 -- ---- one leading `android:attr/`
 

@@ -5,28 +5,13 @@
 // answered whole, so that leaving out `android:attr/` is a question of its own.
 #![tactic(auto)]
 
-ghost use Rattle.std.specs.Prelude.{◌≡◌, ◌+◌, ◌/◌, ◌<◌, ◌≤◌, true, false, length, if◌then◌else◌, nat_lt};
+ghost use Rattle.std.specs.Prelude.{◌≡◌, ◌+◌, ◌/◌, ◌<◌, ◌≤◌, true, false, length, if◌then◌else◌, nat_lt, Ok};
 ghost use Rattle.system_types.specs.Names.{lends, is_good, names_of, name_by_id, system_name, starts_with, without, android_attr};
 ghost use Rattle.system_types.specs.Names.{Rising};
-ghost use Rattle.system_types.specs.declared.NamesRead.TheVariants.{Good};
 ghost use Rattle.utf.specs.Plain.{is_ascii};
 
 use common::ResourceId;
 use utf::is_ascii;
-
-#[derive(Clone, Copy)]
-pub enum NamesRead {
-    Good,
-    // the first entry that breaks the rule, or how many whole entries there are where words remain
-    Bad(usize),
-}
-
-#[derive(Clone, Copy)]
-pub enum Lookup {
-    // start and length of the whole name in the area
-    Name(u32, u32),
-    Missing,
-}
 
 // ---- the rule
 
@@ -85,7 +70,7 @@ fn greater(a: usize, b: usize) -> usize
 // did not rise and the furthest last byte decide. Ids that rise from above 16777215 to below 33554432 have top byte 1.
 fn all_keep(names: &[u32], area: &[u8]) -> bool
     requires { is_ascii area.now ≡ true }
-    ensures { result ≡ true → names_of (lends names.now area.now) ≡ Good }
+    ensures { result ≡ true → names_of (lends names.now area.now) ≡ (Ok tt) }
 {
     let whole = names.len() / 3;
     let mut falls: usize = 0;
@@ -109,7 +94,7 @@ fn all_keep(names: &[u32], area: &[u8]) -> bool
 }
 
 // What the names say, entry by entry up to the first that breaks the rule; `plain` where the area is known to be ASCII as a whole.
-fn check_each(names: &[u32], area: &[u8], plain: bool) -> NamesRead
+fn check_each(names: &[u32], area: &[u8], plain: bool) -> Result<(), usize>
     requires { plain ≡ true → is_ascii area.now ≡ true }
     ensures { result ≡ names_of (lends names.now area.now) }
 {
@@ -126,27 +111,27 @@ fn check_each(names: &[u32], area: &[u8], plain: bool) -> NamesRead
             names[3 * k + 1],
             names[3 * k + 2],
         ) {
-            return NamesRead::Bad(k);
+            return Err(k);
         }
         last = id;
         k += 1;
     }
     if names.len() % 3 != 0 {
-        return NamesRead::Bad(k);
+        return Err(k);
     }
-    NamesRead::Good
+    Ok(())
 }
 
 // Whether the lent names keep their rule. All of them are looked at, each time: a caller who asks often pays for each question. Where
 // the one pass finds all good, no entry is asked by itself.
 // Ruled out: Good for a table with a word too many, and the earlier of two entries whose ids do not rise.
-pub fn check_names(names: &[u32], area: &[u8]) -> NamesRead
+pub fn check_names(names: &[u32], area: &[u8]) -> Result<(), usize>
     ensures { result ≡ names_of (lends names.now area.now) }
 {
     let plain = is_plain(area, names.len() / 3);
     if plain {
         if all_keep(names, area) {
-            return NamesRead::Good;
+            return Ok(());
         }
     }
     check_each(names, area, plain)
@@ -181,7 +166,7 @@ fn guess(names: &[u32], wanted: ResourceId) -> usize
 }
 
 // The name of an id by halves, as the ids rise.
-fn by_halves(names: &[u32], wanted: ResourceId) -> Lookup
+fn by_halves(names: &[u32], wanted: ResourceId) -> Option<(u32, u32)>
     requires { Rising names.now }
     ensures { result ≡ name_by_id wanted.0 names.now }
 {
@@ -191,7 +176,7 @@ fn by_halves(names: &[u32], wanted: ResourceId) -> Lookup
         let middle = low + (high - low) / 2;
         let found = names[3 * middle];
         if found == wanted.0 {
-            return Lookup::Name(names[3 * middle + 1], names[3 * middle + 2]);
+            return Some((names[3 * middle + 1], names[3 * middle + 2]));
         }
         if found < wanted.0 {
             low = middle + 1;
@@ -199,22 +184,22 @@ fn by_halves(names: &[u32], wanted: ResourceId) -> Lookup
             high = middle;
         }
     }
-    Lookup::Missing
+    None
 }
 
 // The name of an id: where it is guessed, if it is there, and else by halves.
 // Ruled out: the name of another id with the same low bytes, and Missing for the first or the last entry.
-pub fn get_type_name(names: &[u32], id: ResourceId) -> Lookup
+pub fn get_type_name(names: &[u32], id: ResourceId) -> Option<(u32, u32)>
     requires { Rising names.now }
     ensures { result ≡ system_name id.0 names.now }
 {
     if id.0 / 16777216 != 1 {
-        return Lookup::Missing;
+        return None;
     }
     let place = guess(names, id);
     if place < names.len() / 3 {
         if names[3 * place] == id.0 {
-            return Lookup::Name(names[3 * place + 1], names[3 * place + 2]);
+            return Some((names[3 * place + 1], names[3 * place + 2]));
         }
     }
     by_halves(names, id)

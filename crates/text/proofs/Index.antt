@@ -1,6 +1,7 @@
 -- The text of an index by its parts. No contract cites this file.
 -- In order: a pool string (`string_of-past`, `string_of-in`), a system name (`system_of-past`, `system_of-in`), the one before the
 -- other (`content_of-system`, `content_of-string`).
+use Rattle.std.specs.Prelude.{Some, None}
 use Prim.Native.Nat.{ℕ, ◌+◌, ◌-◌, ◌*◌, ◌≤◌, ◌<◌}
 use native.Mathlib.Omega.{arith}
 use native.Mathlib.Nat.{le_of_eq}
@@ -12,7 +13,6 @@ use lib.ListN.{length, take, drop, length-drop}
 use lib.Seq.{take_all}
 use Rattle.field.specs.Le.{u32le}
 use Rattle.system_types.specs.Names.{Lent, system_name}
-use Rattle.system_types.specs.declared.Lookup.TheVariants.{Name, Missing}
 use Rattle.resource_map.specs.Map.{id_of}
 use Rattle.res_string_pool.specs.Pool.{offset_of}
 use Rattle.res_string_pool.proofs.Offsets.{offset_of-drop}
@@ -65,21 +65,21 @@ module _ (h : Head) (t : List ℕ) (lent : Lent) (i : ℕ) where
       : {id : ℕ}
       → i < h.ids
       → id ≡ id_of (drop h.map t) i
-      → system_name id lent.names ≡ Missing
+      → system_name id lent.names ≡ None
       → Stands h.utf16 t lent.area (system_of h t lent i) Nothing
   system-missing p e m =
-      let q : system_name (id_of (drop h.map t) i) lent.names ≡ Missing = rw (← e) m in
+      let q : system_name (id_of (drop h.map t) i) lent.names ≡ None = rw (← e) m in
       record { same = sym (system_of-in p ∙ ap (named_by lent.area) q); inside = tt }
 
   pub system-name
       : {id start n : ℕ} {r : Found}
       → i < h.ids
       → id ≡ id_of (drop h.map t) i
-      → system_name id lent.names ≡ Name start n
-      → Stands h.utf16 t lent.area (named_by lent.area (Name start n)) r
+      → system_name id lent.names ≡ Some (start, n)
+      → Stands h.utf16 t lent.area (named_by lent.area (Some (start, n))) r
       → Stands h.utf16 t lent.area (system_of h t lent i) r
   system-name {id} {start} {n} p e m s =
-      let q : system_name (id_of (drop h.map t) i) lent.names ≡ Name start n = rw (← e) m in
+      let q : system_name (id_of (drop h.map t) i) lent.names ≡ Some (start, n) = rw (← e) m in
       record { same = s.same ∙ sym (system_of-in p ∙ ap (named_by lent.area) q); inside = s.inside }
 
   -- a system name goes first

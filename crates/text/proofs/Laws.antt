@@ -1,6 +1,7 @@
 -- Laws of specs/Content.antt, for the crates above. No contract cites this file.
 -- In order: a text looks at nothing behind the head's tables (`content_of-append`); no text is no name (`is_name-none`); a system
 -- name is its own text (`text_in-named`).
+use Rattle.std.specs.Prelude.{Option, Some, None, Ok}
 use Prim.Native.Nat.{ℕ, ◌+◌, ◌*◌, ◌≤◌, ◌<◌}
 use native.Mathlib.Omega.{arith}
 use mathlib.Core.Path.{◌≡◌, refl, sym, ap, ◌∙◌}
@@ -11,9 +12,6 @@ use lib.ListN.{length, take, drop, length-drop}
 use lib.Seq.{take-append-le, drop-append-le}
 use lib.Dec.{ltb}
 use Rattle.system_types.specs.Names.{Lent, names_of, system_name, without, android_attr}
-use Rattle.system_types.specs.declared.NamesRead.TheVariants.{Good}
-use Rattle.system_types.specs.declared.Lookup.{Lookup}
-use Rattle.system_types.specs.declared.Lookup.TheVariants.{Name, Missing}
 use Rattle.system_types.proofs.Laws.{system_name-of-good}
 use Rattle.system_types.proofs.Prefix.{is_ascii-without}
 use Rattle.resource_map.specs.Map.{id_of}
@@ -79,10 +77,10 @@ is_name-none (some w s) e = let z : ◌≡◌ {A = ℕ} 0 1 = cc in absurd (let 
 
 -- ---- a system name is its own text
 
-module _ (h : Head) (t : List ℕ) (lent : Lent) (good : names_of lent ≡ Good) (i : ℕ) where
-  named : (l : Lookup) (id : ℕ) → system_name id lent.names ≡ l → text_in (named_by lent.area l) ≡ raw_of (named_by lent.area l)
-  named Missing id e = refl
-  named (Name start n) id e =
+module _ (h : Head) (t : List ℕ) (lent : Lent) (good : names_of lent ≡ (Ok tt)) (i : ℕ) where
+  named : (l : Option (ℕ × ℕ)) (id : ℕ) → system_name id lent.names ≡ l → text_in (named_by lent.area l) ≡ raw_of (named_by lent.area l)
+  named None id e = refl
+  named (Some (start, n)) id e =
       let q = system_name-of-good lent id start n good e in
       text_of-system (without android_attr (take n (drop start lent.area))) (is_ascii-without android_attr (take n (drop start lent.area)) q.2)
 

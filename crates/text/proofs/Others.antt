@@ -1,6 +1,7 @@
 -- Strings that are told apart by their length or a byte, without being read whole. No contract cites this file.
 -- In order: other bytes (`other_length`, `other_at`); a string whose head is two bytes (`utf8-in`, `utf16-in`); the string of an index
 -- (`system-first`, `other-index`); another text (`other_text`).
+use Rattle.std.specs.Prelude.{Some, None}
 use Prim.Native.Nat.{ℕ, ◌+◌, ◌-◌, ◌*◌, ◌≤◌, ◌<◌}
 use native.Mathlib.Omega.{arith}
 use native.Mathlib.Nat.{add-zero}
@@ -17,11 +18,9 @@ use Rattle.utf.specs.Plain.{is_plain}
 use Rattle.utf.proofs.Equal.{eq_bytes-length, eq_bytes-here}
 use Rattle.utf.proofs.PlainLaws.{plain-same}
 use Rattle.system_types.specs.Names.{Lent, name_by_id, system_name, top_byte}
-use Rattle.system_types.specs.declared.Lookup.TheVariants.{Missing}
 use Rattle.resource_map.specs.Map.{id_of}
 use Rattle.res_string_pool.specs.Pool.{offset_of}
 use Rattle.res_string_pool.specs.Content.{split_of, split8, split16}
-use Rattle.res_string_pool.specs.declared.Split.TheVariants.{Content as Inner}
 use Rattle.res_string_pool.proofs.Offsets.{offset_of-drop}
 use Rattle.res_string_pool.proofs.Strings.{width8-one, length8-one, split8-by, split16-by-one, within-content}
 use Rattle.text.specs.declared.Head.{Head}
@@ -79,7 +78,7 @@ module _ (t : List ℕ) (end p : ℕ) (h : end ≤ length t) (k : p + 2 ≤ end)
   head-other
       : (w : Bool) (m : ℕ) (s : List ℕ)
       → p + 2 + m ≤ end
-      → split_of w (take (end - p) (drop p t)) ≡ Inner 2 m
+      → split_of w (take (end - p) (drop p t)) ≡ Some (2, m)
       → eq_bytes (take m (drop (p + 2) t)) s ≡ false
       → Other w t (string_in w t end p) s
   head-other w m s r e b =
@@ -151,11 +150,11 @@ other-inside w t end p s r = go (ltb p end) refl
 -- ---- the string of an index
 
 -- no names, no system name
-missing-nil : (id : ℕ) → system_name id [] ≡ Missing
+missing-nil : (id : ℕ) → system_name id [] ≡ None
 unfolding name_by_id
 missing-nil id = go (eqb (top_byte id) 1)
   where
-    go : (b : Bool) → cond b (name_by_id id []) Missing ≡ Missing
+    go : (b : Bool) → cond b (name_by_id id []) None ≡ None
     go true = refl
     go false = refl
 

@@ -1,6 +1,7 @@
 -- Parts of lists, and where a found text lies in them. No contract cites this file.
 -- In order: a part of a part (`take-drop-part`, `drop-take`); a system name (`without-rest`, `stripped-stands`); a string of the
 -- pool (`string_at-outside`, `-cut`, `-pool`, `string_of-past`, `-in`); the index (`system_of-past`, `-in`, `find-..`).
+use Rattle.std.specs.Prelude.{Option, Some, None}
 use Prim.Native.Nat.{ℕ, ◌+◌, ◌-◌, ◌≤◌, ◌<◌}
 use native.Mathlib.Omega.{arith}
 use mathlib.Core.Path.{◌≡◌, refl, sym, ap, ◌∙◌}
@@ -11,11 +12,8 @@ use lib.ListN.{length, take, drop, length-drop}
 use lib.Seq.{take-add, take-take, drop_at, drop-drop, length-take-le}
 use Rattle.utf.specs.Plain.{is_ascii}
 use Rattle.system_types.specs.Names.{starts_with, without, android_attr}
-use Rattle.system_types.specs.declared.Lookup.TheVariants.{Name}
 use Rattle.system_types.proofs.Prefix.{starts_with-le, is_ascii-without}
 use Rattle.res_string_pool.specs.Content.{split_of}
-use Rattle.res_string_pool.specs.declared.Split.{Split}
-use Rattle.res_string_pool.specs.declared.Split.TheVariants.{Content as Inner, Cut as SplitCut}
 use Rattle.res_string_pool.proofs.Strings.{split_of-fits}
 use Rattle.text.specs.declared.Found.TheVariants.{Cut, System, Pool}
 use Rattle.text.specs.Content.{cut, some, named_by, string_at}
@@ -73,7 +71,7 @@ pub stripped-stands
     → start + n ≤ length area
     → is_ascii (take n (drop start area)) ≡ true
     → k ≡ length (without android_attr (take n (drop start area)))
-    → Stands w t area (named_by area (Name start n)) (System (start + n - k) k)
+    → Stands w t area (named_by area (Some (start, n))) (System (start + n - k) k)
 stripped-stands w t area start n k h ascii e =
     let s = take n (drop start area) in
     let ls : length s ≡ n = length-take-le n (drop start area) (rw length-drop (omega arith)) in
@@ -96,11 +94,11 @@ module _ (w : Bool) (d : List ℕ) (o : ℕ) where
   unfolding string_at
   string_at-outside h = rw (le-ltb o (length d) h)
 
-  pub string_at-cut : o < length d → split_of w (drop o d) ≡ SplitCut → string_at w d o ≡ cut
+  pub string_at-cut : o < length d → split_of w (drop o d) ≡ None → string_at w d o ≡ cut
   unfolding string_at
   string_at-cut h e = rw (lt-ltb o (length d) h, e)
 
-  pub string_at-content : (at n : ℕ) → o < length d → split_of w (drop o d) ≡ Inner at n → string_at w d o ≡ some w (take n (drop at (drop o d)))
+  pub string_at-content : (at n : ℕ) → o < length d → split_of w (drop o d) ≡ Some (at, n) → string_at w d o ≡ some w (take n (drop at (drop o d)))
   unfolding string_at
   string_at-content at n h e = rw (lt-ltb o (length d) h, e)
 
@@ -119,7 +117,7 @@ length-data t strings size h = length-take-le size (drop strings t) (rw length-d
 
 -- the same with the length as a range gives it
 pub data-slice
-    : (w : Bool) (t : List ℕ) (strings size o : ℕ) {r : Split}
+    : (w : Bool) (t : List ℕ) (strings size o : ℕ) {r : Option (ℕ × ℕ)}
     → split_of w (take (strings + size - (strings + o)) (drop (strings + o) t)) ≡ r
     → split_of w (take (size - o) (drop (strings + o) t)) ≡ r
 data-slice w t strings size o e =
@@ -135,7 +133,7 @@ module _ (w : Bool) (t : List ℕ) (strings size o : ℕ) (h : strings + size �
   pub string-cut
       : (area : List ℕ)
       → o < size
-      → split_of w (take (size - o) (drop (strings + o) t)) ≡ SplitCut
+      → split_of w (take (size - o) (drop (strings + o) t)) ≡ None
       → Stands w t area (string_at w (take size (drop strings t)) o) Cut
   string-cut area p s =
       let e = length-data t strings size h in
@@ -143,7 +141,7 @@ module _ (w : Bool) (t : List ℕ) (strings size o : ℕ) (h : strings + size �
       record { same = sym (string_at-cut w (take size (drop strings t)) o (omega arith) (rw from s)); inside = tt }
 
   -- its content ends in the data
-  pub string-pool-le : {at n : ℕ} → o < size → split_of w (take (size - o) (drop (strings + o) t)) ≡ Inner at n → o + at + n ≤ size
+  pub string-pool-le : {at n : ℕ} → o < size → split_of w (take (size - o) (drop (strings + o) t)) ≡ Some (at, n) → o + at + n ≤ size
   string-pool-le p s =
       let rest = drop (strings + o) t in
       let lr : length (take (size - o) rest) ≡ size - o = length-take-le (size - o) rest (rw length-drop (omega arith)) in
@@ -153,7 +151,7 @@ module _ (w : Bool) (t : List ℕ) (strings size o : ℕ) (h : strings + size �
   pub string-pool
       : (area : List ℕ) (at n : ℕ)
       → o < size
-      → split_of w (take (size - o) (drop (strings + o) t)) ≡ Inner at n
+      → split_of w (take (size - o) (drop (strings + o) t)) ≡ Some (at, n)
       → Stands w t area (string_at w (take size (drop strings t)) o) (Pool (strings + o + at) n)
   string-pool area at n p s =
       let e = length-data t strings size h in

@@ -1,6 +1,7 @@
 -- What was found, read back. No contract cites this file.
 -- In order: a part lies inside (`inside-..`); what a place stands for, by the case, its part as a range gives it (`partOf-..`);
 -- whether there is a text (`is_found-text`, `has_text-in`, `has_text-past`); two texts (`sameText-..`); lent bytes (`isText-..`).
+use Rattle.std.specs.Prelude.{Option, Some, None}
 use Prim.Native.Nat.{ℕ, ◌+◌, ◌-◌, ◌≤◌, ◌<◌, min}
 use native.Mathlib.Omega.{arith}
 use mathlib.Core.Path.{◌≡◌, refl, sym, ap, ◌∙◌}
@@ -20,8 +21,6 @@ use Rattle.utf.proofs.Ascii.{is_ascii-at}
 use Rattle.utf.proofs.AsciiText.{ascii_text-sound}
 use Rattle.res_string_pool.specs.Pool.{offset_of}
 use Rattle.res_string_pool.specs.Content.{split_of}
-use Rattle.res_string_pool.specs.declared.Split.{Split}
-use Rattle.res_string_pool.specs.declared.Split.TheVariants.{Content as Inner, Cut as SplitCut}
 use Rattle.system_types.specs.Names.{Lent}
 use Rattle.text.specs.declared.Head.{Head}
 use Rattle.text.specs.declared.Found.{Found}
@@ -76,9 +75,9 @@ has_text-or_else-none none = refl
 has_text-or_else-none cut = refl
 has_text-or_else-none (some w s) = refl
 
-has_text-split : (w : Bool) (d : List ℕ) (b : Bool) (s : Split) → has_text (cond b (split_by w d s) cut) ≡ true
-has_text-split w d true SplitCut = refl
-has_text-split w d true (Inner at n) = refl
+has_text-split : (w : Bool) (d : List ℕ) (b : Bool) (s : Option (ℕ × ℕ)) → has_text (cond b (split_by w d s) cut) ≡ true
+has_text-split w d true None = refl
+has_text-split w d true (Some (at, n)) = refl
 has_text-split w d false s = refl
 
 has_text-string : (w : Bool) (d : List ℕ) (o : ℕ) → has_text (string_at w d o) ≡ true

@@ -11,17 +11,13 @@
 --   android_uri  the Android namespace; is_android whether a text is this
 --
 -- t is the bytes behind the file's header; places in it are those of `Head`. Laws: proofs/Laws.antt.
-use Rattle.std.specs.Prelude.{ℕ, List, [], ◌∷◌, Bool, true, false, cond, ◌&&◌, length, take, drop, ltb}
+use Rattle.std.specs.Prelude.{ℕ, List, [], ◌∷◌, Bool, true, false, cond, ◌&&◌, length, take, drop, ltb, Option, Some, None}
 use Rattle.utf.specs.Text.{text_of, eq_bytes, Damage, damage_of, cut as cut_text, whole}
 use Rattle.utf.specs.Plain.{is_plain}
 use Rattle.xml.specs.NCName.{valid_name}
 use Rattle.res_string_pool.specs.Pool.{offset_of}
 use Rattle.res_string_pool.specs.Content.{split_of}
-use Rattle.res_string_pool.specs.declared.Split.{Split}
-use Rattle.res_string_pool.specs.declared.Split.TheVariants.{Content as Inner, Cut}
 use Rattle.system_types.specs.Names.{Lent, system_name, without, android_attr}
-use Rattle.system_types.specs.declared.Lookup.{Lookup}
-use Rattle.system_types.specs.declared.Lookup.TheVariants.{Name, Missing}
 use Rattle.resource_map.specs.Map.{id_of}
 use Rattle.text.specs.declared.Head.{Head}
 use Rattle.text.specs.declared.NameState.{NameState}
@@ -35,18 +31,18 @@ pub data Content : Type 0 where
 
 -- ---- the system name
 
-abbrev pub named_by : List ℕ → Lookup → Content
-named_by area Missing = none
-named_by area (Name start n) = some false (without android_attr (take n (drop start area)))
+abbrev pub named_by : List ℕ → Option (ℕ × ℕ) → Content
+named_by area None = none
+named_by area (Some (start, n)) = some false (without android_attr (take n (drop start area)))
 
 unfoldable pub system_of : Head → List ℕ → Lent → ℕ → Content
 system_of h t lent i = cond (ltb i h.ids) (named_by lent.area (system_name (id_of (drop h.map t) i) lent.names)) none
 
 -- ---- the pool string
 
-abbrev pub split_by : Bool → List ℕ → Split → Content
-split_by w d Cut = cut
-split_by w d (Inner at n) = some w (take n (drop at d))
+abbrev pub split_by : Bool → List ℕ → Option (ℕ × ℕ) → Content
+split_by w d None = cut
+split_by w d (Some (at, n)) = some w (take n (drop at d))
 
 -- with d the pool's data, the string at the offset o
 unfoldable pub string_at : Bool → List ℕ → ℕ → Content

@@ -9,10 +9,9 @@ pub mod damage;
 pub mod equal;
 pub mod part;
 
-ghost use Rattle.std.specs.Prelude.{◌≡◌, List, Bool, true, ◌+◌, ◌≤◌, length, take, drop};
+ghost use Rattle.std.specs.Prelude.{◌≡◌, List, Bool, true, ◌+◌, ◌≤◌, length, take, drop, Some};
 ghost use Rattle.utf.specs.Plain.{is_ascii, Known};
 ghost use Rattle.system_types.specs.Names.{lends};
-ghost use Rattle.system_types.specs.declared.Lookup.TheVariants.{Name};
 ghost use Rattle.text.specs.Content.{named_by, system_of, string_at, string_of, content_of, has_text, plain_in, same_text, is_text, is_android};
 ghost use Rattle.text.specs.Inner.Found.{Fits, Asks, Inside, Stands, Finds, part_of, is_found};
 ghost use Rattle.text.specs.Inner.Marks.{Marked};
@@ -25,9 +24,9 @@ use equal::same_part;
 pub use equal::{is_plain_found, same_found, same_found_known};
 use field::u32_at;
 pub use part::{content_of, found_ascii, found_ascii_into, found_into, found_whole};
-use res_string_pool::{Split, split_string};
+use res_string_pool::split_string;
 use resource_map::id_at;
-use system_types::{Lookup, get_type_name, without_attr};
+use system_types::{get_type_name, without_attr};
 use utf::is_sound;
 
 // What texts are read by: the pool's numbers and the map's, as places in the bytes behind the file's header.
@@ -92,7 +91,7 @@ pub enum NameState {
 // The name at a part of the area, without one leading `android:attr/`.
 fn stripped(area: &[u8], start: usize, n: usize) -> Found
     requires { (start + n ≤ length area.now) × (is_ascii (take n (drop start area.now)) ≡ true) }
-    ensures { (w : Bool) (t : List _) → Stands w t area.now (named_by area.now (Name start n)) result }
+    ensures { (w : Bool) (t : List _) → Stands w t area.now (named_by area.now (Some (start, n))) result }
 {
     let name = &area[start..start + n];
     let rest = without_attr(name);
@@ -111,8 +110,8 @@ fn find_system(t: &[u8], names: &[u32], area: &[u8], h: Head, index: StringIndex
     let id = id_at(&t[map..], index);
     let name = get_type_name(names, id);
     match name {
-        Lookup::Missing => Found::Nothing,
-        Lookup::Name(start, n) => stripped(area, start as usize, n as usize),
+        None => Found::Nothing,
+        Some((start, n)) => stripped(area, start as usize, n as usize),
     }
 }
 
@@ -128,8 +127,8 @@ fn string_at(t: &[u8], utf16: bool, strings: usize, size: usize, o: usize) -> Fo
     }
     let split = split_string(utf16, &t[strings + o..strings + size]);
     match split {
-        Split::Cut => Found::Cut,
-        Split::Content(at, n) => Found::Pool(strings + o + at, n),
+        None => Found::Cut,
+        Some((at, n)) => Found::Pool(strings + o + at, n),
     }
 }
 

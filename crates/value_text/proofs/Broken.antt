@@ -5,6 +5,7 @@
 --   first-broken     one that shows the first item of every attribute that has items
 --
 -- The question that shuts both out: the second item of an enum, in proofs/Cases.antt.
+use Rattle.std.specs.Prelude.{Result, Ok}
 use Prim.Native.Nat.{ℕ}
 use native.Mathlib.Omega.{arith}
 use mathlib.Core.Path.{◌≡◌, refl, sym, ap, ◌∙◌}
@@ -20,12 +21,10 @@ use Rattle.res_string_pool.specs.Pool.{count_of, numbered, end_of, pool_from, be
 use Rattle.res_string_pool.specs.Content.{split8, split16}
 use Rattle.resource_map.specs.Map.{ids_in, ids_by, map_of, id_of}
 use Rattle.system_types.specs.Names.{Lent, lends, is_good, names_from, name_by_id}
-use Rattle.errors.specs.declared.ValueAnswer.{ValueAnswer}
 use Rattle.text.specs.declared.Head.{Head}
 use Rattle.text.specs.Content.{system_of, string_at, string_of, content_of, text_in}
 use Rattle.head.specs.Head.{tables_of, opened_of, tables_in}
 use Rattle.head.specs.Entry.{length_check}
-use Rattle.head.specs.declared.OpenRead.TheVariants.{Open}
 use Rattle.digits.specs.Digits.{digits, decimal}
 use Rattle.digits.specs.Written.{fitted}
 use Rattle.items.specs.Items.{item_at, items_from, items_of, is_name, is_new, is_good as is_good_item, rule_from, table_of, item_name_of, named_in, enum_of}
@@ -34,9 +33,11 @@ use Rattle.items.specs.declared.Item.{Item}
 use Rattle.value_text.specs.declared.Attribute.{Attribute}
 use Rattle.value_text.specs.Value.{named_value, attribute_value, value_open, value_buffer, ValueReads}
 use Rattle.value_text.proofs.Cases.{head, area, enums, asking}
+use Rattle.errors.specs.declared.Refusal.{Refusal}
+use Rattle.errors.specs.declared.ValueWritten.{ValueWritten}
 
 pub record Version : Type 0 where
-  pub answer : List ℕ → Lent → List ℕ → List ℕ → List ℕ → Attribute → ValueAnswer
+  pub answer : List ℕ → Lent → List ℕ → List ℕ → List ℕ → Attribute → Result ValueWritten Refusal
   pub after : List ℕ → Lent → List ℕ → List ℕ → List ℕ → Attribute → List ℕ
   pub meets : (f : List ℕ) (lent : Lent) (items area before : List ℕ) (a : Attribute) →
       ValueReads f lent items area before a (answer f lent items area before a) (after f lent items area before a)
@@ -49,7 +50,7 @@ unfolding head area enums u16le u32le header_of value_type_of matched is_whole_f
     named_in enum_of attr_text uncovered_of named_value attribute_value value_open value_buffer
 sample-buffer = refl
 
-sample-open : value_open head (lends [] []) enums area ≡ Open (opened_of head).head
+sample-open : value_open head (lends [] []) enums area ≡ Ok (opened_of head).head
 unfolding head area enums u16le u32le header_of matched is_whole_form longest any_whole spelt encode step8 eq_bytes is_ascii count_of numbered end_of pool_from
     behind_garbage pool_of offset_of ids_in ids_by map_of id_of is_good names_from tables_of opened_of length_check item_at items_from is_name is_new is_good_item
     rule_from table_of value_open
@@ -64,7 +65,7 @@ module _ (v : Version) where
 
   pub decimal-broken :
       ((f : List ℕ) (lent : Lent) (items items-area before : List ℕ) (a : Attribute) (h : Head) →
-      value_open f lent items items-area ≡ Open h →
+      value_open f lent items items-area ≡ Ok h →
       v.after f lent items items-area before a ≡ fitted (decimal a.«data») (length before)) →
       ⊥
   unfolding digits fitted
@@ -75,7 +76,7 @@ module _ (v : Version) where
 
   pub first-broken :
       ((f : List ℕ) (lent : Lent) (items items-area before : List ℕ) (a : Attribute) (h : Head) (i : Item) (is : List Item) →
-      value_open f lent items items-area ≡ Open h →
+      value_open f lent items items-area ≡ Ok h →
       named_in items-area (text_in (content_of h (tables_in f h) lent a.name.0)) (items_of items) ≡ i ∷ is →
       v.after f lent items items-area before a ≡ fitted (item_name_of items-area i) (length before)) →
       ⊥

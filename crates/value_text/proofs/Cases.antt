@@ -3,6 +3,7 @@
 --
 --   area, enums, flags   items of `a` over the bytes `axyz`: x and y for 5 and 6; x and y for the bits 1 and 3
 --   cases-right          each answer and each buffer is that of the table
+use Rattle.std.specs.Prelude.{Result, Ok, Err}
 use Prim.Native.Nat.{ℕ}
 use mathlib.Core.Path.{◌≡◌, refl}
 use mathlib.Core.List.{List, [], ◌∷◌, ◌++◌}
@@ -19,8 +20,6 @@ use Rattle.resource_map.specs.Map.{ids_in, ids_by, map_of, id_of}
 use Rattle.system_types.specs.Names.{lends, is_good, names_from, name_by_id}
 use Rattle.errors.specs.declared.Refusal.TheVariants.{NothingFound, TextShort, ItemsError, NoPlainText}
 use Rattle.errors.specs.declared.TextState.TheVariants.{Whole, Cut}
-use Rattle.errors.specs.declared.ValueAnswer.{ValueAnswer}
-use Rattle.errors.specs.declared.ValueAnswer.TheVariants.{Value as Answered, Refused}
 use Rattle.text.specs.Content.{system_of, string_at, string_of, content_of}
 use Rattle.head.specs.Head.{tables_of, opened_of}
 use Rattle.head.specs.Entry.{length_check}
@@ -31,6 +30,8 @@ use Rattle.items.specs.Flags.{taken, left_of, bit_sum, joined_from}
 use Rattle.items.specs.Values.{attr_text, uncovered_of}
 use Rattle.value_text.specs.declared.Attribute.{Attribute}
 use Rattle.value_text.specs.Value.{plain_by, plain_state, named_value, attribute_value, value_open, value_answer, value_buffer}
+use Rattle.errors.specs.declared.Refusal.{Refusal}
+use Rattle.errors.specs.declared.ValueWritten.{ValueWritten}
 
 unfoldable pub head : List ℕ
 head =
@@ -51,39 +52,39 @@ asking prefix name kind v = record { owner = 9; prefix = prefix; name = record {
 
 -- file, items, prefix, name index, type, data, room, and the answer and the buffer
 pub data Case : Type 0 where
-  asked : List ℕ → List ℕ → Attribute → ℕ → ValueAnswer → List ℕ → Case
+  asked : List ℕ → List ℕ → Attribute → ℕ → Result ValueWritten Refusal → List ℕ → Case
 
 unfoldable pub cases : List Case
 cases =
     -- an enum's second item, whatever the prefix and the type: V4
-    asked head enums (asking 0 0 16 6) 3 (Answered 1 0 Whole) (121 ∷ 0 ∷ 0 ∷ []) ∷
-    asked head enums (asking 3 0 4 6) 1 (Answered 1 0 Whole) (121 ∷ []) ∷
+    asked head enums (asking 0 0 16 6) 3 (Ok (record { length = 1; uncovered = 0; state = Whole })) (121 ∷ 0 ∷ 0 ∷ []) ∷
+    asked head enums (asking 3 0 4 6) 1 (Ok (record { length = 1; uncovered = 0; state = Whole })) (121 ∷ []) ∷
     -- an enum without such an item: the number without a sign
-    asked head enums (asking 1 0 16 4294967295) 10 (Answered 10 0 Whole) (52 ∷ 50 ∷ 57 ∷ 52 ∷ 57 ∷ 54 ∷ 55 ∷ 50 ∷ 57 ∷ 53 ∷ []) ∷
+    asked head enums (asking 1 0 16 4294967295) 10 (Ok (record { length = 10; uncovered = 0; state = Whole })) (52 ∷ 50 ∷ 57 ∷ 52 ∷ 57 ∷ 54 ∷ 55 ∷ 50 ∷ 57 ∷ 53 ∷ []) ∷
     -- flags in table order: x takes bit 1, so y is not taken, and one bit is left
-    asked head flags (asking 1 0 17 3) 2 (Answered 1 1 Whole) (120 ∷ 0 ∷ []) ∷
+    asked head flags (asking 1 0 17 3) 2 (Ok (record { length = 1; uncovered = 1; state = Whole })) (120 ∷ 0 ∷ []) ∷
     -- no flag taken: the plain text, and both bits uncovered
-    asked head flags (asking 1 0 17 6) 10 (Answered 10 2 Whole) (48 ∷ 120 ∷ 48 ∷ 48 ∷ 48 ∷ 48 ∷ 48 ∷ 48 ∷ 48 ∷ 54 ∷ []) ∷
+    asked head flags (asking 1 0 17 6) 10 (Ok (record { length = 10; uncovered = 2; state = Whole })) (48 ∷ 120 ∷ 48 ∷ 48 ∷ 48 ∷ 48 ∷ 48 ∷ 48 ∷ 48 ∷ 54 ∷ []) ∷
     -- by the type alone
-    asked head [] (asking 1 0 16 4294967295) 2 (Answered 2 0 Whole) (45 ∷ 49 ∷ []) ∷
-    asked head [] (asking 1 0 3 0) 1 (Answered 1 0 Whole) (97 ∷ []) ∷
-    asked head [] (asking 1 0 3 9) 0 (Answered 0 0 Cut) [] ∷
-    asked head [] (asking 1 0 1 0) 9 (Answered 9 0 Whole) (64 ∷ 48 ∷ 48 ∷ 48 ∷ 48 ∷ 48 ∷ 48 ∷ 48 ∷ 48 ∷ []) ∷
-    asked head [] (asking 1 0 18 2) 4 (Answered 4 0 Whole) (116 ∷ 114 ∷ 117 ∷ 101 ∷ []) ∷
+    asked head [] (asking 1 0 16 4294967295) 2 (Ok (record { length = 2; uncovered = 0; state = Whole })) (45 ∷ 49 ∷ []) ∷
+    asked head [] (asking 1 0 3 0) 1 (Ok (record { length = 1; uncovered = 0; state = Whole })) (97 ∷ []) ∷
+    asked head [] (asking 1 0 3 9) 0 (Ok (record { length = 0; uncovered = 0; state = Cut })) [] ∷
+    asked head [] (asking 1 0 1 0) 9 (Ok (record { length = 9; uncovered = 0; state = Whole })) (64 ∷ 48 ∷ 48 ∷ 48 ∷ 48 ∷ 48 ∷ 48 ∷ 48 ∷ 48 ∷ []) ∷
+    asked head [] (asking 1 0 18 2) 4 (Ok (record { length = 4; uncovered = 0; state = Whole })) (116 ∷ 114 ∷ 117 ∷ 101 ∷ []) ∷
     -- no plain text; a type of more than a byte has none
-    asked head [] (asking 1 0 4 0) 2 (Refused (NoPlainText 4)) (0 ∷ 0 ∷ []) ∷
-    asked head [] (asking 1 0 259 0) 1 (Refused (NoPlainText 259)) (0 ∷ []) ∷
+    asked head [] (asking 1 0 4 0) 2 (Err (NoPlainText 4)) (0 ∷ 0 ∷ []) ∷
+    asked head [] (asking 1 0 259 0) 1 (Err (NoPlainText 259)) (0 ∷ []) ∷
     -- a name index without a text, before the type is looked at; not for the leading attribute
-    asked head [] (asking 1 5 4 0) 1 (Refused NothingFound) (0 ∷ []) ∷
-    asked head [] (asking 2 5 4 0) 41 (Refused (TextShort 42)) (replicate 41 0) ∷
+    asked head [] (asking 1 5 4 0) 1 (Err NothingFound) (0 ∷ []) ∷
+    asked head [] (asking 2 5 4 0) 41 (Err (TextShort 42)) (replicate 41 0) ∷
     -- items at odds: kinds of one attribute mixed, words left over, before a file that is too short
-    asked head (take 8 enums ++ (1 ∷ 2 ∷ 1 ∷ 6 ∷ [])) (asking 1 0 16 6) 1 (Refused (ItemsError 1)) (0 ∷ []) ∷
-    asked (take 7 head) (take 5 enums) (asking 1 0 16 6) 1 (Refused (ItemsError 0)) (0 ∷ []) ∷
+    asked head (take 8 enums ++ (1 ∷ 2 ∷ 1 ∷ 6 ∷ [])) (asking 1 0 16 6) 1 (Err (ItemsError 1)) (0 ∷ []) ∷
+    asked (take 7 head) (take 5 enums) (asking 1 0 16 6) 1 (Err (ItemsError 0)) (0 ∷ []) ∷
     []
 
 -- what a question gets: the answer, and the buffer
 pub data Got : Type 0 where
-  got : ValueAnswer → List ℕ → Got
+  got : Result ValueWritten Refusal → List ℕ → Got
 
 abbrev pub answers : List Case → List Got
 answers [] = []

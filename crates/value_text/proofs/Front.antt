@@ -1,6 +1,7 @@
 -- Laws of specs/Inner/Leads.antt and specs/Inner/Forms.antt: a text at the front of a buffer. No contract cites this file.
 -- In order: what wrote it (`leads-wrote`, `leads-put`, `leads-none`); the forms of a value's type (`form-..`); the answers (`tells-..`,
 -- `named-..`); the whole buffer (`gives-..`).
+use Rattle.std.specs.Prelude.{Option, Result, Ok, Err}
 use Prim.Native.Nat.{ℕ, ◌+◌, ◌-◌, ◌≤◌, ◌<◌}
 use mathlib.Core.Path.{◌≡◌, refl, sym, ap, ◌∙◌}
 use mathlib.Core.List.{List, [], ◌∷◌, append-nil}
@@ -16,8 +17,6 @@ use Rattle.utf.proofs.Filled.{put_text-whole, put_text-length}
 use Rattle.errors.specs.declared.Refusal.TheVariants.{NothingFound, TextShort, NoPlainText}
 use Rattle.errors.specs.declared.TextState.{TextState}
 use Rattle.errors.specs.declared.TextState.TheVariants.{Whole}
-use Rattle.errors.specs.declared.ValueAnswer.{ValueAnswer}
-use Rattle.errors.specs.declared.ValueAnswer.TheVariants.{Value as Answered, Refused}
 use Rattle.digits.specs.Written.{written, Wrote, fitted}
 use Rattle.digits.proofs.Written.{length-written, wrote-more, wrote-append}
 use Rattle.common.specs.ValueType.{value_type_of}
@@ -27,7 +26,6 @@ use Rattle.common.specs.declared.value.ResourceValueType.TheVariants.{Float, Dim
 use Rattle.common.specs.declared.value.ResourceValueType.TheVariants.{DynamicAttribute, Dec, Hex, Boolean}
 use Rattle.common.specs.declared.value.ResourceValueType.TheVariants.{ColorArgb8, ColorRgb8, ColorArgb4, ColorRgb4, Unknown}
 use Rattle.system_types.specs.Names.{Lent}
-use Rattle.system_types.specs.declared.Lookup.{Lookup}
 use Rattle.text.specs.declared.Head.{Head}
 use Rattle.text.specs.Content.{string_of, text_in}
 use Rattle.text.specs.Inner.Found.{Wrote as Put}
@@ -44,6 +42,8 @@ use Rattle.value_text.specs.Inner.Leads.{Leads, Tells, Gives, told_of}
 use Rattle.value_text.specs.Inner.Forms.{form_of, form_text, form_state, is_other, is_pool}
 use Rattle.value_text.specs.declared.plain.Form.{Form}
 use Rattle.value_text.specs.declared.plain.Form.TheVariants as forms
+use Rattle.errors.specs.declared.Refusal.{Refusal}
+use Rattle.errors.specs.declared.ValueWritten.{ValueWritten}
 
 -- ---- what wrote it
 
@@ -98,7 +98,7 @@ wrote_at {s = s} area start n h e a b =
     wrote-more (wrote-append a b) (ap (λ (x : List ℕ). 64 ∷ x) e) (omega arith)
 
 -- by what was found for an id
-module _ {r : ℕ} {l k : List ℕ} (area : List ℕ) (v : ℕ) {x y : Lookup} (e : x ≡ y) where
+module _ {r : ℕ} {l k : List ℕ} (area : List ℕ) (v : ℕ) {x y : Option (ℕ × ℕ)} (e : x ≡ y) where
   pub wrote-reference : Wrote 4294967296 0 (reference_by area v y) l r k → Wrote 4294967296 0 (reference_by area v x) l r k
   wrote-reference w = rw e w
 
@@ -281,16 +281,16 @@ module _ (h : Head) (t : List ℕ) (lent : Lent) (items area name : List ℕ) (k
 module _ {n u : ℕ} {d : TextState} {s l k : List ℕ} (a : Leads s l n k) (kind : ℕ) where
   -- longer than the buffer
   pub gives-short :
-      {x : ValueAnswer} (ys : List ℕ) →
+      {x : Result ValueWritten Refusal} (ys : List ℕ) →
       length k < n →
-      (x ≡ Refused (TextShort n)) × (ys ≡ replicate (length k) 0) →
+      (x ≡ Err (TextShort n)) × (ys ≡ replicate (length k) 0) →
       Gives (length l) kind (shows s u d) x ys
   unfolding fitted
   gives-short {x} ys p z =
       let c = a.count in
       let b = a.long in
       let q : leb (length s) (length l) ≡ false = lt-leb (length s) (length l) (omega arith) in
-      let e : Refused (TextShort n) ≡ answer_by (length l) kind (shows s u d) = rw (q, c) in
+      let e : Err (TextShort n) ≡ answer_by (length l) kind (shows s u d) = rw (q, c) in
       record { same = z.0 ∙ e; out = rw q (z.1 ∙ rw b) }
 
   -- zeros in the part from the end of the text on
@@ -298,7 +298,7 @@ module _ {n u : ℕ} {d : TextState} {s l k : List ℕ} (a : Leads s l n k) (kin
       (ys : List ℕ) →
       n ≤ length k →
       ys ≡ replicate (length (mid_of n (length k - n) k)) 0 →
-      Gives (length l) kind (shows s u d) (Answered n u d) (put_mid n (length k - n) k ys)
+      Gives (length l) kind (shows s u d) (Ok (record { length = n; uncovered = u; state = d })) (put_mid n (length k - n) k ys)
   unfolding fitted
   gives-text ys p z =
       let c = a.count in
@@ -317,8 +317,8 @@ module _ (n kind : ℕ) {v : Value} {l k ys : List ℕ} {r : Told} (a : Tells v 
   pub gives-no-name :
       r ≡ NoName →
       n ≡ length l →
-      {x : ValueAnswer} →
-      (x ≡ Refused NothingFound) × (ys ≡ replicate (length k) 0) →
+      {x : Result ValueWritten Refusal} →
+      (x ≡ Err NothingFound) × (ys ≡ replicate (length k) 0) →
       Gives n kind v x ys
   gives-no-name e m {x} z = go v (sym a.told ∙ e)
     where
@@ -330,8 +330,8 @@ module _ (n kind : ℕ) {v : Value} {l k ys : List ℕ} {r : Told} (a : Tells v 
   pub gives-no-text :
       r ≡ NoText →
       n ≡ length l →
-      {x : ValueAnswer} →
-      (x ≡ Refused (NoPlainText kind)) × (ys ≡ replicate (length k) 0) →
+      {x : Result ValueWritten Refusal} →
+      (x ≡ Err (NoPlainText kind)) × (ys ≡ replicate (length k) 0) →
       Gives n kind v x ys
   gives-no-text e m {x} z = go v (sym a.told ∙ e)
     where
@@ -343,7 +343,7 @@ module _ (n kind : ℕ) {v : Value} {l k ys : List ℕ} {r : Told} (a : Tells v 
   pub gives-shown :
       {len u : ℕ} {d : TextState} →
       r ≡ Shown len u d →
-      {x : ValueAnswer} →
+      {x : Result ValueWritten Refusal} →
       ((s m : List ℕ) → Leads s m len k → Gives (length m) 0 (shows s u d) x ys) →
       Gives (length l) kind v x ys
   gives-shown {len} {u} {d} e {x} z = go v refl (sym a.told ∙ e)

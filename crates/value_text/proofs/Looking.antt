@@ -1,5 +1,6 @@
 -- Laws of finding the items of an attribute's name, and of its value. No contract cites this file.
 -- In order: an item against a text (`is-item`); a name in a buffer (`name-held`); no names lent (`pool-..`); the value (`value-..`).
+use Rattle.std.specs.Prelude.{None, Ok}
 use Prim.Native.Nat.{ℕ, ◌-◌, ◌/◌, ◌≤◌, ◌<◌}
 use mathlib.Core.Path.{◌≡◌, refl, sym, ap, ◌∙◌}
 use mathlib.Core.List.{List, []}
@@ -16,7 +17,6 @@ use Rattle.utf.proofs.Laws.{text_of-ascii}
 use Rattle.utf.proofs.Ascii.{is_ascii-at}
 use Rattle.utf.proofs.Filled.{put_text-whole}
 use Rattle.system_types.specs.Names.{Lent, lends, top_byte, system_name, name_by_id, names_from}
-use Rattle.system_types.specs.declared.Lookup.TheVariants.{Missing}
 use Rattle.resource_map.specs.Map.{id_of}
 use Rattle.text.specs.declared.Head.{Head}
 use Rattle.text.specs.declared.Found.{Found}
@@ -27,7 +27,6 @@ use Rattle.records.specs.Words.{item_width}
 use Rattle.items.specs.Items.{item_at, attribute_of, table_of}
 use Rattle.items.specs.Inner.Turns.{FirstNamed}
 use Rattle.items.specs.declared.Item.{Item}
-use Rattle.items.specs.declared.ItemsRead.TheVariants.{Good as Fine}
 use Rattle.items.proofs.Together.{good-ascii}
 use Rattle.value_text.specs.declared.Attribute.{Attribute}
 use Rattle.value_text.specs.declared.Told.{Told}
@@ -66,7 +65,7 @@ is-item w t area f {r} {s} {a} e q i h =
 -- the bytes of a good item's attribute are plain
 pub plain-item :
     (area w : List ℕ) (k : ℕ) {i : Item} {s : List ℕ} →
-    table_of area w ≡ Fine →
+    table_of area w ≡ (Ok tt) →
     k < length w / item_width →
     i ≡ item_at w k →
     s ≡ attribute_of area i →
@@ -96,11 +95,11 @@ module _ (h : Head) (t : List ℕ) (lent : Lent) where
   unfolding names_from
   pool-asks a = record { fits = a.fits; good = refl }
 
-  no_name_lem : (id : ℕ) → system_name id [] ≡ Missing
+  no_name_lem : (id : ℕ) → system_name id [] ≡ None
   unfolding name_by_id
   no_name_lem id = go (eqb (top_byte id) 1)
     where
-      go : (b : Bool) → cond b (name_by_id id []) Missing ≡ Missing
+      go : (b : Bool) → cond b (name_by_id id []) None ≡ None
       go true = refl
       go false = refl
 

@@ -1,5 +1,6 @@
 -- Laws of `value_open` and of the promise of specs/Value.antt. No contract cites this file.
 -- In order: the checks (`open-..`); what an open file tells (`opens-..`); the promise (`reads-..`).
+use Rattle.std.specs.Prelude.{Result, Ok, Err}
 use Prim.Native.Nat.{ℕ}
 use native.Mathlib.Omega.{arith}
 use mathlib.Core.Path.{◌≡◌, refl, sym, ap, ◌∙◌}
@@ -7,8 +8,6 @@ use mathlib.Core.List.{List, [], ◌∷◌, ◌++◌}
 use lib.ListN.{length, replicate}
 use Rattle.errors.specs.Refusal.{value_numbers_of}
 use Rattle.errors.specs.declared.Refusal.{Refusal}
-use Rattle.errors.specs.declared.ValueAnswer.{ValueAnswer}
-use Rattle.errors.specs.declared.ValueAnswer.TheVariants.{Refused}
 use Rattle.system_types.specs.Names.{Lent}
 use Rattle.text.specs.declared.Head.{Head}
 use Rattle.text.specs.Inner.Found.{Asks}
@@ -18,17 +17,13 @@ use Rattle.head.specs.Entry.{question, value_with, Check, passes, fails, first_o
 use Rattle.head.specs.Ask.{open_by, open_of}
 use Rattle.head.specs.Inner.Entered.{entered_of}
 use Rattle.head.specs.declared.Opened.{Opened}
-use Rattle.head.specs.declared.OpenRead.{OpenRead}
-use Rattle.head.specs.declared.OpenRead.TheVariants.{Open, Closed}
-use Rattle.head.specs.declared.Entered.TheVariants.{In, Out}
 use Rattle.head.proofs.Entering.{entered-in, entered-out}
 use Rattle.head.proofs.Questions.{open_of-asks}
 use Rattle.items.specs.Items.{table_of}
-use Rattle.items.specs.declared.ItemsRead.{ItemsRead}
-use Rattle.items.specs.declared.ItemsRead.TheVariants.{Good, Bad}
 use Rattle.value_text.specs.declared.Attribute.{Attribute}
 use Rattle.value_text.specs.Value.{value_open, attribute_value, value_answer, value_buffer, ValueReads}
 use Rattle.value_text.specs.Inner.Leads.{Gives, behind_items}
+use Rattle.errors.specs.declared.ValueWritten.{ValueWritten}
 
 -- ---- the checks
 
@@ -54,17 +49,17 @@ items-last f lent items area =
     first_of-behind (length_check f ∷ cap_check Question ∷ names_check lent ∷ mode_check Question ∷ []) (items_check_by (table_of area items))
 
 module _ (f : List ℕ) (lent : Lent) (items area : List ℕ) where
-  pub open-out : {why : Refusal} → entered_of f lent question ≡ Out why → Closed why ≡ value_open f lent items area
+  pub open-out : {why : Refusal} → entered_of f lent question ≡ Err why → Err why ≡ value_open f lent items area
   unfolding value_open or_check
   open-out e = rw (items-last f lent items area, entered-out f lent question e)
 
-  open_by_lem : (r : ItemsRead) → behind_items (opened_of f) r ≡ open_by (opened_of f) (items_check_by r)
-  open_by_lem Good = refl
-  open_by_lem (Bad k) = refl
+  open_by_lem : (r : Result (Unit {0}) ℕ) → behind_items (opened_of f) r ≡ open_by (opened_of f) (items_check_by r)
+  open_by_lem (Ok tt) = refl
+  open_by_lem (Err k) = refl
 
   pub open_in :
-      {o : Opened} {r : ItemsRead} {x : OpenRead} →
-      entered_of f lent question ≡ In o →
+      {o : Opened} {r : Result (Unit {0}) ℕ} {x : Result Head Refusal} →
+      entered_of f lent question ≡ Ok o →
       r ≡ table_of area items →
       x ≡ behind_items o r →
       x ≡ value_open f lent items area
@@ -78,9 +73,9 @@ module _ (f : List ℕ) (lent : Lent) (items area : List ℕ) where
 
 pub record Opens (f : List ℕ) (lent : Lent) (items area : List ℕ) (h : Head) : Type 0 where
   pub asks : Asks (tables_in f h) lent h
-  pub good : table_of area items ≡ Good
+  pub good : table_of area items ≡ (Ok tt)
 
-module _ (f : List ℕ) (lent : Lent) (items area : List ℕ) {h : Head} (open' : value_open f lent items area ≡ Open h) where
+module _ (f : List ℕ) (lent : Lent) (items area : List ℕ) {h : Head} (open' : value_open f lent items area ≡ Ok h) where
   pub opens : Opens f lent items area h
   unfolding value_open or_check open_of
   opens =
@@ -90,29 +85,29 @@ module _ (f : List ℕ) (lent : Lent) (items area : List ℕ) {h : Head} (open' 
       go :
           (c : Check) →
           first_of (entry_checks f lent question) ≡ c →
-          (r : ItemsRead) →
+          (r : Result (Unit {0}) ℕ) →
           table_of area items ≡ r →
-          open_by (opened_of f) (or_check (first_of (entry_checks f lent question)) (items_check_by (table_of area items))) ≡ Open h →
+          open_by (opened_of f) (or_check (first_of (entry_checks f lent question)) (items_check_by (table_of area items))) ≡ Ok h →
           Opens f lent items area h
       go (fails why) p r q e =
           let e' = rw p at e in
           let z : ◌≡◌ {A = ℕ} 0 1 = cc in
           absurd (let y : ⊥ = omega arith in y)
-      go passes p (Bad k) q e =
+      go passes p (Err k) q e =
           let e' = rw (p, q) at e in
           let z : ◌≡◌ {A = ℕ} 0 1 = cc in
           absurd (let y : ⊥ = omega arith in y)
-      go passes p Good q e =
+      go passes p (Ok tt) q e =
           let e' = rw (p, q) at e in
-          let o : open_of f lent ≡ Open h = rw p e' in
+          let o : open_of f lent ≡ Ok h = rw p e' in
           record { asks = open_of-asks f lent o; good = q }
 
 -- ---- the promise
 
-module _ (f : List ℕ) (lent : Lent) (items area before after : List ℕ) (a : Attribute) {r : ValueAnswer} where
+module _ (f : List ℕ) (lent : Lent) (items area before after : List ℕ) (a : Attribute) {r : Result ValueWritten Refusal} where
   pub reads-open :
       {h : Head} {t : List ℕ} →
-      value_open f lent items area ≡ Open h →
+      value_open f lent items area ≡ Ok h →
       t ≡ tables_in f h →
       Gives (length before) a.kind (attribute_value h t lent items area a) r after →
       ValueReads f lent items area before a r after
@@ -121,8 +116,8 @@ module _ (f : List ℕ) (lent : Lent) (items area before after : List ℕ) (a : 
 
   pub reads-closed :
       {why : Refusal} →
-      value_open f lent items area ≡ Closed why →
-      (r ≡ Refused why) × (after ≡ replicate (length before) 0) →
+      value_open f lent items area ≡ Err why →
+      (r ≡ Err why) × (after ≡ replicate (length before) 0) →
       ValueReads f lent items area before a r after
   unfolding value_answer value_buffer
   reads-closed e g = record { answer = rw e (ap value_numbers_of g.0); out = rw e g.1 }

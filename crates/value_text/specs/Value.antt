@@ -11,13 +11,11 @@
 --
 -- Of an attribute only prefix, name, type and data are looked at, not its namespace. A prefix of 2 is that of the leading attribute, whose value is the
 -- Android namespace. t is the bytes behind the file's header. Laws: proofs/Opening.antt, proofs/Claimed.antt.
-use Rattle.std.specs.Prelude.{ℕ, ◌≡◌, List, [], ◌∷◌, cond, length, replicate, eqb, leb}
+use Rattle.std.specs.Prelude.{ℕ, ◌≡◌, List, [], ◌∷◌, cond, length, replicate, eqb, leb, Option, Some, None, Result, Ok, Err}
 use Rattle.errors.specs.Refusal.{value_numbers_of}
 use Rattle.errors.specs.declared.Refusal.TheVariants.{NothingFound, TextShort, NoPlainText}
 use Rattle.errors.specs.declared.TextState.{TextState}
 use Rattle.errors.specs.declared.TextState.TheVariants as state_is
-use Rattle.errors.specs.declared.ValueAnswer.{ValueAnswer}
-use Rattle.errors.specs.declared.ValueAnswer.TheVariants.{Value as Answered, Refused}
 use Rattle.digits.specs.Digits.{signed_text, hex_text}
 use Rattle.digits.specs.Written.{fitted}
 use Rattle.common.specs.ValueType.{value_type_of}
@@ -27,18 +25,16 @@ use Rattle.common.specs.declared.value.ResourceValueType.TheVariants.{Float, Dim
 use Rattle.common.specs.declared.value.ResourceValueType.TheVariants.{DynamicAttribute, Dec, Hex, Boolean}
 use Rattle.common.specs.declared.value.ResourceValueType.TheVariants.{ColorArgb8, ColorRgb8, ColorArgb4, ColorRgb4, Unknown}
 use Rattle.system_types.specs.Names.{Lent, top_byte, system_name}
-use Rattle.system_types.specs.declared.Lookup.{Lookup}
-use Rattle.system_types.specs.declared.Lookup.TheVariants.{Name, Missing}
 use Rattle.text.specs.declared.Head.{Head}
 use Rattle.text.specs.Content.{Content, none, cut, some, content_of, string_of, text_in, damage_in, android_uri}
 use Rattle.head.specs.Head.{opened_of, tables_in}
 use Rattle.head.specs.Entry.{value_with, first_of, entry_checks}
 use Rattle.head.specs.Ask.{open_by, state_told}
-use Rattle.head.specs.declared.OpenRead.{OpenRead}
-use Rattle.head.specs.declared.OpenRead.TheVariants.{Open, Closed}
 use Rattle.items.specs.Items.{part_in, items_of, named_in}
 use Rattle.items.specs.Values.{Text, nothing, says, attr_text, uncovered_of}
 use Rattle.value_text.specs.declared.Attribute.{Attribute}
+use Rattle.errors.specs.declared.Refusal.{Refusal}
+use Rattle.errors.specs.declared.ValueWritten.{ValueWritten}
 
 -- ---- fixed texts
 
@@ -55,14 +51,14 @@ abbrev pub bool_text : ℕ → List ℕ
 bool_text v = cond (eqb v 0) false_text true_text
 
 -- `@` and the resource's name, whole, or its id
-abbrev pub reference_by : List ℕ → ℕ → Lookup → List ℕ
-reference_by area v (Name start n) = 64 ∷ part_in area start n
-reference_by area v Missing = 64 ∷ hex_text v
+abbrev pub reference_by : List ℕ → ℕ → Option (ℕ × ℕ) → List ℕ
+reference_by area v (Some (start, n)) = 64 ∷ part_in area start n
+reference_by area v None = 64 ∷ hex_text v
 
 -- the attribute's name, whole; else its id behind `@` where it is the framework's, behind `?` where it is not
-abbrev pub attribute_by : List ℕ → ℕ → Lookup → List ℕ
-attribute_by area v (Name start n) = part_in area start n
-attribute_by area v Missing = cond (eqb (top_byte v) 1) 64 63 ∷ hex_text v
+abbrev pub attribute_by : List ℕ → ℕ → Option (ℕ × ℕ) → List ℕ
+attribute_by area v (Some (start, n)) = part_in area start n
+attribute_by area v None = cond (eqb (top_byte v) 1) 64 63 ∷ hex_text v
 
 -- a string is that of the pool, never a system name; past the pool it is empty
 unfoldable pub plain_by : Head → List ℕ → Lent → ℕ → ResourceValueType → Text
@@ -146,16 +142,16 @@ module _ (h : Head) (t : List ℕ) (lent : Lent) (items area : List ℕ) where
 
 -- ---- the checks
 
-unfoldable pub value_open : List ℕ → Lent → List ℕ → List ℕ → OpenRead
+unfoldable pub value_open : List ℕ → Lent → List ℕ → List ℕ → Result Head Refusal
 value_open f lent items area = open_by (opened_of f) (first_of (entry_checks f lent (value_with items area)))
 
 -- ---- the answer
 
 -- with room for n bytes
-abbrev pub answer_by : ℕ → ℕ → Value → ValueAnswer
-answer_by n kind no_name = Refused NothingFound
-answer_by n kind no_text = Refused (NoPlainText kind)
-answer_by n kind (shows s u d) = cond (leb (length s) n) (Answered (length s) u d) (Refused (TextShort (length s)))
+abbrev pub answer_by : ℕ → ℕ → Value → Result ValueWritten Refusal
+answer_by n kind no_name = Err NothingFound
+answer_by n kind no_text = Err (NoPlainText kind)
+answer_by n kind (shows s u d) = cond (leb (length s) n) (Ok (record { length = (length s); uncovered = u; state = d })) (Err (TextShort (length s)))
 
 -- the text and zeros, or zeros
 abbrev pub buffer_by : ℕ → Value → List ℕ
@@ -163,21 +159,21 @@ buffer_by n no_name = replicate n 0
 buffer_by n no_text = replicate n 0
 buffer_by n (shows s u d) = fitted s n
 
-abbrev pub answer_in : List ℕ → Lent → List ℕ → List ℕ → ℕ → Attribute → OpenRead → ValueAnswer
-answer_in f lent items area n a (Closed r) = Refused r
-answer_in f lent items area n a (Open h) = answer_by n a.kind (attribute_value h (tables_in f h) lent items area a)
+abbrev pub answer_in : List ℕ → Lent → List ℕ → List ℕ → ℕ → Attribute → Result Head Refusal → Result ValueWritten Refusal
+answer_in f lent items area n a (Err r) = Err r
+answer_in f lent items area n a (Ok h) = answer_by n a.kind (attribute_value h (tables_in f h) lent items area a)
 
-abbrev pub buffer_in : List ℕ → Lent → List ℕ → List ℕ → ℕ → Attribute → OpenRead → List ℕ
-buffer_in f lent items area n a (Closed r) = replicate n 0
-buffer_in f lent items area n a (Open h) = buffer_by n (attribute_value h (tables_in f h) lent items area a)
+abbrev pub buffer_in : List ℕ → Lent → List ℕ → List ℕ → ℕ → Attribute → Result Head Refusal → List ℕ
+buffer_in f lent items area n a (Err r) = replicate n 0
+buffer_in f lent items area n a (Ok h) = buffer_by n (attribute_value h (tables_in f h) lent items area a)
 
-unfoldable pub value_answer : List ℕ → Lent → List ℕ → List ℕ → ℕ → Attribute → ValueAnswer
+unfoldable pub value_answer : List ℕ → Lent → List ℕ → List ℕ → ℕ → Attribute → Result ValueWritten Refusal
 value_answer f lent items area n a = answer_in f lent items area n a (value_open f lent items area)
 
 unfoldable pub value_buffer : List ℕ → Lent → List ℕ → List ℕ → ℕ → Attribute → List ℕ
 value_buffer f lent items area n a = buffer_in f lent items area n a (value_open f lent items area)
 
 pub record ValueReads
-    (f : List ℕ) (lent : Lent) (items area before : List ℕ) (a : Attribute) (r : ValueAnswer) (after : List ℕ) : Type 0 where
+    (f : List ℕ) (lent : Lent) (items area before : List ℕ) (a : Attribute) (r : Result ValueWritten Refusal) (after : List ℕ) : Type 0 where
   pub answer : value_numbers_of r ≡ value_numbers_of (value_answer f lent items area (length before) a)
   pub out : after ≡ value_buffer f lent items area (length before) a

@@ -7,20 +7,18 @@
 
 pub mod plain;
 
-ghost use Rattle.std.specs.Prelude.{◌≡◌, true, List, ◌/◌, ◌≤◌, ◌<◌, length, replicate};
+ghost use Rattle.std.specs.Prelude.{◌≡◌, true, List, ◌/◌, ◌≤◌, ◌<◌, length, replicate, Ok, Err};
 ghost use Rattle.records.specs.Limits.{file_limit};
 ghost use Rattle.system_types.specs.Names.{lends};
 ghost use Rattle.text.specs.Content.{is_text, string_of, text_in, android_uri};
 ghost use Rattle.text.specs.Inner.Found.{Asks, Inside, part_of, is_found};
 ghost use Rattle.items.specs.Items.{item_at, attribute_of, table_of};
-ghost use Rattle.items.specs.declared.ItemsRead.TheVariants.{Good};
 ghost use Rattle.records.specs.Words.{item_width};
 ghost use Rattle.items.specs.Inner.Firsts.{Firsts};
 ghost use Rattle.items.specs.Inner.Turns.{FirstNamed, RunOf};
 ghost use Rattle.utf.specs.Text.{eq_bytes};
 ghost use Rattle.common.specs.ValueType.{value_type_of};
 ghost use Rattle.errors.specs.declared.TextState.TheVariants.{Whole};
-ghost use Rattle.errors.specs.declared.ValueAnswer.TheVariants.{Refused};
 ghost use Rattle.head.specs.Ask.{head_read};
 ghost use Rattle.items.specs.Values.{nothing};
 ghost use Rattle.value_text.specs.Value.{shows, string_state, or_plain, plain_by, plain_state, named_value, attribute_value, value_open, ValueReads};
@@ -28,11 +26,9 @@ ghost use Rattle.value_text.specs.Inner.Leads.{Leads, Tells, Gives, behind_items
 
 use common::StringIndex;
 use digits::{put_bytes, zero};
-use errors::{Refusal, TextState, ValueAnswer};
-use head::{Asker, Entered, OpenRead, Opened, enter, is_whole, refusal_of, tables_of};
-use items::{
-    ItemsRead, Run, attr_value, check_items, check_known, find_first, item_at, part_of, run_of,
-};
+use errors::{Refusal, TextState, ValueWritten};
+use head::{Asker, Opened, enter, is_whole, refusal_of, tables_of};
+use items::{Run, attr_value, check_items, check_known, find_first, item_at, part_of, run_of};
 use plain::{form_of, is_other, is_pool, put_plain, string_state};
 use records::ITEM_WORDS;
 use text::equal::same_part;
@@ -69,7 +65,7 @@ fn is_item(
     item_area: &[u8],
     k: usize,
 ) -> bool
-    requires { Inside t.now area.now f × (is_found f ≡ true) × (table_of item_area.now items.now ≡ Good) × (k < length items.now / item_width) }
+    requires { Inside t.now area.now f × (is_found f ≡ true) × (table_of item_area.now items.now ≡ (Ok tt)) × (k < length items.now / item_width) }
     ensures { result ≡ eq_bytes (attribute_of item_area.now (item_at items.now k))
         (text_in (part_of utf16 t.now area.now f)) }
 {
@@ -94,7 +90,7 @@ pub fn find_item(
     items: &[u32],
     item_area: &[u8],
 ) -> usize
-    requires { Inside t.now area.now f × (is_found f ≡ true) × (table_of item_area.now items.now ≡ Good) }
+    requires { Inside t.now area.now f × (is_found f ≡ true) × (table_of item_area.now items.now ≡ (Ok tt)) }
     ensures { FirstNamed item_area.now (text_in (part_of utf16 t.now area.now f)) items.now result }
 {
     let whole = items.len() / ITEM_WORDS;
@@ -119,7 +115,7 @@ fn find_known(
     item_area: &[u8],
     firsts: &[usize],
 ) -> usize
-    requires { Inside t.now area.now f × (is_found f ≡ true) × (table_of item_area.now items.now ≡ Good)
+    requires { Inside t.now area.now f × (is_found f ≡ true) × (table_of item_area.now items.now ≡ (Ok tt))
         × (length t.now ≤ file_limit) × Firsts item_area.now items.now firsts.now }
     ensures { FirstNamed item_area.now (text_in (part_of utf16 t.now area.now f)) items.now result }
 {
@@ -142,7 +138,7 @@ pub fn known_run(
     item_area: &[u8],
     firsts: &[usize],
 ) -> Run
-    requires { Inside t.now area.now f × (is_found f ≡ true) × (table_of item_area.now items.now ≡ Good)
+    requires { Inside t.now area.now f × (is_found f ≡ true) × (table_of item_area.now items.now ≡ (Ok tt))
         × (length t.now ≤ file_limit) × Firsts item_area.now items.now firsts.now }
     ensures { RunOf item_area.now (text_in (part_of utf16 t.now area.now f)) items.now result }
 {
@@ -251,7 +247,7 @@ pub fn value_into(
     out: &mut [u8],
     a: Attribute,
 ) -> Told
-    requires { Asks t.now (lends names.now area.now) h × (table_of item_area.now items.now ≡ Good) }
+    requires { Asks t.now (lends names.now area.now) h × (table_of item_area.now items.now ≡ (Ok tt)) }
     ensures { Tells (attribute_value h t.now (lends names.now area.now) items.now item_area.now a)
         out.old result out.new }
 {
@@ -272,24 +268,24 @@ pub fn value_into(
 // ---- the question
 
 // The head of a file whose entry checks pass, behind items that keep their rule.
-fn open_behind(opened: Opened, read: ItemsRead) -> OpenRead
+fn open_behind(opened: Opened, read: Result<(), usize>) -> Result<Head, Refusal>
     ensures { result ≡ behind_items opened read }
 {
     match read {
-        ItemsRead::Good => head_of(opened),
-        ItemsRead::Bad(k) => OpenRead::Closed(Refusal::ItemsError(k)),
+        Ok(()) => head_of(opened),
+        Err(k) => Err(Refusal::ItemsError(k)),
     }
 }
 
-fn head_of(opened: Opened) -> OpenRead
+fn head_of(opened: Opened) -> Result<Head, Refusal>
     ensures { result ≡ head_read opened }
 {
     let end = opened.end;
     let head = opened.head;
     if is_whole(end) {
-        return OpenRead::Open(head);
+        return Ok(head);
     }
-    OpenRead::Closed(refusal_of(end))
+    Err(refusal_of(end))
 }
 
 // The head of a file, or the first refusal: what every entry point checks, then the items, then the head.
@@ -300,13 +296,13 @@ pub fn open_value(
     area: &[u8],
     items: &[u32],
     item_area: &[u8],
-) -> OpenRead
+) -> Result<Head, Refusal>
     ensures { result ≡ value_open file.now (lends names.now area.now) items.now item_area.now }
 {
     let entered = enter(file, names, area, Asker::Question);
     match entered {
-        Entered::In(opened) => open_behind(opened, check_items(items, item_area)),
-        Entered::Out(why) => OpenRead::Closed(why),
+        Ok(opened) => open_behind(opened, check_items(items, item_area)),
+        Err(why) => Err(why),
     }
 }
 
@@ -319,37 +315,42 @@ pub fn open_known(
     items: &[u32],
     item_area: &[u8],
     firsts: &[usize],
-) -> OpenRead
+) -> Result<Head, Refusal>
     requires { Firsts item_area.now items.now firsts.now }
     ensures { result ≡ value_open file.now (lends names.now area.now) items.now item_area.now }
 {
     let entered = enter(file, names, area, Asker::Question);
     match entered {
-        Entered::In(opened) => open_behind(opened, check_known(items, item_area, firsts)),
-        Entered::Out(why) => OpenRead::Closed(why),
+        Ok(opened) => open_behind(opened, check_known(items, item_area, firsts)),
+        Err(why) => Err(why),
     }
 }
 
-fn refuse(out: &mut [u8], why: Refusal) -> ValueAnswer
-    ensures { (result ≡ Refused why) × (out.new ≡ replicate (length out.old) 0) }
+fn refuse(out: &mut [u8], why: Refusal) -> Result<ValueWritten, Refusal>
+    ensures { (result ≡ Err why) × (out.new ≡ replicate (length out.old) 0) }
 {
     zero(out);
-    ValueAnswer::Refused(why)
+    Err(why)
 }
 
 // A text of n bytes that stands at the front of the buffer, if it fits.
-fn settle(out: &mut [u8], n: usize, uncovered: u32, state: TextState) -> ValueAnswer
+fn settle(
+    out: &mut [u8],
+    n: usize,
+    uncovered: u32,
+    state: TextState,
+) -> Result<ValueWritten, Refusal>
     ensures { (s l : List _) → Leads s l n out.old → Gives (length l) 0 (shows s uncovered state) result out.new }
 {
     if out.len() < n {
         return refuse(out, Refusal::TextShort(n));
     }
     zero(&mut out[n..]);
-    ValueAnswer::Value {
+    Ok(ValueWritten {
         length: n,
         uncovered,
         state,
-    }
+    })
 }
 
 fn value_in(
@@ -361,8 +362,8 @@ fn value_in(
     item_area: &[u8],
     out: &mut [u8],
     a: Attribute,
-) -> ValueAnswer
-    requires { Asks t.now (lends names.now area.now) h × (table_of item_area.now items.now ≡ Good) }
+) -> Result<ValueWritten, Refusal>
+    requires { Asks t.now (lends names.now area.now) h × (table_of item_area.now items.now ≡ (Ok tt)) }
     ensures { Gives (length out.old) a.kind
         (attribute_value h t.now (lends names.now area.now) items.now item_area.now a)
         result out.new }
@@ -387,13 +388,13 @@ pub fn value_text(
     item_area: &[u8],
     out: &mut [u8],
     attribute: Attribute,
-) -> ValueAnswer
+) -> Result<ValueWritten, Refusal>
     ensures { ValueReads file.now (lends names.now area.now) items.now item_area.now
         out.old attribute result out.new }
 {
     let opened = open_value(file, names, area, items, item_area);
     match opened {
-        OpenRead::Open(h) => value_in(
+        Ok(h) => value_in(
             tables_of(file, h),
             names,
             area,
@@ -403,6 +404,6 @@ pub fn value_text(
             out,
             attribute,
         ),
-        OpenRead::Closed(why) => refuse(out, why),
+        Err(why) => refuse(out, why),
     }
 }

@@ -20,7 +20,7 @@ use digits::{put_byte, put_bytes, put_hex, put_signed};
 use errors::TextState;
 use head::found_told;
 use items::part_of;
-use system_types::{Lookup, get_type_name};
+use system_types::get_type_name;
 use text::{Found, Head, find, found_into, is_found};
 
 // How a value is written.
@@ -75,8 +75,8 @@ fn put_reference(out: &mut [u8], names: &[u32], area: &[u8], v: u32) -> usize
 {
     let name = get_type_name(names, ResourceId(v));
     match name {
-        Lookup::Name(start, n) => put_at(out, area, start, n),
-        Lookup::Missing => put_marked(out, 64, v),
+        Some((start, n)) => put_at(out, area, start, n),
+        None => put_marked(out, 64, v),
     }
 }
 
@@ -96,8 +96,8 @@ fn put_attribute(out: &mut [u8], names: &[u32], area: &[u8], v: u32) -> usize
 {
     let name = get_type_name(names, ResourceId(v));
     match name {
-        Lookup::Name(start, n) => put_bytes(out, 0, part_of(area, start, n)),
-        Lookup::Missing => put_marked(out, mark_of(v), v),
+        Some((start, n)) => put_bytes(out, 0, part_of(area, start, n)),
+        None => put_marked(out, mark_of(v), v),
     }
 }
 

@@ -1,6 +1,7 @@
 -- The loop of `read_on`: each way out keeps the outcome of the whole reading. No contract cites this file.
 -- In order: the loop's head (`ReadHead`), then what a turn comes to: a refusal (`read-full`), a note past its cap (`read_past`), one within it
 -- (`read-due`), which has a place or refuses. Not here: the end (Finishing.antt).
+use Rattle.std.specs.Prelude.{Err}
 use Prim.Native.Nat.{ℕ, ◌+◌, ◌-◌, ◌≤◌, ◌<◌}
 use native.Mathlib.Omega.{arith}
 use native.Mathlib.Numerals.{add-one}
@@ -16,7 +17,6 @@ use Rattle.anomaly.specs.declared.Note.{Note as NoteOf}
 use Rattle.anomaly.specs.declared.ResAnomaly.{ResAnomaly}
 use Rattle.errors.specs.declared.Refusal.{Refusal}
 use Rattle.errors.specs.declared.Refusal.TheVariants.{NotesFull}
-use Rattle.errors.specs.declared.ReadAnswer.TheVariants.{Refused}
 use Rattle.system_types.specs.Names.{Lent}
 use Rattle.head.specs.Head.{tables_in, body_in}
 use Rattle.events.specs.declared.Cursor.{Cursor}
@@ -113,7 +113,7 @@ module _ (f : List ℕ) (lent : Lent) (ns₀ ats₀ : List ℕ) (st : State) (g 
   refused-by x out r ns'' ats'' w =
       let z : st.room - 0 ≡ st.room = omega arith in
       rw (w.state, w.nodes, w.attributes)
-      (clears f lent ns₀ ats₀ st g (replicate (length ns') 0) (replicate (length ats') 0) 0 (Refused x) (λ lt. omega (arith, hd.much))
+      (clears f lent ns₀ ats₀ st g (replicate (length ns') 0) (replicate (length ats') 0) 0 (Err x) (λ lt. omega (arith, hd.much))
       (λ os l. hd.same os l ∙ ap (final_of R) (out os l) ∙ rw (ln, la, hd.ln, hd.la, z)))
 
   pub read-full : (x : Refusal) → h.stop ≡ Full x → (r : State) (ns'' ats'' : List ℕ) → Refuses ns' ats' st x r ns'' ats''

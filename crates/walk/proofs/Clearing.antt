@@ -1,5 +1,6 @@
 -- The answer is known and the note table is cleared place by place: each call keeps the outcome. No contract cites this file.
 -- In order: stages differ, a place cleared (`clear_step`, `clear-end`), `clears` for every way into clearing, `goes-clearing` for its own turns.
+use Rattle.std.specs.Prelude.{Result}
 use Prim.Native.Nat.{ℕ, suc, ◌+◌, ◌-◌, ◌≤◌, ◌<◌}
 use native.Mathlib.Omega.{arith}
 use native.Mathlib.Numerals.{add-one}
@@ -11,13 +12,14 @@ use lib.ListN.{length, take, set, replicate}
 use lib.Seq.{take_all, take-suc-set}
 use lib.Dec.{ltb}
 use Rattle.anomaly.specs.declared.Note.{Note as NoteOf}
-use Rattle.errors.specs.declared.ReadAnswer.{ReadAnswer}
 use Rattle.system_types.specs.Names.{Lent}
 use Rattle.walk.specs.declared.Stage.{Stage}
 use Rattle.walk.specs.declared.Stage.TheVariants.{Fresh, Reading as InBody, Clearing}
 use Rattle.walk.specs.declared.State.{State}
 use Rattle.walk.specs.Reading.{Reading, zero_note}
 use Rattle.walk.specs.Inner.Outcome.{clearing_at, clear_next, cleared, outcome, StateOk, steps_left, Advanced}
+use Rattle.errors.specs.declared.ReadCounts.{ReadCounts}
+use Rattle.errors.specs.declared.Refusal.{Refusal}
 
 pub true-false : true ≡ false → ⊥
 true-false e = let z : ◌≡◌ {A = ℕ} 0 1 = cc in omega arith
@@ -25,21 +27,21 @@ true-false e = let z : ◌≡◌ {A = ℕ} 0 1 = cc in omega arith
 pub false-true : false ≡ true → ⊥
 false-true e = true-false (sym e)
 
-pub clearing-not : (a : ReadAnswer) → Clearing a ≡ InBody → ⊥
+pub clearing-not : (a : Result ReadCounts Refusal) → Clearing a ≡ InBody → ⊥
 clearing-not a e = let z : ◌≡◌ {A = ℕ} 0 1 = cc in omega arith
 
-pub fresh-clears : (a : ReadAnswer) → Fresh ≡ Clearing a → ⊥
+pub fresh-clears : (a : Result ReadCounts Refusal) → Fresh ≡ Clearing a → ⊥
 fresh-clears a e = let z : ◌≡◌ {A = ℕ} 0 1 = cc in omega arith
 
-pub reading-clears : (a : ReadAnswer) → InBody ≡ Clearing a → ⊥
+pub reading-clears : (a : Result ReadCounts Refusal) → InBody ≡ Clearing a → ⊥
 reading-clears a e = clearing-not a (sym e)
 
-abbrev answer_at : ReadAnswer → Stage → ReadAnswer
+abbrev answer_at : Result ReadCounts Refusal → Stage → Result ReadCounts Refusal
 answer_at b Fresh = b
 answer_at b InBody = b
 answer_at b (Clearing a) = a
 
-pub clearing-same : {a b : ReadAnswer} → Clearing a ≡ Clearing b → a ≡ b
+pub clearing-same : {a b : Result ReadCounts Refusal} → Clearing a ≡ Clearing b → a ≡ b
 clearing-same {a} {b} e = ap (answer_at b) e
 
 pub fresh-not : Fresh ≡ InBody → ⊥
@@ -60,11 +62,11 @@ clear-end os c room l h = let e : room - c ≡ 0 = omega arith in rw (e, take_al
 -- ---- a call
 
 module _ (f : List ℕ) (lent : Lent) (ns ats : List ℕ) (st : State) (g : StateOk f lent ns ats st) where
-  abbrev gives : ReadAnswer → List ℕ → List ℕ → List NoteOf → Reading
+  abbrev gives : Result ReadCounts Refusal → List ℕ → List ℕ → List NoteOf → Reading
   gives a ns' ats' os = record { answer = a; nodes = ns'; attributes = ats'; notes = os }
 
   -- the answer is a, and zeros come from the place c on
-  pub clears : (ns' ats' : List ℕ) (c : ℕ) (a : ReadAnswer) → (c < st.room → st.room - c < steps_left f lent st)
+  pub clears : (ns' ats' : List ℕ) (c : ℕ) (a : Result ReadCounts Refusal) → (c < st.room → st.room - c < steps_left f lent st)
       → ((os : List NoteOf) → length os ≡ st.room → outcome f lent ns ats os st g.stack ≡ gives a ns' ats' (cleared os c st.room))
       → Advanced f lent ns ats st g (clearing_at st c a) ns' ats'
   clears ns' ats' c a less out = go (ltb c st.room) refl
@@ -114,7 +116,7 @@ module _ (f : List ℕ) (lent : Lent) (ns ats : List ℕ) (st : State) (g : Stat
         ends = λ _ b h os l. (out os l ∙ rw (h a refl) (ap (gives a ns' ats') (clear-end os c st.room l (ltb-false _ _ e))));
       }
 
-  pub goes-clearing : (a : ReadAnswer) → st.stage ≡ Clearing a → Advanced f lent ns ats st g (clear_next st a) ns ats
+  pub goes-clearing : (a : Result ReadCounts Refusal) → st.stage ≡ Clearing a → Advanced f lent ns ats st g (clear_next st a) ns ats
   goes-clearing a t = go (ltb st.slot st.room) refl
     where
       here : (os : List NoteOf) → outcome f lent ns ats os st g.stack ≡ gives a ns ats (cleared os (st.slot + 1) st.room)

@@ -1,5 +1,6 @@
 -- The end of the loop of `read_on`: what is kept stays, zeros come behind it, and this is what the promise says. No contract cites this file.
 -- In order: what is kept is there (`kept-nodes-le`, `kept-attributes-le`), what `finish` asks (`read-keepable`), `read_done`.
+use Rattle.std.specs.Prelude.{Ok}
 use Prim.Native.Nat.{ℕ, ◌-◌, ◌*◌, ◌/◌, ◌≤◌}
 use native.Mathlib.Omega.{arith}
 use mathlib.Core.Path.{◌≡◌, refl, sym, ◌∙◌, ap}
@@ -10,7 +11,6 @@ use lib.ListN.{length, take, replicate}
 use lib.Seq.{take-take, length-take-le}
 use lib.Dec.{eqb}
 use Rattle.anomaly.specs.declared.Note.{Note as NoteOf}
-use Rattle.errors.specs.declared.ReadAnswer.TheVariants.{Done}
 use Rattle.records.specs.Words.{node_width, attribute_width}
 use Rattle.system_types.specs.Names.{Lent}
 use Rattle.events.specs.declared.Cursor.{Cursor}
@@ -111,7 +111,7 @@ module _ (f : List ℕ) (lent : Lent) (ns₀ ats₀ : List ℕ) (st : State) (g 
 
   unfoldable shape : List NoteOf → ℕ → ℕ → ℕ → ℕ → Reading
   shape os n k a m = record {
-    answer = Done (record { starts = n; nodes = k; attributes = a; notes = m });
+    answer = Ok (record { starts = n; nodes = k; attributes = a; notes = m });
     nodes = take (node_width * k) (take (node_width * h.tree.nodes) ns') ++ replicate (length ns₀ - node_width * k) 0;
     attributes = take (attribute_width * a) (take (attribute_width * h.tree.attributes) ats') ++ replicate (length ats₀ - attribute_width * a) 0;
     notes = os-of os ++ replicate (st.room - m) zero_note;

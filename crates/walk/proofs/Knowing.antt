@@ -1,5 +1,6 @@
 -- Laws of specs/Inner/KnownSoFar.antt: nothing is known in zeros, whatever the state (`knows-none`); an answer asks nothing (`knows-refused`, `knows-finished`,
 -- `knows-cleared`); a note leaves what is known (`knows-noted`), and the head opened begins with nothing (`knows-started`). No contract cites this file.
+use Rattle.std.specs.Prelude.{Result}
 use Prim.Native.Nat.{ℕ}
 use mathlib.Core.Path.{◌≡◌, refl, sym, ◌∙◌, ap}
 use mathlib.Core.List.{List}
@@ -9,7 +10,6 @@ use lib.ListN.{length, replicate}
 use lib.Dec.{ltb}
 use Rattle.anomaly.specs.declared.ResAnomaly.{ResAnomaly}
 use Rattle.errors.specs.declared.Refusal.{Refusal}
-use Rattle.errors.specs.declared.ReadAnswer.{ReadAnswer}
 use Rattle.system_types.specs.Names.{Lent}
 use Rattle.head.specs.declared.Opened.{Opened}
 use Rattle.head.specs.Head.{tables_in}
@@ -24,6 +24,7 @@ use Rattle.walk.specs.declared.State.{State}
 use Rattle.walk.specs.Inner.KnownSoFar.{KnownSoFar}
 use Rattle.walk.specs.Inner.Outcome.{started_by, clear_next, Refuses, Finishes, Noted}
 use Rattle.walk.proofs.Clearing.{clearing-not, fresh-not, fresh-clears}
+use Rattle.errors.specs.declared.ReadCounts.{ReadCounts}
 
 module _ (f : List ℕ) (lent : Lent) where
   abbrev Looks : State → List ℕ → Type 0
@@ -49,7 +50,7 @@ module _ (f : List ℕ) (lent : Lent) where
   }
 
   module _ (m k : List ℕ) (looks : length m ≡ words) (texts : length k ≡ word_count) where
-    clearing-knows : (r : State) (a : ReadAnswer) → r.stage ≡ Clearing a → KnownSoFar f lent r m k
+    clearing-knows : (r : State) (a : Result ReadCounts Refusal) → r.stage ≡ Clearing a → KnownSoFar f lent r m k
     clearing-knows r a e = record {
       looks-room = looks;
       texts-room = texts;
@@ -65,7 +66,7 @@ module _ (f : List ℕ) (lent : Lent) where
     pub knows-finished : (ns ats : List ℕ) (st : State) (t : Tree) (r : State) (ns' ats' : List ℕ) → Finishes ns ats st t r ns' ats' → KnownSoFar f lent r m k
     knows-finished ns ats st t r ns' ats' w = clearing-knows r _ (ap (λ (s : State). s.stage) w.state)
 
-    pub knows-cleared : (st : State) (a : ReadAnswer) (r : State) → r ≡ clear_next st a → KnownSoFar f lent r m k
+    pub knows-cleared : (st : State) (a : Result ReadCounts Refusal) (r : State) → r ≡ clear_next st a → KnownSoFar f lent r m k
     knows-cleared st a r e = clearing-knows r _ (ap (λ (s : State). s.stage) e)
 
     -- the state while the body is read, with what is known of the head o

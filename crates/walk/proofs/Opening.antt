@@ -1,6 +1,7 @@
 -- The first call: what refuses before the file is read, and the head opened. No contract cites this file.
 -- In order: the first state (`first_good`, `first-same`, `reads-of-whole`), the refusals of the entry checks (`fresh-out`), the state behind the head
 -- (`started-good`, `started-same`), and that a call from there is a call from here (`advanced-started`).
+use Rattle.std.specs.Prelude.{Result, Ok, Err}
 use Prim.Native.Nat.{ℕ, ◌+◌, ◌-◌, ◌*◌, ◌≤◌}
 use native.Mathlib.Omega.{arith}
 use mathlib.Core.Path.{◌≡◌, refl, ◌∙◌, ap}
@@ -8,8 +9,6 @@ use mathlib.Core.List.{List, []}
 use lib.ListN.{length, drop, replicate, length-drop}
 use Rattle.anomaly.specs.declared.Note.{Note as NoteOf}
 use Rattle.errors.specs.declared.Refusal.{Refusal}
-use Rattle.errors.specs.declared.ReadAnswer.{ReadAnswer}
-use Rattle.errors.specs.declared.ReadAnswer.TheVariants.{Refused}
 use Rattle.errors.specs.Refusal.{numbers_of}
 use Rattle.system_types.specs.Names.{Lent}
 use Rattle.head.specs.Head.{opened_of, tables_in, body_in}
@@ -21,7 +20,6 @@ use Rattle.head.proofs.Laws.{opened_of-fits}
 use Rattle.head.specs.Entry.{reading_at, Check, passes, fails, first_of, entry_checks}
 use Rattle.head.specs.Inner.Entered.{entered_of}
 use Rattle.head.specs.declared.Opened.{Opened}
-use Rattle.head.specs.declared.Entered.TheVariants.{In, Out}
 use Rattle.head.proofs.Entering.{Passed, passed, entered-in, entered-out}
 use Rattle.events.proofs.Steps.{pending-first, within_first}
 use Rattle.walk.specs.declared.Stage.TheVariants.{Fresh, Reading as InBody}
@@ -30,6 +28,7 @@ use Rattle.walk.specs.Settle.{Room}
 use Rattle.walk.specs.Reading.{Reading, settled_in, reading_by, reading, room_in, Reads}
 use Rattle.walk.specs.Inner.Outcome.{first, started_by, Refuses, room_of, outcome, StateOk, steps_left, Advanced, Leaves}
 use Rattle.walk.proofs.Clearing.{fresh-not, clears}
+use Rattle.errors.specs.declared.ReadCounts.{ReadCounts}
 
 -- ---- the first state
 
@@ -41,7 +40,7 @@ pub first-same : (f : List ℕ) (lent : Lent) (ns ats : List ℕ) (os : List Not
 first-same f lent ns ats os cap mode = refl
 
 -- the one equation says the numbers and the tables
-pub reads-of-whole : (f : List ℕ) (lent : Lent) (ns ats : List ℕ) (os : List NoteOf) (cap mode : ℕ) (r : ReadAnswer) (ns' ats' : List ℕ) (os' : List NoteOf)
+pub reads-of-whole : (f : List ℕ) (lent : Lent) (ns ats : List ℕ) (os : List NoteOf) (cap mode : ℕ) (r : Result ReadCounts Refusal) (ns' ats' : List ℕ) (os' : List NoteOf)
     → Leaves f lent ns ats os cap mode r ns' ats' os' → Reads f lent ns ats os cap mode r ns' ats' os'
 reads-of-whole f lent ns ats os cap mode r ns' ats' os' h = record {
   answer = ap (λ (x : Reading). numbers_of x.answer) h.whole;
@@ -69,16 +68,16 @@ module _ (f : List ℕ) (lent : Lent) (ns ats : List ℕ) (st : State) (g : Stat
   refuses-first x e r ns' ats' w =
       let z : st.room - 0 ≡ st.room = omega arith in
       rw (w.state, w.nodes, w.attributes)
-      (clears f lent ns ats st g (replicate (length ns) 0) (replicate (length ats) 0) 0 (Refused x) (λ lt. omega (arith, much))
+      (clears f lent ns ats st g (replicate (length ns) 0) (replicate (length ats) 0) 0 (Err x) (λ lt. omega (arith, much))
       (λ os l. rw (fresh, reading-by R f lent (fails x) e, z)))
 
-  pub fresh-out : {x : Refusal} → entered_of f lent (reading_at st.cap st.mode) ≡ Out x → (r : State) (ns' ats' : List ℕ) → Refuses ns ats st x r ns' ats'
+  pub fresh-out : {x : Refusal} → entered_of f lent (reading_at st.cap st.mode) ≡ Err x → (r : State) (ns' ats' : List ℕ) → Refuses ns ats st x r ns' ats'
       → Advanced f lent ns ats st g r ns' ats'
   fresh-out {x} e = refuses-first x (entered-out f lent (reading_at st.cap st.mode) e)
 
   -- ---- the head is opened
 
-  module _ {o : Opened} (entered : entered_of f lent (reading_at st.cap st.mode) ≡ In o) where
+  module _ {o : Opened} (entered : entered_of f lent (reading_at st.cap st.mode) ≡ Ok o) where
     passes-in : first_of (entry_checks f lent (reading_at st.cap st.mode)) ≡ passes
     passes-in = (entered-in f lent (reading_at st.cap st.mode) entered).0
 

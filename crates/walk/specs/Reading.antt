@@ -5,11 +5,9 @@
 --   succeeds    the kept records and the notes, and zeros behind them
 --   dropped_in   what is dropped: the outermost element inside the first that is never closed, and all starts after it
 --   Reads       the same as what a call promises: the numbers of its answer (B7), and its three tables
-use Rattle.std.specs.Prelude.{ℕ, ◌+◌, ◌-◌, ◌*◌, ◌/◌, ◌≡◌, List, [], ◌∷◌, ◌++◌, length, take, get_or, replicate}
+use Rattle.std.specs.Prelude.{ℕ, ◌+◌, ◌-◌, ◌*◌, ◌/◌, ◌≡◌, List, [], ◌∷◌, ◌++◌, length, take, get_or, replicate, Result, Ok, Err}
 use Rattle.anomaly.specs.declared.Note.{Note as NoteOf}
 use Rattle.errors.specs.declared.Refusal.{Refusal}
-use Rattle.errors.specs.declared.ReadAnswer.{ReadAnswer}
-use Rattle.errors.specs.declared.ReadAnswer.TheVariants.{Done, Refused}
 use Rattle.errors.specs.Refusal.{numbers_of}
 use Rattle.head.specs.declared.Opened.{Opened}
 use Rattle.head.specs.Head.{opened_of, tables_in, body_in}
@@ -18,9 +16,10 @@ use Rattle.events.specs.Events.{names_in, file_events}
 use Rattle.records.specs.Words.{node_width, node_first, attribute_width}
 use Rattle.system_types.specs.Names.{Lent}
 use Rattle.walk.specs.Settle.{Room, Tables, Out, going, refused, settle, nothing_yet}
+use Rattle.errors.specs.declared.ReadCounts.{ReadCounts}
 
 pub record Reading : Type 0 where
-  pub answer : ReadAnswer
+  pub answer : Result ReadCounts Refusal
   pub nodes : List ℕ
   pub attributes : List ℕ
   pub notes : List NoteOf
@@ -31,7 +30,7 @@ zero_note = record { kind = 0; a = 0; b = 0 }
 -- ---- a refusal
 
 abbrev pub refuses : Room → Refusal → Reading
-refuses r x = record { answer = Refused x; nodes = replicate r.nodes 0; attributes = replicate r.attributes 0; notes = replicate r.notes zero_note }
+refuses r x = record { answer = Err x; nodes = replicate r.nodes 0; attributes = replicate r.attributes 0; notes = replicate r.notes zero_note }
 
 -- ---- a success
 
@@ -66,7 +65,7 @@ attributes_kept t = attributes_kept_by t.nodes (length t.attributes / attribute_
 
 abbrev pub succeeds : Room → Tables → Reading
 succeeds r t = record {
-  answer = Done (record { starts = length t.nodes / node_width; nodes = nodes_kept t; attributes = attributes_kept t; notes = length t.notes });
+  answer = Ok (record { starts = length t.nodes / node_width; nodes = nodes_kept t; attributes = attributes_kept t; notes = length t.notes });
   nodes = take (node_width * nodes_kept t) t.nodes ++ replicate (r.nodes - node_width * nodes_kept t) 0;
   attributes = take (attribute_width * attributes_kept t) t.attributes ++ replicate (r.attributes - attribute_width * attributes_kept t) 0;
   notes = t.notes ++ replicate (r.notes - length t.notes) zero_note;
@@ -98,7 +97,7 @@ abbrev pub room_in : List ℕ → List ℕ → List NoteOf → ℕ → ℕ → R
 room_in nodes attributes notes cap mode = record { nodes = length nodes; attributes = length attributes; notes = length notes; cap = cap; mode = mode }
 
 -- what a call of `read` leaves: the numbers of the answer (B7), and each lent table whole
-pub record Reads (f : List ℕ) (lent : Lent) (ns ats : List ℕ) (os : List NoteOf) (cap mode : ℕ) (r : ReadAnswer) (ns' ats' : List ℕ) (os' : List NoteOf) : Type 0 where
+pub record Reads (f : List ℕ) (lent : Lent) (ns ats : List ℕ) (os : List NoteOf) (cap mode : ℕ) (r : Result ReadCounts Refusal) (ns' ats' : List ℕ) (os' : List NoteOf) : Type 0 where
   pub answer : numbers_of r ≡ numbers_of (reading (room_in ns ats os cap mode) f lent).answer
   pub nodes : ns' ≡ (reading (room_in ns ats os cap mode) f lent).nodes
   pub attributes : ats' ≡ (reading (room_in ns ats os cap mode) f lent).attributes

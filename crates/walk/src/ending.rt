@@ -8,13 +8,13 @@ ghost use Rattle.walk.specs.Inner.Outcome.{clearing_at, clear_next, noted_by, Re
 use crate::tree::{Tree, kept_attributes, kept_nodes};
 use crate::{Stage, State};
 use anomaly::{Note, ResAnomaly, kind_index, note_of};
-use errors::{ReadAnswer, ReadCounts, Refusal};
+use errors::{ReadCounts, Refusal};
 use events::Cursor;
 use records::{attribute_place, node_place};
 use tables::{zero_all, zero_from};
 
 // The answer is known, and the note table is to be cleared from the place `from` on.
-fn to_clear(st: State, from: usize, answer: ReadAnswer) -> State
+fn to_clear(st: State, from: usize, answer: Result<ReadCounts, Refusal>) -> State
     ensures { result ≡ clearing_at st from answer }
 {
     let opened = st.opened;
@@ -60,7 +60,7 @@ fn to_clear(st: State, from: usize, answer: ReadAnswer) -> State
 }
 
 // The next place to clear, where there is one. Ruled out: a place passed over, and one behind the last.
-pub fn clear_next(st: State, answer: ReadAnswer) -> State
+pub fn clear_next(st: State, answer: Result<ReadCounts, Refusal>) -> State
     ensures { result ≡ clear_next st answer }
 {
     let slot = st.slot;
@@ -76,7 +76,7 @@ pub fn refuse(nodes: &mut [u32], attributes: &mut [u32], st: State, x: Refusal) 
 {
     zero_all(nodes);
     zero_all(attributes);
-    to_clear(st, 0, ReadAnswer::Refused(x))
+    to_clear(st, 0, Err(x))
 }
 
 // A success leaves the kept records and zeros behind them.
@@ -97,7 +97,7 @@ pub fn finish(nodes: &mut [u32], attributes: &mut [u32], st: State, tree: Tree) 
         attributes: a,
         notes: used as u32,
     };
-    to_clear(st, used, ReadAnswer::Done(counts))
+    to_clear(st, used, Ok(counts))
 }
 
 // A note is to be written: it is counted, and its place is the next.

@@ -19,10 +19,10 @@ ghost use Rattle.walk.specs.Inner.KnownSoFar.{KnownSoFar};
 
 use anomaly::{Note, Notes, kind_index};
 use ending::{clear_next, finish, note_due, refuse};
-use errors::{ReadAnswer, Refusal};
+use errors::{ReadCounts, Refusal};
 pub use events::memory::MEMORY;
 use events::{Cursor, first_cursor};
-use head::{Asker, Entered, HeadEnd, Opened, enter};
+use head::{Asker, HeadEnd, Opened, enter};
 use passing::pass_in;
 use placing::{Stop, run_in};
 use res_string_pool::Garbage;
@@ -38,7 +38,7 @@ pub enum Stage {
     // the head is opened, and events come
     Reading,
     // the answer is known, and the note table is cleared
-    Clearing(ReadAnswer),
+    Clearing(Result<ReadCounts, Refusal>),
 }
 
 // The reader between two notes: whether all is done, the place and the note that the caller is to write, how many places the note table has
@@ -206,8 +206,8 @@ fn start(
 {
     let entered = enter(file, names, area, Asker::Reading(st.cap, st.mode));
     match entered {
-        Entered::Out(x) => refuse(nodes, attributes, st, x),
-        Entered::In(opened) => read_on(
+        Err(x) => refuse(nodes, attributes, st, x),
+        Ok(opened) => read_on(
             file,
             names,
             area,
@@ -222,13 +222,13 @@ fn start(
 
 // The answer of a reading that has one; a state without an answer is not asked, and what it gives of one is not promised.
 // Ruled out: another answer than the one that the reading came to.
-pub fn answer_of(st: State) -> ReadAnswer
+pub fn answer_of(st: State) -> Result<ReadCounts, Refusal>
     ensures { Answers st result }
 {
     let stage = st.stage;
     match stage {
-        Stage::Fresh => ReadAnswer::Refused(Refusal::MissingRoot),
-        Stage::Reading => ReadAnswer::Refused(Refusal::MissingRoot),
+        Stage::Fresh => Err(Refusal::MissingRoot),
+        Stage::Reading => Err(Refusal::MissingRoot),
         Stage::Clearing(answer) => answer,
     }
 }

@@ -1,6 +1,7 @@
 -- Laws of specs/Chunk.antt, for this crate, events and walk. No contract cites this file.
 -- In order: numbers of a start; which case holds (`turn_of-stop`, `turn_of-xml`, `turn_of-foreign`, `turn_of-run`); what a turn tells of the bytes
 -- at whose front it stands (`Told`, `turn_of-told`), also at a place of a body (`-there`). Not here: what follows a chunk (proofs/Local.antt).
+use Rattle.std.specs.Prelude.{Option, Some, None}
 use Prim.Native.Nat.{ℕ, ◌+◌, ◌-◌, ◌*◌, ◌≤◌, ◌<◌, zero-le}
 use native.Mathlib.Omega.{arith}
 use native.Mathlib.Nat.{mul-le-mul}
@@ -12,8 +13,6 @@ use lib.ListN.{length, drop, length-drop}
 use lib.Dec.{ltb, eqb}
 use Rattle.common.specs.Header.{header_of}
 use Rattle.common.specs.declared.ResChunkHeader.{ResChunkHeader}
-use Rattle.common.specs.declared.HeaderRead.{HeaderRead}
-use Rattle.common.specs.declared.HeaderRead.TheVariants.{Whole, Short}
 use Rattle.common.proofs.Laws.{header_here, header_of-short, header_of-whole, header_of-long, header_of-short-lt}
 use Rattle.chunk.specs.Sort.{is_xml, chunk_sort, content_size, foreign_len}
 use Rattle.chunk.specs.Inner.Run.{run_used}
@@ -40,15 +39,15 @@ attributes-fit count stride h k = let m : count * stride ≤ 65535 * 65555 = mul
 
 -- ---- which case holds
 
-pub turn_of-stop : (l : List ℕ) → header_of l ≡ Short → turn_of l ≡ Stop
+pub turn_of-stop : (l : List ℕ) → header_of l ≡ None → turn_of l ≡ Stop
 unfolding turn_of
 turn_of-stop l w = rw w
 
-pub turn_of-xml : (l : List ℕ) {h : ResChunkHeader} → header_of l ≡ Whole h → chunk_sort h ≡ 2 → turn_of l ≡ xml_turn l h.kind
+pub turn_of-xml : (l : List ℕ) {h : ResChunkHeader} → header_of l ≡ Some h → chunk_sort h ≡ 2 → turn_of l ≡ xml_turn l h.kind
 unfolding turn_of
 turn_of-xml l w e = rw (w, eq-eqb _ _ e)
 
-pub turn_of-foreign : (l : List ℕ) {h : ResChunkHeader} → header_of l ≡ Whole h → (chunk_sort h ≡ 2 → ⊥)
+pub turn_of-foreign : (l : List ℕ) {h : ResChunkHeader} → header_of l ≡ Some h → (chunk_sort h ≡ 2 → ⊥)
     → turn_of l ≡ Foreign (chunk_sort h) (foreign_number h) (foreign_len (length l) h)
 unfolding turn_of
 turn_of-foreign l w e = rw (w, ne_eqb _ _ e)
@@ -95,14 +94,14 @@ module _ (l : List ℕ) (s : XmlStartElement) (e : s ≡ start_of l) (h : 36 ≤
       )
 
 -- the two foreign turns as `look` makes them
-pub turn_of-foreign-0 : (l : List ℕ) (r : ℕ) {h : ResChunkHeader} → header_of l ≡ Whole h → chunk_sort h ≡ 0
+pub turn_of-foreign-0 : (l : List ℕ) (r : ℕ) {h : ResChunkHeader} → header_of l ≡ Some h → chunk_sort h ≡ 0
     → r ≡ 8 + content_size (length l - 8) h.size → Foreign 0 h.kind r ≡ turn_of l
 unfolding foreign_number foreign_len
 turn_of-foreign-0 l r {h} w e q =
     let n : chunk_sort h ≡ 2 → ⊥ = λ z. omega arith in
     sym (turn_of-foreign l w n ∙ rw (e, ← q))
 
-pub turn_of-foreign-1 : (l : List ℕ) (r : ℕ) {h : ResChunkHeader} → header_of l ≡ Whole h → (chunk_sort h ≡ 2 → ⊥) → (chunk_sort h ≡ 0 → ⊥)
+pub turn_of-foreign-1 : (l : List ℕ) (r : ℕ) {h : ResChunkHeader} → header_of l ≡ Some h → (chunk_sort h ≡ 2 → ⊥) → (chunk_sort h ≡ 0 → ⊥)
     → r ≡ 8 + content_size (length l - 8) h.size → Foreign (chunk_sort h) h.header_size r ≡ turn_of l
 unfolding foreign_number foreign_len
 turn_of-foreign-1 l r {h} w e n q = sym (turn_of-foreign l w e ∙ rw (ne_eqb _ _ n, ← q))
@@ -152,20 +151,20 @@ xml_turn-told l kind h =
     (λ _. cond-by (Told l) (eqb kind 0x104) (λ _. cond-by (Told l) (ltb (length l) 28) (λ _. (omega arith, w)) (λ q. (omega arith, ltb-false _ _ q)))
     (λ _. cond-by (Told l) (ltb (length l) 24) (λ _. (omega arith, w)) (λ q. (omega arith, ltb-false _ _ q)))))))
 
-foreign-told : (l : List ℕ) (h : ResChunkHeader) → header_of l ≡ Whole h → (chunk_sort h ≡ 2 → ⊥)
+foreign-told : (l : List ℕ) (h : ResChunkHeader) → header_of l ≡ Some h → (chunk_sort h ≡ 2 → ⊥)
     → Told l (Foreign (chunk_sort h) (foreign_number h) (foreign_len (length l) h))
 foreign-told l h w n = (sort_of-lt h n, omega (arith, foreign_len-lt (length l) h), foreign_len-le (length l) h (header_of-long l w))
 
 pub turn_of-told : (l : List ℕ) → Told l (turn_of l)
 turn_of-told l = go (header_of l) refl
   where
-    sorted : (h : ResChunkHeader) → header_of l ≡ Whole h → (b : Bool) → eqb (chunk_sort h) 2 ≡ b → Told l (turn_of l)
+    sorted : (h : ResChunkHeader) → header_of l ≡ Some h → (b : Bool) → eqb (chunk_sort h) 2 ≡ b → Told l (turn_of l)
     sorted h w true e = rw (turn_of-xml l w (eqb-true _ _ e)) (xml_turn-told l h.kind (header_of-long l w))
     sorted h w false e = rw (turn_of-foreign l w (eqb-false _ _ e)) (foreign-told l h w (eqb-false _ _ e))
 
-    go : (r : HeaderRead) → header_of l ≡ r → Told l (turn_of l)
-    go Short w = rw (turn_of-stop l w) (header_of-short-lt l w)
-    go (Whole h) w = sorted h w (eqb (chunk_sort h) 2) refl
+    go : (r : Option ResChunkHeader) → header_of l ≡ r → Told l (turn_of l)
+    go None w = rw (turn_of-stop l w) (header_of-short-lt l w)
+    go (Some h) w = sorted h w (eqb (chunk_sort h) 2) refl
 
 pub told : (l : List ℕ) {T : Turn} → turn_of l ≡ T → Told l T
 told l e = rw e at (turn_of-told l)
@@ -203,7 +202,7 @@ cut-there s at x e h =
 pub turn_of-run : (k : ℕ) (l : List ℕ) → k < 2 → 0 < run_used k l → turn_of l ≡ Foreign k (foreign_number (header_here l)) (run_used k l)
 turn_of-run k l p q = go (ltb (length l) 8) refl
   where
-    sorted : header_of l ≡ Whole (header_here l) → (b : Bool) → eqb (chunk_sort (header_here l)) k ≡ b → turn_of l ≡ Foreign k (foreign_number (header_here l)) (run_used k l)
+    sorted : header_of l ≡ Some (header_here l) → (b : Bool) → eqb (chunk_sort (header_here l)) k ≡ b → turn_of l ≡ Foreign k (foreign_number (header_here l)) (run_used k l)
     sorted w true e =
         let s : chunk_sort (header_here l) ≡ k = eqb-true _ _ e in
         let n : chunk_sort (header_here l) ≡ 2 → ⊥ = λ z. omega arith in

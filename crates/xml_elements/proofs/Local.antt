@@ -1,5 +1,6 @@
 -- A whole chunk within the front c of a list is read the same whatever follows c: `turn_of-append` of an XML chunk, `turn_of-foreign-append` of a
 -- complete foreign one, `attribute_at-append` of an attribute. No contract cites this file.
+use Rattle.std.specs.Prelude.{Option, Some, None}
 use Prim.Native.Nat.{ℕ, ◌+◌, ◌-◌, ◌≤◌}
 use native.Mathlib.Omega.{arith}
 use mathlib.Core.Path.{◌≡◌, refl, sym, ◌∙◌, subst}
@@ -12,8 +13,6 @@ use Rattle.field.specs.Le.{u16le, u32le}
 use Rattle.field.proofs.Laws.{u8le-append, u16le-append, u32le-append}
 use Rattle.common.specs.Header.{header_of}
 use Rattle.common.specs.declared.ResChunkHeader.{ResChunkHeader}
-use Rattle.common.specs.declared.HeaderRead.{HeaderRead}
-use Rattle.common.specs.declared.HeaderRead.TheVariants.{Whole, Short}
 use Rattle.common.proofs.Laws.{header_of-long, header_of-append}
 use Rattle.chunk.specs.Sort.{chunk_sort, foreign_len}
 use Rattle.chunk.proofs.Laws.{content_size-whole}
@@ -58,7 +57,7 @@ module _ (c m m' : List ℕ) where
   both32 : (k : ℕ) → k + 4 ≤ length c → u32le (c ++ m') k ≡ u32le (c ++ m) k
   both32 k h = u32le-append c m' k h ∙ sym (u32le-append c m k h)
 
-  pub header_of-same : {h : ResChunkHeader} → header_of (c ++ m) ≡ Whole h → 8 ≤ length c → header_of (c ++ m') ≡ Whole h
+  pub header_of-same : {h : ResChunkHeader} → header_of (c ++ m) ≡ Some h → 8 ≤ length c → header_of (c ++ m') ≡ Some h
   unfolding header_of
   header_of-same {h} w q =
       let more : 8 ≤ length (c ++ m) = rw length-append (omega arith) in
@@ -132,15 +131,15 @@ module _ (c m m' : List ℕ) where
         k : 16 ≤ length c
         k = omega (arith, (told (c ++ m) e).0)
 
-        sorted : (r : ResChunkHeader) → header_of (c ++ m) ≡ Whole r → (b : Bool) → eqb (chunk_sort r) 2 ≡ b → turn_of (c ++ m') ≡ Met x
+        sorted : (r : ResChunkHeader) → header_of (c ++ m) ≡ Some r → (b : Bool) → eqb (chunk_sort r) 2 ≡ b → turn_of (c ++ m') ≡ Met x
         sorted r q true p =
             let s : chunk_sort r ≡ 2 = eqb-true _ _ p in
             turn_of-xml (c ++ m') (header_of-same q (omega (arith, k))) s ∙ xml_turn-same r.kind k (sym (turn_of-xml (c ++ m) q s) ∙ e)
         sorted r q false p = not-met (sym (turn_of-foreign (c ++ m) q (eqb-false _ _ p)) ∙ e) (λ z. z)
 
-        go : (r : HeaderRead) → header_of (c ++ m) ≡ r → turn_of (c ++ m') ≡ Met x
-        go Short q = not-met (sym (turn_of-stop (c ++ m) q) ∙ e) (λ z. z)
-        go (Whole r) q = sorted r q (eqb (chunk_sort r) 2) refl
+        go : (r : Option ResChunkHeader) → header_of (c ++ m) ≡ r → turn_of (c ++ m') ≡ Met x
+        go None q = not-met (sym (turn_of-stop (c ++ m) q) ∙ e) (λ z. z)
+        go (Some r) q = sorted r q (eqb (chunk_sort r) 2) refl
 
 -- an attribute within c
 pub attribute_at-append : (c m : List ℕ) → 20 ≤ length c → attribute_at (c ++ m) ≡ attribute_at c
@@ -151,7 +150,7 @@ attribute_at-append c m h =
 -- ---- foreign chunks that are complete
 
 -- the bytes c of a foreign chunk with its own size, whatever follows them
-pub turn_of-foreign-append : (c m : List ℕ) {h : ResChunkHeader} → header_of c ≡ Whole h → (chunk_sort h ≡ 2 → ⊥) → h.size ≡ length c
+pub turn_of-foreign-append : (c m : List ℕ) {h : ResChunkHeader} → header_of c ≡ Some h → (chunk_sort h ≡ 2 → ⊥) → h.size ≡ length c
     → turn_of (c ++ m) ≡ Foreign (chunk_sort h) (foreign_number h) (length c)
 unfolding foreign_len
 turn_of-foreign-append c m {h} w n q =

@@ -6,12 +6,10 @@
 --   attribute_at the attribute at the front of the bytes left
 --
 -- No position, no room, no name. A size bounds nothing but what is behind a start's attributes. Laws: proofs/Laws.antt.
-use Rattle.std.specs.Prelude.{ℕ, ◌+◌, ◌-◌, ◌*◌, List, cond, length, ltb, eqb}
+use Rattle.std.specs.Prelude.{ℕ, ◌+◌, ◌-◌, ◌*◌, List, cond, length, ltb, eqb, Option, Some, None}
 use Rattle.field.specs.Le.{u8le, u16le, u32le}
 use Rattle.common.specs.Header.{header_of}
 use Rattle.common.specs.declared.ResChunkHeader.{ResChunkHeader}
-use Rattle.common.specs.declared.HeaderRead.{HeaderRead}
-use Rattle.common.specs.declared.HeaderRead.TheVariants.{Whole, Short}
 use Rattle.common.specs.declared.StringIndex.{StringIndex}
 use Rattle.chunk.specs.Sort.{chunk_sort, foreign_len}
 use Rattle.xml_elements.specs.declared.XmlStartElement.{XmlStartElement}
@@ -87,9 +85,9 @@ xml_turn l kind =
 unfoldable pub foreign_number : ResChunkHeader → ℕ
 foreign_number h = cond (eqb (chunk_sort h) 0) h.kind h.header_size
 
-abbrev pub turn_by : List ℕ → HeaderRead → Turn
-turn_by l Short = Stop
-turn_by l (Whole h) = cond (eqb (chunk_sort h) 2) (xml_turn l h.kind) (Foreign (chunk_sort h) (foreign_number h) (foreign_len (length l) h))
+abbrev pub turn_by : List ℕ → Option ResChunkHeader → Turn
+turn_by l None = Stop
+turn_by l (Some h) = cond (eqb (chunk_sort h) 2) (xml_turn l h.kind) (Foreign (chunk_sort h) (foreign_number h) (foreign_len (length l) h))
 
 unfoldable pub turn_of : List ℕ → Turn
 turn_of l = turn_by l (header_of l)

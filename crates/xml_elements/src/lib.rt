@@ -10,7 +10,7 @@ ghost use Rattle.xml_elements.specs.Chunk.{start_of, stride_of, attributes_at, a
 ghost use Rattle.xml_elements.specs.Chunk.{start_turn, xml_turn, turn_of};
 
 use chunk::{skip_content, sort_of};
-use common::{HeaderRead, ResChunkHeader, StringIndex, header_at};
+use common::{ResChunkHeader, StringIndex, header_at};
 use field::{u8_at, u16_at, u32_at};
 
 // What a start says of itself.
@@ -219,8 +219,8 @@ pub fn look(l: &[u8]) -> Turn
 {
     let read = header_at(l, 0);
     match read {
-        HeaderRead::Short => Turn::Stop,
-        HeaderRead::Whole(h) => {
+        None => Turn::Stop,
+        Some(h) => {
             let sort = sort_of(h);
             if sort == 2 {
                 return xml_turn(l, h.kind);

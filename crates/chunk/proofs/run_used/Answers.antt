@@ -10,14 +10,14 @@ pub skip_content-requires : goal.skip_content-requires
 skip_content-requires c =
     let at-header = c in
     let a = at-header.args in
-    let w = sym at-header.header_at-read.ensures ∙ c.in-Whole.is in
+    let w = sym at-header.header_at-read.ensures ∙ c.in-Some.is in
     header_of-long-at a.s.now a.at w at-header.requires
 
-pub returns-in-Short : goal.returns-in-Short
-returns-in-Short c =
+pub returns-in-None : goal.returns-in-None
+returns-in-None c =
     let at-header = c in
     let a = at-header.args in
-    let w = sym at-header.header_at-read.ensures ∙ c.in-Short.is in
+    let w = sym at-header.header_at-read.ensures ∙ c.in-None.is in
     (sym (run_used-short a.sort (drop a.at a.s.now) w), search rules)
 
 pub returns-then-sort_of-sort : goal.returns-then-sort_of-sort
@@ -25,7 +25,7 @@ returns-then-sort_of-sort c =
     let at-header = c in
     let start = at-header in
     let a = start.args in
-    let w = sym at-header.header_at-read.ensures ∙ c.in-Whole.is in
+    let w = sym at-header.header_at-read.ensures ∙ c.in-Some.is in
     let same = sym c.sort_of.ensures ∙ c.if-sort_of-sort.true in
     run_used-here a.s.now a.at a.sort c.skip_content.result w same start.requires c.skip_content.ensures
 
@@ -33,7 +33,7 @@ pub returns-else-sort_of-sort : goal.returns-else-sort_of-sort
 returns-else-sort_of-sort c =
     let at-header = c in
     let a = at-header.args in
-    let w = sym at-header.header_at-read.ensures ∙ c.in-Whole.is in (
+    let w = sym at-header.header_at-read.ensures ∙ c.in-Some.is in (
       sym (run_used-other a.sort (drop a.at a.s.now) w (λ e. c.if-sort_of-sort.false (c.sort_of.ensures ∙ e))),
       search rules,
     )

@@ -3,13 +3,13 @@
 --   s-answer, s-list, s-ask   the witness: file S with the tables of its reading, asked for `android` on `a`
 --   twelve-to-all-broken      an asker that says 12 to all
 --   many-meets-some           the definition itself meets the promise
+use Rattle.std.specs.Prelude.{Ok}
 use Prim.Native.Nat.{ℕ}
 use native.Mathlib.Omega.{arith}
 use mathlib.Core.Path.{◌≡◌, refl, sym, ◌∙◌, ap}
 use mathlib.Core.List.{List, [], ◌∷◌}
 use lib.ListN.{length, get_or}
 use Rattle.system_types.specs.Names.{lends}
-use Rattle.errors.specs.declared.ManyAnswer.TheVariants.{Answered}
 use Rattle.errors.proofs.Laws.{pair_numbers_of-unique}
 use Rattle.first_value.specs.Question.{android_name}
 use Rattle.first_values.specs.Pairs.{many_answer, answers_after}
@@ -26,7 +26,7 @@ its_area = 97 ∷ android_name
 abbrev its_list : List ℕ
 its_list = 0 ∷ 0 ∷ 0 ∷ 0 ∷ []
 
-s-answer : many_answer file_s (lends [] []) first_node lead 1 1 one_pair its_area 4 ≡ Answered 1
+s-answer : many_answer file_s (lends [] []) first_node lead 1 1 one_pair its_area 4 ≡ Ok 1
 unfolding file_s computing
 s-answer = refl
 
@@ -53,7 +53,7 @@ s-ask =
 pub twelve-to-all-broken : (A : Asker) → MeetsAll A → TwelveToAll A → ⊥
 twelve-to-all-broken A meets twelve =
     let m = meets file_s (lends [] []) first_node lead one_pair its_area its_list 1 1 s-ask in
-    let a : (A file_s (lends [] []) first_node lead one_pair its_area its_list 1 1).answer ≡ Answered 1 = pair_numbers_of-unique _ _ m.answer ∙ s-answer in
+    let a : (A file_s (lends [] []) first_node lead one_pair its_area its_list 1 1).answer ≡ Ok 1 = pair_numbers_of-unique _ _ m.answer ∙ s-answer in
     let t = twelve file_s (lends [] []) first_node lead one_pair its_area its_list 1 1 s-ask 1 0 a (omega arith) in
     let l : ◌≡◌ {A = ℕ} 0 12 = sym (ap (λ (x : List ℕ). get_or x 0 0) (m.list ∙ s-list)) ∙ t in
     absurd (let z : ⊥ = omega (arith, l) in z)

@@ -10,6 +10,7 @@
 --   invents-notes-broken     one that gives some file more notes than its cap keeps
 --   wrong-kinds-broken       one that gives some file notes of other kinds, be they as many
 -- The witnesses are file S and its relatives (proofs/Cases/Table.antt).
+use Rattle.std.specs.Prelude.{Result, Ok, Err}
 use Prim.Native.Nat.{ℕ, zero, suc, ◌+◌, ◌≤◌, ◌<◌}
 use native.Mathlib.Omega.{arith}
 use mathlib.Core.Path.{◌≡◌, refl, sym, ◌∙◌, ap}
@@ -23,14 +24,10 @@ use Rattle.anomaly.specs.declared.Note.{Note}
 use Rattle.errors.specs.Refusal.{numbers_of, refusal_number}
 use Rattle.errors.specs.declared.Numbers.{Numbers}
 use Rattle.errors.specs.declared.Refusal.TheVariants.{TooLargeError, NotesOff, ModeError}
-use Rattle.errors.specs.declared.ReadAnswer.{ReadAnswer}
-use Rattle.errors.specs.declared.ReadAnswer.TheVariants.{Done, Refused}
 use Rattle.errors.specs.declared.ReadCounts.{ReadCounts}
 use Rattle.records.specs.Words.{node_parent, attribute_prefix, merged}
 use Rattle.records.specs.Limits.{file_limit}
 use Rattle.system_types.specs.Names.{Lent, lends, names_of}
-use Rattle.system_types.specs.declared.NamesRead.{NamesRead}
-use Rattle.system_types.specs.declared.NamesRead.TheVariants.{Good, Bad}
 use Rattle.head.specs.Head.{opened_of}
 use Rattle.head.specs.declared.Asker.TheVariants.{Reading as Asking}
 use Rattle.head.specs.Entry.{passes, fails, first_of, length_check, keeps_none, names_check_by, is_mode}
@@ -46,6 +43,7 @@ use Rattle.claims.proofs.Calls.Readings.{left-reading}
 use Rattle.claims.proofs.Structure.Theorem.{starts-right, notes-many, notes-kept}
 use Rattle.claims.proofs.Broken.Witnesses.{call-S, call-88, call-with-end, call-without}
 use Rattle.claims.proofs.Broken.Witnesses.{read-S, read-88, ends-S, read-with-end, read-without}
+use Rattle.errors.specs.declared.Refusal.{Refusal}
 
 pub meets-some : Meets (λ f lent ns ats os cap mode. reading (room_in ns ats os cap mode) f lent)
 meets-some f lent ns ats os cap mode call = record { answer = refl; nodes = refl; attributes = refl; notes = refl }
@@ -68,29 +66,29 @@ empty-number r lent = go (keeps_none (Asking r.cap r.mode)) (names_of lent) (is_
     out : Out
     out = settled_in r [] lent (opened_of [])
 
-    go : (b : Bool) (n : NamesRead) (m : Bool)
+    go : (b : Bool) (n : Result (Unit {0}) ℕ) (m : Bool)
         → ◌≡◌ {A = ℕ}
         (numbers_of (reading_by r out (first_of (length_check [] ∷ cond b (fails NotesOff) passes ∷ names_check_by n ∷ cond m passes (fails (ModeError r.mode)) ∷ passes ∷ []))).answer
         ).refusal 2 → ⊥
     go true n m e = let z : ◌≡◌ {A = ℕ} 27 2 = e in omega arith
-    go false (Bad k) m e = let z : ◌≡◌ {A = ℕ} 7 2 = e in omega arith
-    go false Good false e = let z : ◌≡◌ {A = ℕ} 16 2 = e in omega arith
-    go false Good true e = let z : ◌≡◌ {A = ℕ} 1 2 = e in omega arith
+    go false (Err k) m e = let z : ◌≡◌ {A = ℕ} 7 2 = e in omega arith
+    go false (Ok tt) false e = let z : ◌≡◌ {A = ℕ} 16 2 = e in omega arith
+    go false (Ok tt) true e = let z : ◌≡◌ {A = ℕ} 1 2 = e in omega arith
 
 -- ---- what the promise says of starts and notes
 
 module _ (f : List ℕ) (lent : Lent) (ns ats : List ℕ) (os : List Note) (cap mode : ℕ) where
-  starts-le : (a : ReadAnswer) (ns' ats' : List ℕ) (os' : List Note) → Reads f lent ns ats os cap mode a ns' ats' os'
+  starts-le : (a : Result ReadCounts Refusal) (ns' ats' : List ℕ) (os' : List Note) → Reads f lent ns ats os cap mode a ns' ats' os'
       → (numbers_of a).starts ≤ opens_in (events_of mode f lent)
   unfolding numbers_of
-  starts-le (Refused x) ns' ats' os' m = omega arith
-  starts-le (Done c) ns' ats' os' m = omega (arith, starts-right f lent ns ats os cap mode c ns' ats' os' m)
+  starts-le (Err x) ns' ats' os' m = omega arith
+  starts-le (Ok c) ns' ats' os' m = omega (arith, starts-right f lent ns ats os cap mode c ns' ats' os' m)
 
-  notes-le : (a : ReadAnswer) (ns' ats' : List ℕ) (os' : List Note) → Reads f lent ns ats os cap mode a ns' ats' os'
+  notes-le : (a : Result ReadCounts Refusal) (ns' ats' : List ℕ) (os' : List Note) → Reads f lent ns ats os cap mode a ns' ats' os'
       → (numbers_of a).notes ≤ length (kept_notes cap (event_notes (events_of mode f lent)))
   unfolding numbers_of
-  notes-le (Refused x) ns' ats' os' m = omega arith
-  notes-le (Done c) ns' ats' os' m = omega (arith, notes-many f lent ns ats os cap mode c ns' ats' os' m)
+  notes-le (Err x) ns' ats' os' m = omega arith
+  notes-le (Ok c) ns' ats' os' m = omega (arith, notes-many f lent ns ats os cap mode c ns' ats' os' m)
 
 -- ---- the readers
 
@@ -190,7 +188,7 @@ module _ (R : Reader) (meets : Meets R) where
     pub invents-notes-broken : length (kept_notes cap (event_notes (events_of mode f lent))) < (numbers_of (R f lent ns ats os cap mode).answer).notes → ⊥
     invents-notes-broken h = omega (arith, notes-le f lent ns ats os cap mode _ _ _ _ (meets f lent ns ats os cap mode call))
 
-    pub wrong-kinds-broken : (c : ReadCounts) → (R f lent ns ats os cap mode).answer ≡ Done c
+    pub wrong-kinds-broken : (c : ReadCounts) → (R f lent ns ats os cap mode).answer ≡ Ok c
         → (kinds_of (take c.notes (R f lent ns ats os cap mode).notes) ≡ kinds_of (map note_of (kept_notes cap (event_notes (events_of mode f lent)))) → ⊥) → ⊥
     wrong-kinds-broken c e h =
         h (ap kinds_of (notes-kept f lent ns ats os cap mode c _ _ _ (rw e at (meets f lent ns ats os cap mode call))))
@@ -218,7 +216,7 @@ refuser-sorts = (
 abbrev inventor : Reader
 inventor f lent ns ats os cap mode =
     let es = events_of mode f lent in
-    reading_left (Done (record { starts = suc (opens_in es); nodes = 0; attributes = 0; notes = suc (length (kept_notes cap (event_notes es))) })) ns ats os
+    reading_left (Ok (record { starts = suc (opens_in es); nodes = 0; attributes = 0; notes = suc (length (kept_notes cap (event_notes es))) })) ns ats os
 
 module _ (f : List ℕ) (lent : Lent) (ns ats : List ℕ) (os : List Note) (cap mode : ℕ) where
   pub inventor-sorts : LeavesNodes inventor × LeavesAttributes inventor × LeavesNotes inventor

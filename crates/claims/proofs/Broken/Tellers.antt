@@ -3,6 +3,7 @@
 --
 --   one-starts          with its filter the activity starts: its name is the answer
 --   every-one-broken    without it a teller that gives every activity is wrong
+use Rattle.std.specs.Prelude.{Ok}
 use Prim.Native.Nat.{ℕ}
 use native.Mathlib.Omega.{arith}
 use mathlib.Core.Path.{◌≡◌, refl, ◌∙◌}
@@ -11,8 +12,6 @@ use mathlib.Core.List.{List, [], ◌∷◌}
 use lib.ListN.{length}
 use Rattle.system_types.specs.Names.{lends}
 use Rattle.head.specs.Head.{opened_of, tables_in}
-use Rattle.head.specs.declared.OpenRead.TheVariants.{Open}
-use Rattle.main_activities.specs.declared.MainAnswer.TheVariants.{Found}
 use Rattle.main_activities.specs.Activities.{tree_of}
 use Rattle.main_activities.specs.Activities.{main_open, main_answer, list_after}
 use Rattle.main_activities.proofs.Unique.{main_numbers_of-unique}
@@ -42,7 +41,7 @@ nodes =
 abbrev attributes : List ℕ
 attributes = 2 ∷ 1 ∷ 2 ∷ 3 ∷ 1 ∷ 0 ∷ 4 ∷ 1 ∷ 2 ∷ 3 ∷ 6 ∷ 0 ∷ 5 ∷ 1 ∷ 2 ∷ 3 ∷ 7 ∷ 0 ∷ []
 
-pub one-starts : main_answer head (lends [] []) [] [] nodes attributes 6 3 2 ≡ Found 1
+pub one-starts : main_answer head (lends [] []) [] [] nodes attributes 6 3 2 ≡ Ok 1
 unfolding head computing
 one-starts = refl
 
@@ -51,11 +50,11 @@ unfolding head computing
 its-name = refl
 
 -- of the first three nodes none starts
-none-starts : main_answer head (lends [] []) [] [] nodes attributes 3 3 1 ≡ Found 0
+none-starts : main_answer head (lends [] []) [] [] nodes attributes 3 3 1 ≡ Ok 0
 unfolding head computing
 none-starts = refl
 
-opened : main_open head (lends [] []) [] [] nodes attributes 3 3 ≡ Open (opened_of head).head
+opened : main_open head (lends [] []) [] [] nodes attributes 3 3 ≡ Ok (opened_of head).head
 unfolding head computing
 opened = refl
 

@@ -5,6 +5,7 @@
 --   refused-zeros, done-zeros   zeros behind what a call leaves
 --   insertion, insertion-same, insertion-room   foreign chunks put into a file
 --   text-refused-zeros, text-done-zeros, first-refused-zeros   the questions
+use Rattle.std.specs.Prelude.{Result, Ok, Err}
 use Prim.Native.Nat.{ℕ, zero, suc, ◌+◌, ◌-◌, ◌*◌, ◌/◌, ◌%◌, ◌≤◌}
 use native.Mathlib.Omega.{arith}
 use mathlib.Core.Path.{◌≡◌, refl, sym, ◌∙◌, ap}
@@ -19,14 +20,8 @@ use Rattle.anomaly.specs.declared.ResAnomaly.{ResAnomaly}
 use Rattle.errors.proofs.Laws.{refusal_number-some}
 use Rattle.errors.specs.Refusal.{refusal_number, numbers_of, text_numbers_of, first_numbers_of}
 use Rattle.errors.specs.declared.Refusal.{Refusal}
-use Rattle.errors.specs.declared.ReadAnswer.{ReadAnswer}
 use Rattle.errors.proofs.Laws.{refusal_number-some}
-use Rattle.errors.specs.declared.ReadAnswer.TheVariants.{Done, Refused}
 use Rattle.errors.specs.declared.ReadCounts.{ReadCounts}
-use Rattle.errors.specs.declared.TextAnswer.{TextAnswer}
-use Rattle.errors.specs.declared.TextAnswer.TheVariants as text_is
-use Rattle.errors.specs.declared.FirstAnswer.{FirstAnswer}
-use Rattle.errors.specs.declared.FirstAnswer.TheVariants as first_is
 use Rattle.records.specs.Limits.{file_limit}
 use Rattle.head.specs.Ask.{TextReads, text_answer}
 use Rattle.records.specs.Words.{node_width, attribute_width, note_width}
@@ -46,6 +41,8 @@ use Rattle.claims.proofs.Insertion.ForeignChunks.{place_notes-room}
 use Rattle.claims.proofs.Calls.Readings.{reading-left}
 use Rattle.claims.proofs.Insertion.Theorem as proved
 use Rattle.claims.proofs.Calls.Zeros as zeros
+use Rattle.errors.specs.declared.FirstValue.{FirstValue}
+use Rattle.errors.specs.declared.TextWritten.{TextWritten}
 
 -- ---- words of notes
 
@@ -66,20 +63,20 @@ zeros-behind os m n k e = sym (words-behind os m n) ∙ ap (λ (j : ℕ). words_
 some_number : (x : Refusal) → ◌≡◌ {A = ℕ} (refusal_number x) 0 → ⊥
 some_number x e = true≢false (sym (eq-eqb (refusal_number x) 0 e) ∙ refusal_number-some x)
 
-pub done-of : (a : ReadAnswer) → ◌≡◌ {A = ℕ} (numbers_of a).refusal 0 → (c : ReadCounts) × (a ≡ Done c)
+pub done-of : (a : Result ReadCounts Refusal) → ◌≡◌ {A = ℕ} (numbers_of a).refusal 0 → (c : ReadCounts) × (a ≡ Ok c)
 unfolding numbers_of
-done-of (Done c) e = (c, refl)
-done-of (Refused x) e = absurd (some_number x e)
+done-of (Ok c) e = (c, refl)
+done-of (Err x) e = absurd (some_number x e)
 
-room_of : (a : ReadAnswer) → is_full_number (numbers_of a).refusal ≡ false → HasRoom a
+room_of : (a : Result ReadCounts Refusal) → is_full_number (numbers_of a).refusal ≡ false → HasRoom a
 unfolding numbers_of
-room_of (Done c) h = tt
-room_of (Refused x) h = h
+room_of (Ok c) h = tt
+room_of (Err x) h = h
 
-room_in : (a : ReadAnswer) → HasRoom a → is_full_number (numbers_of a).refusal ≡ false
+room_in : (a : Result ReadCounts Refusal) → HasRoom a → is_full_number (numbers_of a).refusal ≡ false
 unfolding numbers_of
-room_in (Done c) h = refl
-room_in (Refused x) h = h
+room_in (Ok c) h = refl
+room_in (Err x) h = h
 
 -- ---- a call of `axml_read` as one of `read`
 
@@ -90,7 +87,7 @@ module _ (f : List ℕ) (lent : Lent) (ns ats ws : List ℕ) (cap mode : ℕ) wh
   abbrev pub places : List Note
   places = replicate (length ws / note_width) zero_note
 
-  pub as-reads : (a : ReadAnswer) → (reading room f lent).answer ≡ a
+  pub as-reads : (a : Result ReadCounts Refusal) → (reading room f lent).answer ≡ a
       → Reads f lent ns ats places cap mode a (reading room f lent).nodes (reading room f lent).attributes (reading room f lent).notes
   as-reads a e = reading-left f lent ns ats (length ws / note_width) cap mode (reading room f lent) refl a e
 
@@ -102,11 +99,11 @@ module _ (f : List ℕ) (lent : Lent) (ns ats ws : List ℕ) (cap mode : ℕ) wh
     unfolding numbers_of words_of
     refused-zeros some = go (reading room f lent).answer refl
       where
-        go : (b : ReadAnswer) → (reading room f lent).answer ≡ b → RefusedInC a ns ats ws ns' ats' ws'
-        go (Done c) e = absurd (some (ap (λ (x : AxmlAnswer). x.refusal) (h.answer ∙ ap (λ (b : ReadAnswer). answer_of (numbers_of b)) e)))
-        go (Refused x) e =
-            let z = zeros.refused-zeros f lent ns ats places cap mode x _ _ _ (as-reads (Refused x) e) in
-            let q = h.answer ∙ ap (λ (b : ReadAnswer). answer_of (numbers_of b)) e in
+        go : (b : Result ReadCounts Refusal) → (reading room f lent).answer ≡ b → RefusedInC a ns ats ws ns' ats' ws'
+        go (Ok c) e = absurd (some (ap (λ (x : AxmlAnswer). x.refusal) (h.answer ∙ ap (λ (b : Result ReadCounts Refusal). answer_of (numbers_of b)) e)))
+        go (Err x) e =
+            let z = zeros.refused-zeros f lent ns ats places cap mode x _ _ _ (as-reads (Err x) e) in
+            let q = h.answer ∙ ap (λ (b : Result ReadCounts Refusal). answer_of (numbers_of b)) e in
             record {
               starts = ap (λ (x : AxmlAnswer). x.starts) q;
               nodes = ap (λ (x : AxmlAnswer). x.nodes) q;
@@ -123,8 +120,8 @@ module _ (f : List ℕ) (lent : Lent) (ns ats ws : List ℕ) (cap mode : ℕ) wh
     done-zeros none =
         let d = done-of (reading room f lent).answer (sym (ap (λ (x : AxmlAnswer). x.refusal) h.answer) ∙ none) in
         let c = d.0 in
-        let q = h.answer ∙ ap (λ (b : ReadAnswer). answer_of (numbers_of b)) d.1 in
-        let z = zeros.done-zeros f lent ns ats places cap mode c _ _ _ (as-reads (Done c) d.1) in
+        let q = h.answer ∙ ap (λ (b : Result ReadCounts Refusal). answer_of (numbers_of b)) d.1 in
+        let z = zeros.done-zeros f lent ns ats places cap mode c _ _ _ (as-reads (Ok c) d.1) in
         let os = (reading room f lent).notes in
         let k : a.notes ≡ c.notes = ap (λ (x : AxmlAnswer). x.notes) q in
         let t : List ℕ = replicate (length ws % note_width) 0 in
@@ -151,14 +148,14 @@ module _ (f : List ℕ) (lent : Lent) (ns ats ws : List ℕ) (cap mode : ℕ) (a
   abbrev shorter : Reading
   shorter = reading (word_room ns ats ws cap mode) f lent
 
-  counted : (c : ReadCounts) × (shorter.answer ≡ Done c)
+  counted : (c : ReadCounts) × (shorter.answer ≡ Ok c)
   counted = done-of shorter.answer (sym (ap (λ (x : AxmlAnswer). x.refusal) first.answer) ∙ done)
 
   abbrev c : ReadCounts
   c = counted.0
 
-  told : a ≡ answer_of (numbers_of (Done c))
-  told = first.answer ∙ ap (λ (b : ReadAnswer). answer_of (numbers_of b)) counted.1
+  told : a ≡ answer_of (numbers_of (Ok c))
+  told = first.answer ∙ ap (λ (b : Result ReadCounts Refusal). answer_of (numbers_of b)) counted.1
 
   no-notes : c.notes ≡ 0
   unfolding numbers_of
@@ -188,13 +185,13 @@ module _ (f : List ℕ) (lent : Lent) (ns ats ws : List ℕ) (cap mode : ℕ) (a
         let z = zeros.done-zeros (inserted_file places f) lent ns' ats' _ cap' mode _ _ _ _ (as-reads (inserted_file places f) lent ns' ats' ws' cap' mode _ done') in
         let fits : length ks ≤ length ws' / note_width =
         omega (arith, z.note_records.there, many (inserted_file places f) lent ns' ats' ws' cap' mode) in
-        let q : a' ≡ _ = second.answer ∙ ap (λ (b : ReadAnswer). answer_of (numbers_of b)) done' in
+        let q : a' ≡ _ = second.answer ∙ ap (λ (b : Result ReadCounts Refusal). answer_of (numbers_of b)) done' in
         let n : ns₂ ≡ _ = second.nodes ∙ ap (λ (x : Reading). x.nodes) e in
         let m : ats₂ ≡ _ = second.attributes ∙ ap (λ (x : Reading). x.attributes) e in
         let o : ws₂ ≡ _ = second.notes ∙ ap (λ (x : Reading). words_of x.notes ++ replicate (length ws' % note_width) 0) e
         ∙ zeros-behind (map note_of ks) (length ws' / note_width - length ks) (length ws' % note_width) (length ws' - note_width * length ks)
         (omega (arith, fits)) in
-        let left : left_in_c a' ns₂ ats₂ ws₂ ≡ with (answer_of (numbers_of (Done c))) shorter.nodes shorter.attributes = rw (q, n, m, o) in
+        let left : left_in_c a' ns₂ ats₂ ws₂ ≡ with (answer_of (numbers_of (Ok c))) shorter.nodes shorter.attributes = rw (q, n, m, o) in
         left ∙ ap (λ (x : AxmlAnswer). with x shorter.nodes shorter.attributes) (sym told)
         ∙ ap (λ (l : List ℕ). with a l shorter.attributes) (sym first.nodes) ∙ ap (λ (l : List ℕ). with a ns₁ l) (sym first.attributes)
       where
@@ -220,42 +217,42 @@ module _ (f : List ℕ) (lent : Lent) (ns ats ws : List ℕ) (cap mode : ℕ) (a
 -- ---- the questions
 
 module _ (f : List ℕ) (lent : Lent) (before : List ℕ) (i : ℕ) (a : AxmlTextAnswer) (after : List ℕ) (h : AsksText f lent before i a after) where
-  as-text : (b : TextAnswer) → text_answer f lent (length before) i ≡ b → TextReads f lent before i b after
+  as-text : (b : Result TextWritten Refusal) → text_answer f lent (length before) i ≡ b → TextReads f lent before i b after
   as-text b e = record { answer = ap text_numbers_of (sym e); out = h.out }
 
   pub text-refused-zeros : (a.refusal ≡ 0 → ⊥) → TextRefusedInC a before after
   unfolding text_numbers_of
   text-refused-zeros some = go (text_answer f lent (length before) i) refl
     where
-      go : (b : TextAnswer) → text_answer f lent (length before) i ≡ b → TextRefusedInC a before after
-      go (text_is.Text k s) e = absurd (some (ap (λ (x : AxmlTextAnswer). x.refusal) (h.answer ∙ ap (λ (b : TextAnswer). text_answer_of (text_numbers_of b)) e)))
-      go (text_is.Refused x) e =
-          let q = h.answer ∙ ap (λ (b : TextAnswer). text_answer_of (text_numbers_of b)) e in
+      go : (b : Result TextWritten Refusal) → text_answer f lent (length before) i ≡ b → TextRefusedInC a before after
+      go (Ok w) e = absurd (some (ap (λ (x : AxmlTextAnswer). x.refusal) (h.answer ∙ ap (λ (b : Result TextWritten Refusal). text_answer_of (text_numbers_of b)) e)))
+      go (Err x) e =
+          let q = h.answer ∙ ap (λ (b : Result TextWritten Refusal). text_answer_of (text_numbers_of b)) e in
           record {
             long = ap (λ (x : AxmlTextAnswer). x.length) q;
             state = ap (λ (x : AxmlTextAnswer). x.state) q;
             replaced = ap (λ (x : AxmlTextAnswer). x.replaced) q;
-            buffer = (zeros.text-refused-zeros f lent before i x after (as-text (text_is.Refused x) e)).buffer;
+            buffer = (zeros.text-refused-zeros f lent before i x after (as-text (Err x) e)).buffer;
           }
 
   pub text-done-zeros : a.refusal ≡ 0 → TextDoneInC a before after
   unfolding text_numbers_of
   text-done-zeros none = go (text_answer f lent (length before) i) refl
     where
-      go : (b : TextAnswer) → text_answer f lent (length before) i ≡ b → TextDoneInC a before after
-      go (text_is.Refused x) e =
-          absurd (some_number x (sym (ap (λ (x : AxmlTextAnswer). x.refusal) (h.answer ∙ ap (λ (b : TextAnswer). text_answer_of (text_numbers_of b)) e)) ∙ none))
-      go (text_is.Text k s) e =
-          let q = h.answer ∙ ap (λ (b : TextAnswer). text_answer_of (text_numbers_of b)) e in
+      go : (b : Result TextWritten Refusal) → text_answer f lent (length before) i ≡ b → TextDoneInC a before after
+      go (Err x) e =
+          absurd (some_number x (sym (ap (λ (x : AxmlTextAnswer). x.refusal) (h.answer ∙ ap (λ (b : Result TextWritten Refusal). text_answer_of (text_numbers_of b)) e)) ∙ none))
+      go (Ok w) e =
+          let q = h.answer ∙ ap (λ (b : Result TextWritten Refusal). text_answer_of (text_numbers_of b)) e in
           record {
             value = ap (λ (x : AxmlTextAnswer). x.value) q;
-            buffer = rw (ap (λ (x : AxmlTextAnswer). x.length) q) (zeros.text-done-zeros f lent before i k s after (as-text (text_is.Text k s) e)).buffer;
+            buffer = rw (ap (λ (x : AxmlTextAnswer). x.length) q) (zeros.text-done-zeros f lent before i w.length w.state after (as-text (Ok (record { length = w.length; state = w.state })) e)).buffer;
           }
 
-pub first-refused-zeros : (b : FirstAnswer) (a : AxmlFirstAnswer) → a ≡ first_answer_of (first_numbers_of b) → (a.refusal ≡ 0 → ⊥) → FirstRefusedInC a
+pub first-refused-zeros : (b : Result FirstValue Refusal) (a : AxmlFirstAnswer) → a ≡ first_answer_of (first_numbers_of b) → (a.refusal ≡ 0 → ⊥) → FirstRefusedInC a
 unfolding first_numbers_of
-first-refused-zeros (first_is.Found kind «data» reference) a e some = absurd (some (ap (λ (x : AxmlFirstAnswer). x.refusal) e))
-first-refused-zeros (first_is.Refused x) a e some = record {
+first-refused-zeros (Ok w) a e some = absurd (some (ap (λ (x : AxmlFirstAnswer). x.refusal) e))
+first-refused-zeros (Err x) a e some = record {
   kind = ap (λ (x : AxmlFirstAnswer). x.kind) e;
   value = ap (λ (x : AxmlFirstAnswer). x.«data») e;
   reference = ap (λ (x : AxmlFirstAnswer). x.reference) e;

@@ -4,6 +4,7 @@
 --   listed-long, listed-short       a file that is too long for a listing is not read; of another its reading is listed
 --   unread-zeros, read-zeros        zeros in the tables
 --   list-suffices                   the room of a listing suffices
+use Rattle.std.specs.Prelude.{Ok, Err}
 use Prim.Native.Nat.{ℕ, ◌*◌}
 use native.Mathlib.Omega.{arith}
 use mathlib.Core.Path.{◌≡◌, refl, sym, ◌∙◌, ap, subst}
@@ -16,9 +17,7 @@ use Rattle.digits.specs.Written.{fitted}
 use Rattle.errors.specs.Refusal.{refusal_number, numbers_of}
 use Rattle.errors.specs.declared.Refusal.{Refusal}
 use Rattle.errors.specs.declared.Refusal.TheVariants.{TooLargeError, TextShort}
-use Rattle.errors.specs.declared.ReadAnswer.TheVariants.{Done, Refused}
 use Rattle.errors.specs.declared.ReadCounts.{ReadCounts}
-use Rattle.errors.specs.declared.LinesAnswer.TheVariants as lines_is
 use Rattle.errors.proofs.Laws.{lines_numbers_of-unique}
 use Rattle.records.specs.Words.{node_width, attribute_width, merged}
 use Rattle.records.specs.Limits.{listed_file, listed_notes, listed_cap}
@@ -36,27 +35,27 @@ use Rattle.claims.proofs.Calls.Zeros.{behind, refused-zeros, done-zeros}
 -- ---- the buffer
 
 module _ (text before after : List ℕ) where
-  pub printed-refused : (x : Refusal) → Printed text before (lines_is.Refused x) after → after ≡ replicate (length before) 0
+  pub printed-refused : (x : Refusal) → Printed text before (Err x) after → after ≡ replicate (length before) 0
   unfolding listing_answer fitted
   printed-refused x h = go (leb (length text) (length before)) refl
     where
       go : (b : Bool) → leb (length text) (length before) ≡ b → after ≡ replicate (length before) 0
       go true e =
-          let q : lines_is.Refused x ≡ lines_is.Text (length text) = lines_numbers_of-unique _ _ (h.answer ∙ rw e) in
+          let q : Err x ≡ Ok (length text) = lines_numbers_of-unique _ _ (h.answer ∙ rw e) in
           let z : ◌≡◌ {A = ℕ} 0 1 = cc in absurd (let y : ⊥ = omega arith in y)
       go false e = h.out ∙ rw e
 
-  pub printed-done : (k : ℕ) → Printed text before (lines_is.Text k) after → ZeroBehind 0 k before after
+  pub printed-done : (k : ℕ) → Printed text before (Ok k) after → ZeroBehind 0 k before after
   unfolding listing_answer fitted
   printed-done k h = go (leb (length text) (length before)) refl
     where
       go : (b : Bool) → leb (length text) (length before) ≡ b → ZeroBehind 0 k before after
       go true e =
-          let q : lines_is.Text k ≡ lines_is.Text (length text) = lines_numbers_of-unique _ _ (h.answer ∙ rw e) in
+          let q : Ok k ≡ Ok (length text) = lines_numbers_of-unique _ _ (h.answer ∙ rw e) in
           let w : k ≡ length text = cc in
           rw w (behind 0 (length text) (length before) text before after refl refl (leb-true (length text) (length before) e) (h.out ∙ rw e))
       go false e =
-          let q : lines_is.Text k ≡ lines_is.Refused (TextShort (length text)) = lines_numbers_of-unique _ _ (h.answer ∙ rw e) in
+          let q : Ok k ≡ Err (TextShort (length text)) = lines_numbers_of-unique _ _ (h.answer ∙ rw e) in
           let z : ◌≡◌ {A = ℕ} 0 1 = cc in absurd (let y : ⊥ = omega arith in y)
 
 -- ---- the tables
@@ -73,7 +72,7 @@ module _ (f ns ats : List ℕ) where
   abbrev all : Reading
   all = listed f (length ns) (length ats)
 
-  pub unread-zeros : (x : Refusal) → all.answer ≡ Refused x → (all.nodes ≡ replicate (length ns) 0) × (all.attributes ≡ replicate (length ats) 0)
+  pub unread-zeros : (x : Refusal) → all.answer ≡ Err x → (all.nodes ≡ replicate (length ns) 0) × (all.attributes ≡ replicate (length ats) 0)
   unread-zeros x e = go (ltb listed_file (length f)) refl
     where
       go : (b : Bool) → ltb listed_file (length f) ≡ b → (all.nodes ≡ replicate (length ns) 0) × (all.attributes ≡ replicate (length ats) 0)
@@ -82,10 +81,10 @@ module _ (f ns ats : List ℕ) where
           (ap (λ (y : Reading). y.nodes) l, ap (λ (y : Reading). y.attributes) l)
       go false q =
           let z = refused-zeros f (lends [] []) ns ats (replicate listed_notes zero_note) listed_cap merged x _ _ _
-          (reading-left f (lends [] []) ns ats listed_notes listed_cap merged all (listed-short f (length ns) (length ats) q) (Refused x) e) in
+          (reading-left f (lends [] []) ns ats listed_notes listed_cap merged all (listed-short f (length ns) (length ats) q) (Err x) e) in
           (z.node_words, z.attribute_words)
 
-  pub read-zeros : (c : ReadCounts) → all.answer ≡ Done c
+  pub read-zeros : (c : ReadCounts) → all.answer ≡ Ok c
       → ZeroBehind 0 (node_width * c.nodes) ns all.nodes × ZeroBehind 0 (attribute_width * c.attributes) ats all.attributes
   unfolding numbers_of
   read-zeros c e = go (ltb listed_file (length f)) refl
@@ -93,11 +92,11 @@ module _ (f ns ats : List ℕ) where
       go : (b : Bool) → ltb listed_file (length f) ≡ b
           → ZeroBehind 0 (node_width * c.nodes) ns all.nodes × ZeroBehind 0 (attribute_width * c.attributes) ats all.attributes
       go true q =
-          let l : Done c ≡ Refused TooLargeError = sym e ∙ ap (λ (y : Reading). y.answer) (listed-long f (length ns) (length ats) q) in
+          let l : Ok c ≡ Err TooLargeError = sym e ∙ ap (λ (y : Reading). y.answer) (listed-long f (length ns) (length ats) q) in
           let z : ◌≡◌ {A = ℕ} 0 1 = cc in absurd (let y : ⊥ = omega arith in y)
       go false q =
           let z = done-zeros f (lends [] []) ns ats (replicate listed_notes zero_note) listed_cap merged c _ _ _
-          (reading-left f (lends [] []) ns ats listed_notes listed_cap merged all (listed-short f (length ns) (length ats) q) (Done c) e) in
+          (reading-left f (lends [] []) ns ats listed_notes listed_cap merged all (listed-short f (length ns) (length ats) q) (Ok c) e) in
           (z.node_words, z.attribute_words)
 
 -- ---- its room suffices

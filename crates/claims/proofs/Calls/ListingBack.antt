@@ -3,6 +3,7 @@
 --   value-plain, listed_small, refused-tested, done-tested   what a listing can say
 --   all-behind    behind the records of what is listed stand zeros
 --   listed_back   THE THEOREM: the text of a file's listing reads back to what was listed
+use Rattle.std.specs.Prelude.{Result, Ok, Err}
 use Prim.Native.Nat.{ℕ, zero, suc, ◌+◌, ◌*◌, ◌/◌, ◌<◌}
 use native.Mathlib.Omega.{arith}
 use native.Mathlib.Nat.{mul-zero, sub-zero}
@@ -19,8 +20,6 @@ use Rattle.errors.specs.declared.Refusal.TheVariants.{TooSmallError, TooLargeErr
 use Rattle.errors.specs.declared.Refusal.TheVariants.{NotesFull, TextShort, NothingFound, TablesError, ItemsError, NoPlainText, ModeError, PairsError, AnswersFull}
 use Rattle.errors.specs.declared.Refusal.TheVariants.{ListingMalformed, ListingNumber, ListingOrder, NotesOff, ListFull, RoundUpFull}
 use Rattle.errors.specs.declared.Refusal.TheVariants.{StringPoolGarbage, StringPoolHeader, StringPoolOffsets, StringPoolStyles, StringPoolData, ResourceMapHeader, ResourceMapIds}
-use Rattle.errors.specs.declared.ReadAnswer.{ReadAnswer}
-use Rattle.errors.specs.declared.ReadAnswer.TheVariants.{Done, Refused}
 use Rattle.errors.specs.declared.ReadCounts.{ReadCounts}
 use Rattle.errors.specs.declared.Numbers.{Numbers}
 use Rattle.records.specs.Words.{node_width, attribute_width, note_width, note_words, merged}
@@ -116,12 +115,12 @@ head_small a b c d e f g p q v w =
     let v' : any_over (d ∷ []) ≡ false = any_over-others b (d ∷ []) v in
     any_over-cons a _ p (any_over-cons b _ (any_over-first b (d ∷ []) v) (any_over-cons c _ q (any_over-cons d _ (any_over-first d [] v') w)))
 
-done-tested : (c : ReadCounts) → any_over (head_list listed_cap (numbers_of (Done c))) ≡ false → Tested (head_list listed_cap (numbers_of (Done c)))
+done-tested : (c : ReadCounts) → any_over (head_list listed_cap (numbers_of (Ok c))) ≡ false → Tested (head_list listed_cap (numbers_of (Ok c)))
 unfolding numbers_of
 done-tested c o = record { listed = refl; value = refl; starts = refl; nodes = refl; attributes = refl; notes = refl; small = o }
 
 refused-tested :
-    (x : Refusal) → is_listed (refusal_number x) ≡ true → any_over (head_list listed_cap (numbers_of (Refused x))) ≡ false → Tested (head_list listed_cap (numbers_of (Refused x)))
+    (x : Refusal) → is_listed (refusal_number x) ≡ true → any_over (head_list listed_cap (numbers_of (Err x))) ≡ false → Tested (head_list listed_cap (numbers_of (Err x)))
 unfolding numbers_of
 refused-tested x l o =
     let z = zero-where (not (eqb (refusal_number x) 0)) in
@@ -139,18 +138,18 @@ module _ (f ns ats : List ℕ) where
   all = listed f (length ns) (length ats)
 
   -- behind the notes of a success stand zeros, and a refusal leaves nothing else
-  read-notes : (c : ReadCounts) → all.answer ≡ Done c → ZeroBehind zero_note c.notes (replicate listed_notes zero_note) all.notes
+  read-notes : (c : ReadCounts) → all.answer ≡ Ok c → ZeroBehind zero_note c.notes (replicate listed_notes zero_note) all.notes
   unfolding numbers_of
   read-notes c e = go (ltb listed_file (length f)) refl where
     go : (b : Bool) → ltb listed_file (length f) ≡ b → ZeroBehind zero_note c.notes (replicate listed_notes zero_note) all.notes
     go true q =
-        let l : Done c ≡ Refused TooLargeError = sym e ∙ ap (λ (y : Reading). y.answer) (listed-long f (length ns) (length ats) q) in
+        let l : Ok c ≡ Err TooLargeError = sym e ∙ ap (λ (y : Reading). y.answer) (listed-long f (length ns) (length ats) q) in
         let z : ◌≡◌ {A = ℕ} 0 1 = cc in absurd (let y : ⊥ = omega arith in y)
     go false q =
         (done-zeros f (lends [] []) ns ats (replicate listed_notes zero_note) listed_cap merged c _ _ _
-        (reading-left f (lends [] []) ns ats listed_notes listed_cap merged all (listed-short f (length ns) (length ats) q) (Done c) e)).note_records
+        (reading-left f (lends [] []) ns ats listed_notes listed_cap merged all (listed-short f (length ns) (length ats) q) (Ok c) e)).note_records
 
-  unread-notes : (x : Refusal) → all.answer ≡ Refused x → all.notes ≡ replicate (length (replicate listed_notes zero_note)) zero_note
+  unread-notes : (x : Refusal) → all.answer ≡ Err x → all.notes ≡ replicate (length (replicate listed_notes zero_note)) zero_note
   unread-notes x e = go (ltb listed_file (length f)) refl where
     go : (b : Bool) → ltb listed_file (length f) ≡ b → all.notes ≡ replicate (length (replicate listed_notes zero_note)) zero_note
     go true q =
@@ -158,17 +157,17 @@ module _ (f ns ats : List ℕ) where
         ap (λ (n : ℕ). replicate n zero_note) (sym (length-replicate listed_notes zero_note))
     go false q =
         (refused-zeros f (lends [] []) ns ats (replicate listed_notes zero_note) listed_cap merged x _ _ _
-        (reading-left f (lends [] []) ns ats listed_notes listed_cap merged all (listed-short f (length ns) (length ats) q) (Refused x) e)).note_records
+        (reading-left f (lends [] []) ns ats listed_notes listed_cap merged all (listed-short f (length ns) (length ats) q) (Err x) e)).note_records
 
   pub record Behind (n : Numbers) : Type 0 where
     pub nodes : ZeroBehind 0 (node_width * n.nodes) ns all.nodes
     pub attributes : ZeroBehind 0 (attribute_width * n.attributes) ats all.attributes
     pub notes : ZeroBehind zero_note n.notes (replicate listed_notes zero_note) all.notes
 
-  pub all-behind : (a : ReadAnswer) → all.answer ≡ a → Behind (numbers_of a)
+  pub all-behind : (a : Result ReadCounts Refusal) → all.answer ≡ a → Behind (numbers_of a)
   unfolding numbers_of
-  all-behind (Done c) e = let z = read-zeros f ns ats c e in record { nodes = z.0; attributes = z.1; notes = read-notes c e }
-  all-behind (Refused x) e =
+  all-behind (Ok c) e = let z = read-zeros f ns ats c e in record { nodes = z.0; attributes = z.1; notes = read-notes c e }
+  all-behind (Err x) e =
       let z = unread-zeros f ns ats x e in
       record { nodes = none-behind 0 ns _ z.0; attributes = none-behind 0 ats _ z.1; notes = none-behind zero_note _ _ (unread-notes x e) }
 
@@ -184,10 +183,10 @@ module _ (f ns ats : List ℕ) where
           subst SaidBy (sym (ap (λ (y : Reading). y.answer) (listed-short f (length ns) (length ats) q)))
           (said-by (listed_room (length ns) (length ats)) f (omega (arith, s.0)) (omega (arith, s.1)) s.2 refl refl)
 
-    said-listed : (a : ReadAnswer) → SaidBy a → is_listed (numbers_of a).refusal ≡ true
+    said-listed : (a : Result ReadCounts Refusal) → SaidBy a → is_listed (numbers_of a).refusal ≡ true
     unfolding numbers_of
-    said-listed (Done c) h = refl
-    said-listed (Refused y) h = h
+    said-listed (Ok c) h = refl
+    said-listed (Err y) h = h
 
     is-listed : is_listed (numbers_of all.answer).refusal ≡ true
     is-listed = said-listed all.answer listed-said
@@ -205,18 +204,18 @@ module _ (f ns ats : List ℕ) where
         head_small n.refusal n.value listed_cap n.starts n.nodes n.attributes n.notes (listed_small n.refusal (is-listed room₁ room₂)) (omega arith) b.value b.counts
 
     printable-at :
-        (a : ReadAnswer) → all.answer ≡ a →
+        (a : Result ReadCounts Refusal) → all.answer ≡ a →
         Printable (listed_words (length ns) (length ats)) (record { cap = listed_cap; numbers = numbers_of a; nodes = all.nodes; attributes = all.attributes; notes = words_of all.notes })
     unfolding numbers_of
-    printable-at (Refused y) e =
+    printable-at (Err y) e =
         record {
-          tested = refused-tested y (ap (λ (z : ReadAnswer). is_listed (numbers_of z).refusal) (sym e) ∙ is-listed room₁ room₂)
-              (ap (λ (z : ReadAnswer). any_over (head_list listed_cap (numbers_of z))) (sym e) ∙ head-fits);
+          tested = refused-tested y (ap (λ (z : Result ReadCounts Refusal). is_listed (numbers_of z).refusal) (sym e) ∙ is-listed room₁ room₂)
+              (ap (λ (z : Result ReadCounts Refusal). any_over (head_list listed_cap (numbers_of z))) (sym e) ∙ head-fits);
           nodes = none-leading node_width (length ns / node_width) all.nodes;
           attributes = none-leading attribute_width (length ats / attribute_width) all.attributes;
           notes = none-leading note_width (note_width * listed_notes / note_width) (words_of all.notes);
         }
-    printable-at (Done c) e =
+    printable-at (Ok c) e =
         let z = read-zeros f ns ats c e in
         let m = read-notes c e in
         let l = length-words all.notes in
@@ -228,7 +227,7 @@ module _ (f ns ats : List ℕ) where
         let m1 = m.there in
         let m2 = m.long in
         record {
-          tested = done-tested c (ap (λ (z : ReadAnswer). any_over (head_list listed_cap (numbers_of z))) (sym e) ∙ head-fits);
+          tested = done-tested c (ap (λ (z : Result ReadCounts Refusal). any_over (head_list listed_cap (numbers_of z))) (sym e) ∙ head-fits);
           nodes = record { many = omega arith; small = over-take (node_width * c.nodes) all.nodes b.nodes; room = omega arith };
           attributes = record { many = omega arith; small = over-take (attribute_width * c.attributes) all.attributes b.attributes; room = omega arith };
           notes = record { many = omega arith; small = over-take (note_width * c.notes) (words_of all.notes) b.notes; room = omega arith };

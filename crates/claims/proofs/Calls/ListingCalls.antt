@@ -3,6 +3,7 @@
 --   calls_back       what one call printed, another reads back: the answer, the cap, and every word of the three tables
 --   relisted-by      answers with the same answer and cap are the same
 --   relist-refused   a text that is refused leaves zeros alone; relist-done: behind what was read stand zeros
+use Rattle.std.specs.Prelude.{Result, Ok}
 use Prim.Native.Nat.{ℕ, ◌-◌, ◌*◌, ◌≤◌}
 use native.Mathlib.Omega.{arith}
 use native.Mathlib.Nat.{sub-zero}
@@ -15,9 +16,6 @@ use lib.Seq.{take-append_seam}
 use Rattle.anomaly.specs.declared.Note.{Note}
 use Rattle.digits.specs.Written.{fitted}
 use Rattle.errors.specs.Refusal.{numbers_of, lines_numbers_of}
-use Rattle.errors.specs.declared.ReadAnswer.{ReadAnswer}
-use Rattle.errors.specs.declared.LinesAnswer.{LinesAnswer}
-use Rattle.errors.specs.declared.LinesAnswer.TheVariants as lines_is
 use Rattle.errors.proofs.Laws.{numbers_of-unique}
 use Rattle.records.specs.Words.{node_width, attribute_width, note_width}
 use Rattle.records.specs.Limits.{listed_notes, listed_cap}
@@ -36,6 +34,8 @@ use Rattle.claims.specs.Readers.{all_below}
 use Rattle.claims.specs.Relisted.{said_by}
 use Rattle.claims.proofs.Calls.Zeros.{behind}
 use Rattle.claims.proofs.Calls.ListingBack.{listed_back, all-behind}
+use Rattle.errors.specs.declared.ReadCounts.{ReadCounts}
+use Rattle.errors.specs.declared.Refusal.{Refusal}
 
 -- ---- from call to call
 
@@ -69,17 +69,17 @@ same-words : {n m o n' m' o' : ℕ} → n ≡ n' → m ≡ m' → o ≡ o' →
 same-words p q r = rw (p, q, r)
 
 module _
-    (f ns ats before : List ℕ) (bytes : all_below 256 f ≡ true) (room : Roomy (length ns) (length ats) (length before)) (a : LinesAnswer) (ns₁ ats₁ after : List ℕ)
+    (f ns ats before : List ℕ) (bytes : all_below 256 f ≡ true) (room : Roomy (length ns) (length ats) (length before)) (a : Result ℕ Refusal) (ns₁ ats₁ after : List ℕ)
     (first : Lists f ns ats before a ns₁ ats₁ after) where
   -- the bytes that the first call printed
   printed-text : take (lines_numbers_of a).length after ≡ listed_text f (length ns) (length ats)
   unfolding lines_numbers_of
   printed-text =
       let t = listed_text f (length ns) (length ats) in
-      let e : a ≡ lines_is.Text (length t) = lists-answer f ns ats before ns₁ ats₁ after room a first in
+      let e : a ≡ Ok (length t) = lists-answer f ns ats before ns₁ ats₁ after room a first in
       let h : length t ≤ length before =
       lists-le f ns ats before ns₁ ats₁ after room (length t) (lists-text f ns ats before ns₁ ats₁ after a (length t) e first) in
-      ap (λ (x : LinesAnswer). take (lines_numbers_of x).length after) e ∙
+      ap (λ (x : Result ℕ Refusal). take (lines_numbers_of x).length after) e ∙
       (ap (take (length t)) (first.printed.out ∙ fitted-text t (length before) h) ∙ take-append_seam t (replicate (length before - length t) 0))
 
   module _
@@ -114,11 +114,11 @@ module _
 
 -- ---- one answer, zeros
 
-abbrev with-cap : ReadAnswer → ℕ → Relisted
+abbrev with-cap : Result ReadCounts Refusal → ℕ → Relisted
 with-cap a c = record { answer = a; cap = c }
 
 pub relisted-by : (r r' : Relisted) → r.answer ≡ r'.answer → r.cap ≡ r'.cap → r ≡ r'
-relisted-by r r' p q = ap (λ (a : ReadAnswer). with-cap a r.cap) p ∙ ap (λ (c : ℕ). with-cap r'.answer c) q
+relisted-by r r' p q = ap (λ (a : Result ReadCounts Refusal). with-cap a r.cap) p ∙ ap (λ (c : ℕ). with-cap r'.answer c) q
 
 fitted_none : (n : ℕ) → fitted [] n ≡ replicate n 0
 unfolding fitted

@@ -4,6 +4,7 @@
 --   month-kinds   for every reading that succeeds, what `kinds_in` counts in its note table is how many of the kept notes are of each kind from 0 to 12
 --   month-kept    their sum is how many of the kept notes are of these kinds
 --   month-grid    over any month of calls of which none meets 29, the grid's sum is the kept notes of kinds 0 to 12 of the files that were read
+use Rattle.std.specs.Prelude.{Result, Ok, Err}
 use Prim.Native.Nat.{ℕ, zero, suc, ◌/◌, ◌≤◌, min}
 use native.Mathlib.Omega.{arith}
 use native.Mathlib.Nat.{min-eq_left}
@@ -15,8 +16,6 @@ use Rattle.anomaly.specs.Kept.{kept_notes}
 use Rattle.anomaly.specs.declared.Note.{Note}
 use Rattle.anomaly.specs.declared.ResAnomaly.{ResAnomaly}
 use Rattle.errors.specs.Refusal.{numbers_of}
-use Rattle.errors.specs.declared.ReadAnswer.{ReadAnswer}
-use Rattle.errors.specs.declared.ReadAnswer.TheVariants.{Done, Refused}
 use Rattle.errors.specs.declared.ReadCounts.{ReadCounts}
 use Rattle.records.specs.Words.{note_width}
 use Rattle.system_types.specs.Names.{Lent}
@@ -36,6 +35,7 @@ use Rattle.claims.specs.Counts.{event_notes}
 use Rattle.claims.proofs.Calls.InC.{room, places, as-reads, done-of, done-zeros}
 use Rattle.claims.proofs.Calls.Zeros as zeros
 use Rattle.claims.proofs.Structure.Theorem as tree
+use Rattle.errors.specs.declared.Refusal.{Refusal}
 
 pub words-kinds : (n : ℕ) (os : List Note) (t : List ℕ) → n ≤ length os → kinds_from n (words_of os ++ t) ≡ map (λ (o : Note). o.kind) (take n os)
 unfolding kinds_from words_of
@@ -52,7 +52,7 @@ module _ (f : List ℕ) (lent : Lent) (ns ats ws : List ℕ) (cap mode : ℕ) (a
   ks = kept_notes cap (event_notes (events_of mode f lent))
 
   module _ (none : a.refusal ≡ 0) where
-    counted : (c : ReadCounts) × ((reading (room f lent ns ats ws cap mode) f lent).answer ≡ Done c)
+    counted : (c : ReadCounts) × ((reading (room f lent ns ats ws cap mode) f lent).answer ≡ Ok c)
     counted = done-of _ (sym (ap (λ (x : AxmlAnswer). x.refusal) h.answer) ∙ none)
 
     abbrev c : ReadCounts
@@ -63,11 +63,11 @@ module _ (f : List ℕ) (lent : Lent) (ns ats ws : List ℕ) (cap mode : ℕ) (a
 
     many-notes : a.notes ≡ c.notes
     unfolding numbers_of
-    many-notes = ap (λ (x : AxmlAnswer). x.notes) (h.answer ∙ ap (λ (b : ReadAnswer). answer_of (numbers_of b)) counted.1)
+    many-notes = ap (λ (x : AxmlAnswer). x.notes) (h.answer ∙ ap (λ (b : Result ReadCounts Refusal). answer_of (numbers_of b)) counted.1)
 
-    reads : Reads f lent ns ats (places f lent ns ats ws cap mode) cap mode (Done c)
+    reads : Reads f lent ns ats (places f lent ns ats ws cap mode) cap mode (Ok c)
         (reading (room f lent ns ats ws cap mode) f lent).nodes (reading (room f lent ns ats ws cap mode) f lent).attributes os
-    reads = as-reads f lent ns ats ws cap mode (Done c) counted.1
+    reads = as-reads f lent ns ats ws cap mode (Ok c) counted.1
 
     all_there : min a.notes (length ws' / note_width) ≡ a.notes
     all_there =
@@ -91,22 +91,22 @@ module _ (f : List ℕ) (lent : Lent) (ns ats ws : List ℕ) (cap mode : ℕ) (a
 
 -- ---- a month of readings
 
-done-kept : (x : Called) (c : ReadCounts) → ReadsWords x.file x.lent x.nodes x.attributes x.notes x.cap x.mode (answer_of (numbers_of (Done c)))
+done-kept : (x : Called) (c : ReadCounts) → ReadsWords x.file x.lent x.nodes x.attributes x.notes x.cap x.mode (answer_of (numbers_of (Ok c)))
     x.nodes' x.attributes' x.notes'
-    → total (kinds_in x.notes' (numbers_of (Done c)).notes) ≡ in_grid (map kind_number (kept_notes x.cap (event_notes (events_of x.mode x.file x.lent))))
+    → total (kinds_in x.notes' (numbers_of (Ok c)).notes) ≡ in_grid (map kind_number (kept_notes x.cap (event_notes (events_of x.mode x.file x.lent))))
 unfolding numbers_of
 done-kept x c h =
-    month-kept x.file x.lent x.nodes x.attributes x.notes x.cap x.mode (answer_of (numbers_of (Done c))) x.nodes' x.attributes'
+    month-kept x.file x.lent x.nodes x.attributes x.notes x.cap x.mode (answer_of (numbers_of (Ok c))) x.nodes' x.attributes'
     x.notes' h refl
 
 told-kept : (x : Called) (f : File) → Told x f → history.kept_of f ≡ kept_of x
 told-kept x f t = rw (t.answer, t.kinds) (go x.answer x.reads)
   where
-    go : (b : ReadAnswer) → ReadsWords x.file x.lent x.nodes x.attributes x.notes x.cap x.mode (answer_of (numbers_of b)) x.nodes'
+    go : (b : Result ReadCounts Refusal) → ReadsWords x.file x.lent x.nodes x.attributes x.notes x.cap x.mode (answer_of (numbers_of b)) x.nodes'
         x.attributes' x.notes'
         → history.kept_by b (kinds_in x.notes' (numbers_of b).notes) ≡ kept_by b (kept_notes x.cap (event_notes (events_of x.mode x.file x.lent)))
-    go (Done c) h = done-kept x c h
-    go (Refused e) h = refl
+    go (Ok c) h = done-kept x c h
+    go (Err e) h = refl
 
 told-all : (xs : List Called) (fs : List File) → AllTold xs fs → history.kept_in fs ≡ kept_in xs
 unfolding history.kept_in

@@ -4,6 +4,7 @@
 --   insertion-read   THE THEOREM, of whatever two results the promise `Reads` allows for a file and the longer one
 --   insertion-read-same   in tables of the same lengths, the tables are the same, whole
 --   insertion-read-room   places for the records that the first call kept, and for twice the cap of notes, are room
+use Rattle.std.specs.Prelude.{Result, Ok}
 use Prim.Native.Nat.{ℕ, ◌*◌, ◌≤◌}
 use native.Mathlib.Nat.{le_trans}
 use mathlib.Core.Path.{◌≡◌, refl, sym, ◌∙◌, ap, subst}
@@ -11,8 +12,6 @@ use mathlib.Core.List.{List}
 use lib.ListN.{length, replicate, length-replicate}
 use Rattle.anomaly.specs.Kept.{kept_notes}
 use Rattle.anomaly.specs.declared.Note.{Note as NoteOf}
-use Rattle.errors.specs.declared.ReadAnswer.{ReadAnswer}
-use Rattle.errors.specs.declared.ReadAnswer.TheVariants.{Done}
 use Rattle.errors.specs.declared.ReadCounts.{ReadCounts}
 use Rattle.errors.specs.Refusal.{numbers_of}
 use Rattle.errors.proofs.Laws.{numbers_of-unique}
@@ -24,14 +23,15 @@ use Rattle.claims.specs.Insertion.{ForeignChunk, places_in, inserted_file, place
 use Rattle.claims.specs.Room.{HasRoom}
 use Rattle.claims.proofs.Insertion.ForeignChunks.{place_notes-room}
 use Rattle.claims.proofs.Insertion.Theorem.{insertion, insertion-room, insertion-same}
+use Rattle.errors.specs.declared.Refusal.{Refusal}
 
-module _ (f : List ℕ) (lent : Lent) (ns ats : List ℕ) (os : List NoteOf) (cap mode : ℕ) (a : ReadAnswer) (ns' ats' : List ℕ) (os' : List NoteOf) where
+module _ (f : List ℕ) (lent : Lent) (ns ats : List ℕ) (os : List NoteOf) (cap mode : ℕ) (a : Result ReadCounts Refusal) (ns' ats' : List ℕ) (os' : List NoteOf) where
   pub left-reading : Reads f lent ns ats os cap mode a ns' ats' os' → reading_left a ns' ats' os' ≡ reading (room_in ns ats os cap mode) f lent
   left-reading p = rw (numbers_of-unique a _ p.answer, p.nodes, p.attributes, p.notes)
 
 -- with k places for notes
 pub reading-left : (f : List ℕ) (lent : Lent) (ns ats : List ℕ) (k cap mode : ℕ) (R : Reading)
-    → R ≡ reading (record { nodes = length ns; attributes = length ats; notes = k; cap = cap; mode = mode }) f lent → (a : ReadAnswer) → R.answer ≡ a
+    → R ≡ reading (record { nodes = length ns; attributes = length ats; notes = k; cap = cap; mode = mode }) f lent → (a : Result ReadCounts Refusal) → R.answer ≡ a
     → Reads f lent ns ats (replicate k zero_note) cap mode a R.nodes R.attributes R.notes
 reading-left f lent ns ats k cap mode R is a e =
     let same : R ≡ reading (room_in ns ats (replicate k zero_note) cap mode) f lent =
@@ -44,25 +44,25 @@ reading-left f lent ns ats k cap mode R is a e =
     }
 
 module _ (f : List ℕ) (lent : Lent) (ns ats : List ℕ) (os : List NoteOf) (cap mode : ℕ) (c : ReadCounts) (ns₁ ats₁ : List ℕ) (os₁ : List NoteOf)
-    (first : Reads f lent ns ats os cap mode (Done c) ns₁ ats₁ os₁) (none : c.notes ≡ 0) where
+    (first : Reads f lent ns ats os cap mode (Ok c) ns₁ ats₁ os₁) (none : c.notes ≡ 0) where
   abbrev shorter : Reading
   shorter = reading (room_in ns ats os cap mode) f lent
 
-  was : reading_left (Done c) ns₁ ats₁ os₁ ≡ shorter
-  was = left-reading f lent ns ats os cap mode (Done c) ns₁ ats₁ os₁ first
+  was : reading_left (Ok c) ns₁ ats₁ os₁ ≡ shorter
+  was = left-reading f lent ns ats os cap mode (Ok c) ns₁ ats₁ os₁ first
 
-  done₁ : shorter.answer ≡ Done c
+  done₁ : shorter.answer ≡ Ok c
   done₁ = sym (ap (λ (x : Reading). x.answer) was)
 
   module _ (places : List (List ForeignChunk)) (few : length places ≤ places_in f) (limit : length (inserted_file places f) ≤ file_limit) (ns' ats' : List ℕ)
-      (os' : List NoteOf) (cap' : ℕ) (one : 1 ≤ cap') (a : ReadAnswer) (ns₂ ats₂ : List ℕ) (os₂ : List NoteOf)
+      (os' : List NoteOf) (cap' : ℕ) (one : 1 ≤ cap') (a : Result ReadCounts Refusal) (ns₂ ats₂ : List ℕ) (os₂ : List NoteOf)
       (second : Reads (inserted_file places f) lent ns' ats' os' cap' mode a ns₂ ats₂ os₂) where
     r₂ : reading_left a ns₂ ats₂ os₂ ≡ reading (room_in ns' ats' os' cap' mode) (inserted_file places f) lent
     r₂ = left-reading (inserted_file places f) lent ns' ats' os' cap' mode a ns₂ ats₂ os₂ second
 
     -- THE THEOREM, of two calls
     pub insertion-read : HasRoom a
-        → reading_left a ns₂ ats₂ os₂ ≡ with_notes (room_in ns' ats' os' cap' mode) (reading_left (Done c) ns₁ ats₁ os₁) c (kept_notes cap' (place_notes places))
+        → reading_left a ns₂ ats₂ os₂ ≡ with_notes (room_in ns' ats' os' cap' mode) (reading_left (Ok c) ns₁ ats₁ os₁) c (kept_notes cap' (place_notes places))
     insertion-read room =
         let room' : HasRoom (reading (room_in ns' ats' os' cap' mode) (inserted_file places f) lent).answer =
         subst (λ (x : Reading). HasRoom x.answer) r₂ room in

@@ -5,6 +5,7 @@
 --   text-refused-zeros   a refused text question: the length is 0, and the whole buffer holds zeros
 --   text-done-zeros      behind the text of an answered one, to the buffer's end, stand zeros
 --   first-refused-zeros  a refused first-value question: type, data and reference are 0
+use Rattle.std.specs.Prelude.{Result, Ok, Err}
 use Prim.Native.Nat.{ℕ, ◌-◌, ◌*◌, ◌≤◌}
 use native.Mathlib.Omega.{arith}
 use mathlib.Core.Path.{◌≡◌, refl, sym, ◌∙◌, ap}
@@ -18,18 +19,13 @@ use Rattle.anomaly.specs.declared.Note.{Note}
 use Rattle.errors.specs.Refusal.{numbers_of, text_numbers_of, first_numbers_of}
 use Rattle.errors.specs.declared.Refusal.{Refusal}
 use Rattle.errors.specs.declared.Refusal.TheVariants.{TextShort}
-use Rattle.errors.specs.declared.ReadAnswer.TheVariants.{Done, Refused}
 use Rattle.errors.specs.declared.ReadCounts.{ReadCounts}
 use Rattle.errors.specs.declared.TextState.{TextState}
-use Rattle.errors.specs.declared.TextAnswer.TheVariants as text_is
-use Rattle.errors.specs.declared.FirstAnswer.TheVariants as first_is
 use Rattle.errors.proofs.Laws.{numbers_of-unique, text_numbers_of-unique}
 use Rattle.head.specs.Head.{opened_of}
 use Rattle.head.specs.Entry.{reading_at, Check, passes, fails, first_of, entry_checks}
 use Rattle.head.specs.Ask.{open_of, content_asked, state_told}
 use Rattle.head.specs.Ask.{text_answer_by, text_answer, text_buffer, TextReads}
-use Rattle.head.specs.declared.OpenRead.{OpenRead}
-use Rattle.head.specs.declared.OpenRead.TheVariants.{Open, Closed}
 use Rattle.text.specs.Content.{Content, none, cut, some, text_in, damage_in}
 use Rattle.records.specs.Words.{node_width, attribute_width}
 use Rattle.system_types.specs.Names.{Lent}
@@ -38,6 +34,7 @@ use Rattle.walk.specs.Reading.{Reading, zero_note, reading, reading_by, settled_
 use Rattle.claims.specs.Cleared.{ZeroBehind, RefusedZero, DoneZero, TextRefusedZero, TextDoneZero}
 use Rattle.claims.proofs.Structure.Done.{done-by, done-shaped}
 use Rattle.claims.proofs.Structure.Tables.{kept_in}
+use Rattle.text.specs.declared.Head.{Head}
 
 -- ---- a list, and zeros behind it
 
@@ -51,7 +48,7 @@ behind z k n x l l' e m h q = record {
 -- ---- a reading
 
 -- the three tables of a reading whose answer is a refusal
-final-zeros : (r : Room) (o : Out) (c : Check) (x : Refusal) → Refused x ≡ (reading_by r o c).answer
+final-zeros : (r : Room) (o : Out) (c : Check) (x : Refusal) → Err x ≡ (reading_by r o c).answer
     → ((reading_by r o c).nodes ≡ replicate r.nodes 0) × ((reading_by r o c).attributes ≡ replicate r.attributes 0)
     × ((reading_by r o c).notes ≡ replicate r.notes zero_note)
 final-zeros r (going t) passes x e = let z : ◌≡◌ {A = ℕ} 0 1 = cc in absurd (let y : ⊥ = omega arith in y)
@@ -59,8 +56,8 @@ final-zeros r (refused y) passes x e = (refl, refl, refl)
 final-zeros r o (fails y) x e = (refl, refl, refl)
 
 module _ (f : List ℕ) (lent : Lent) (ns ats : List ℕ) (os : List Note) (cap mode : ℕ) where
-  pub refused-zeros : (x : Refusal) (ns' ats' : List ℕ) (os' : List Note) → Reads f lent ns ats os cap mode (Refused x) ns' ats' os'
-      → RefusedZero (numbers_of (Refused x)) ns ats os ns' ats' os'
+  pub refused-zeros : (x : Refusal) (ns' ats' : List ℕ) (os' : List Note) → Reads f lent ns ats os cap mode (Err x) ns' ats' os'
+      → RefusedZero (numbers_of (Err x)) ns ats os ns' ats' os'
   unfolding reading numbers_of
   refused-zeros x ns' ats' os' h =
       let r = room_in ns ats os cap mode in
@@ -77,8 +74,8 @@ module _ (f : List ℕ) (lent : Lent) (ns ats : List ℕ) (os : List Note) (cap 
         note_records = h.notes ∙ z.2;
       }
 
-  pub done-zeros : (c : ReadCounts) (ns' ats' : List ℕ) (os' : List Note) → Reads f lent ns ats os cap mode (Done c) ns' ats' os'
-      → DoneZero (numbers_of (Done c)) ns ats os ns' ats' os'
+  pub done-zeros : (c : ReadCounts) (ns' ats' : List ℕ) (os' : List Note) → Reads f lent ns ats os cap mode (Ok c) ns' ats' os'
+      → DoneZero (numbers_of (Ok c)) ns ats os ns' ats' os'
   unfolding numbers_of
   done-zeros c ns' ats' os' h =
       let d = done-by f lent ns ats os cap mode c ns' ats' os' h in
@@ -106,32 +103,32 @@ module _ (f : List ℕ) (lent : Lent) (ns ats : List ℕ) (os : List Note) (cap 
 -- ---- the text question
 
 module _ (f : List ℕ) (lent : Lent) (before : List ℕ) (i : ℕ) where
-  pub text-refused-zeros : (x : Refusal) (after : List ℕ) → TextReads f lent before i (text_is.Refused x) after
-      → TextRefusedZero (text_numbers_of (text_is.Refused x)) before after
+  pub text-refused-zeros : (x : Refusal) (after : List ℕ) → TextReads f lent before i (Err x) after
+      → TextRefusedZero (text_numbers_of (Err x)) before after
   unfolding text_numbers_of text_buffer
   text-refused-zeros x after h =
-      let e : text_is.Refused x ≡ text_answer f lent (length before) i = text_numbers_of-unique _ _ h.answer in
+      let e : Err x ≡ text_answer f lent (length before) i = text_numbers_of-unique _ _ h.answer in
       record { length = refl; state = refl; replaced = refl; buffer = h.out ∙ rw (← e) }
 
   -- a text that is answered is as long as the answer says, and fits
   fits_by : (n k : ℕ) (s t : TextState) (text : List ℕ) (b : Bool) → leb (length text) n ≡ b
-      → text_is.Text k s ≡ cond b (text_is.Text (length text) t) (text_is.Refused (TextShort (length text))) → (k ≡ length text) × (k ≤ n)
+      → Ok (record { length = k; state = s }) ≡ cond b (Ok (record { length = (length text); state = t })) (Err (TextShort (length text))) → (k ≡ length text) × (k ≤ n)
   fits_by n k s t text true e q = let w : k ≡ length text = cc in (w, omega (arith, leb-true (length text) n e))
   fits_by n k s t text false e q = let z : ◌≡◌ {A = ℕ} 0 1 = cc in absurd (let y : ⊥ = omega arith in y)
 
-  answer-fits : (n k : ℕ) (s : TextState) (c : Content) (o : OpenRead) → text_is.Text k s ≡ text_answer_by n c o → (k ≡ length (text_in c)) × (k ≤ n)
-  answer-fits n k s c (Closed r) q = let z : ◌≡◌ {A = ℕ} 0 1 = cc in absurd (let y : ⊥ = omega arith in y)
-  answer-fits n k s none (Open h) q = let z : ◌≡◌ {A = ℕ} 0 1 = cc in absurd (let y : ⊥ = omega arith in y)
-  answer-fits n k s cut (Open h) q = fits_by n k s (state_told (damage_in cut)) (text_in cut) (leb (length (text_in cut)) n) refl q
-  answer-fits n k s (some w l) (Open h) q =
+  answer-fits : (n k : ℕ) (s : TextState) (c : Content) (o : Result Head Refusal) → Ok (record { length = k; state = s }) ≡ text_answer_by n c o → (k ≡ length (text_in c)) × (k ≤ n)
+  answer-fits n k s c (Err r) q = let z : ◌≡◌ {A = ℕ} 0 1 = cc in absurd (let y : ⊥ = omega arith in y)
+  answer-fits n k s none (Ok h) q = let z : ◌≡◌ {A = ℕ} 0 1 = cc in absurd (let y : ⊥ = omega arith in y)
+  answer-fits n k s cut (Ok h) q = fits_by n k s (state_told (damage_in cut)) (text_in cut) (leb (length (text_in cut)) n) refl q
+  answer-fits n k s (some w l) (Ok h) q =
       fits_by n k s (state_told (damage_in (some w l))) (text_in (some w l)) (leb (length (text_in (some w l))) n) refl q
 
-  pub text-done-zeros : (k : ℕ) (s : TextState) (after : List ℕ) → TextReads f lent before i (text_is.Text k s) after
-      → TextDoneZero (text_numbers_of (text_is.Text k s)) before after
+  pub text-done-zeros : (k : ℕ) (s : TextState) (after : List ℕ) → TextReads f lent before i (Ok (record { length = k; state = s })) after
+      → TextDoneZero (text_numbers_of (Ok (record { length = k; state = s }))) before after
   unfolding text_numbers_of text_buffer text_answer
   text-done-zeros k s after h =
       let c = content_asked f lent i in
-      let e : text_is.Text k s ≡ text_answer f lent (length before) i = text_numbers_of-unique _ _ h.answer in
+      let e : Ok (record { length = k; state = s }) ≡ text_answer f lent (length before) i = text_numbers_of-unique _ _ h.answer in
       let q = answer-fits (length before) k s c (open_of f lent) e in
       record {
         refusal = refl;
@@ -141,7 +138,7 @@ module _ (f : List ℕ) (lent : Lent) (before : List ℕ) (i : ℕ) where
 
 -- ---- the first value, which has no lent output
 
-pub first-refused-zeros : (x : Refusal) → (◌≡◌ {A = ℕ} (first_numbers_of (first_is.Refused x)).kind 0)
-    × (◌≡◌ {A = ℕ} (first_numbers_of (first_is.Refused x)).«data» 0) × (◌≡◌ {A = ℕ} (first_numbers_of (first_is.Refused x)).reference 0)
+pub first-refused-zeros : (x : Refusal) → (◌≡◌ {A = ℕ} (first_numbers_of (Err x)).kind 0)
+    × (◌≡◌ {A = ℕ} (first_numbers_of (Err x)).«data» 0) × (◌≡◌ {A = ℕ} (first_numbers_of (Err x)).reference 0)
 unfolding first_numbers_of
 first-refused-zeros x = (refl, refl, refl)

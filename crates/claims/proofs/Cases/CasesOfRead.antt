@@ -3,21 +3,23 @@
 --   Gives       of a case: in tables of its lengths, with any words in them, a call leaves its result, every word of it
 --   AllGive     that of each case of a list
 --   cases-read  `read` gives them all
+use Rattle.std.specs.Prelude.{Result}
 use Prim.Native.Nat.{ℕ}
 use mathlib.Core.Path.{◌≡◌, ◌∙◌, ap}
 use mathlib.Core.List.{List, [], ◌∷◌}
 use lib.ListN.{length}
 use Rattle.anomaly.specs.declared.Note.{Note}
-use Rattle.errors.specs.declared.ReadAnswer.{ReadAnswer}
 use Rattle.system_types.specs.Names.{lends}
 use Rattle.walk.specs.Settle.{Room}
 use Rattle.walk.specs.Reading.{Reading, reading, Reads}
 use Rattle.claims.specs.Insertion.{reading_left}
 use Rattle.claims.proofs.Calls.Readings.{left-reading}
 use Rattle.claims.proofs.Cases.Table.{Case, room, cases, readings, results, cases-right}
+use Rattle.errors.specs.declared.ReadCounts.{ReadCounts}
+use Rattle.errors.specs.declared.Refusal.{Refusal}
 
 abbrev pub Gives : Case → Type 0
-Gives c = (ns ats : List ℕ) (os : List Note) (a : ReadAnswer) (ns' ats' : List ℕ) (os' : List Note) → length ns ≡ room.nodes → length ats ≡ room.attributes
+Gives c = (ns ats : List ℕ) (os : List Note) (a : Result ReadCounts Refusal) (ns' ats' : List ℕ) (os' : List Note) → length ns ≡ room.nodes → length ats ≡ room.attributes
     → length os ≡ room.notes → Reads c.file (lends [] []) ns ats os room.cap room.mode a ns' ats' os' → reading_left a ns' ats' os' ≡ c.result
 
 abbrev pub AllGive : List Case → Type 0

@@ -5,6 +5,7 @@
 --   s-asked         what the three questions answer of S with these chunks: its string `a`, and the value of its one attribute
 --   s-full          with a word less than a node has S is refused with 8, which room that suffices excludes
 --   swallowed       why there is no place behind a chunk that is cut: a foreign chunk there makes no note
+use Rattle.std.specs.Prelude.{Ok, Err}
 use Prim.Native.Nat.{◌-◌, ◌*◌, ◌≤◌}
 use native.Mathlib.Omega.{arith}
 use mathlib.Core.Path.{◌≡◌, refl, ◌∙◌, ap}
@@ -13,10 +14,7 @@ use mathlib.Core.Bool.{false}
 use lib.ListN.{length, take}
 use Rattle.anomaly.specs.Note.{note_of}
 use Rattle.errors.specs.declared.Refusal.TheVariants.{NodesFull}
-use Rattle.errors.specs.declared.ReadAnswer.TheVariants.{Done, Refused}
 use Rattle.errors.specs.declared.TextState.TheVariants.{Whole}
-use Rattle.errors.specs.declared.TextAnswer.TheVariants.{Text}
-use Rattle.errors.specs.declared.FirstAnswer.TheVariants.{Found}
 use Rattle.errors.specs.declared.ReadCounts.{ReadCounts}
 use Rattle.records.specs.Limits.{file_limit}
 use Rattle.system_types.specs.Names.{lends}
@@ -50,7 +48,7 @@ s_reads = refl
 pub s-by-theorem : reading room (inserted_file some file_s) (lends [] []) ≡ expected
 unfolding note_of
 s-by-theorem =
-    let done : (reading room file_s (lends [] [])).answer ≡ Done counts = ap (λ (x : Reading). x.answer) s_reads in
+    let done : (reading room file_s (lends [] [])).answer ≡ Ok counts = ap (λ (x : Reading). x.answer) s_reads in
     let few : length some ≤ places_in file_s = rw s-places.0 (omega arith) in
     let limit : length (inserted_file some file_s) ≤ file_limit = rw s-limit (omega arith) in
     insertion room file_s (lends [] []) counts done refl some few limit room (omega arith) refl
@@ -62,15 +60,15 @@ unfolding file_s f105 f102 computing
 s-by-computing = refl
 
 -- the questions of the longer file: the text and the content of index 0, and the first value of `android` on `a`
-pub s-asked : (text_answer (inserted_file some file_s) (lends [] []) 2 0 ≡ Text 1 Whole) × (text_buffer (inserted_file some file_s) (lends [] []) 2 0 ≡ 0x61 ∷ 0 ∷ [])
+pub s-asked : (text_answer (inserted_file some file_s) (lends [] []) 2 0 ≡ Ok (record { length = 1; state = Whole })) × (text_buffer (inserted_file some file_s) (lends [] []) 2 0 ≡ 0x61 ∷ 0 ∷ [])
     × (content_answer (inserted_file some file_s) (lends [] []) 0 ≡ 0x61 ∷ [])
-    × (first_answer (inserted_file some file_s) (lends [] []) first_node lead (0x61 ∷ []) android_name 1 1 ≡ Found 3 0 false)
+    × (first_answer (inserted_file some file_s) (lends [] []) first_node lead (0x61 ∷ []) android_name 1 1 ≡ Ok (record { kind = 3; «data» = 0; reference = false }))
 unfolding file_s f105 f102 computing
 s-asked = (refl, refl, refl, refl)
 
 -- ---- room
 
-pub s-full : (reading (record { nodes = node_width - 1; attributes = attribute_width; notes = 4; cap = 2; mode = merged }) file_s (lends [] [])).answer ≡ Refused (NodesFull 0)
+pub s-full : (reading (record { nodes = node_width - 1; attributes = attribute_width; notes = 4; cap = 2; mode = merged }) file_s (lends [] [])).answer ≡ Err (NodesFull 0)
 unfolding file_s computing
 s-full = refl
 

@@ -2,18 +2,19 @@
 --
 --   marks-told   how many starts, how many are kept, how many never get their end
 --   files-told   the same of files; files-read: the answers and notes of their readings, with the room of proofs/Cases/Table.antt
+use Rattle.std.specs.Prelude.{Result, Ok}
 use Prim.Native.Nat.{ℕ}
 use mathlib.Core.Path.{◌≡◌, refl}
 use mathlib.Core.List.{List, [], ◌∷◌, ◌++◌, map}
 use lib.ListN.{length, take}
 use Rattle.anomaly.specs.declared.Note.{Note}
-use Rattle.errors.specs.declared.ReadAnswer.TheVariants.{Done}
-use Rattle.errors.specs.declared.ReadAnswer.{ReadAnswer}
 use Rattle.system_types.specs.Names.{lends}
 use Rattle.walk.specs.Reading.{reading, zero_note}
 use Rattle.claims.specs.Lost.{Mark, start, end, marks_in, start_names, still_open, kept_of}
 use Rattle.claims.proofs.Cases.Table.{start_s, end_s, head_s, file_s, room, note, none}
 use Rattle.claims.proofs.Cases.Computing.{computing}
+use Rattle.errors.specs.declared.ReadCounts.{ReadCounts}
+use Rattle.errors.specs.declared.Refusal.{Refusal}
 
 pub record Told : Type 0 where
   pub starts : ℕ
@@ -67,11 +68,11 @@ unfolding files computing
 files-told = refl
 
 pub record Left : Type 0 where
-  pub answer : ReadAnswer
+  pub answer : Result ReadCounts Refusal
   pub notes : List Note
 
 abbrev pub left : ℕ → ℕ → ℕ → List Note → Left
-left starts nodes n os = record { answer = Done (record { starts = starts; nodes = nodes; attributes = 1; notes = n }); notes = os }
+left starts nodes n os = record { answer = Ok (record { starts = starts; nodes = nodes; attributes = 1; notes = n }); notes = os }
 
 abbrev pub left_of : List ℕ → Left
 left_of f = record { answer = (reading room f (lends [] [])).answer; notes = (reading room f (lends [] [])).notes }

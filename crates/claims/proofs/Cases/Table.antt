@@ -5,19 +5,20 @@
 --   Case                  a file and its whole reading: the answer, every word of the two tables, every note
 --   cases                 the marked ones, with places for 3 nodes, 3 attributes and 4 notes, cap 8, no system names
 --   cases-right           each file's reading is that of the table
+use Rattle.std.specs.Prelude.{Result, Ok, Err}
 use Prim.Native.Nat.{ℕ, ◌*◌}
 use mathlib.Core.Path.{◌≡◌, refl}
 use mathlib.Core.List.{List, [], ◌∷◌, ◌++◌}
 use lib.ListN.{take, drop, replicate}
 use Rattle.anomaly.specs.declared.Note.{Note}
 use Rattle.errors.specs.declared.Refusal.TheVariants.{TooSmallError, StringPoolHeader}
-use Rattle.errors.specs.declared.ReadAnswer.TheVariants.{Done, Refused}
-use Rattle.errors.specs.declared.ReadAnswer.{ReadAnswer}
 use Rattle.system_types.specs.Names.{lends}
 use Rattle.records.specs.Words.{node_width, node_words, no_parent, attribute_width, attribute_words, merged}
 use Rattle.walk.specs.Settle.{Room}
 use Rattle.walk.specs.Reading.{Reading, reading, zero_note}
 use Rattle.claims.proofs.Cases.Computing.{computing}
+use Rattle.errors.specs.declared.ReadCounts.{ReadCounts}
+use Rattle.errors.specs.declared.Refusal.{Refusal}
 
 -- ---- the files
 
@@ -83,7 +84,7 @@ none = zero_note ∷ zero_note ∷ zero_note ∷ zero_note ∷ []
 abbrev pub note : ℕ → ℕ → Note
 note k a = record { kind = k; a = a; b = 0 }
 
-abbrev pub refusal : ReadAnswer → Reading
+abbrev pub refusal : Result ReadCounts Refusal → Reading
 refusal a = record { answer = a; nodes = no_nodes 3; attributes = no_attributes 3; notes = none }
 
 -- the first node has the leading attribute alone, and the line of its start
@@ -100,7 +101,7 @@ lead = attribute_words 0 2 0 3 0 0
 -- one node of this line, with so many starts, and these notes of which the first n count
 abbrev pub one_at : ℕ → ℕ → ℕ → List Note → Reading
 one_at line starts n os = record {
-  answer = Done (record { starts = starts; nodes = 1; attributes = 1; notes = n });
+  answer = Ok (record { starts = starts; nodes = 1; attributes = 1; notes = n });
   nodes = first_at line ++ no_nodes 2;
   attributes = lead ++ no_attributes 2;
   notes = os;
@@ -122,9 +123,9 @@ unfoldable pub cases : List Case
 unfolding file_s start_l end_l head_r head_c
 cases =
     row file_s (one_node 1 0 none) ∷
-    row (take 7 file_s) (refusal (Refused (TooSmallError 7))) ∷
-    row (take 8 file_s) (refusal (Refused (StringPoolHeader 8))) ∷
-    row (take 35 file_s) (refusal (Refused (StringPoolHeader 16))) ∷
+    row (take 7 file_s) (refusal (Err (TooSmallError 7))) ∷
+    row (take 8 file_s) (refusal (Err (StringPoolHeader 8))) ∷
+    row (take 35 file_s) (refusal (Err (StringPoolHeader 16))) ∷
     row (take 88 file_s) (one_node 1 1 (note 12 1 ∷ zero_note ∷ zero_note ∷ zero_note ∷ [])) ∷
     row (take 95 file_s) (one_node 1 1 (note 12 1 ∷ zero_note ∷ zero_note ∷ zero_note ∷ [])) ∷
     row (take 103 file_s) (one_node 1 2 (note 11 0 ∷ note 12 1 ∷ zero_note ∷ zero_note ∷ [])) ∷
@@ -133,7 +134,7 @@ cases =
     row (file_s ++ start_s) (one_node 2 1 (note 12 1 ∷ zero_note ∷ zero_note ∷ zero_note ∷ [])) ∷
     row (take 88 file_s ++ start_s) (one_node 2 1 (note 12 2 ∷ zero_note ∷ zero_note ∷ zero_note ∷ [])) ∷
     row (file_s ++ (start_s ++ end_s)) (record {
-      answer = Done (record { starts = 2; nodes = 2; attributes = 1; notes = 0 });
+      answer = Ok (record { starts = 2; nodes = 2; attributes = 1; notes = 0 });
       nodes = first_node ++ (node_words 0 0 0 1 0 1 ++ no_nodes 1);
       attributes = lead ++ no_attributes 2;
       notes = none;
@@ -142,7 +143,7 @@ cases =
     row (head_s ++ (start_l ++ end_l)) (one_at 4294967295 1 0 none) ∷
     row (head_r ++ (start_s ++ end_s)) (one_node 1 1 (record { kind = 32; a = 0; b = 1 } ∷ zero_note ∷ zero_note ∷ zero_note ∷ [])) ∷
     row (head_c ++ (start_s ++ end_s)) (record {
-      answer = Done (record { starts = 1; nodes = 1; attributes = 1; notes = 2 });
+      answer = Ok (record { starts = 1; nodes = 1; attributes = 1; notes = 2 });
       nodes = node_words 0 1 no_parent 0 1 1 ++ no_nodes 2;
       attributes = lead ++ no_attributes 2;
       notes = record { kind = 32; a = 0; b = 3 } ∷ record { kind = 9; a = 0; b = 1 } ∷ zero_note ∷ zero_note ∷ [];

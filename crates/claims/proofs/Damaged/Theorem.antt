@@ -5,6 +5,7 @@
 --   nothing-dropped     all starts of such a file are kept
 --   insertion-damaged   THE THEOREM: the tree stays
 --   insertion-damaged-others, insertion-damaged-kept, insertion-damaged-same   its other notes are those of the chunks, and its own are there
+use Rattle.std.specs.Prelude.{Ok}
 use Prim.Native.Nat.{ℕ, ◌+◌, ◌≤◌, ◌<◌}
 use native.Mathlib.Omega.{arith}
 use mathlib.Core.Path.{◌≡◌, refl, sym, ◌∙◌, ap}
@@ -19,7 +20,6 @@ use Rattle.anomaly.specs.declared.ResAnomaly.{ResAnomaly}
 use Rattle.anomaly.specs.declared.ResAnomaly.TheVariants.{DamagedElementName}
 use Rattle.anomaly.proofs.Laws.{kind_index-lt, kept_from-due, kept_from-past, kept_notes-of-kind, counted-length, counted_same, counted-other}
 use Rattle.anomaly.proofs.Numbers.{kind-place}
-use Rattle.errors.specs.declared.ReadAnswer.TheVariants.{Done}
 use Rattle.errors.specs.declared.ReadCounts.{ReadCounts}
 use Rattle.records.specs.Limits.{file_limit}
 use Rattle.system_types.specs.Names.{Lent}
@@ -165,7 +165,7 @@ only-damage cap h l only = none-besides damage_place l go
 
 -- ---- foreign chunks put into such a file
 
-module _ (r : Room) (f : List ℕ) (lent : Lent) (c : ReadCounts) (done : (reading r f lent).answer ≡ Done c)
+module _ (r : Room) (f : List ℕ) (lent : Lent) (c : ReadCounts) (done : (reading r f lent).answer ≡ Ok c)
     (only : OnlyDamage (take c.notes (reading r f lent).notes)) where
   abbrev N : Names
   N = names_for r.mode f lent

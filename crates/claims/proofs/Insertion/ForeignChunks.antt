@@ -5,6 +5,7 @@
 --   stretch-one                   a stretch of one sort makes one note
 --   note-type, note-size          which number it has
 --   place_notes-room               the notes are of two kinds, so that twice the cap suffices
+use Rattle.std.specs.Prelude.{Some}
 use Prim.Native.Nat.{ℕ, ◌+◌, ◌*◌, ◌≤◌}
 use native.Mathlib.Omega.{arith}
 use mathlib.Core.Path.{◌≡◌, refl, ◌∙◌, ap}
@@ -16,7 +17,6 @@ use lib.Seq.{length-take-le}
 use lib.Dec.{eqb}
 use Rattle.common.specs.Header.{header_of}
 use Rattle.common.specs.declared.ResChunkHeader.{ResChunkHeader}
-use Rattle.common.specs.declared.HeaderRead.TheVariants.{Whole}
 use Rattle.common.proofs.Laws.{header_of-long}
 use Rattle.chunk.specs.Sort.{chunk_sort}
 use Rattle.anomaly.specs.Note.{kind_index}
@@ -32,7 +32,7 @@ use Rattle.claims.specs.Insertion.{ForeignChunk, AllOf, BeginsOther, note_for, n
 
 -- ---- complete foreign chunks
 
-module _ (l : List ℕ) {h : ResChunkHeader} (w : header_of l ≡ Whole h) (n : chunk_sort h ≡ 2 → ⊥) (least : 8 ≤ h.size) (there : h.size ≤ length l) where
+module _ (l : List ℕ) {h : ResChunkHeader} (w : header_of l ≡ Some h) (n : chunk_sort h ≡ 2 → ⊥) (least : 8 ≤ h.size) (there : h.size ≤ length l) where
   -- a header that is foreign, of a size of at least 8, and all its bytes are there
   pub foreign-of : ForeignChunk
   foreign-of = record {

@@ -2,16 +2,13 @@
 -- Of any two results that their promises allow; the head is opened as that of the file (`open-same`).
 --
 --   insertion-text, insertion-content, insertion-first, insertion-many   text, content, first value, and many of them
+use Rattle.std.specs.Prelude.{Result, Ok, Err}
 use Prim.Native.Nat.{ℕ, ◌/◌, ◌≤◌}
 use mathlib.Core.Path.{◌≡◌, refl, sym, ◌∙◌, ap}
 use mathlib.Core.List.{List}
 use borrow.Author.Tests.{le-ltb}
 use lib.ListN.{length}
-use Rattle.errors.specs.declared.ReadAnswer.TheVariants.{Done}
 use Rattle.errors.specs.declared.ReadCounts.{ReadCounts}
-use Rattle.errors.specs.declared.TextAnswer.{TextAnswer}
-use Rattle.errors.specs.declared.FirstAnswer.{FirstAnswer}
-use Rattle.errors.specs.declared.ManyAnswer.{ManyAnswer}
 use Rattle.errors.specs.Refusal.{text_numbers_of, first_numbers_of, pair_numbers_of}
 use Rattle.errors.proofs.Laws.{text_numbers_of-unique, first_numbers_of-unique, pair_numbers_of-unique}
 use Rattle.records.specs.Limits.{file_limit}
@@ -21,12 +18,9 @@ use Rattle.head.specs.declared.HeadEnd.TheVariants.{Whole}
 use Rattle.head.specs.Head.{opened_of, tables_in}
 use Rattle.head.specs.Entry.{question, Check, passes, fails, first_of, length_check, entry_checks}
 use Rattle.head.specs.Ask.{open_by, open_of, content_asked_by}
-use Rattle.head.specs.declared.OpenRead.{OpenRead}
 use Rattle.head.specs.Ask.{text_answer, text_buffer, content_answer, TextReads}
 use Rattle.first_value.specs.Question as first
 use Rattle.first_value.specs.Question.{fit_of, shared_of, first_answer, FirstReads}
-use Rattle.first_value.specs.declared.Fit.{Fit}
-use Rattle.first_value.specs.declared.Fit.TheVariants.{Fitting, Unfit}
 use Rattle.first_values.specs.Pairs.{asks, answers_from, many_answer, answers_after, ManyReads}
 use Rattle.first_values.proofs.Laws.{answers_from-same}
 use Rattle.walk.specs.Settle.{Room}
@@ -35,8 +29,12 @@ use Rattle.claims.specs.Insertion.{ForeignChunk, inserted_file}
 use Rattle.claims.proofs.Settle.Success.{success}
 use Rattle.claims.proofs.Insertion.Theorem.{head-whole, insertion-head}
 use Rattle.claims.proofs.Insertion.InsertedFile.{longer-tables}
+use Rattle.errors.specs.declared.FirstValue.{FirstValue}
+use Rattle.errors.specs.declared.Refusal.{Refusal}
+use Rattle.errors.specs.declared.TextWritten.{TextWritten}
+use Rattle.text.specs.declared.Head.{Head}
 
-module _ (r : Room) (f : List ℕ) (lent : Lent) (c : ReadCounts) (done : (reading r f lent).answer ≡ Done c) (none : c.notes ≡ 0)
+module _ (r : Room) (f : List ℕ) (lent : Lent) (c : ReadCounts) (done : (reading r f lent).answer ≡ Ok c) (none : c.notes ≡ 0)
     (places : List (List ForeignChunk)) (limit : length (inserted_file places f) ≤ file_limit) where
   abbrev g : List ℕ
   g = inserted_file places f
@@ -70,7 +68,7 @@ module _ (r : Room) (f : List ℕ) (lent : Lent) (c : ReadCounts) (done : (readi
   unfolding text_answer text_buffer
   text_same n i = (rw (asked-same i, open-same), rw (asked-same i, open-same))
 
-  pub insertion-text : (before : List ℕ) (i : ℕ) (a a' : TextAnswer) (after after' : List ℕ) → TextReads f lent before i a after
+  pub insertion-text : (before : List ℕ) (i : ℕ) (a a' : Result TextWritten Refusal) (after after' : List ℕ) → TextReads f lent before i a after
       → TextReads g lent before i a' after' → (a' ≡ a) × (after' ≡ after)
   insertion-text before i a a' after after' p q =
       let e = text_same (length before) i in
@@ -84,10 +82,10 @@ module _ (r : Room) (f : List ℕ) (lent : Lent) (c : ReadCounts) (done : (readi
   insertion-content i s s' p q = q ∙ content-same i ∙ sym p
 
   module _ (ns ats tag name : List ℕ) (nodes attributes : ℕ) where
-    asked-fit : (x : Fit) → first.first_asked_by g lent ns ats tag name nodes (first.fitted_by (opened_of f).head x)
+    asked-fit : (x : Result (Unit {0}) ℕ) → first.first_asked_by g lent ns ats tag name nodes (first.fitted_by (opened_of f).head x)
         ≡ first.first_asked_by f lent ns ats tag name nodes (first.fitted_by (opened_of f).head x)
-    asked-fit Fitting = rw tables-same
-    asked-fit (Unfit k) = refl
+    asked-fit (Ok tt) = rw tables-same
+    asked-fit (Err k) = refl
 
     asked-first : (x : Check) → first.first_asked_by g lent ns ats tag name nodes (first.shared_by (fit_of ns ats nodes attributes) (open_by (opened_of f) x))
         ≡ first.first_asked_by f lent ns ats tag name nodes (first.shared_by (fit_of ns ats nodes attributes) (open_by (opened_of f) x))
@@ -97,10 +95,10 @@ module _ (r : Room) (f : List ℕ) (lent : Lent) (c : ReadCounts) (done : (readi
     first-same : first_answer g lent ns ats tag name nodes attributes ≡ first_answer f lent ns ats tag name nodes attributes
     unfolding first_answer shared_of open_of
     first-same =
-        ap (λ (x : OpenRead). first.first_asked_by g lent ns ats tag name nodes (first.shared_by (fit_of ns ats nodes attributes) x)) open-same
+        ap (λ (x : Result Head Refusal). first.first_asked_by g lent ns ats tag name nodes (first.shared_by (fit_of ns ats nodes attributes) x)) open-same
         ∙ asked-first (first_of (entry_checks f lent question))
 
-    pub insertion-first : (a a' : FirstAnswer) → FirstReads f lent ns ats tag name nodes attributes a
+    pub insertion-first : (a a' : Result FirstValue Refusal) → FirstReads f lent ns ats tag name nodes attributes a
         → FirstReads g lent ns ats tag name nodes attributes a' → a' ≡ a
     insertion-first a a' p q = first_numbers_of-unique a' a (q.answer ∙ ap first_numbers_of first-same ∙ sym p.answer)
 
@@ -124,7 +122,7 @@ module _ (r : Room) (f : List ℕ) (lent : Lent) (c : ReadCounts) (done : (readi
     unfolding answers_after
     list_same = rw (words_same, many-same)
 
-  pub insertion-many : (ns ats pairs area before : List ℕ) (nodes attributes : ℕ) (a a' : ManyAnswer) (after after' : List ℕ)
+  pub insertion-many : (ns ats pairs area before : List ℕ) (nodes attributes : ℕ) (a a' : Result ℕ Refusal) (after after' : List ℕ)
       → ManyReads f lent ns ats pairs area before nodes attributes a after → ManyReads g lent ns ats pairs area before nodes attributes a' after'
       → (a' ≡ a) × (after' ≡ after)
   insertion-many ns ats pairs area before nodes attributes a a' after after' p q = (

@@ -8,6 +8,7 @@
 --   events-longer           what the longer file makes
 --   same-tree               where both make the same but for notes, the longer file's reading is that of the file, with its own notes
 --   same-room               places for the records that were kept, and for the notes, are room
+use Rattle.std.specs.Prelude.{Ok}
 use Prim.Native.Nat.{ℕ, ◌+◌, ◌*◌, ◌≤◌}
 use native.Mathlib.Omega.{arith}
 use mathlib.Core.Path.{◌≡◌, refl, sym, ◌∙◌, ap}
@@ -17,7 +18,6 @@ use lib.ListN.{length, take}
 use lib.Seq.{take_at}
 use Rattle.anomaly.specs.Note.{note_of}
 use Rattle.anomaly.specs.Kept.{kept_notes}
-use Rattle.errors.specs.declared.ReadAnswer.TheVariants.{Done}
 use Rattle.errors.specs.declared.ReadCounts.{ReadCounts}
 use Rattle.records.specs.Limits.{file_limit}
 use Rattle.records.specs.Words.{node_width, attribute_width}
@@ -42,7 +42,7 @@ use Rattle.claims.proofs.Structure.WalkDepth.{file-ends}
 use Rattle.claims.proofs.Structure.OpenElements.{second_none}
 use Rattle.claims.proofs.Insertion.InsertedFile.{longer-opened, longer-tables, longer-body, longer-head, whole_of}
 
-module _ (r : Room) (f : List ℕ) (lent : Lent) (c : ReadCounts) (done : (reading r f lent).answer ≡ Done c) where
+module _ (r : Room) (f : List ℕ) (lent : Lent) (c : ReadCounts) (done : (reading r f lent).answer ≡ Ok c) where
   abbrev s : Success r f lent c
   s = success r f lent c done
 

@@ -6,6 +6,7 @@
 --   insertion         THE THEOREM: its reading is that of the file, with the notes of the chunks
 --   insertion-room    places for the records that the first reading kept, and for the notes, are room
 --   insertion-same    in tables as long as the first ones, every word is the same
+use Rattle.std.specs.Prelude.{Ok}
 use Prim.Native.Nat.{ℕ, ◌+◌, ◌*◌, ◌≤◌}
 use native.Mathlib.Omega.{arith}
 use mathlib.Core.Path.{◌≡◌, ◌∙◌, ap}
@@ -14,7 +15,6 @@ use lib.ListN.{length, take, length-map, length-take}
 use Rattle.anomaly.specs.Note.{note_of}
 use Rattle.anomaly.specs.Kept.{kept_from, kept_notes}
 use Rattle.anomaly.specs.declared.ResAnomaly.{ResAnomaly}
-use Rattle.errors.specs.declared.ReadAnswer.TheVariants.{Done}
 use Rattle.errors.specs.declared.ReadCounts.{ReadCounts}
 use Rattle.records.specs.Limits.{file_limit}
 use Rattle.records.specs.Words.{node_width, attribute_width}
@@ -35,7 +35,7 @@ use Rattle.claims.proofs.Settle.Success.{success, none_kept, kept_nodes, kept_at
 use Rattle.claims.proofs.Insertion.InsertedFile.{longer-others, longer-notes}
 use Rattle.claims.proofs.Insertion.SameTree as both
 
-module _ (r : Room) (f : List ℕ) (lent : Lent) (c : ReadCounts) (done : (reading r f lent).answer ≡ Done c) (none : c.notes ≡ 0) where
+module _ (r : Room) (f : List ℕ) (lent : Lent) (c : ReadCounts) (done : (reading r f lent).answer ≡ Ok c) (none : c.notes ≡ 0) where
   abbrev N : Names
   N = names_for r.mode f lent
 

@@ -3,6 +3,7 @@
 --   nothing-lost   the kept nodes are the starts before the first, other than the very first, that never gets its end; where a start is dropped, the last
 --                  note is 12 (specs/Lost.antt, `NothingLost`)
 --   whole-kept     without note 12 all starts are kept
+use Rattle.std.specs.Prelude.{Ok}
 use Prim.Native.Nat.{ℕ, ◌+◌, ◌-◌, ◌*◌, ◌/◌, ◌≤◌}
 use native.Mathlib.Omega.{arith}
 use mathlib.Core.Path.{◌≡◌, refl, sym, ◌∙◌, ap}
@@ -13,7 +14,6 @@ use Rattle.anomaly.specs.Note.{made, note_of}
 use Rattle.anomaly.specs.Kept.{kept_notes}
 use Rattle.anomaly.specs.declared.Note.{Note}
 use Rattle.anomaly.specs.declared.ResAnomaly.TheVariants.{UnclosedElements}
-use Rattle.errors.specs.declared.ReadAnswer.TheVariants.{Done}
 use Rattle.errors.specs.declared.ReadCounts.{ReadCounts}
 use Rattle.head.specs.Head.{opened_of, tables_in, body_in}
 use Rattle.events.specs.declared.Event.{Event}
@@ -100,7 +100,7 @@ module _ (rule : Rule) (r : Room) (es : List Event) (t : Tables) (e : settle rul
 -- ---- a reading
 
 module _ (f : List ℕ) (lent : Lent) (ns ats : List ℕ) (os : List Note) (cap mode : ℕ) (c : ReadCounts) (ns' ats' : List ℕ) (os' : List Note)
-    (reads : Reads f lent ns ats os cap mode (Done c) ns' ats' os') where
+    (reads : Reads f lent ns ats os cap mode (Ok c) ns' ats' os') where
   abbrev es : List Event
   es = events_of mode f lent
 

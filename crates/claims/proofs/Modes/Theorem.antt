@@ -3,6 +3,7 @@
 --   same-trans        texts that are equal to one are equal
 --   left-attributes   what a success leaves of its attributes; all_grown: they are grown from all events
 --   mode-merged       THE THEOREM: the attributes that two successful readings leave
+use Rattle.std.specs.Prelude.{Ok}
 use Prim.Native.Nat.{ℕ, ◌*◌, ◌≤◌}
 use native.Mathlib.Omega.{arith}
 use mathlib.Core.Path.{◌≡◌, sym, ◌∙◌, ap}
@@ -14,7 +15,6 @@ use Rattle.utf.specs.Text.{eq_bytes}
 use Rattle.utf.proofs.Equal.{eq_bytes-true, eq_bytes-refl}
 use Rattle.utf.proofs.Tables.{both_true}
 use Rattle.anomaly.specs.declared.Note.{Note as NoteOf}
-use Rattle.errors.specs.declared.ReadAnswer.TheVariants.{Done}
 use Rattle.errors.specs.declared.ReadCounts.{ReadCounts}
 use Rattle.system_types.specs.Names.{Lent}
 use Rattle.text.specs.Content.{Content, content_of, has_text, text_in, same_text, same_name}
@@ -77,8 +77,8 @@ module _ (r : Room) (f : List ℕ) (lent : Lent) (c : ReadCounts) (s : Success r
   all_grown = (settled by r es s.tables s.settles).tree
 
 module _ (f : List ℕ) (lent : Lent) (ns ats : List ℕ) (os : List NoteOf) (cap : ℕ) (c : ReadCounts) (ns₁ ats₁ : List ℕ) (os₁ : List NoteOf)
-    (first : Reads f lent ns ats os cap merged (Done c) ns₁ ats₁ os₁) (ns' ats' : List ℕ) (os' : List NoteOf) (cap' : ℕ) (c' : ReadCounts)
-    (ns₂ ats₂ : List ℕ) (os₂ : List NoteOf) (second : Reads f lent ns' ats' os' cap' apart (Done c') ns₂ ats₂ os₂) where
+    (first : Reads f lent ns ats os cap merged (Ok c) ns₁ ats₁ os₁) (ns' ats' : List ℕ) (os' : List NoteOf) (cap' : ℕ) (c' : ReadCounts)
+    (ns₂ ats₂ : List ℕ) (os₂ : List NoteOf) (second : Reads f lent ns' ats' os' cap' apart (Ok c') ns₂ ats₂ os₂) where
   abbrev r₁ : Room
   r₁ = room_in ns ats os cap merged
 
@@ -86,10 +86,10 @@ module _ (f : List ℕ) (lent : Lent) (ns ats : List ℕ) (os : List NoteOf) (ca
   r₂ = room_in ns' ats' os' cap' apart
 
   s₁ : Success r₁ f lent c
-  s₁ = success r₁ f lent c (sym (ap (λ (x : Reading). x.answer) (left-reading f lent ns ats os cap merged (Done c) ns₁ ats₁ os₁ first)))
+  s₁ = success r₁ f lent c (sym (ap (λ (x : Reading). x.answer) (left-reading f lent ns ats os cap merged (Ok c) ns₁ ats₁ os₁ first)))
 
   s₂ : Success r₂ f lent c'
-  s₂ = success r₂ f lent c' (sym (ap (λ (x : Reading). x.answer) (left-reading f lent ns' ats' os' cap' apart (Done c') ns₂ ats₂ os₂ second)))
+  s₂ = success r₂ f lent c' (sym (ap (λ (x : Reading). x.answer) (left-reading f lent ns' ats' os' cap' apart (Ok c') ns₂ ats₂ os₂ second)))
 
   abbrev H : Head
   H = (opened_of f).head

@@ -4,6 +4,7 @@
 --   reading-part, open-part, text-part    such a refusal of a reading or a question is the head's
 --   part-offset                           its value is a place in the file
 --   part_cut, part-cut-text               the file cut there is read and asked with the same answer
+use Rattle.std.specs.Prelude.{Result, Ok, Err}
 use Prim.Native.Nat.{ℕ, ◌+◌, ◌≤◌}
 use native.Mathlib.Omega.{arith}
 use mathlib.Core.Path.{◌≡◌, refl, sym, ◌∙◌, ap, subst}
@@ -14,20 +15,14 @@ use lib.Seq.{length-take-le}
 use lib.Dec.{leb}
 use Rattle.errors.specs.Refusal.{refusal_number, refusal_value}
 use Rattle.errors.specs.declared.Refusal.{Refusal}
-use Rattle.errors.specs.declared.ReadAnswer.{ReadAnswer}
 use Rattle.errors.specs.declared.Refusal.TheVariants.{NothingFound, TextShort}
-use Rattle.errors.specs.declared.ReadAnswer.TheVariants.{Done, Refused}
 use Rattle.errors.specs.declared.TextState.{TextState}
-use Rattle.errors.specs.declared.TextAnswer.{TextAnswer}
-use Rattle.errors.specs.declared.TextAnswer.TheVariants as text_is
 use Rattle.records.specs.Repeats.{Rule}
 use Rattle.system_types.specs.Names.{Lent}
 use Rattle.text.specs.Content.{Content, none, cut, some, text_in, damage_in}
 use Rattle.head.specs.declared.HeadEnd.{HeadEnd}
 use Rattle.head.specs.declared.HeadEnd.TheVariants.{Whole, TooSmall, HeaderSize, PoolShort, MapShort}
 use Rattle.head.specs.declared.Opened.{Opened}
-use Rattle.head.specs.declared.OpenRead.{OpenRead}
-use Rattle.head.specs.declared.OpenRead.TheVariants.{Open, Closed}
 use Rattle.head.specs.Head.{opened_of, tables_in, body_in, head_len, head_is_whole, refusal_of, garbage_notes, count_notes}
 use Rattle.head.specs.declared.Asker.{Asker}
 use Rattle.head.specs.declared.Asker.TheVariants as askers
@@ -46,6 +41,9 @@ use Rattle.claims.specs.Parts.{is_part}
 use Rattle.claims.proofs.Settle.ByEvent.{InOut, Goes, Stops, settle-by}
 use Rattle.claims.proofs.Events.Refusals.{AllRefuse, file-refuses}
 use Rattle.claims.proofs.Settle.EntryChecks.{Under, entry-under}
+use Rattle.errors.specs.declared.ReadCounts.{ReadCounts}
+use Rattle.errors.specs.declared.TextWritten.{TextWritten}
+use Rattle.text.specs.declared.Head.{Head}
 
 no_part : {b : Bool} → b ≡ true → b ≡ false → ⊥
 no_part p q = let e = sym p ∙ q in let z : ◌≡◌ {A = ℕ} 0 1 = cc in omega arith
@@ -104,9 +102,9 @@ entry-not : (f : List ℕ) (lent : Lent) (a : Asker) → Under (λ x. is_part x 
 unfolding refusal_number
 entry-not f lent a = entry-under (λ x. is_part x ≡ false) f lent a refl refl (λ k. refl) refl
 
-abbrev IsRefused : Refusal → ReadAnswer → Type 0
-IsRefused x (Done c) = ⊥
-IsRefused x (Refused y) = y ≡ x
+abbrev IsRefused : Refusal → Result ReadCounts Refusal → Type 0
+IsRefused x (Ok c) = ⊥
+IsRefused x (Err y) = y ≡ x
 
 -- what refuses for a part passed the checks, and its head is short by it
 pub record PartOf (f : List ℕ) (lent : Lent) (a : Asker) (x : Refusal) : Type 0 where
@@ -117,7 +115,7 @@ module _ (f : List ℕ) (lent : Lent) (x : Refusal) (part : is_part x ≡ true) 
   no-check : (a : Asker) {y : Refusal} → first_of (entry_checks f lent (terms_of a)) ≡ fails y → y ≡ x → ⊥
   no-check a {y} p e = no_part (rw e part) (rw p at (entry-not f lent a))
 
-  pub reading-part : (r : Room) → (reading r f lent).answer ≡ Refused x → PartOf f lent (askers.Reading r.cap r.mode) x
+  pub reading-part : (r : Room) → (reading r f lent).answer ≡ Err x → PartOf f lent (askers.Reading r.cap r.mode) x
   unfolding reading
   reading-part r h = go (first_of (entry_checks f lent (terms_of (askers.Reading r.cap r.mode)))) refl (subst (IsRefused x) (sym h) refl)
     where
@@ -142,43 +140,43 @@ module _ (f : List ℕ) (lent : Lent) (x : Refusal) (part : is_part x ≡ true) 
       go (fails y) p q = absurd (no-check (askers.Reading r.cap r.mode) p q)
       go passes p q = record { passes = p; short = settled (settled_in r f lent o) said q }
 
-  pub open-part : open_of f lent ≡ Closed x → PartOf f lent askers.Question x
+  pub open-part : open_of f lent ≡ Err x → PartOf f lent askers.Question x
   unfolding open_of
   open-part h = go (first_of (entry_checks f lent (terms_of askers.Question))) refl h
     where
       -- a head that is not whole closes the file by its refusal
-      head : (e : HeadEnd) → (opened_of f).end ≡ e → cond (head_is_whole e) (Open (opened_of f).head) (Closed (refusal_of e)) ≡ Closed x → ShortBy (opened_of f).end x
+      head : (e : HeadEnd) → (opened_of f).end ≡ e → cond (head_is_whole e) (Ok (opened_of f).head) (Err (refusal_of e)) ≡ Err x → ShortBy (opened_of f).end x
       head Whole q z = let y : ◌≡◌ {A = ℕ} 0 1 = cc in absurd (let w : ⊥ = omega arith in w)
       head (TooSmall n) q z = let y : refusal_of (TooSmall n) ≡ x = cc in rw y at (head-says (opened_of f) (TooSmall n) q) part
       head (HeaderSize n) q z = let y : refusal_of (HeaderSize n) ≡ x = cc in rw y at (head-says (opened_of f) (HeaderSize n) q) part
       head (PoolShort e) q z = let y : refusal_of (PoolShort e) ≡ x = cc in rw y at (head-says (opened_of f) (PoolShort e) q) part
       head (MapShort e) q z = let y : refusal_of (MapShort e) ≡ x = cc in rw y at (head-says (opened_of f) (MapShort e) q) part
 
-      go : (c : Check) → first_of (entry_checks f lent (terms_of askers.Question)) ≡ c → open_by (opened_of f) c ≡ Closed x → PartOf f lent askers.Question x
+      go : (c : Check) → first_of (entry_checks f lent (terms_of askers.Question)) ≡ c → open_by (opened_of f) c ≡ Err x → PartOf f lent askers.Question x
       go (fails y) p q = let e : y ≡ x = cc in absurd (no-check askers.Question p e)
       go passes p q = record { passes = p; short = head (opened_of f).end refl q }
 
   -- a text that is there is refused for no part
-  fitted-not : (n : ℕ) (s : List ℕ) (t : TextState) → fitted n s t ≡ text_is.Refused x → ⊥
+  fitted-not : (n : ℕ) (s : List ℕ) (t : TextState) → fitted n s t ≡ Err x → ⊥
   unfolding refusal_number
   fitted-not n s t h =
-      cond-by (λ (a : TextAnswer). a ≡ text_is.Refused x → ⊥) (leb (length s) n)
+      cond-by (λ (a : Result TextWritten Refusal). a ≡ Err x → ⊥) (leb (length s) n)
       (λ e q. let z : ◌≡◌ {A = ℕ} 0 1 = cc in omega arith)
       (λ e q. let y : x ≡ TextShort (length s) = cc in no_part part (rw y)) h
 
-  text-not : (n : ℕ) (k : Content) → text_by n k ≡ text_is.Refused x → ⊥
+  text-not : (n : ℕ) (k : Content) → text_by n k ≡ Err x → ⊥
   unfolding refusal_number
   text-not n none h = let y : x ≡ NothingFound = cc in no_part part (rw y)
   text-not n cut h = fitted-not n (text_in cut) (state_told (damage_in cut)) h
   text-not n (some w s) h = fitted-not n (text_in (some w s)) (state_told (damage_in (some w s))) h
 
-  pub text-part : (n i : ℕ) → text_answer f lent n i ≡ text_is.Refused x → open_of f lent ≡ Closed x
+  pub text-part : (n i : ℕ) → text_answer f lent n i ≡ Err x → open_of f lent ≡ Err x
   unfolding text_answer
   text-part n i h = go (open_of f lent) refl h
     where
-      go : (o : OpenRead) → open_of f lent ≡ o → text_answer_by n (content_asked f lent i) o ≡ text_is.Refused x → open_of f lent ≡ Closed x
-      go (Open d) p q = absurd (text-not n (content_asked f lent i) q)
-      go (Closed y) p q = let e : y ≡ x = cc in p ∙ ap Closed e
+      go : (o : Result Head Refusal) → open_of f lent ≡ o → text_answer_by n (content_asked f lent i) o ≡ Err x → open_of f lent ≡ Err x
+      go (Ok d) p q = absurd (text-not n (content_asked f lent i) q)
+      go (Err y) p q = let e : y ≡ x = cc in p ∙ ap Err e
 
 -- ---- the file cut where the part should begin
 
@@ -233,6 +231,6 @@ module _ (f : List ℕ) (lent : Lent) (x : Refusal) (p : PartOf f lent askers.Qu
   unfolding open_of
   part-cut-open = rw (still f lent askers.Question x p, p.passes, (here f lent askers.Question x p).same)
 
-  pub part-cut-text : (n i : ℕ) → open_of f lent ≡ Closed x → text_answer (take (refusal_value x) f) lent n i ≡ text_is.Refused x
+  pub part-cut-text : (n i : ℕ) → open_of f lent ≡ Err x → text_answer (take (refusal_value x) f) lent n i ≡ Err x
   unfolding text_answer
-  part-cut-text n i h = let e : open_of (take (refusal_value x) f) lent ≡ Closed x = part-cut-open ∙ h in rw e
+  part-cut-text n i h = let e : open_of (take (refusal_value x) f) lent ≡ Err x = part-cut-open ∙ h in rw e

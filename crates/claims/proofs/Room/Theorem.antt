@@ -6,6 +6,7 @@
 --   read-listed-suffices   so `read_listed`, as a listing calls it, is never without a place
 --
 -- Why: `file-few` (proofs/Room/FileCounts.antt) for nodes and attributes; `kept_notes-length-le` (anomaly) for notes.
+use Rattle.std.specs.Prelude.{Result, Ok, Err}
 use Prim.Native.Nat.{ℕ, ◌+◌, ◌-◌, ◌*◌, ◌≤◌, ◌<◌}
 use native.Mathlib.Omega.{arith}
 use mathlib.Core.Path.{◌≡◌, refl, sym, subst}
@@ -22,8 +23,6 @@ use Rattle.anomaly.proofs.Laws.{kept_from-due, kept_from-past, kept_notes-length
 use Rattle.errors.proofs.Laws.{numbers_of-unique}
 use Rattle.errors.specs.Refusal.{refusal_number}
 use Rattle.errors.specs.declared.Refusal.{Refusal}
-use Rattle.errors.specs.declared.ReadAnswer.{ReadAnswer}
-use Rattle.errors.specs.declared.ReadAnswer.TheVariants.{Done, Refused}
 use Rattle.records.specs.Limits.{listed_file}
 use Rattle.system_types.specs.Names.{Lent, lends, names_from}
 use Rattle.head.specs.declared.Opened.{Opened}
@@ -142,7 +141,7 @@ root-fine = (refl, refl)
 -- ---- a reading
 
 -- A of every answer, where there is room: S of its refusals
-module _ (S : Refusal → Type 0) (A : ReadAnswer → Type 0) (done : (c : ReadCounts) → A (Done c)) (refuses : (x : Refusal) → S x → A (Refused x))
+module _ (S : Refusal → Type 0) (A : Result ReadCounts Refusal → Type 0) (done : (c : ReadCounts) → A (Ok c)) (refuses : (x : Refusal) → S x → A (Err x))
     (fine : (x : Refusal) → Fine x → S x) where
   final-under : (r : Room) (o : Out) (c : Check) → InOut (Enough r []) S o → Under S c → A (reading_by r o c).answer
   final-under r (going t) passes p q = done _
@@ -186,9 +185,9 @@ suffices r f lent nodes attributes notes =
 abbrev Listed : Refusal → Type 0
 Listed x = is_listed (refusal_number x) ≡ true
 
-abbrev pub SaidBy : ReadAnswer → Type 0
-SaidBy (Done c) = Unit {0}
-SaidBy (Refused x) = is_listed (refusal_number x) ≡ true
+abbrev pub SaidBy : Result ReadCounts Refusal → Type 0
+SaidBy (Ok c) = Unit {0}
+SaidBy (Err x) = is_listed (refusal_number x) ≡ true
 
 cap-listed : (cap mode : ℕ) → eqb cap 0 ≡ false → Under Listed (cap_check (askers.Reading cap mode))
 cap-listed cap mode e = rw e tt
@@ -206,7 +205,7 @@ said-by r f nodes attributes notes some known =
 
 -- ---- a call
 
-pub read-suffices : (f : List ℕ) (lent : Lent) (ns ats : List ℕ) (os : List NoteOf) (cap mode : ℕ) (a : ReadAnswer) (ns' ats' : List ℕ) (os' : List NoteOf)
+pub read-suffices : (f : List ℕ) (lent : Lent) (ns ats : List ℕ) (os : List NoteOf) (cap mode : ℕ) (a : Result ReadCounts Refusal) (ns' ats' : List ℕ) (os' : List NoteOf)
     → nodes_for (length f) ≤ length ns → attributes_for (length f) ≤ length ats → places_for cap ≤ length os
     → Reads f lent ns ats os cap mode a ns' ats' os' → HasRoom a
 read-suffices f lent ns ats os cap mode a ns' ats' os' n m o h =
@@ -218,7 +217,7 @@ pub listing-suffices : (n : ℕ) → n ≤ listed_file
     → (nodes_for n ≤ listing_room.nodes) × (attributes_for n ≤ listing_room.attributes) × (places_for listing_room.cap ≤ listing_room.notes)
 listing-suffices n short = (omega arith, omega arith, omega arith)
 
-pub read-listed-suffices : (f ns ats : List ℕ) (a : ReadAnswer) (ns' ats' : List ℕ) (os' : List NoteOf)
+pub read-listed-suffices : (f ns ats : List ℕ) (a : Result ReadCounts Refusal) (ns' ats' : List ℕ) (os' : List NoteOf)
     → length f ≤ listed_file → length ns ≡ listing_room.nodes → length ats ≡ listing_room.attributes
     → Reads f (lends [] []) ns ats (replicate listing_room.notes zero_note) listing_room.cap listing_room.mode a ns' ats' os' → HasRoom a
 read-listed-suffices f ns ats a ns' ats' os' short n m h =

@@ -3,6 +3,7 @@
 --   Under         S of the refusal, where a check fails; first_under: of the first that fails, where it is so of all
 --   length-under, cap-under, mode-under   of each check, where it is so of its refusal
 --   entry-under   of all of them, of a reading or a question
+use Rattle.std.specs.Prelude.{Result, Ok, Err}
 use Prim.Native.Nat.{ℕ}
 use mathlib.Core.List.{List, [], ◌∷◌}
 use lib.ListN.{length}
@@ -11,8 +12,6 @@ use Rattle.errors.specs.declared.Refusal.{Refusal}
 use Rattle.errors.specs.declared.Refusal.TheVariants.{TooLargeError, NotesOff, SystemNamesError, ModeError}
 use Rattle.records.specs.Limits.{file_limit}
 use Rattle.system_types.specs.Names.{Lent, names_of}
-use Rattle.system_types.specs.declared.NamesRead.{NamesRead}
-use Rattle.system_types.specs.declared.NamesRead.TheVariants.{Good, Bad}
 use Rattle.head.specs.declared.Asker.{Asker}
 use Rattle.head.specs.Entry.{Check, passes, fails, first_of, length_check, keeps_none, cap_check, names_check_by, mode_of, is_mode, mode_check, entry_checks}
 use Rattle.head.specs.Inner.Entered.{terms_of}
@@ -42,9 +41,9 @@ module _ (S : Refusal → Type 0) where
   pub mode-under : (a : Asker) → S (ModeError (mode_of a)) → Under (mode_check a)
   mode-under a s = cond-by Under (is_mode (mode_of a)) (λ e. tt) (λ e. s)
 
-  names-under : (n : NamesRead) → ((k : ℕ) → S (SystemNamesError k)) → Under (names_check_by n)
-  names-under Good s = tt
-  names-under (Bad k) s = s k
+  names-under : (n : Result (Unit {0}) ℕ) → ((k : ℕ) → S (SystemNamesError k)) → Under (names_check_by n)
+  names-under (Ok tt) s = tt
+  names-under (Err k) s = s k
 
   pub entry-under : (f : List ℕ) (lent : Lent) (a : Asker) → S TooLargeError → S NotesOff → ((k : ℕ) → S (SystemNamesError k)) → S (ModeError (mode_of a))
       → Under (first_of (entry_checks f lent (terms_of a)))

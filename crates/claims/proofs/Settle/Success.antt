@@ -5,6 +5,7 @@
 --   succeeds-same      what is kept of tables that differ in their notes alone
 --   kept_nodes, kept_attributes, again-nodes, again-attributes   what was kept, in a table of another length, and of the same
 --   none_kept          with a cap of at least 1, no note kept is no note made
+use Rattle.std.specs.Prelude.{Result, Ok, Err}
 use Prim.Native.Nat.{ℕ, zero, suc, ◌-◌, ◌*◌, ◌/◌, ◌≤◌}
 use native.Mathlib.Omega.{arith}
 use mathlib.Core.Path.{◌≡◌, refl, sym, ◌∙◌, ap, subst}
@@ -18,11 +19,8 @@ use Rattle.anomaly.specs.Kept.{is_due, none, kept_notes}
 use Rattle.anomaly.specs.declared.ResAnomaly.{ResAnomaly}
 use Rattle.anomaly.proofs.Laws.{kept_from-due}
 use Rattle.errors.specs.declared.Refusal.{Refusal}
-use Rattle.errors.specs.declared.ReadAnswer.{ReadAnswer}
-use Rattle.errors.specs.declared.ReadAnswer.TheVariants.{Done, Refused}
 use Rattle.errors.specs.declared.ReadCounts.{ReadCounts}
 use Rattle.system_types.specs.Names.{Lent, names_of}
-use Rattle.system_types.specs.declared.NamesRead.TheVariants.{Good}
 use Rattle.head.specs.Head.{opened_of}
 use Rattle.head.specs.Entry.{reading_at, is_mode, Check, passes, fails, first_of, entry_checks}
 use Rattle.head.proofs.Entering.{Passed, passed, passes-all, cap-passes, cap-some, mode-passes, mode-known}
@@ -35,13 +33,13 @@ use Rattle.claims.proofs.Settle.TableGrowth.{bare}
 
 -- ---- what a success says
 
-abbrev IsDone : ReadAnswer → Type 0
-IsDone (Done c) = Unit {0}
-IsDone (Refused x) = ⊥
+abbrev IsDone : Result ReadCounts Refusal → Type 0
+IsDone (Ok c) = Unit {0}
+IsDone (Err x) = ⊥
 
-abbrev counts_in : ReadCounts → ReadAnswer → ReadCounts
-counts_in d (Done c) = c
-counts_in d (Refused x) = d
+abbrev counts_in : ReadCounts → Result ReadCounts Refusal → ReadCounts
+counts_in d (Ok c) = c
+counts_in d (Err x) = d
 
 abbrev pub counts_of : Tables → ReadCounts
 counts_of t = record { starts = length t.nodes / node_width; nodes = nodes_kept t; attributes = attributes_kept t; notes = length t.notes }
@@ -49,7 +47,7 @@ counts_of t = record { starts = length t.nodes / node_width; nodes = nodes_kept 
 pub record Success (r : Room) (f : List ℕ) (lent : Lent) (c : ReadCounts) : Type 0 where
   pub short : length f ≤ file_limit
   pub cap : 1 ≤ r.cap
-  pub good : names_of lent ≡ Good
+  pub good : names_of lent ≡ (Ok tt)
   pub mode : is_mode r.mode ≡ true
   pub tables : Tables
   pub settles : settled_in r f lent (opened_of f) ≡ going tables
@@ -61,14 +59,14 @@ module _ (r : Room) (f : List ℕ) (lent : Lent) where
   unfolding reading
   reading-by k q = ap (reading_by r (settled_in r f lent (opened_of f))) q
 
-  pub reading-of : length f ≤ file_limit → 1 ≤ r.cap → names_of lent ≡ Good → is_mode r.mode ≡ true → reading r f lent ≡ final_of r (settled_in r f lent (opened_of f))
+  pub reading-of : length f ≤ file_limit → 1 ≤ r.cap → names_of lent ≡ (Ok tt) → is_mode r.mode ≡ true → reading r f lent ≡ final_of r (settled_in r f lent (opened_of f))
   reading-of short cap good mode =
       reading-by passes (passes-all f lent (reading_at r.cap r.mode) short (cap-passes r.cap r.mode cap) good (mode-passes r.cap r.mode mode) refl)
 
-  pub success : (c : ReadCounts) → (reading r f lent).answer ≡ Done c → Success r f lent c
+  pub success : (c : ReadCounts) → (reading r f lent).answer ≡ Ok c → Success r f lent c
   success c e = checked (first_of (entry_checks f lent (reading_at r.cap r.mode))) refl
     where
-      answer : Reading → ReadAnswer
+      answer : Reading → Result ReadCounts Refusal
       answer x = x.answer
 
       no-done : {A : Type 0} (x : Refusal) → reading r f lent ≡ refuses r x → A

@@ -4,6 +4,7 @@
 --   InBytes         each entry of a list is below 256, by its place; below-bytes: by the test that is computed over the list
 --   SmallStart, SmallAttribute, SmallHeader, SmallTurn   each number of a start, of an attribute, of a header, of a turn fits
 --   start_small, attribute-small, header-small, turn_small   so it is with what is read from bytes
+use Rattle.std.specs.Prelude.{Option, Some, None}
 use Prim.Native.Nat.{ℕ, zero, suc, ◌+◌, ◌<◌}
 use native.Mathlib.Omega.{arith}
 use mathlib.Core.Path.{◌≡◌}
@@ -17,8 +18,6 @@ use Rattle.utf.proofs.Tables.{both_true}
 use Rattle.field.specs.Le.{u16le, u32le}
 use Rattle.common.specs.Header.{header_of}
 use Rattle.common.specs.declared.ResChunkHeader.{ResChunkHeader}
-use Rattle.common.specs.declared.HeaderRead.{HeaderRead}
-use Rattle.common.specs.declared.HeaderRead.TheVariants.{Whole as WholeHeader, Short}
 use Rattle.chunk.specs.Sort.{chunk_sort}
 use Rattle.xml_elements.specs.declared.XmlStartElement.{XmlStartElement}
 use Rattle.xml_elements.specs.declared.XmlAttributeElement.{XmlAttributeElement}
@@ -90,9 +89,9 @@ pub record SmallHeader (h : ResChunkHeader) : Type 0 where
   pub own : Fits h.header_size
   pub size : Fits h.size
 
-abbrev pub SmallRead : HeaderRead → Type 0
-SmallRead Short = Unit {0}
-SmallRead (WholeHeader h) = SmallHeader h
+abbrev pub SmallRead : Option ResChunkHeader → Type 0
+SmallRead None = Unit {0}
+SmallRead (Some h) = SmallHeader h
 
 pub header-small : (l : List ℕ) → InBytes l → SmallRead (header_of l)
 unfolding header_of
@@ -143,9 +142,9 @@ module _ (l : List ℕ) (h : InBytes l) where
   unfolding foreign_number
   number_small x w = cond-by Fits (eqb (chunk_sort x) 0) (λ e. w.kind) (λ e. w.own)
 
-  turn_by_lem : (x : HeaderRead) → SmallRead x → SmallTurn (turn_by l x)
-  turn_by_lem Short w = tt
-  turn_by_lem (WholeHeader x) w = cond-by SmallTurn (eqb (chunk_sort x) 2) (λ e. xml-turn x.kind) (λ e. number_small x w)
+  turn_by_lem : (x : Option ResChunkHeader) → SmallRead x → SmallTurn (turn_by l x)
+  turn_by_lem None w = tt
+  turn_by_lem (Some x) w = cond-by SmallTurn (eqb (chunk_sort x) 2) (λ e. xml-turn x.kind) (λ e. number_small x w)
 
   pub turn_small : SmallTurn (turn_of l)
   unfolding turn_of

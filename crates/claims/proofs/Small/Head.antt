@@ -2,6 +2,7 @@
 --
 --   SmallOpened    what the head says of the pool, and the value of its refusal, fit
 --   opened-small   so it is with every file of bytes that is not too long
+use Rattle.std.specs.Prelude.{Option, Some, None, Result, Ok, Err}
 use Prim.Native.Nat.{ℕ, ◌+◌, ◌-◌}
 use native.Mathlib.Omega.{arith}
 use mathlib.Core.List.{List}
@@ -12,8 +13,6 @@ use Rattle.field.specs.Le.{u16le, u32le}
 use Rattle.errors.specs.Refusal.{refusal_value}
 use Rattle.common.specs.Header.{header_of, content_size}
 use Rattle.common.specs.declared.ResChunkHeader.{ResChunkHeader}
-use Rattle.common.specs.declared.HeaderRead.{HeaderRead}
-use Rattle.common.specs.declared.HeaderRead.TheVariants.{Whole as WholeHeader, Short}
 use Rattle.res_string_pool.specs.declared.Garbage.{Garbage}
 use Rattle.res_string_pool.specs.declared.Pool.{Pool}
 use Rattle.res_string_pool.specs.declared.PoolRead.{PoolRead}
@@ -21,13 +20,13 @@ use Rattle.res_string_pool.specs.declared.PoolEnd.{PoolEnd}
 use Rattle.res_string_pool.specs.declared.PoolEnd.TheVariants.{Complete, GarbageShort, HeaderShort, OffsetsShort, StylesShort, DataShort}
 use Rattle.res_string_pool.specs.Pool.{count_of, no_garbage, unread, numbered, pool_from, second_by, behind_garbage, pool_by, pool_of}
 use Rattle.resource_map.specs.Map.{map_of}
-use Rattle.resource_map.specs.declared.MapRead.{MapRead}
-use Rattle.resource_map.specs.declared.MapRead.TheVariants.{Ids, HeaderShort as MapHeaderShort, IdsShort}
 use Rattle.head.specs.declared.Opened.{Opened}
 use Rattle.head.specs.Head.{mapped_by, pooled_by, tables_of, opened_of, refusal_of}
 use Rattle.xml_elements.proofs.Laws.{cond-by}
 use Rattle.claims.proofs.Events.EventCases.{garbage, count}
 use Rattle.claims.proofs.Small.Bytes.{Fits, InBytes, drop-bytes, u16-fits, u32-fits, SmallHeader, SmallRead, header-small}
+use Rattle.resource_map.specs.declared.MapShort.{MapShort}
+use Rattle.resource_map.specs.declared.MapShort.TheVariants as map_short
 
 pub record SmallGarbage (g : Garbage) : Type 0 where
   pub kind : Fits g.kind
@@ -61,9 +60,9 @@ from-small g w at x m h =
     cond-by SmallPoolRead (ltb (length m) 28) (λ e. unread-small g (HeaderShort (length m - 8)) w)
     (λ e. record { garbage = w; pool = numbered-small at x m h })
 
-second-small : (g : Garbage) → SmallGarbage g → (at : ℕ) (m : List ℕ) → InBytes m → (x : HeaderRead) → SmallPoolRead (second_by g at m x)
-second-small g w at m h Short = unread-small g (HeaderShort (length m)) w
-second-small g w at m h (WholeHeader x) = from-small g w at x m h
+second-small : (g : Garbage) → SmallGarbage g → (at : ℕ) (m : List ℕ) → InBytes m → (x : Option ResChunkHeader) → SmallPoolRead (second_by g at m x)
+second-small g w at m h None = unread-small g (HeaderShort (length m)) w
+second-small g w at m h (Some x) = from-small g w at x m h
 
 garbage-small : (x : ResChunkHeader) → SmallHeader x → (l : List ℕ) → InBytes l → SmallPoolRead (behind_garbage x l)
 unfolding behind_garbage
@@ -73,9 +72,9 @@ garbage-small x w l h =
     (λ e. second-small (record { found = true; kind = x.kind; skipped = content_size x }) (record { kind = w.kind; skipped = omega (arith, w.size) })
     (8 + content_size x) m (drop-bytes (8 + content_size x) l h) (header_of m))
 
-pool-by : (l : List ℕ) → InBytes l → (x : HeaderRead) → SmallRead x → SmallPoolRead (pool_by l x)
-pool-by l h Short w = unread-small no_garbage (HeaderShort (length l)) no_garbage_lem
-pool-by l h (WholeHeader x) w =
+pool-by : (l : List ℕ) → InBytes l → (x : Option ResChunkHeader) → SmallRead x → SmallPoolRead (pool_by l x)
+pool-by l h None w = unread-small no_garbage (HeaderShort (length l)) no_garbage_lem
+pool-by l h (Some x) w =
     cond-by SmallPoolRead (eqb x.kind 1) (λ e. from-small no_garbage no_garbage_lem 0 x l h) (λ e. garbage-small x w l h)
 
 pool-small : (l : List ℕ) → InBytes l → SmallPoolRead (pool_of l)
@@ -89,11 +88,11 @@ pub record SmallOpened (o : Opened) : Type 0 where
   pub end : Fits (refusal_value (refusal_of o.end))
 
 module _ (t : List ℕ) (short : Fits (8 + length t)) (g : Garbage) (w : SmallGarbage g) (p : Pool) (q : SmallPool p) where
-  mapped-small : (m : MapRead) → SmallOpened (mapped_by t g p m)
+  mapped-small : (m : Result ℕ MapShort) → SmallOpened (mapped_by t g p m)
   unfolding refusal_value
-  mapped-small (Ids n) = record { garbage = w; declared = q.declared; count = q.count; end = omega arith }
-  mapped-small (MapHeaderShort left) = record { garbage = w; declared = q.declared; count = q.count; end = omega (arith, short) }
-  mapped-small (IdsShort left) = record { garbage = w; declared = q.declared; count = q.count; end = omega (arith, short) }
+  mapped-small (Ok n) = record { garbage = w; declared = q.declared; count = q.count; end = omega arith }
+  mapped-small (Err (map_short.Header left)) = record { garbage = w; declared = q.declared; count = q.count; end = omega (arith, short) }
+  mapped-small (Err (map_short.Ids left)) = record { garbage = w; declared = q.declared; count = q.count; end = omega (arith, short) }
 
   pooled-small : (e : PoolEnd) → SmallOpened (pooled_by t g p e)
   unfolding refusal_value

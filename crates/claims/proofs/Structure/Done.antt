@@ -2,12 +2,12 @@
 --
 --   DoneBy     the answer counts tables that all events of the file leave, and the lent tables hold their kept records
 --   done-by    so it is with every result of success that the promise allows
+use Rattle.std.specs.Prelude.{Ok}
 use Prim.Native.Nat.{ℕ, ◌/◌, ◌≤◌}
 use mathlib.Core.Path.{◌≡◌, sym, ap}
 use mathlib.Core.List.{List}
 use lib.ListN.{length}
 use Rattle.anomaly.specs.declared.Note.{Note}
-use Rattle.errors.specs.declared.ReadAnswer.TheVariants.{Done}
 use Rattle.errors.specs.declared.ReadCounts.{ReadCounts}
 use Rattle.errors.proofs.Laws.{numbers_of-unique}
 use Rattle.records.specs.Words.{node_width}
@@ -36,7 +36,7 @@ module _ (f : List ℕ) (lent : Lent) (ns ats : List ℕ) (os : List Note) (cap 
   abbrev pub out_of : Out
   out_of = settle (names_for mode f lent).repeats room nothing_yet (events_of mode f lent)
 
-  pub done-by : (c : ReadCounts) (ns' ats' : List ℕ) (os' : List Note) → Reads f lent ns ats os cap mode (Done c) ns' ats' os'
+  pub done-by : (c : ReadCounts) (ns' ats' : List ℕ) (os' : List Note) → Reads f lent ns ats os cap mode (Ok c) ns' ats' os'
       → DoneBy room out_of c (reading room f lent)
   done-by c ns' ats' os' h =
       let s = success room f lent c (sym (numbers_of-unique _ _ h.answer)) in

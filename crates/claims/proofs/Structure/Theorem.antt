@@ -5,6 +5,7 @@
 --                  exactly where that is not 0; with depth 0 no element is dropped, and from depth 2 on some are (specs/Shape.antt, `Structured`)
 --   stays, walk    no event of its file refuses, and they are those of a whole walk
 --   starts-right   it counts the elements that open; notes-many, notes-kept: its notes are exactly the file's, of each kind the first `cap`
+use Rattle.std.specs.Prelude.{Ok}
 use Prim.Native.Nat.{ℕ, ◌+◌, ◌-◌, ◌*◌, ◌/◌, ◌≤◌, ◌<◌}
 use native.Mathlib.Omega.{arith}
 use mathlib.Core.Path.{◌≡◌, refl, sym, ◌∙◌, ap}
@@ -15,7 +16,6 @@ use Rattle.anomaly.specs.Note.{note_of}
 use Rattle.anomaly.specs.Kept.{kept_notes}
 use Rattle.anomaly.specs.declared.Note.{Note}
 use Rattle.anomaly.specs.declared.ResAnomaly.{ResAnomaly}
-use Rattle.errors.specs.declared.ReadAnswer.TheVariants.{Done}
 use Rattle.errors.specs.declared.ReadCounts.{ReadCounts}
 use Rattle.head.specs.Head.{opened_of, tables_in, body_in}
 use Rattle.events.specs.declared.Event.{Event}
@@ -101,7 +101,7 @@ module _ (r : Room) (t : Tables) (h : Shaped r t) where
 -- ---- a reading
 
 module _ (f : List ℕ) (lent : Lent) (ns ats : List ℕ) (os : List Note) (cap mode : ℕ) (c : ReadCounts) (ns' ats' : List ℕ) (os' : List Note)
-    (reads : Reads f lent ns ats os cap mode (Done c) ns' ats' os') where
+    (reads : Reads f lent ns ats os cap mode (Ok c) ns' ats' os') where
   abbrev es : List Event
   es = events_of mode f lent
 

@@ -3,6 +3,7 @@
 --   Nested      once a record stands behind p whose parent is before p, no later record has the parent p
 --   nested      so it is with the tables of every reading
 --   children    so the children of p, as crate main_activities tells them, are the records whose parent word is p
+use Rattle.std.specs.Prelude.{Ok}
 use Prim.Native.Nat.{ℕ, zero, suc, ◌+◌, ◌-◌, ◌*◌, ◌/◌, ◌≤◌, ◌<◌}
 use native.Mathlib.Omega.{arith}
 use mathlib.Core.Path.{◌≡◌, refl, sym, ◌∙◌, ap}
@@ -13,7 +14,6 @@ use lib.ListN.{length, length-append, length-set}
 use lib.Dec.{ltb, eqb}
 use Rattle.anomaly.specs.declared.Note.{Note}
 use Rattle.anomaly.specs.declared.ResAnomaly.{ResAnomaly}
-use Rattle.errors.specs.declared.ReadAnswer.TheVariants.{Done}
 use Rattle.errors.specs.declared.ReadCounts.{ReadCounts}
 use Rattle.events.specs.declared.Event.{Event}
 use Rattle.records.specs.Words.{node_width, node_parent, node_words, no_parent, attribute_width}
@@ -161,7 +161,7 @@ settled-nest r rule es = settle-keeps rule r InTreeOrder (nest-opened r) nest-cl
 -- ---- a reading
 
 module _ (f : List ℕ) (lent : Lent) (ns ats : List ℕ) (os : List Note) (cap mode : ℕ) (c : ReadCounts) (ns' ats' : List ℕ) (os' : List Note)
-    (reads : Reads f lent ns ats os cap mode (Done c) ns' ats' os') where
+    (reads : Reads f lent ns ats os cap mode (Ok c) ns' ats' os') where
   d : DoneBy (room f lent ns ats os cap mode) (out_of f lent ns ats os cap mode) c (reading (room f lent ns ats os cap mode) f lent)
   d = done-by f lent ns ats os cap mode c ns' ats' os' reads
 

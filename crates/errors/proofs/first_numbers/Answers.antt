@@ -2,10 +2,10 @@
 use Rattle.errors.specs.Refusal.{first_numbers_of}
 use Rattle.errors.proofs.first_numbers.Goals as goal
 
-pub returns-in-Found : goal.returns-in-Found
+pub returns-in-Ok : goal.returns-in-Ok
 unfolding first_numbers_of
-returns-in-Found c = rw (c.in-Found.is, ← c.flag.ensures)
+returns-in-Ok c = rw (c.in-Ok.is, ← c.flag.ensures)
 
-pub returns-in-Refused : goal.returns-in-Refused
+pub returns-in-Err : goal.returns-in-Err
 unfolding first_numbers_of
-returns-in-Refused c = rw (c.in-Refused.is, ← c.refusal_number.ensures, ← c.refusal_value.ensures)
+returns-in-Err c = rw (c.in-Err.is, ← c.refusal_number.ensures, ← c.refusal_value.ensures)

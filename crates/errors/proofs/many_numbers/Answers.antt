@@ -2,10 +2,10 @@
 use Rattle.errors.specs.Refusal.{many_numbers_of}
 use Rattle.errors.proofs.many_numbers.Goals as goal
 
-pub returns-in-Answered : goal.returns-in-Answered
+pub returns-in-Ok : goal.returns-in-Ok
 unfolding many_numbers_of
-returns-in-Answered c = rw c.in-Answered.is
+returns-in-Ok c = rw c.in-Ok.is
 
-pub returns-in-Refused : goal.returns-in-Refused
+pub returns-in-Err : goal.returns-in-Err
 unfolding many_numbers_of
-returns-in-Refused c = rw (c.in-Refused.is, ← c.refusal_number.ensures, ← c.refusal_value.ensures)
+returns-in-Err c = rw (c.in-Err.is, ← c.refusal_number.ensures, ← c.refusal_value.ensures)

@@ -2,10 +2,10 @@
 use Rattle.errors.specs.Refusal.{numbers_of}
 use Rattle.errors.proofs.read_numbers.Goals as goal
 
-pub returns-in-Done : goal.returns-in-Done
+pub returns-in-Ok : goal.returns-in-Ok
 unfolding numbers_of
-returns-in-Done c = rw c.in-Done.is
+returns-in-Ok c = rw c.in-Ok.is
 
-pub returns-in-Refused : goal.returns-in-Refused
+pub returns-in-Err : goal.returns-in-Err
 unfolding numbers_of
-returns-in-Refused c = rw (c.in-Refused.is, ← c.refusal_number.ensures, ← c.refusal_value.ensures)
+returns-in-Err c = rw (c.in-Err.is, ← c.refusal_number.ensures, ← c.refusal_value.ensures)

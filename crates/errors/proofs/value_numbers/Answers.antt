@@ -2,10 +2,10 @@
 use Rattle.errors.specs.Refusal.{value_numbers_of}
 use Rattle.errors.proofs.value_numbers.Goals as goal
 
-pub returns-in-Value : goal.returns-in-Value
+pub returns-in-Ok : goal.returns-in-Ok
 unfolding value_numbers_of
-returns-in-Value c = rw (c.in-Value.is, ← c.state_number.ensures, ← c.replaced_number.ensures)
+returns-in-Ok c = rw (c.in-Ok.is, ← c.state_number.ensures, ← c.replaced_number.ensures)
 
-pub returns-in-Refused : goal.returns-in-Refused
+pub returns-in-Err : goal.returns-in-Err
 unfolding value_numbers_of
-returns-in-Refused c = rw (c.in-Refused.is, ← c.refusal_number.ensures, ← c.refusal_value.ensures)
+returns-in-Err c = rw (c.in-Err.is, ← c.refusal_number.ensures, ← c.refusal_value.ensures)

@@ -8,10 +8,9 @@
 --   steps     a number above the count of steps that are left: each step makes it smaller, and it reaches 0 only when everything is made
 --   event_list  an event as a list: none for `Nothing` and `Finish`
 --   Stepped   the promise of a step: it makes the first of what is pending, stays within, and comes nearer to the end
-use Rattle.std.specs.Prelude.{ℕ, ◌+◌, ◌-◌, ◌*◌, ◌≤◌, ◌<◌, ◌≡◌, List, [], ◌∷◌, ◌++◌, cond, length, drop, eqb}
+use Rattle.std.specs.Prelude.{ℕ, ◌+◌, ◌-◌, ◌*◌, ◌≤◌, ◌<◌, ◌≡◌, List, [], ◌∷◌, ◌++◌, cond, length, drop, eqb, Ok}
 use Rattle.records.specs.Limits.{file_limit}
 use Rattle.system_types.specs.Names.{Lent, names_of}
-use Rattle.system_types.specs.declared.NamesRead.TheVariants.{Good}
 use Rattle.text.specs.Inner.Found.{Fits}
 use Rattle.head.specs.declared.HeadEnd.{HeadEnd}
 use Rattle.head.specs.declared.HeadEnd.TheVariants.{Whole, TooSmall, HeaderSize, PoolShort, MapShort}
@@ -67,7 +66,7 @@ Held e n c Over = Unit {0}
 
 -- what is asked of the head and the names
 pub record Ready (t : List ℕ) (lent : Lent) (o : Opened) : Type 0 where
-  pub good : names_of lent ≡ Good
+  pub good : names_of lent ≡ (Ok tt)
   pub fits : PoolThere o.end → Fits t o.head
 
 pub record Within (o : Opened) (b : List ℕ) (c : Cursor) : Type 0 where

@@ -8,20 +8,20 @@ use Rattle.first_value.proofs.first_value.Goals as goal
 pub value_in-requires : goal.value_in-requires
 value_in-requires c =
     let a = c.args in
-    let e = sym c.open_tables-opened.ensures ∙ c.in-Open.is in
+    let e = sym c.open_tables-opened.ensures ∙ c.in-Ok.is in
     let s = shared-opens a.file.now (lends a.names.now a.area.now) a.nodes.now a.attributes.now a.node_count a.attribute_count e in
     (rw c.tables_of.ensures (open_of-asks a.file.now (lends a.names.now a.area.now) s.opens), s.fits)
 
-pub returns-in-Open : goal.returns-in-Open
-returns-in-Open c =
+pub returns-in-Ok : goal.returns-in-Ok
+returns-in-Ok c =
     let a = c.args in
-    let e = sym c.open_tables-opened.ensures ∙ c.in-Open.is in
+    let e = sym c.open_tables-opened.ensures ∙ c.in-Ok.is in
     first-open a.file.now (lends a.names.now a.area.now) a.nodes.now a.attributes.now a.tag.now a.name.now
     a.node_count a.attribute_count e c.tables_of.ensures c.value_in.ensures
 
-pub returns-in-Closed : goal.returns-in-Closed
-returns-in-Closed c =
+pub returns-in-Err : goal.returns-in-Err
+returns-in-Err c =
     let a = c.args in
-    let e = sym c.open_tables-opened.ensures ∙ c.in-Closed.is in
+    let e = sym c.open_tables-opened.ensures ∙ c.in-Err.is in
     first-closed a.file.now (lends a.names.now a.area.now) a.nodes.now a.attributes.now a.tag.now a.name.now
     a.node_count a.attribute_count e

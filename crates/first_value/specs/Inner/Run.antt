@@ -1,10 +1,8 @@
 -- What is known of a node that was found: its attributes lie in the table.
 --
 --   RunFits   of a node and the words of the attribute table; nothing where no node was found
-use Rattle.std.specs.Prelude.{ℕ, ◌+◌, ◌*◌, ◌≤◌, ◌≡◌, List, length}
+use Rattle.std.specs.Prelude.{ℕ, ◌+◌, ◌*◌, ◌≤◌, ◌≡◌, List, length, Option, Some}
 use Rattle.records.specs.Words.{attribute_width}
-use Rattle.first_value.specs.declared.NodeFound.{NodeFound}
-use Rattle.first_value.specs.declared.NodeFound.TheVariants.{Run}
 
-pub record RunFits (ats : List ℕ) (node : NodeFound) : Type 0 where
-  pub inside : (first number : ℕ) → node ≡ Run first number → attribute_width * first + attribute_width * number ≤ length ats
+pub record RunFits (ats : List ℕ) (node : Option (ℕ × ℕ)) : Type 0 where
+  pub inside : (first number : ℕ) → node ≡ Some (first, number) → attribute_width * first + attribute_width * number ≤ length ats

@@ -9,20 +9,20 @@ use Rattle.first_values.proofs.first_values.Goals as goal
 pub answers_in-requires : goal.answers_in-requires
 answers_in-requires c =
     let a = c.args in
-    let e = sym c.open_tables-opened.ensures ∙ c.in-Open.is in
+    let e = sym c.open_tables-opened.ensures ∙ c.in-Ok.is in
     let s = shared-opens a.file.now (lends a.names.now a.area.now) a.nodes.now a.attributes.now a.node_count a.attribute_count e in
     (rw c.tables_of.ensures (open_of-asks a.file.now (lends a.names.now a.area.now) s.opens), s.fits)
 
-pub returns-in-Open : goal.returns-in-Open
-returns-in-Open c =
+pub returns-in-Ok : goal.returns-in-Ok
+returns-in-Ok c =
     let a = c.args in
-    let e = sym c.open_tables-opened.ensures ∙ c.in-Open.is in
+    let e = sym c.open_tables-opened.ensures ∙ c.in-Ok.is in
     many-open a.file.now (lends a.names.now a.area.now) a.nodes.now a.attributes.now a.pairs.now a.pair_area.now
     a.answers.now a.node_count a.attribute_count _ _ e c.tables_of.ensures c.answers_in.ensures
 
-pub returns-in-Closed : goal.returns-in-Closed
-returns-in-Closed c =
+pub returns-in-Err : goal.returns-in-Err
+returns-in-Err c =
     let a = c.args in
-    let e = sym c.open_tables-opened.ensures ∙ c.in-Closed.is in
+    let e = sym c.open_tables-opened.ensures ∙ c.in-Err.is in
     many-closed a.file.now (lends a.names.now a.area.now) a.nodes.now a.attributes.now a.pairs.now a.pair_area.now
     a.answers.now a.node_count a.attribute_count _ _ e c.refuse.ensures

@@ -1,4 +1,5 @@
 -- `head::enter` meets its contract: the checks in their order (`entered-long`, `entered-off`, `entered-names`), and behind them the head (`entered-good`).
+use Rattle.std.specs.Prelude.{Ok, Err}
 use mathlib.Core.Path.{refl, sym, ◌∙◌, ap}
 use Rattle.system_types.specs.Names.{lends}
 use Prim.Native.Nat.{ℕ}
@@ -6,7 +7,6 @@ use mathlib.Core.Bool.{cond}
 use Rattle.errors.specs.declared.Refusal.TheVariants.{ModeError}
 use Rattle.head.specs.Entry.{is_mode}
 use Rattle.head.specs.Head.{opened_of}
-use Rattle.head.specs.declared.Entered.TheVariants.{In, Out}
 use Rattle.head.specs.Inner.Entered.{terms_of}
 use Rattle.head.proofs.Entering.{entered-long, entered-off, entered-names, entered-good}
 use Rattle.head.proofs.enter.Goals as goal
@@ -22,23 +22,23 @@ returns-then-keeps_none c =
     entered-off a.file.now (lends a.names.now a.area.now) (terms_of a.asker) c.if-file-gt-FILE_LIMIT.false
     (sym c.keeps_none.ensures ∙ c.if-keeps_none.true)
 
-pub returns-in-Good : goal.returns-in-Good
-returns-in-Good c =
+pub returns-in-Ok : goal.returns-in-Ok
+returns-in-Ok c =
     let at_told = c in
     let at_names = at_told in
     let at_cap = at_names in
     let a = at_cap.args in
-    let good = sym at_names.check_names-read.ensures ∙ c.in-Good.is in
+    let good = sym at_names.check_names-read.ensures ∙ c.in-Ok.is in
     c.enter_in.ensures
-    ∙ ap (λ (m : ℕ). cond (is_mode m) (In (opened_of a.file.now)) (Out (ModeError m))) c.mode_of.ensures
+    ∙ ap (λ (m : ℕ). cond (is_mode m) (Ok (opened_of a.file.now)) (Err (ModeError m))) c.mode_of.ensures
     ∙ entered-good a.file.now (lends a.names.now a.area.now) (terms_of a.asker) at_cap.if-file-gt-FILE_LIMIT.false
     (sym at_cap.keeps_none.ensures ∙ at_cap.if-keeps_none.false) good refl
 
-pub returns-in-Bad : goal.returns-in-Bad
-returns-in-Bad c =
+pub returns-in-Err : goal.returns-in-Err
+returns-in-Err c =
     let at_names = c in
     let at_cap = at_names in
     let a = at_cap.args in
-    let bad = sym at_names.check_names-read.ensures ∙ c.in-Bad.is in
+    let bad = sym at_names.check_names-read.ensures ∙ c.in-Err.is in
     entered-names a.file.now (lends a.names.now a.area.now) (terms_of a.asker) at_cap.if-file-gt-FILE_LIMIT.false
     (sym at_cap.keeps_none.ensures ∙ at_cap.if-keeps_none.false) bad

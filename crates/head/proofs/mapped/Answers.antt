@@ -6,21 +6,21 @@ use Rattle.head.specs.Head.{cut_map}
 use Rattle.head.proofs.Cases.{mapped_by-of}
 use Rattle.head.proofs.mapped.Goals as goal
 
-pub returns-in-Ids : goal.returns-in-Ids
-returns-in-Ids c =
+pub returns-in-Ok : goal.returns-in-Ok
+returns-in-Ok c =
     let a = c.args in
-    c.whole.ensures ∙ mapped_by-of a.garbage a.p (a.p.strings + a.p.size) a.t.now c.map_of-read.ensures c.in-Ids.is
+    c.whole.ensures ∙ mapped_by-of a.garbage a.p (a.p.strings + a.p.size) a.t.now c.map_of-read.ensures c.in-Ok.is
 
-pub returns-in-HeaderShort : goal.returns-in-HeaderShort
-returns-in-HeaderShort c =
+pub returns-in-Err-Header : goal.returns-in-Err-Header
+returns-in-Err-Header c =
     let a = c.args in
     c.map_short.ensures
     ∙ ap (λ (v : ℕ). cut_map a.garbage a.p (a.p.strings + a.p.size) (MapHeader v)) c.begins_at.ensures
-    ∙ mapped_by-of a.garbage a.p (a.p.strings + a.p.size) a.t.now c.map_of-read.ensures c.in-HeaderShort.is
+    ∙ mapped_by-of a.garbage a.p (a.p.strings + a.p.size) a.t.now c.map_of-read.ensures c.in-Err-Header.is
 
-pub returns-in-IdsShort : goal.returns-in-IdsShort
-returns-in-IdsShort c =
+pub returns-in-Err-Ids : goal.returns-in-Err-Ids
+returns-in-Err-Ids c =
     let a = c.args in
-    c.map_short-in-IdsShort.ensures
-    ∙ ap (λ (v : ℕ). cut_map a.garbage a.p (a.p.strings + a.p.size) (MapIds v)) c.begins_at-in-IdsShort.ensures
-    ∙ mapped_by-of a.garbage a.p (a.p.strings + a.p.size) a.t.now c.map_of-read.ensures c.in-IdsShort.is
+    c.map_short-in-Err-Ids.ensures
+    ∙ ap (λ (v : ℕ). cut_map a.garbage a.p (a.p.strings + a.p.size) (MapIds v)) c.begins_at-in-Err-Ids.ensures
+    ∙ mapped_by-of a.garbage a.p (a.p.strings + a.p.size) a.t.now c.map_of-read.ensures c.in-Err-Ids.is

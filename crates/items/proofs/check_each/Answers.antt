@@ -1,11 +1,11 @@
 -- `items::check_each` meets its contract. Invariant: the items from k on say what all of them say. Measure: the items left.
+use Rattle.std.specs.Prelude.{Err}
 use Prim.Native.Nat.{◌/◌}
 use mathlib.Core.Path.{◌≡◌, sym, ap, ◌∙◌}
 use native.Mathlib.Omega.{arith}
 use lib.ListN.{length}
 use Rattle.records.specs.Words.{item_width}
 use Rattle.items.specs.Items.{end_of}
-use Rattle.items.specs.declared.ItemsRead.TheVariants.{Bad}
 use Rattle.items.proofs.Laws.{rule_end, rule-bad, rule-next, table-first, table-rest, table-whole}
 use Rattle.items.proofs.check_each.Goals as goal
 
@@ -41,7 +41,7 @@ returns-then-items-ne0 c =
     let l = c.loop-k in
     let w = a.items.now in
     let k : l.k ≡ length w / item_width = omega arith in
-    sym (l.invariant.1 ∙ rule_end a.area.now w (end_of w) (length w / item_width) l.k (omega arith) ∙ table-rest a.area.now w c.if-items-ne0.true ∙ ap Bad
+    sym (l.invariant.1 ∙ rule_end a.area.now w (end_of w) (length w / item_width) l.k (omega arith) ∙ table-rest a.area.now w c.if-items-ne0.true ∙ ap Err
     (sym k))
 
 pub returns : goal.returns

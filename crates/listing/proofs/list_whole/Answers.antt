@@ -2,8 +2,8 @@
 use Rattle.listed.proofs.Fits.{lists-text, lists-never}
 use Rattle.listing.proofs.list_whole.Goals as goal
 
-pub returns-in-Text : goal.returns-in-Text
-returns-in-Text c = lists-text _ _ _ _ _ _ _ _ _ c.in-Text.is c.list_into-answer.ensures
+pub returns-in-Ok : goal.returns-in-Ok
+returns-in-Ok c = lists-text _ _ _ _ _ _ _ _ _ c.in-Ok.is c.list_into-answer.ensures
 
-pub returns-in-Refused : goal.returns-in-Refused
-returns-in-Refused c = absurd (lists-never _ _ _ _ _ _ _ c.requires _ _ c.in-Refused.is c.list_into-answer.ensures)
+pub returns-in-Err : goal.returns-in-Err
+returns-in-Err c = absurd (lists-never _ _ _ _ _ _ _ c.requires _ _ c.in-Err.is c.list_into-answer.ensures)

@@ -10,18 +10,18 @@ pub main_in-requires : goal.main_in-requires
 main_in-requires c =
     let a = c.args in
     let at-open-main = c.open_main-opened in
-    let at-opened = c.in-Open in
+    let at-opened = c.in-Ok in
     let at-tables-of = c.tables_of in
     let e = sym at-open-main.ensures ∙ at-opened.is in
     let small : a.attribute_count < 4294967296 = omega (arith, c.ranges.attribute_count) in
     ready a.file.now (lends a.names.now a.area.now) a.items.now a.item_area.now a.nodes.now a.attributes.now
     a.node_count a.attribute_count small e at-tables-of.ensures
 
-pub returns-in-Open : goal.returns-in-Open
-returns-in-Open c =
+pub returns-in-Ok : goal.returns-in-Ok
+returns-in-Ok c =
     let a = c.args in
     let at-open-main = c.open_main-opened in
-    let at-opened = c.in-Open in
+    let at-opened = c.in-Ok in
     let at-tables-of = c.tables_of in
     let at-main-in = c.main_in in
     let e = sym at-open-main.ensures ∙ at-opened.is in
@@ -29,11 +29,11 @@ returns-in-Open c =
     a.attributes.now a.list.now a.node_count
     a.attribute_count _ e at-tables-of.ensures at-main-in.ensures
 
-pub returns-in-Closed : goal.returns-in-Closed
-returns-in-Closed c =
+pub returns-in-Err : goal.returns-in-Err
+returns-in-Err c =
     let a = c.args in
     let at-open-main = c.open_main-opened in
-    let at-opened2 = c.in-Closed in
+    let at-opened2 = c.in-Err in
     let at-refuse = c.refuse in
     let e = sym at-open-main.ensures ∙ at-opened2.is in
     main_closed a.file.now (lends a.names.now a.area.now) a.items.now a.item_area.now a.nodes.now

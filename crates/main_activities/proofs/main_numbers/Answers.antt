@@ -2,16 +2,16 @@
 use Rattle.main_activities.specs.Activities.{main_numbers_of}
 use Rattle.main_activities.proofs.main_numbers.Goals as goal
 
-pub returns-in-Found : goal.returns-in-Found
+pub returns-in-Ok : goal.returns-in-Ok
 unfolding main_numbers_of
-returns-in-Found c =
-    let at_a = c.in-Found in
+returns-in-Ok c =
+    let at_a = c.in-Ok in
     rw at_a.is
 
-pub returns-in-Refused : goal.returns-in-Refused
+pub returns-in-Err : goal.returns-in-Err
 unfolding main_numbers_of
-returns-in-Refused c =
-    let at-a2 = c.in-Refused in
+returns-in-Err c =
+    let at-a2 = c.in-Err in
     let at-refusal-number = c.refusal_number in
     let at-refusal-value = c.refusal_value in
     rw (at-a2.is, at-refusal-number.ensures, at-refusal-value.ensures)

@@ -15,23 +15,23 @@ find_named-name-requires c =
     let p = c.requires in
     (p.0, p.1)
 
-pub returns-in-At : goal.returns-in-At
-returns-in-At c =
+pub returns-in-Some : goal.returns-in-Some
+returns-in-Some c =
     let a = c.args in
     let at-put-number = c.put_number in
     let if1 = c.if-not-yes in
     let at-find-named = c.find_named-name in
-    let at_name = c.in-At in
+    let at_name = c.in-Some in
     let w = tree_of a.h a.t.now (lends a.names.now a.area.now) a.items.now a.item_area.now a.nodes.now
     a.attributes.now a.count in
     λ z after h. at-put-number.ensures z after (given-at w a.k (if1.false) at-find-named.ensures at_name.is h)
 
-pub returns-in-NoAttribute : goal.returns-in-NoAttribute
-returns-in-NoAttribute c =
+pub returns-in-None : goal.returns-in-None
+returns-in-None c =
     let a = c.args in
     let if1 = c.if-not-yes in
     let at-find-named = c.find_named-name in
-    let at-enum-told = c.in-NoAttribute in
+    let at-enum-told = c.in-None in
     let w = tree_of a.h a.t.now (lends a.names.now a.area.now) a.items.now a.item_area.now a.nodes.now
     a.attributes.now a.count in
     λ z after h. given-none w a.k (if1.false) at-find-named.ensures at-enum-told.is h

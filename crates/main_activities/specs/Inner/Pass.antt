@@ -9,21 +9,20 @@
 --   Fits       a text to compare with: not empty, and no longer than the buffer
 --   said_is     whether a text is there and is these bytes
 --   is_pool     whether a value of the form is a string of the pool
-use Rattle.std.specs.Prelude.{ℕ, ◌+◌, ◌-◌, ◌*◌, ◌≤◌, ◌<◌, ◌≡◌, Bool, true, false, ◌||◌, List, ◌++◌, length, take, get_or}
+use Rattle.std.specs.Prelude.{ℕ, ◌+◌, ◌-◌, ◌*◌, ◌≤◌, ◌<◌, ◌≡◌, Bool, true, false, ◌||◌, List, ◌++◌, length, take, get_or, Result, Ok}
 use Rattle.utf.specs.Text.{eq_bytes}
 use Rattle.records.specs.Words.{node_width, node_first, node_count, attribute_width}
 use Rattle.text.specs.Inner.Found.{Asks}
 use Rattle.items.specs.Items.{table_of}
 use Rattle.items.specs.Values.{Text, nothing, says}
-use Rattle.items.specs.declared.ItemsRead.TheVariants.{Good}
 use Rattle.value_text.specs.declared.plain.Form.{Form}
 use Rattle.value_text.specs.declared.plain.Form.TheVariants.{Reference, Attribute, Pool, Number, Word, Truth, Color, Other}
-use Rattle.main_activities.specs.declared.MainAnswer.{MainAnswer}
 use Rattle.main_activities.specs.Activities.{Tree, children_from, children_of, any_of, is_main, is_launcher, is_filter, answer_by, list_by}
+use Rattle.errors.specs.declared.Refusal.{Refusal}
 
 pub record Ready (w : Tree) : Type 0 where
   pub asks : Asks w.bytes w.lent w.head
-  pub good : table_of w.item_area w.items ≡ Good
+  pub good : table_of w.item_area w.items ≡ (Ok tt)
   pub fits : node_width * w.count ≤ length w.nodes
   pub small : (k : ℕ) → k < w.count → get_or w.nodes (node_width * k + node_first) 0 + get_or w.nodes (node_width * k + node_count) 0 < 4294967296
   pub inside :
@@ -53,7 +52,7 @@ pub record Holds (z after l : List ℕ) (n : ℕ) : Type 0 where
   pub kept : n ≤ length l → z ≡ take n l ++ after
   pub full : length l < n → length l < length z
 
-pub record Gives (m : ℕ) (z : List ℕ) (r : MainAnswer) (after : List ℕ) : Type 0 where
+pub record Gives (m : ℕ) (z : List ℕ) (r : Result ℕ Refusal) (after : List ℕ) : Type 0 where
   pub same : r ≡ answer_by m z
   pub list : after ≡ list_by m z (answer_by m z)
 

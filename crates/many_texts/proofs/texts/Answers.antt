@@ -9,22 +9,22 @@ pub texts_in-requires : goal.texts_in-requires
 texts_in-requires c =
     let a = c.args in
     let lent = lends a.names.now a.area.now in
-    let e = sym c.open_file-opened.ensures ∙ c.in-Open.is in
+    let e = sym c.open_file-opened.ensures ∙ c.in-Ok.is in
     rw c.tables_of.ensures (open_of-asks a.file.now lent e)
 
-pub returns-in-Open : goal.returns-in-Open
-returns-in-Open c =
+pub returns-in-Ok : goal.returns-in-Ok
+returns-in-Ok c =
     let a = c.args in
     let lent = lends a.names.now a.area.now in
     let e = sym c.open_file-opened.ensures ∙
-    c.in-Open.is in
+    c.in-Ok.is in
     texts-open a.file.now lent a.indices.now a.out.now a.answers.now e
     c.tables_of.ensures c.texts_in.ensures
 
-pub returns-in-Closed : goal.returns-in-Closed
-returns-in-Closed c =
+pub returns-in-Err : goal.returns-in-Err
+returns-in-Err c =
     let a = c.args in
     let lent = lends a.names.now a.area.now in
     let e = sym c.open_file-opened.ensures ∙
-    c.in-Closed.is in
+    c.in-Err.is in
     texts-closed a.file.now lent a.indices.now a.out.now a.answers.now e c.refuse.ensures

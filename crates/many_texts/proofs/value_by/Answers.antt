@@ -27,29 +27,29 @@ pub named_into-requires : goal.named_into-requires
 named_into-requires c =
     let a = c.args in
     let lent = lends a.names.now a.area.now in
-    let g = looks-same a.h a.t.now lent a.items.now a.item_area.now a.a.name.0 c.in-At.is
+    let g = looks-same a.h a.t.now lent a.items.now a.item_area.now a.a.name.0 c.in-Some.is
     c.look_up-looked.ensures.0 in (
       c.requires.0,
       g.run.fits,
     )
 
-pub returns-in-NoName : goal.returns-in-NoName
-returns-in-NoName c =
+pub returns-in-None : goal.returns-in-None
+returns-in-None c =
     let a = c.args in
     let lent = lends a.names.now a.area.now in
-    let g = looks-same a.h a.t.now lent a.items.now a.item_area.now a.a.name.0 c.in-NoName.is
+    let g = looks-same a.h a.t.now lent a.items.now a.item_area.now a.a.name.0 c.in-None.is
     c.look_up-looked.ensures.0 in (
       value-no-name a.h a.t.now lent a.items.now a.item_area.now a.a
           c.if-a-eq2.false g refl refl,
       c.look_up-looked.ensures.1,
     )
 
-pub returns-in-At : goal.returns-in-At
-returns-in-At c =
+pub returns-in-Some : goal.returns-in-Some
+returns-in-Some c =
     let a = c.args in
     let lent = lends a.names.now a.area.now in
     let g = looks-same a.h a.t.now lent a.items.now a.item_area.now a.a.name.0
-    c.in-At.is
+    c.in-Some.is
     c.look_up-looked.ensures.0 in
     let name = text_in (content_of a.h a.t.now lent a.a.name.0) in (
       value-run a.h a.t.now lent a.items.now a.item_area.now a.a

@@ -16,22 +16,22 @@ pub values_in-requires : goal.values_in-requires
 values_in-requires c =
     let a = c.args in
     let lent = lends a.names.now a.area.now in
-    let e = sym c.open_known-opened.ensures ∙ c.in-Open.is in
+    let e = sym c.open_known-opened.ensures ∙ c.in-Ok.is in
     let o = opens a.file.now lent a.items.now a.item_area.now e in
     (rw c.tables_of.ensures o.asks, o.good, c.put_firsts.ensures)
 
-pub returns-in-Open : goal.returns-in-Open
-returns-in-Open c =
+pub returns-in-Ok : goal.returns-in-Ok
+returns-in-Ok c =
     let a = c.args in
     let lent = lends a.names.now a.area.now in
-    let e = sym c.open_known-opened.ensures ∙ c.in-Open.is in
+    let e = sym c.open_known-opened.ensures ∙ c.in-Ok.is in
     values-open a.file.now lent a.items.now a.item_area.now a.attributes.now a.out.now a.answers.now a.attribute_count e
     c.tables_of.ensures c.values_in.ensures
 
-pub returns-in-Closed : goal.returns-in-Closed
-returns-in-Closed c =
+pub returns-in-Err : goal.returns-in-Err
+returns-in-Err c =
     let a = c.args in
     let lent = lends a.names.now a.area.now in
-    let e = sym c.open_known-opened.ensures ∙ c.in-Closed.is in
+    let e = sym c.open_known-opened.ensures ∙ c.in-Err.is in
     values-closed a.file.now lent a.items.now a.item_area.now a.attributes.now a.out.now a.answers.now a.attribute_count e
     c.refuse.ensures

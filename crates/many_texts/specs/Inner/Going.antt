@@ -5,8 +5,7 @@
 --   Done       the first k texts and answers
 --   Gives      the answer to all of them, and both outputs, whole
 --   record_value, index_value   what is asked by each number of a question, in an open file
-use Rattle.std.specs.Prelude.{ℕ, ◌+◌, ◌*◌, ◌≤◌, min, ◌≡◌, List, ◌++◌, length, take, get_or}
-use Rattle.errors.specs.declared.ManyTexts.{ManyTexts}
+use Rattle.std.specs.Prelude.{ℕ, ◌+◌, ◌*◌, ◌≤◌, min, ◌≡◌, List, ◌++◌, length, take, get_or, Result}
 use Rattle.many_texts.specs.Words.{answer_width}
 use Rattle.system_types.specs.Names.{Lent}
 use Rattle.text.specs.declared.Head.{Head}
@@ -15,6 +14,8 @@ use Rattle.value_text.specs.declared.Told.{Told}
 use Rattle.value_text.specs.Value.{Value, shown, attribute_value}
 use Rattle.value_text.specs.Inner.Leads.{told_of}
 use Rattle.many_texts.specs.Many.{value_in, attribute_at, words_at, texts_to, words_to, most_bytes, most_count, leaves}
+use Rattle.errors.specs.declared.Refusal.{Refusal}
+use Rattle.errors.specs.declared.TextsWritten.{TextsWritten}
 
 pub record TellsAt (at : ℕ) (v : Value) (before : List ℕ) (r : Told) (after : List ℕ) : Type 0 where
   pub told : r ≡ told_of v
@@ -33,7 +34,7 @@ pub record Done (one : ℕ → Value) (n m k at : ℕ) (out table : List ℕ) : 
   pub bytes : length (texts_to one k) ≤ n → take (length (texts_to one k)) out ≡ texts_to one k
   pub words : length (texts_to one k) ≤ most_bytes → take (answer_width * k) table ≡ words_to one k
 
-pub record Gives (n m count : ℕ) (one : ℕ → Value) (a r : ManyTexts) (out table : List ℕ) : Type 0 where
+pub record Gives (n m count : ℕ) (one : ℕ → Value) (a r : Result TextsWritten Refusal) (out table : List ℕ) : Type 0 where
   pub same : r ≡ a
   pub bytes : out ≡ leaves n (texts_to one count) a
   pub words : table ≡ leaves m (words_to one count) a

@@ -3,14 +3,12 @@
 --   HasRun   an index has a text, and the items of this name are those of a run
 --   Looks    what `look_up` answers: no text, or the run
 --   Knows    two lists by index: where the second is not 0, it is one more than the end of the run that begins where the first says
-use Rattle.std.specs.Prelude.{ℕ, ◌-◌, ◌<◌, ◌≡◌, true, List, length, get_or}
+use Rattle.std.specs.Prelude.{ℕ, ◌-◌, ◌<◌, ◌≡◌, true, List, length, get_or, Option, Some, None}
 use Rattle.text.specs.declared.Head.{Head}
 use Rattle.text.specs.Content.{none, content_of, text_in, has_text}
 use Rattle.system_types.specs.Names.{Lent}
 use Rattle.items.specs.declared.Run.{Run}
 use Rattle.items.specs.Inner.Turns.{RunOf}
-use Rattle.many_texts.specs.declared.known.Looked.{Looked}
-use Rattle.many_texts.specs.declared.known.Looked.TheVariants.{NoName, At}
 
 abbrev pub known_count : ℕ
 known_count = 128
@@ -20,9 +18,9 @@ module _ (h : Head) (t : List ℕ) (lent : Lent) (items area : List ℕ) where
     pub named : has_text (content_of h t lent i) ≡ true
     pub run : RunOf area (text_in (content_of h t lent i)) items r
 
-  abbrev pub Looks : ℕ → Looked → Type 0
-  Looks i NoName = content_of h t lent i ≡ none
-  Looks i (At r) = HasRun i r
+  abbrev pub Looks : ℕ → Option Run → Type 0
+  Looks i None = content_of h t lent i ≡ none
+  Looks i (Some r) = HasRun i r
 
   pub record Knows (starts ends : List ℕ) : Type 0 where
     pub first : length starts ≡ known_count

@@ -8,13 +8,12 @@
 --   RelistsOut  what `relist` promises of a writer whose bytes are known: of a text that says something that text is what the writer has more
 use Rattle.std.specs.Io.KnownBytes.{Appends}
 use Rattle.std.specs.declared.option.Option.{Option}
-use Rattle.std.specs.Prelude.{ℕ, zero, suc, ◌≤◌, ◌≡◌, List, [], ◌∷◌, length, take, drop, get_or}
+use Rattle.std.specs.Prelude.{ℕ, zero, suc, ◌≤◌, ◌≡◌, List, [], ◌∷◌, length, take, drop, get_or, Result, Ok, Err}
 use Rattle.anomaly.specs.declared.Note.{Note}
-use Rattle.errors.specs.declared.LinesAnswer.{LinesAnswer}
-use Rattle.errors.specs.declared.LinesAnswer.TheVariants.{Text, Refused}
 use Rattle.records.specs.Words.{note_width, note_kind, note_a, note_b}
 use Rattle.listing_back.specs.Back.{Words, Relisting, fault, found, relisting, relist_text}
 use Rattle.relist.specs.declared.Verdict.{Verdict}
+use Rattle.errors.specs.declared.Refusal.{Refusal}
 
 abbrev pub note_in : List ℕ → Note
 note_in w = record { kind = get_or w note_kind 0; a = get_or w note_a 0; b = get_or w note_b 0 }
@@ -23,9 +22,9 @@ unfoldable pub notes_from : ℕ → List ℕ → List Note
 notes_from zero w = []
 notes_from (suc n) w = note_in w ∷ notes_from n (drop note_width w)
 
-abbrev pub verdict_of : LinesAnswer → Verdict
-verdict_of (Text k) = record { fault = 0; value = 0; printed = k }
-verdict_of (Refused x) = record { fault = 0; value = 0; printed = 0 }
+abbrev pub verdict_of : Result ℕ Refusal → Verdict
+verdict_of (Ok k) = record { fault = 0; value = 0; printed = k }
+verdict_of (Err x) = record { fault = 0; value = 0; printed = 0 }
 
 pub record IsListing (text : List ℕ) (w : Words) (printed : List ℕ) : Type 0 where
   pub said : Relisting

@@ -2,10 +2,10 @@
 use Rattle.round_up.specs.RoundUp.{add_numbers}
 use Rattle.round_up.proofs.add_numbers.Goals as goal
 
-pub returns-in-Added : goal.returns-in-Added
+pub returns-in-Ok : goal.returns-in-Ok
 unfolding add_numbers
-returns-in-Added c = rw c.in-Added.is
+returns-in-Ok c = rw c.in-Ok.is
 
-pub returns-in-Refused : goal.returns-in-Refused
+pub returns-in-Err : goal.returns-in-Err
 unfolding add_numbers
-returns-in-Refused c = rw (c.in-Refused.is, ← c.refusal_number.ensures, ← c.refusal_value.ensures)
+returns-in-Err c = rw (c.in-Err.is, ← c.refusal_number.ensures, ← c.refusal_value.ensures)

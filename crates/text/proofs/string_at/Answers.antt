@@ -10,29 +10,29 @@ returns-then-size-o c =
     let a = s.args in
     λ area. string-outside a.utf16 a.t.now a.strings a.size a.o s.requires area c.if-size-o.true
 
-pub overflow_add-result-in-Content : goal.overflow_add-result-in-Content
-overflow_add-result-in-Content c =
+pub overflow_add-result-in-Some : goal.overflow_add-result-in-Some
+overflow_add-result-in-Some c =
     let s = c in
     let p5 = c in
     let a = s.args in
-    let e = sym c.split_string-split.ensures ∙ c.in-Content.is in
+    let e = sym c.split_string-split.ensures ∙ c.in-Some.is in
     let q = string-pool-le a.utf16 a.t.now a.strings a.size a.o s.requires p5.if-size-o.false
     (data-slice a.utf16 a.t.now a.strings a.size a.o e) in
     omega arith
 
-pub returns-in-Cut : goal.returns-in-Cut
-returns-in-Cut c =
+pub returns-in-None : goal.returns-in-None
+returns-in-None c =
     let s = c in
     let a = s.args in
-    let e = sym c.split_string-split.ensures ∙ c.in-Cut.is in
+    let e = sym c.split_string-split.ensures ∙ c.in-None.is in
     λ area. string-cut a.utf16 a.t.now a.strings a.size a.o s.requires area c.if-size-o.false
     (data-slice a.utf16 a.t.now a.strings a.size a.o e)
 
-pub returns-in-Content : goal.returns-in-Content
-returns-in-Content c =
+pub returns-in-Some : goal.returns-in-Some
+returns-in-Some c =
     let s = c in
     let p5 = c in
     let a = s.args in
-    let e = sym c.split_string-split.ensures ∙ c.in-Content.is in
+    let e = sym c.split_string-split.ensures ∙ c.in-Some.is in
     λ area. string-pool a.utf16 a.t.now a.strings a.size a.o s.requires area _ _ p5.if-size-o.false
     (data-slice a.utf16 a.t.now a.strings a.size a.o e)

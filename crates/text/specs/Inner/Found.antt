@@ -9,13 +9,12 @@
 --   Wrote    a text at the front of a lent buffer that holds it, its length, and behind it what stood there
 --
 -- t is the bytes behind the file's header. A file keeps to 16,777,216 bytes, so t does too.
-use Rattle.std.specs.Prelude.{ℕ, ◌+◌, ◌*◌, ◌≤◌, ◌≡◌, List, Bool, true, false, ◌&&◌, length, take, drop, eqb}
+use Rattle.std.specs.Prelude.{ℕ, ◌+◌, ◌*◌, ◌≤◌, ◌≡◌, List, Bool, true, false, ◌&&◌, length, take, drop, eqb, Ok}
 use Rattle.records.specs.Limits.{file_limit}
 use Rattle.utf.specs.Text.{state_number, put_text}
 use Rattle.utf.specs.Plain.{is_ascii}
 use Rattle.utf.specs.Inner.StepRuns.{is_ascii_text}
 use Rattle.system_types.specs.Names.{Lent, names_of}
-use Rattle.system_types.specs.declared.NamesRead.TheVariants.{Good}
 use Rattle.text.specs.declared.Head.{Head}
 use Rattle.text.specs.declared.Found.{Found}
 use Rattle.text.specs.declared.Found.TheVariants.{Nothing, Cut, System, Pool}
@@ -30,7 +29,7 @@ pub record Fits (t : List ℕ) (h : Head) : Type 0 where
 
 pub record Asks (t : List ℕ) (lent : Lent) (h : Head) : Type 0 where
   pub fits : Fits t h
-  pub good : names_of lent ≡ Good
+  pub good : names_of lent ≡ (Ok tt)
 
 abbrev pub part_of : Bool → List ℕ → List ℕ → Found → Content
 part_of w t area Nothing = none

@@ -7,15 +7,15 @@ use Rattle.value_text.proofs.open_known.Goals as goal
 pub check_known-requires : goal.check_known-requires
 check_known-requires c = c.requires
 
-pub returns-in-In : goal.returns-in-In
-returns-in-In c =
+pub returns-in-Ok : goal.returns-in-Ok
+returns-in-Ok c =
     let a = c.args in
     let lent = lends a.names.now a.area.now in
     open_in a.file.now lent a.items.now a.item_area.now
-    (sym c.enter-entered.ensures ∙ c.in-In.is) c.check_known.ensures c.open_behind.ensures
+    (sym c.enter-entered.ensures ∙ c.in-Ok.is) c.check_known.ensures c.open_behind.ensures
 
-pub returns-in-Out : goal.returns-in-Out
-returns-in-Out c =
+pub returns-in-Err : goal.returns-in-Err
+returns-in-Err c =
     let a = c.args in
     let lent = lends a.names.now a.area.now in
-    open-out a.file.now lent a.items.now a.item_area.now (sym c.enter-entered.ensures ∙ c.in-Out.is)
+    open-out a.file.now lent a.items.now a.item_area.now (sym c.enter-entered.ensures ∙ c.in-Err.is)

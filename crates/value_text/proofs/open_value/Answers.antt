@@ -4,16 +4,16 @@ use Rattle.system_types.specs.Names.{lends}
 use Rattle.value_text.proofs.Opening.{open_in, open-out}
 use Rattle.value_text.proofs.open_value.Goals as goal
 
-pub returns-in-In : goal.returns-in-In
-returns-in-In c =
+pub returns-in-Ok : goal.returns-in-Ok
+returns-in-Ok c =
     let a = c.args in
     let lent = lends a.names.now a.area.now in
     open_in a.file.now lent a.items.now a.item_area.now
-    (sym c.enter-entered.ensures ∙ c.in-In.is) c.check_items.ensures
+    (sym c.enter-entered.ensures ∙ c.in-Ok.is) c.check_items.ensures
     c.open_behind.ensures
 
-pub returns-in-Out : goal.returns-in-Out
-returns-in-Out c =
+pub returns-in-Err : goal.returns-in-Err
+returns-in-Err c =
     let a = c.args in
     let lent = lends a.names.now a.area.now in
-    open-out a.file.now lent a.items.now a.item_area.now (sym c.enter-entered.ensures ∙ c.in-Out.is)
+    open-out a.file.now lent a.items.now a.item_area.now (sym c.enter-entered.ensures ∙ c.in-Err.is)

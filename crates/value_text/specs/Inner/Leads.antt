@@ -5,18 +5,16 @@
 --   Tells     the answer of the code, and the text of the value at the front of the buffer
 --   Gives     the answer of the question of an open file, and the whole buffer
 --   behind_items   the head of a file whose entry checks pass, behind what the items say
-use Rattle.std.specs.Prelude.{ℕ, ◌≤◌, ◌≡◌, List, length, take}
+use Rattle.std.specs.Prelude.{ℕ, ◌≤◌, ◌≡◌, List, length, take, Result, Ok, Err}
 use Rattle.errors.specs.declared.Refusal.TheVariants.{ItemsError}
-use Rattle.errors.specs.declared.ValueAnswer.{ValueAnswer}
 use Rattle.head.specs.Ask.{head_read}
 use Rattle.head.specs.declared.Opened.{Opened}
-use Rattle.head.specs.declared.OpenRead.{OpenRead}
-use Rattle.head.specs.declared.OpenRead.TheVariants.{Closed}
-use Rattle.items.specs.declared.ItemsRead.{ItemsRead}
-use Rattle.items.specs.declared.ItemsRead.TheVariants.{Good, Bad}
 use Rattle.value_text.specs.declared.Told.{Told}
 use Rattle.value_text.specs.declared.Told.TheVariants.{Shown, NoName, NoText}
 use Rattle.value_text.specs.Value.{Value, no_name, no_text, shows, shown, answer_by, buffer_by}
+use Rattle.errors.specs.declared.Refusal.{Refusal}
+use Rattle.errors.specs.declared.ValueWritten.{ValueWritten}
+use Rattle.text.specs.declared.Head.{Head}
 
 pub record Leads (s before : List ℕ) (n : ℕ) (after : List ℕ) : Type 0 where
   pub count : n ≡ length s
@@ -33,10 +31,10 @@ pub record Tells (v : Value) (before : List ℕ) (r : Told) (after : List ℕ) :
   pub long : length after ≡ length before
   pub front : length (shown v) ≤ length before → take (length (shown v)) after ≡ shown v
 
-pub record Gives (n kind : ℕ) (v : Value) (r : ValueAnswer) (after : List ℕ) : Type 0 where
+pub record Gives (n kind : ℕ) (v : Value) (r : Result ValueWritten Refusal) (after : List ℕ) : Type 0 where
   pub same : r ≡ answer_by n kind v
   pub out : after ≡ buffer_by n v
 
-abbrev pub behind_items : Opened → ItemsRead → OpenRead
-behind_items o Good = head_read o
-behind_items o (Bad k) = Closed (ItemsError k)
+abbrev pub behind_items : Opened → Result (Unit {0}) ℕ → Result Head Refusal
+behind_items o (Ok tt) = head_read o
+behind_items o (Err k) = Err (ItemsError k)

@@ -7,15 +7,13 @@
 --   steps_left   a number that each call of `advance` makes smaller, so that a loop over it ends: while the body is read, the steps that may
 --               come and the places of the note table together; while zeros are written behind the notes, the places that are left
 --   Advanced    what one call leaves, for a state of which `StateOk` is known by the facts g; AdvanceKeeps: for whichever facts show it
-use Rattle.std.specs.Prelude.{ℕ, ◌+◌, ◌-◌, ◌*◌, ◌≤◌, ◌<◌, ◌≡◌, List, ◌++◌, true, false, cond, length, take, set, replicate, ltb}
+use Rattle.std.specs.Prelude.{ℕ, ◌+◌, ◌-◌, ◌*◌, ◌≤◌, ◌<◌, ◌≡◌, List, ◌++◌, true, false, cond, length, take, set, replicate, ltb, Result, Ok, Err}
 use Rattle.anomaly.specs.Note.{kind_index, note_of}
 use Rattle.anomaly.specs.Kept.{no_notes, stored_in}
 use Rattle.anomaly.specs.declared.Note.{Note as NoteOf}
 use Rattle.anomaly.specs.declared.ResAnomaly.{ResAnomaly}
 use Rattle.errors.specs.declared.Refusal.{Refusal}
 use Rattle.errors.specs.declared.Refusal.TheVariants.{NotesFull}
-use Rattle.errors.specs.declared.ReadAnswer.{ReadAnswer}
-use Rattle.errors.specs.declared.ReadAnswer.TheVariants.{Done, Refused}
 use Rattle.records.specs.Words.{node_width, attribute_width}
 use Rattle.system_types.specs.Names.{Lent}
 use Rattle.head.specs.declared.HeadEnd.TheVariants.{Whole}
@@ -34,6 +32,7 @@ use Rattle.walk.specs.Settle.{Room}
 use Rattle.walk.specs.Reading.{Reading, zero_note, final_of, reading, room_in}
 use Rattle.walk.specs.Inner.Tree.{Tied, Chained, kept_nodes, kept_attributes}
 use Rattle.walk.specs.Inner.Run.{on_from}
+use Rattle.errors.specs.declared.ReadCounts.{ReadCounts}
 
 -- ---- states
 
@@ -73,7 +72,7 @@ started_by st o = record {
 }
 
 -- the answer is a; the note table is to be cleared from the place c on
-abbrev pub clearing_at : State → ℕ → ReadAnswer → State
+abbrev pub clearing_at : State → ℕ → Result ReadCounts Refusal → State
 clearing_at st c a = record {
   done = cond (ltb c st.room) false true;
   slot = c;
@@ -88,7 +87,7 @@ clearing_at st c a = record {
   notes = st.notes;
 }
 
-abbrev pub clear_next : State → ReadAnswer → State
+abbrev pub clear_next : State → Result ReadCounts Refusal → State
 clear_next st a = clearing_at st (cond (ltb st.slot st.room) (st.slot + 1) st.slot) a
 
 -- a note is to be written
@@ -107,18 +106,18 @@ noted_by st c t x = record {
   notes = stored_in st.notes (kind_index x);
 }
 
-abbrev pub done_answer : Tree → ℕ → ReadAnswer
-done_answer t n = Done (record { starts = t.nodes; nodes = kept_nodes t; attributes = kept_attributes t; notes = n })
+abbrev pub done_answer : Tree → ℕ → Result ReadCounts Refusal
+done_answer t n = Ok (record { starts = t.nodes; nodes = kept_nodes t; attributes = kept_attributes t; notes = n })
 
 -- the answer of a state that has one is r
-abbrev pub Answers : State → ReadAnswer → Type 0
-Answers st r = (a : ReadAnswer) → st.stage ≡ Clearing a → r ≡ a
+abbrev pub Answers : State → Result ReadCounts Refusal → Type 0
+Answers st r = (a : Result ReadCounts Refusal) → st.stage ≡ Clearing a → r ≡ a
 
 -- ---- ends
 
 -- a refusal: zeros all over
 pub record Refuses (ns ats : List ℕ) (st : State) (x : Refusal) (r : State) (ns' ats' : List ℕ) : Type 0 where
-  pub state : r ≡ clearing_at st 0 (Refused x)
+  pub state : r ≡ clearing_at st 0 (Err x)
   pub nodes : ns' ≡ replicate (length ns) 0
   pub attributes : ats' ≡ replicate (length ats) 0
 
@@ -198,7 +197,7 @@ pub record Advanced (f : List ℕ) (lent : Lent) (ns ats : List ℕ) (st : State
   pub due : r.done ≡ false → (r.slot < r.room) × (steps_left f lent r < steps_left f lent st)
   pub goes : r.done ≡ false → (os : List NoteOf) → length os ≡ st.room
       → outcome f lent ns ats os st g.stack ≡ outcome f lent ns' ats' (set os r.slot r.note) r good.stack
-  pub ends : r.done ≡ true → (a : ReadAnswer) → Answers r a → (os : List NoteOf) → length os ≡ st.room
+  pub ends : r.done ≡ true → (a : Result ReadCounts Refusal) → Answers r a → (os : List NoteOf) → length os ≡ st.room
       → outcome f lent ns ats os st g.stack ≡ record { answer = a; nodes = ns'; attributes = ats'; notes = os }
 
 abbrev pub AdvanceKeeps : List ℕ → Lent → List ℕ → List ℕ → State → State → List ℕ → List ℕ → Type 0
@@ -207,5 +206,5 @@ AdvanceKeeps f lent ns ats st r ns' ats' = (g : StateOk f lent ns ats st) → Ad
 -- ---- the whole
 
 -- what a call of `read` leaves, as one equation
-pub record Leaves (f : List ℕ) (lent : Lent) (ns ats : List ℕ) (os : List NoteOf) (cap mode : ℕ) (r : ReadAnswer) (ns' ats' : List ℕ) (os' : List NoteOf) : Type 0 where
+pub record Leaves (f : List ℕ) (lent : Lent) (ns ats : List ℕ) (os : List NoteOf) (cap mode : ℕ) (r : Result ReadCounts Refusal) (ns' ats' : List ℕ) (os' : List NoteOf) : Type 0 where
   pub whole : record { answer = r; nodes = ns'; attributes = ats'; notes = os' } ≡ reading (room_in ns ats os cap mode) f lent

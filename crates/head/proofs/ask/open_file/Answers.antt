@@ -4,14 +4,14 @@ use Rattle.system_types.specs.Names.{lends}
 use Rattle.head.proofs.Questions.{open_of-in, open_of-out}
 use Rattle.head.proofs.ask.open_file.Goals as goal
 
-pub returns-in-In : goal.returns-in-In
-returns-in-In c =
+pub returns-in-Ok : goal.returns-in-Ok
+returns-in-Ok c =
     let a = c.args in
-    let e = sym c.enter-entered.ensures ∙ c.in-In.is in
+    let e = sym c.enter-entered.ensures ∙ c.in-Ok.is in
     c.head_read.ensures ∙ open_of-in a.file.now (lends a.names.now a.area.now) e
 
-pub returns-in-Out : goal.returns-in-Out
-returns-in-Out c =
+pub returns-in-Err : goal.returns-in-Err
+returns-in-Err c =
     let a = c.args in
-    let e = sym c.enter-entered.ensures ∙ c.in-Out.is in
+    let e = sym c.enter-entered.ensures ∙ c.in-Err.is in
     open_of-out a.file.now (lends a.names.now a.area.now) e

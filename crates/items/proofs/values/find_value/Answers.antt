@@ -1,9 +1,9 @@
 -- `items::values::find_value` meets its contract. Invariant: what the items from k on say is what all say. Measure: the items left.
+use Rattle.std.specs.Prelude.{Some}
 use Prim.Native.Nat.{◌-◌, ◌+◌}
 use mathlib.Core.Path.{refl, sym, ap, ◌∙◌}
 use native.Mathlib.Omega.{arith}
 use Rattle.items.specs.Items.{item_at, items_from, enum_of}
-use Rattle.items.specs.declared.EnumFound.TheVariants.{Named}
 use Rattle.items.proofs.TurnLaws.{run_step, run_end, valued-here, valued-next}
 use Rattle.items.proofs.values.find_value.Goals as goal
 
@@ -20,7 +20,7 @@ returns-then-i-value c =
     let w = a.items.now in
     let e = run_step w l.k a.end c.loop-k-test.true in
     let h = valued-here a.value (item_at w l.k) (items_from w (l.k + 1) (a.end - (l.k + 1))) c.item_at-i.ensures c.if-i-value.true in
-    ap Named c.item_at-i.ensures ∙ sym (l.invariant ∙ ap (enum_of a.value) e ∙ h)
+    ap Some c.item_at-i.ensures ∙ sym (l.invariant ∙ ap (enum_of a.value) e ∙ h)
 
 pub overflow_add-k : goal.overflow_add-k
 overflow_add-k c = omega (arith, c.loop-k-test.true)

@@ -15,7 +15,7 @@ pub attribute_at-requires : goal.attribute_at-requires
 attribute_at-requires c =
     let a = c.args in
     let at-find-named = c.find_named-found in
-    let at-found = c.in-At in
+    let at-found = c.in-Some in
     let p = c.requires in
     let w = tree_of a.h a.t.now (lends a.names.now a.area.now) a.items.now a.item_area.now a.nodes.now
     a.attributes.now a.count in
@@ -27,11 +27,11 @@ value_is-requires c =
     let p = c.requires in
     (p.0.asks, p.0.good, p.2, p.3)
 
-pub returns-in-At : goal.returns-in-At
-returns-in-At c =
+pub returns-in-Some : goal.returns-in-Some
+returns-in-Some c =
     let a = c.args in
     let at-find-named = c.find_named-found in
-    let at-found = c.in-At in
+    let at-found = c.in-Some in
     let at-attribute-at = c.attribute_at in
     let at-value-is = c.value_is in
     let w = tree_of a.h a.t.now (lends a.names.now a.area.now) a.items.now a.item_area.now a.nodes.now
@@ -39,11 +39,11 @@ returns-in-At c =
     saying w a.name.now a.expected.now a.k at-find-named.ensures at-found.is at-attribute-at.ensures
     at-value-is.ensures
 
-pub returns-in-NoAttribute : goal.returns-in-NoAttribute
-returns-in-NoAttribute c =
+pub returns-in-None : goal.returns-in-None
+returns-in-None c =
     let a = c.args in
     let at-find-named = c.find_named-found in
-    let at-enum-told = c.in-NoAttribute in
+    let at-enum-told = c.in-None in
     let w = tree_of a.h a.t.now (lends a.names.now a.area.now) a.items.now a.item_area.now a.nodes.now
     a.attributes.now a.count in
     saying-none w a.name.now a.expected.now a.k at-find-named.ensures at-enum-told.is

@@ -54,11 +54,11 @@ look-looked-requires c = (
   c.requires.2,
 )
 
-pub offset_bounds-starts-place-in-At : goal.offset_bounds-starts-place-in-At
-offset_bounds-starts-place-in-At c = omega (arith, c.if-place-ge-KNOWN.false)
+pub offset_bounds-starts-place-in-Some : goal.offset_bounds-starts-place-in-Some
+offset_bounds-starts-place-in-Some c = omega (arith, c.if-place-ge-KNOWN.false)
 
-pub bounds-starts-place-in-At : goal.bounds-starts-place-in-At
-bounds-starts-place-in-At c = omega (
+pub bounds-starts-place-in-Some : goal.bounds-starts-place-in-Some
+bounds-starts-place-in-Some c = omega (
   arith,
   c.if-place-ge-KNOWN.false,
   c.requires.3.first,
@@ -68,33 +68,33 @@ pub overflow_add-ends : goal.overflow_add-ends
 overflow_add-ends c =
     let a = c.args in
     let lent = lends a.names.now a.area.now in
-    let g = looks-same a.h a.t.now lent a.items.now a.item_area.now a.index.0 c.in-At.is c.look-looked.ensures in
+    let g = looks-same a.h a.t.now lent a.items.now a.item_area.now a.index.0 c.in-Some.is c.look-looked.ensures in
     omega (arith, g.run.fits)
 
-pub offset_bounds-ends-place-in-At : goal.offset_bounds-ends-place-in-At
-offset_bounds-ends-place-in-At c = omega (arith, c.if-place-ge-KNOWN.false)
+pub offset_bounds-ends-place-in-Some : goal.offset_bounds-ends-place-in-Some
+offset_bounds-ends-place-in-Some c = omega (arith, c.if-place-ge-KNOWN.false)
 
-pub bounds-ends-place-in-At : goal.bounds-ends-place-in-At
-bounds-ends-place-in-At c = omega (
+pub bounds-ends-place-in-Some : goal.bounds-ends-place-in-Some
+bounds-ends-place-in-Some c = omega (
   arith,
   c.if-place-ge-KNOWN.false,
   c.requires.3.last,
 )
 
-pub returns-in-NoName : goal.returns-in-NoName
-returns-in-NoName c =
+pub returns-in-None : goal.returns-in-None
+returns-in-None c =
     let a = c.args in
     let lent = lends a.names.now a.area.now in (
-      looks-same a.h a.t.now lent a.items.now a.item_area.now a.index.0 c.in-NoName.is
+      looks-same a.h a.t.now lent a.items.now a.item_area.now a.index.0 c.in-None.is
           c.look-looked.ensures,
       c.requires.3,
     )
 
-pub returns-in-At : goal.returns-in-At
-returns-in-At c =
+pub returns-in-Some : goal.returns-in-Some
+returns-in-Some c =
     let a = c.args in
     let lent = lends a.names.now a.area.now in
-    let g = looks-same a.h a.t.now lent a.items.now a.item_area.now a.index.0 c.in-At.is c.look-looked.ensures in (
+    let g = looks-same a.h a.t.now lent a.items.now a.item_area.now a.index.0 c.in-Some.is c.look-looked.ensures in (
       g,
       knows_more a.h a.t.now lent a.items.now a.item_area.now a.starts.now a.ends.now a.index.0 _
           (omega (arith, c.if-place-ge-KNOWN.false)) g

@@ -8,16 +8,16 @@ use Rattle.digits.proofs.Written.{wrote-more}
 use Rattle.value_text.proofs.Front.{wrote-part, wrote-attribute}
 use Rattle.value_text.proofs.plain.put_attribute.Goals as goal
 
-pub returns-in-Name : goal.returns-in-Name
-returns-in-Name c =
+pub returns-in-Some : goal.returns-in-Some
+returns-in-Some c =
     let a = c.args in
     wrote-attribute a.area.now a.v (sym c.get_type_name-name.ensures
-    ∙ c.in-Name.is)
-    (wrote-part a.area.now c.in-Name.start c.in-Name.n (omega arith) c.part_of.ensures c.put_bytes.ensures)
+    ∙ c.in-Some.is)
+    (wrote-part a.area.now c.in-Some.start c.in-Some.n (omega arith) c.part_of.ensures c.put_bytes.ensures)
 
-pub returns-in-Missing : goal.returns-in-Missing
-returns-in-Missing c =
+pub returns-in-None : goal.returns-in-None
+returns-in-None c =
     let a = c.args in
     wrote-attribute a.area.now a.v (sym c.get_type_name-name.ensures
-    ∙ c.in-Missing.is)
+    ∙ c.in-None.is)
     (wrote-more c.put_marked.ensures (ap (λ (m : ℕ). m ∷ hex_text a.v) c.mark_of.ensures) (omega arith))

@@ -5,14 +5,14 @@ use Rattle.digits.proofs.Written.{wrote-more}
 use Rattle.value_text.proofs.Front.{wrote-reference}
 use Rattle.value_text.proofs.plain.put_reference.Goals as goal
 
-pub returns-in-Name : goal.returns-in-Name
-returns-in-Name c =
+pub returns-in-Some : goal.returns-in-Some
+returns-in-Some c =
     let a = c.args in
     wrote-reference a.area.now a.v (sym c.get_type_name-name.ensures
-    ∙ c.in-Name.is) c.put_at.ensures
+    ∙ c.in-Some.is) c.put_at.ensures
 
-pub returns-in-Missing : goal.returns-in-Missing
-returns-in-Missing c =
+pub returns-in-None : goal.returns-in-None
+returns-in-None c =
     let a = c.args in
     wrote-reference a.area.now a.v (sym c.get_type_name-name.ensures
-    ∙ c.in-Missing.is) (wrote-more c.put_marked.ensures refl (omega arith))
+    ∙ c.in-None.is) (wrote-more c.put_marked.ensures refl (omega arith))
