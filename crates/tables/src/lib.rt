@@ -35,11 +35,7 @@ pub fn put_one(words: &mut [u32], i: usize, a: u32)
 pub fn zero_all(words: &mut [u32])
     ensures { words.new ≡ replicate (length words.old) 0 }
 {
-    let mut i = 0;
-    while i < words.len() {
-        words[i] = 0;
-        i += 1;
-    }
+    words.fill(0);
 }
 
 // Zeros from the place `from` on. Ruled out: a word before it changed, and one behind it kept.
@@ -118,15 +114,13 @@ pub fn has(
     }
     let plain = is_plain_name(t, area, h.utf16, prefix, wanted);
     let marks = marks_of(t, names, area, h, plain, wanted);
-    let mut i = 0;
-    while ATTRIBUTE_WORDS <= words.len() - i {
-        if words[i + ATTRIBUTE_PREFIX] == prefix {
-            let other = StringIndex(words[i + ATTRIBUTE_NAME]);
+    for record in words.chunks_exact(ATTRIBUTE_WORDS) {
+        if record[ATTRIBUTE_PREFIX] == prefix {
+            let other = StringIndex(record[ATTRIBUTE_NAME]);
             if same_as_known(t, names, area, h, plain, marks, other, name, wanted) {
                 return true;
             }
         }
-        i += ATTRIBUTE_WORDS;
     }
     false
 }
