@@ -2,7 +2,7 @@
 -- In order: the end (`repeat-end`), one record on (`repeat-step`), then the three ways of the loop: found, another prefix, another name; the two
 -- where one call asks all (`repeat-same`, `repeat-other`); what the rule asks of a record at a place (`by_prefix-at`); and what the code compares
 -- (`same-found`).
-use Prim.Native.Nat.{ℕ, suc, ◌+◌, ◌-◌, ◌/◌, ◌≤◌, ◌<◌}
+use Prim.Native.Nat.{ℕ, suc, ◌+◌, ◌/◌, ◌<◌}
 use native.Mathlib.Omega.{arith}
 use mathlib.Core.Path.{◌≡◌, sym, ap, ◌∙◌}
 use mathlib.Core.List.{List, ◌++◌}

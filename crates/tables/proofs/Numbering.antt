@@ -1,15 +1,15 @@
 -- Laws of specs/Inner/Numbered.antt: equal texts are an equivalence (`same_back`, `same-on`); nothing is known at first (`numbered-none`); what is told of
 -- two indices (`told_same`, `told-other`, `told_as`); which index stands for a text (`first-met`, `first-own`); and one index more
 -- (`numbered_more`). No contract cites this file.
-use Prim.Native.Nat.{ℕ, zero, suc, ◌+◌, ◌-◌, ◌/◌, ◌%◌, ◌≤◌, ◌<◌}
+use Prim.Native.Nat.{ℕ, zero, suc, ◌+◌, ◌-◌, ◌/◌, ◌%◌, ◌<◌}
 use native.Mathlib.Omega.{arith}
 use mathlib.Core.Path.{◌≡◌, refl, sym, ◌∙◌, ap}
-use mathlib.Core.Bool.{Bool, true, false, cond, ◌&&◌, true≢false}
+use mathlib.Core.Bool.{Bool, true, false, ◌&&◌, true≢false}
 use mathlib.Core.List.{List}
-use borrow.Author.Tests.{eqb-true, eqb-false, eq-eqb, ne_eqb, le-leb, lt-leb}
+use borrow.Author.Tests.{eqb-true, eqb-false, eq-eqb, ne_eqb}
 use lib.ListN.{length, get_or, set, replicate, length-set}
 use lib.Seq.{get_or-set_same, get_or-set_other}
-use lib.Dec.{eqb, leb}
+use lib.Dec.{eqb}
 use Rattle.utf.specs.Text.{eq_bytes}
 use Rattle.utf.proofs.Tables.{both_true}
 use Rattle.utf.proofs.Equal.{eq_bytes-refl, eq_bytes-true}
@@ -20,7 +20,7 @@ use Rattle.text.specs.declared.Found.{Found}
 use Rattle.text.specs.Inner.Found.{part_of, Finds, is_found}
 use Rattle.text.proofs.Read.{same_text-self, is_found-text}
 use Rattle.tables.specs.Inner.Keys.{hash_in}
-use Rattle.tables.specs.Inner.Numbered.{place_count, word_count, seen_at, first_at, number_at, mark_of, Numbered, met_at, FirstOf, ToldBy}
+use Rattle.tables.specs.Inner.Numbered.{place_count, word_count, seen_at, first_at, number_at, mark_of, Numbered, met_at, FirstOf}
 use Rattle.tables.proofs.Hashes.{hash_in-same}
 
 -- ---- equal texts

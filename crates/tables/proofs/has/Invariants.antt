@@ -21,5 +21,5 @@ invariant-loop-record l = record {
   passed : (n ns owner kind value : ℕ) → Finds l.t (lends l.names l.area) l.h n l.wanted
       → is_repeat (by_prefix (same_name l.h l.t (lends l.names l.area))) (attribute_words owner l.prefix n kind value ns) l.words
       ≡ is_repeat (by_prefix (same_name l.h l.t (lends l.names l.area))) (attribute_words owner l.prefix n kind value ns)
-          (chunks_exact_rest l.record-iterator);
+      (chunks_exact_rest l.record-iterator);
 }

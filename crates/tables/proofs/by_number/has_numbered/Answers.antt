@@ -1,7 +1,7 @@
 -- `tables::by_number::has_numbered` meets its contract: it stops at the first record that is repeated.
-use Rattle.std.proofs.Common.{◌≡◌, length, sym, ap, ◌∙◌, arith}
+use Rattle.std.proofs.Common.{sym, ◌∙◌, arith}
 use Rattle.std.specs.Slice.Iter.{chunks_exact_rest}
-use Rattle.records.specs.Words.{attribute_width, attribute_words}
+use Rattle.records.specs.Words.{attribute_words}
 use Rattle.records.specs.Repeats.{by_prefix}
 use Rattle.system_types.specs.Names.{lends}
 use Rattle.text.specs.Content.{same_name}
@@ -14,7 +14,7 @@ returns-then-is_same c =
     let step = c.in-Some.ensures.steps in (
       (λ owner kind value. sym (c.loop-record.invariant.passed owner kind value
           ∙ repeat-same same owner a.prefix a.name.0 kind value a.ns.0 _ c.in-Some.record.now (chunks_exact_rest c.next.new.self)
-              step.1.0 (step.1.1 ∙ c.loop-record.invariant.size) c.is_same.ensures.0 c.if-is_same.true)),
+          step.1.0 (step.1.1 ∙ c.loop-record.invariant.size) c.is_same.ensures.0 c.if-is_same.true)),
       c.is_same.ensures.1,
     )
 
@@ -30,7 +30,7 @@ loop-record-preserved c =
       known = c.is_same.ensures.1;
       passed = λ owner kind value. c.loop-record.invariant.passed owner kind value
           ∙ repeat-other same owner a.prefix a.name.0 kind value a.ns.0 _ c.in-Some.record.now (chunks_exact_rest c.next.new.self)
-              step.1.0 (step.1.1 ∙ c.loop-record.invariant.size) c.is_same.ensures.0 c.if-is_same.false;
+          step.1.0 (step.1.1 ∙ c.loop-record.invariant.size) c.is_same.ensures.0 c.if-is_same.false;
     }
 
 pub returns : goal.returns
@@ -39,6 +39,6 @@ returns c =
     let step = c.in-None.ensures.steps in (
       (λ owner kind value. sym (c.loop-record.invariant.passed owner kind value
           ∙ repeat-end (by_prefix same) (attribute_words owner a.prefix a.name.0 kind value a.ns.0) (chunks_exact_rest c.loop-record.record-iterator)
-              (omega (arith, step.1.0, c.loop-record.invariant.size)))),
+          (omega (arith, step.1.0, c.loop-record.invariant.size)))),
       c.loop-record.invariant.known,
     )

@@ -22,5 +22,5 @@ invariant-loop-record l = record {
   passed : (owner kind value : ℕ)
       → is_repeat (by_prefix (same_name l.h l.t (lends l.names l.area))) (attribute_words owner l.prefix l.name.0 kind value l.ns.0) l.words
       ≡ is_repeat (by_prefix (same_name l.h l.t (lends l.names l.area))) (attribute_words owner l.prefix l.name.0 kind value l.ns.0)
-          (chunks_exact_rest l.record-iterator);
+      (chunks_exact_rest l.record-iterator);
 }
