@@ -136,9 +136,6 @@ module _ (h : Head) (t : List ℕ) (lent : Lent) where
         (λ s. d (k.number q (seen_at m q - 1) p seen ∙ sym (hash_in-same 0 (content_of h t lent i) (content_of h t lent (seen_at m q - 1)) s) ∙ sym e)) in
         sym (met_some i q n ∙ other)
 
-    pub met-found : (i q : ℕ) {r : Bool} → (seen_at m q ≡ 0 → ⊥) → r ≡ same_name h t lent i (seen_at m q - 1) → r ≡ met_at (same_name h t lent) m i q
-    met-found i q n e = e ∙ sym (met_some i q n)
-
     -- at a place that has the same text
     pub first-met : (i q : ℕ) {r : Bool} → q < place_count → r ≡ met_at (same_name h t lent) m i q → r ≡ true → FirstOf (same_name h t lent) m i (first_at m q)
     first-met i q p e s = go (eqb (seen_at m q) 0) refl
@@ -152,7 +149,8 @@ module _ (h : Head) (t : List ℕ) (lent : Lent) where
             let at = content_of h t lent in record {
               small = omega arith;
               own = same_text-on (at i) (at (seen_at m q - 1)) (at (first_at m q)) same (k.first q (seen_at m q - 1) p seen);
-              others = λ l b lt f g. k.alike q l (seen_at m q - 1) b p lt seen f (same_text-on (at (seen_at m q - 1)) (at i) (at b) (same_text-back (at i) (at (seen_at m q - 1)) same) g);
+              others = λ l b lt f g. k.alike q l (seen_at m q - 1) b p lt seen f
+                  (same_text-on (at (seen_at m q - 1)) (at i) (at b) (same_text-back (at i) (at (seen_at m q - 1)) same) g);
             }
 
     -- where no place has
@@ -221,7 +219,8 @@ module _ (h : Head) (t : List ℕ) (lent : Lent) where
           where
             go : (z : Bool) → eqb j p ≡ z → number_at more j ≡ hash_in 0 (content_of h t lent a)
             go true z =
-                ap (λ (x : ℕ). number_at more x) (eqb-true j p z) ∙ number-own ∙ e ∙ ap (λ (x : ℕ). hash_in 0 (content_of h t lent x)) (own_is j a (eqb-true j p z) q)
+                ap (λ (x : ℕ). number_at more x) (eqb-true j p z) ∙ number-own ∙ e
+                ∙ ap (λ (x : ℕ). hash_in 0 (content_of h t lent x)) (own_is j a (eqb-true j p z) q)
             go false z = number-other j b (eqb-false j p z) ∙ k.number j a b (sym (seen_other j b (eqb-false j p z)) ∙ q)
 
         first-at : (j a : ℕ) → j < place_count → seen_at more j ≡ a + 1 → same_name h t lent a (first_at more j) ≡ true

@@ -36,6 +36,7 @@ pub fn hash_of(utf16: bool, b: &[u8], seed: u64) -> u64
         return s;
     }
     let mut at: usize = 0;
+    // No `for`: the next place depends on the step's width, and nothing yields the steps as an iterator.
     while at < b.len() {
         let t = next_of(utf16, b, at);
         s = mix(s, t.value);

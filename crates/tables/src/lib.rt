@@ -85,7 +85,8 @@ fn is_plain_name(t: &[u8], area: &[u8], utf16: bool, prefix: u32, f: Found) -> b
 }
 
 // Whether an attribute of this prefix, name and namespace, whatever its other words, repeats one of these (W23). The name's own text is
-// found once, and looked at once, or not at all (`is_plain_name`): where it is plain, bytes are compared, and its marks tell most names apart before they are looked up.
+// found once, and looked at once, or not at all (`is_plain_name`): where it is plain, bytes are compared, and its marks tell most names apart before
+// they are looked up.
 // Ruled out: yes for the same index under another prefix, and no for another index whose text is the same.
 pub fn has(
     t: &[u8],

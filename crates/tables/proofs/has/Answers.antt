@@ -12,7 +12,8 @@ use Rattle.tables.proofs.has.Goals as goal
 pub returns-then-words-lt-ATTRIBUTE_WORDS : goal.returns-then-words-lt-ATTRIBUTE_WORDS
 returns-then-words-lt-ATTRIBUTE_WORDS c =
     let a = c.args in let same = same_name a.h a.t.now (lends a.names.now a.area.now) in (
-      (λ owner kind value. sym (repeat-end (by_prefix same) (attribute_words owner a.prefix a.name.0 kind value a.ns.0) a.words.now c.if-words-lt-ATTRIBUTE_WORDS.true)),
+      (λ owner kind value. sym (repeat-end (by_prefix same) (attribute_words owner a.prefix a.name.0 kind value a.ns.0) a.words.now
+          c.if-words-lt-ATTRIBUTE_WORDS.true)),
       c.requires.2,
     )
 
