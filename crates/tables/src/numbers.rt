@@ -9,7 +9,8 @@ ghost use Rattle.text.specs.declared.Head.{Head};
 ghost use Rattle.text.specs.Content.{content_of, has_text, same_name};
 ghost use Rattle.text.specs.Inner.Found.{Asks, Finds, part_of};
 ghost use Rattle.tables.specs.Inner.Keys.{hash_in};
-ghost use Rattle.tables.specs.Inner.Numbered.{place_count, near_count, word_count, long_from, very_long_from, size_of, mark_of, Numbered, met_at, FirstOf, ToldBy};
+ghost use Rattle.tables.specs.Inner.Numbered.{place_count, near_count, word_count, long_from, very_long_from, size_of};
+ghost use Rattle.tables.specs.Inner.Numbered.{mark_of, Numbered, met_at, FirstOf, ToldBy};
 
 use crate::hash::hash_found;
 use common::StringIndex;
