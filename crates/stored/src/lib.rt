@@ -24,6 +24,7 @@ pub fn read_in<R: Read>(reader: &mut R, room: &mut [u8]) -> io::Result<usize>
     ensures end { IfOk result (λ n. n < length room.new → IsAtEnd (R.remaining reader.new)) }
 {
     let mut n: usize = 0;
+    // No `for`: the next place depends on how many bytes a read gives.
     while n < room.len() {
         let more = reader.read(&mut room[n..])?;
         if more == 0 {
