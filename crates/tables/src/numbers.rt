@@ -31,6 +31,7 @@ const ALL: u32 = 256;
 // A text of so many bytes is very long: to look at all places costs less than to compare it.
 const VERY_LONG: usize = 16384;
 
+// A word of 64 bits is two numbers of 32: the quotient and the remainder by this.
 pub(crate) const HALF: u64 = 4294967296;
 
 // ---- how long a text is, which decides who is asked and nothing else
