@@ -3,7 +3,7 @@
 use mathlib.Core.Path.{◌≡◌, refl, sym, ap, ◌∙◌, subst}
 use mathlib.Core.Bool.{Bool, true, false, not, ◌&&◌, and-true, and-false, cond}
 use mathlib.Core.List.{List, ◌∷◌}
-use Prim.Native.Nat.{ℕ, zero, suc, ◌+◌, ◌*◌, ◌/◌, ◌%◌, ◌≤◌, ◌<◌}
+use Prim.Native.Nat.{ℕ, zero, suc, ◌+◌, ◌*◌, ◌/◌, ◌%◌, ◌≤◌, ◌<◌, max}
 use native.Mathlib.Numerals.{add-one}
 use native.Mathlib.Omega.{arith}
 use borrow.Author.Tests.{ltb-true, le-ltb, eq-eqb, ne_eqb, eqb-true, eqb-false, not-true}
@@ -38,23 +38,16 @@ basic_from-cons false b s = refl
 abbrev pub seen_basic : ℕ → ℕ → List ℕ → Bool
 seen_basic most i s = ltb most 1 && basic_from (is_odd i) (drop i s)
 
-seen-above : (most x : ℕ) (t r : Bool) → x ≡ cond t 1 0 → most < x → (ltb x 1 && r) ≡ (ltb most 1 && (not t && r))
-seen-above most x true r e h = rw (le-ltb x 1 (omega (arith, e))) (sym (and-false (ltb most 1)))
-seen-above most x false r e h = absurd (let z : ⊥ = omega (arith, e) in z)
-
-seen_below : (most x : ℕ) (t r : Bool) → x ≡ cond t 1 0 → x ≤ most → (ltb most 1 && r) ≡ (ltb most 1 && (not t && r))
-seen_below most x true r e h = rw (le-ltb most 1 (omega (arith, e)))
-seen_below most x false r e h = refl
+seen-mark : (most x : ℕ) (t r : Bool) → x ≡ cond t 1 0 → (ltb (max most x) 1 && r) ≡ (ltb most 1 && (not t && r))
+seen-mark most x true r e = rw (le-ltb (max most x) 1 (omega (arith, e))) (sym (and-false (ltb most 1)))
+seen-mark most x false r e = ap (λ (n : ℕ). ltb n 1 && r) (let z : max most x ≡ most = omega (arith, e) in z)
 
 module _ (s : List ℕ) (i most x : ℕ) (h : i < length s) (e : x ≡ cond (is_odd i && eqb (get_or s i 0 / 8) 27) 1 0) where
   basic-next : basic_from (is_odd i) (drop i s) ≡ (not (is_odd i && eqb (get_or s i 0 / 8) 27) && basic_from (is_odd (i + 1)) (drop (i + 1) s))
   basic-next = rw (add-one i, is_odd-next i, drop-cons s i 0 h) (basic_from-cons (is_odd i) (get_or s i 0) (drop (suc i) s))
 
-  pub seen_basic-put : most < x → seen_basic x (i + 1) s ≡ seen_basic most i s
-  seen_basic-put p = seen-above most x (is_odd i && eqb (get_or s i 0 / 8) 27) _ e p ∙ ap (λ (b : Bool). ltb most 1 && b) (sym basic-next)
-
-  pub seen_basic-kept : x ≤ most → seen_basic most (i + 1) s ≡ seen_basic most i s
-  seen_basic-kept p = seen_below most x (is_odd i && eqb (get_or s i 0 / 8) 27) _ e p ∙ ap (λ (b : Bool). ltb most 1 && b) (sym basic-next)
+  pub seen_basic-next : seen_basic (max most x) (i + 1) s ≡ seen_basic most i s
+  seen_basic-next = seen-mark most x (is_odd i && eqb (get_or s i 0 / 8) 27) _ e ∙ ap (λ (b : Bool). ltb most 1 && b) (sym basic-next)
 
 pub seen_basic-end : (s : List ℕ) (i most : ℕ) → i ≡ length s → seen_basic most i s ≡ ltb most 1
 unfolding basic_from

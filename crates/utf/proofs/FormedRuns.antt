@@ -3,19 +3,19 @@
 use mathlib.Core.Path.{◌≡◌, refl, sym, subst, ap, ◌∙◌}
 use mathlib.Core.Bool.{Bool, true, false, not, cond}
 use mathlib.Core.List.{List}
-use Prim.Native.Nat.{ℕ, ◌+◌, ◌≤◌, ◌<◌}
+use Prim.Native.Nat.{ℕ, ◌+◌, ◌≤◌, ◌<◌, min}
 use native.Mathlib.Omega.{arith}
 use borrow.Author.Tests.{ltb-true, ltb-false, eqb-true, eqb-false}
 use lib.Dec.{ltb, eqb}
 use lib.ListN.{length, get_or, drop}
-use mir.Val.{bool_byte}
+use Rattle.std.specs.Int.{from_bool}
 use Rattle.utf.specs.Utf8.{inside, step8}
 use Rattle.utf.specs.Text.{step_value, width_of, sound_of}
 use Rattle.utf.specs.Inner.StepRuns.{IsInner, Placed, NextChar, Ran}
 use Rattle.utf.proofs.Scalars.{inside-ends}
 use Rattle.utf.proofs.Places.{step8-at}
 use Rattle.utf.proofs.Turns.{took}
-use Rattle.utf.proofs.Units.{ran-none, ran-step}
+use Rattle.utf.proofs.Units.{ran_none, ran-step}
 use Rattle.utf.proofs.Forms.{inner_of, some-inside}
 use Rattle.utf.proofs.Sequences.{not-inner}
 
@@ -128,15 +128,15 @@ pub inner-stop : (s : List ℕ) (at i : ℕ) → InnerTo s at i → not (inside 
 inner-stop s at i p e = (record { later = p.later; inner = p.inner; stop = not-inner (get_or s i 0) e }, p.ends)
 
 -- a place behind the end reads as 0
-pub inner-end : (s : List ℕ) (at i : ℕ) → InnerTo s at i → length s ≤ i → NextChar s at i × (i ≤ length s)
+pub inner-end : (s : List ℕ) (at i : ℕ) → InnerTo s at i → i ≡ length s → NextChar s at (length s)
 inner-end s at i p h =
-    (record { later = p.later; inner = p.inner; stop = λ q. let z = some-inside s i (omega (arith, q.0)) in absurd (let y : ⊥ = omega arith in y) }, p.ends)
+    let later = p.later in record {
+      later = omega arith;
+      inner = λ k a b. p.inner k a (omega arith);
+      stop = λ q. let z = some-inside s (length s) (omega (arith, q.0)) in absurd (let y : ⊥ = omega arith in y);
+    }
 
 -- ---- the places of a block so far
-
-pub bool_byte-is : (b : Bool) → bool_byte b ≡ cond b 1 0
-bool_byte-is true = refl
-bool_byte-is false = refl
 
 pub record FormedTo (n : ℕ) (s : List ℕ) (at least k : ℕ) : Type 0 where
   pub within : k ≤ n
@@ -150,23 +150,22 @@ formed-first m s at n = record { within = omega arith; small = omega arith; ran 
     first to t =
         let e : at + 0 ≡ at = omega arith in
         let u = subst (λ (j : ℕ). NextChar s j to) e t in
-        subst (λ (j : ℕ). Ran false s at j) (next-unique s at to at u (next_here s at n)) (ran-none false s at)
+        subst (λ (j : ℕ). Ran false s at j) (next-unique s at to at u (next_here s at n)) (ran_none false s at)
 
-module _ (m : ℕ) (s : List ℕ) (at least k x : ℕ) (b : Bool) (e : x ≡ cond b 1 0) (p : FormedTo m s at least k) (h : k < m) where
-  pub formed-put : x < least → FormedTo m s at x (k + 1)
-  formed-put l = let small = p.small in record { within = omega arith; small = omega arith; ran = λ z. absurd (let y : ⊥ = omega arith in y) }
-
-  pub formed-kept : least ≤ x → (b ≡ true → ((to : ℕ) → NextChar s (at + k) to → Ran false s at to) → (to : ℕ) → NextChar s (at + k + 1) to → Ran false s at to)
-      → FormedTo m s at least (k + 1)
-  formed-kept l n = record { within = omega arith; small = p.small; ran = λ z. go b e z n }
-    where
-      go : (t : Bool) → x ≡ cond t 1 0 → least ≡ 1
-          → (t ≡ true → ((to : ℕ) → NextChar s (at + k) to → Ran false s at to) → (to : ℕ) → NextChar s (at + k + 1) to → Ran false s at to)
-          → (to : ℕ) → NextChar s (at + (k + 1)) to → Ran false s at to
-      go false f z r = absurd (let y : ⊥ = omega arith in y)
-      go true f z r = λ to t.
+pub formed-next : (m : ℕ) (s : List ℕ) (at least k : ℕ) (b : Bool) → FormedTo m s at least k → k < m
+    → (b ≡ true → ((to : ℕ) → NextChar s (at + k) to → Ran false s at to) → (to : ℕ) → NextChar s (at + k + 1) to → Ran false s at to)
+    → FormedTo m s at (min least (from_bool b)) (k + 1)
+formed-next m s at least k false p h n =
+    let small = p.small in
+    record { within = omega arith; small = omega arith; ran = λ z. absurd (let y : ⊥ = omega arith in y) }
+formed-next m s at least k true p h n =
+    let small = p.small in record {
+      within = omega arith;
+      small = omega arith;
+      ran = λ z to t.
           let i : at + (k + 1) ≡ at + k + 1 = omega arith in
-          r refl (p.ran z) to (subst (λ (j : ℕ). NextChar s j to) i t)
+          n refl (p.ran (omega arith)) to (subst (λ (j : ℕ). NextChar s j to) i t);
+    }
 
 pub formed-all : (m : ℕ) (s : List ℕ) (at least k : ℕ) → FormedTo m s at least k → least ≡ 1 → m ≤ k → (to : ℕ) → NextChar s (at + m) to → Ran false s at to
 formed-all m s at least k p e h to t =

@@ -55,8 +55,8 @@ took-unit s at h b n =
 
 -- ---- a run of sound steps
 
-pub ran-none : (utf16 : Bool) (s : List ℕ) (at : ℕ) → Ran utf16 s at at
-ran-none utf16 s at = record { later = omega arith; rest = refl }
+pub ran_none : (utf16 : Bool) (s : List ℕ) (at : ℕ) → Ran utf16 s at at
+ran_none utf16 s at = record { later = omega arith; rest = refl }
 
 pub ran-join : (utf16 : Bool) (s : List ℕ) (at i to : ℕ) → Ran utf16 s at i → Ran utf16 s i to → Ran utf16 s at to
 ran-join utf16 s at i to p q = record { later = omega (arith, p.later, q.later); rest = q.rest ∙ p.rest }

@@ -101,14 +101,12 @@ fn utf8_run(s: &[u8], at: usize, end: usize) -> usize
     requires { end ≤ length s.now }
     ensures { Ran false s.now at result }
 {
-    let mut i = at;
-    while i < end {
+    for i in at..end {
         if 128 <= s[i] {
             return i;
         }
-        i += 1;
     }
-    i
+    at.max(end)
 }
 
 // The first place from `at` on that holds a surrogate, or less than a unit before `end`: a unit's high byte tells, D8 to DF are 27 times 8 and up.
@@ -143,8 +141,8 @@ fn block_run(utf16: bool, s: &[u8], at: usize) -> usize
     ensures { Ran utf16 s.now at result × (result ≤ length s.now) }
 {
     let mut i = at;
-    while 64 <= s.len() - i {
-        if !is_single(utf16, &s[i..i + 64]) {
+    for block in s[at..].chunks_exact(64) {
+        if !is_single(utf16, block) {
             return i;
         }
         i += 64;

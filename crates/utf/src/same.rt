@@ -7,7 +7,7 @@ ghost use Rattle.utf.specs.Text.{steps_of, bytes_of, text_of, eq_bytes};
 ghost use Rattle.utf.specs.Inner.StepRuns.{Paired};
 ghost use Rattle.utf.specs.Plain.{is_plain, Known};
 
-use super::span::{greater, is_ascii};
+use super::span::is_ascii;
 use super::{is_refused, next_of};
 
 // ---- step by step
@@ -70,74 +70,12 @@ fn same_steps(utf16_a: bool, a: &[u8], utf16_b: bool, b: &[u8]) -> bool
 
 // ---- by their bytes
 
-// 1 for two bytes that differ.
-fn differ_mark(x: u8, y: u8) -> u8
-    ensures { result ≡ cond (eqb x y) 0 1 }
-{
-    if x == y {
-        return 0;
-    }
-    1
-}
-
-// Whether bytes of one length are the same: all of them are looked at, with no early way out, and the greatest mark decides.
-fn same_block(a: &[u8], b: &[u8]) -> bool
-    requires { length a.now ≡ length b.now }
-    ensures { result ≡ eq_bytes a.now b.now }
-{
-    let mut most: u8 = 0;
-    let mut i: usize = 0;
-    while i < a.len() {
-        most = greater(most, differ_mark(a[i], b[i]));
-        i += 1;
-    }
-    most < 1
-}
-
-// The same in blocks of 64 bytes, of which there is one at least: the last byte, the last block, and then from the front, up to the first block
-// that differs.
-fn same_blocks(a: &[u8], b: &[u8]) -> bool
-    requires { (64 ≤ length a.now) × (length a.now ≡ length b.now) }
-    ensures { result ≡ eq_bytes a.now b.now }
-{
-    let n = a.len();
-    if a[n - 1] != b[n - 1] {
-        return false;
-    }
-    let last = n - 64;
-    if !same_block(&a[last..last + 64], &b[last..last + 64]) {
-        return false;
-    }
-    let mut i: usize = 0;
-    while i < last {
-        if !same_block(&a[i..i + 64], &b[i..i + 64]) {
-            return false;
-        }
-        i += 64;
-    }
-    true
-}
-
 // Whether the bytes are the same. Names that differ mostly do so in their length or at their end; a short one is looked at byte by byte from there.
 // Ruled out: true of bytes and of more that begin with them; true of two that differ in the last alone.
 pub fn same_bytes(a: &[u8], b: &[u8]) -> bool
     ensures { result ≡ eq_bytes a.now b.now }
 {
-    if a.len() != b.len() {
-        return false;
-    }
-    if 64 <= a.len() {
-        return same_blocks(a, b);
-    }
-    let mut i = a.len();
-    while 0 < i {
-        let k = i - 1;
-        if a[k] != b[k] {
-            return false;
-        }
-        i = k;
-    }
-    true
+    a.len() == b.len() && a.last() == b.last() && a == b
 }
 
 // Whether the text in UTF-16 is empty: it has no bytes, or it is refused.

@@ -3,12 +3,12 @@ use Prim.Native.Nat.{ℕ, ◌+◌, ◌-◌, ◌<◌}
 use mathlib.Core.Path.{sym, ◌∙◌}
 use native.Mathlib.Omega.{arith}
 use lib.ListN.{get_or}
-use Rattle.utf.proofs.Units.{ran-none}
+use Rattle.utf.proofs.Units.{ran_none}
 use Rattle.utf.proofs.Blocks.{ran-block}
 use Rattle.utf.proofs.block_run.Goals as goal
 
 pub loop-i-init : goal.loop-i-init
-loop-i-init c = (ran-none _ _ _, c.requires)
+loop-i-init c = (ran_none _ _ _, c.requires)
 
 pub returns-then-not-is_single : goal.returns-then-not-is_single
 returns-then-not-is_single c = c.loop-i.invariant

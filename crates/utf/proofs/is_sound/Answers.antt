@@ -2,11 +2,11 @@
 use mathlib.Core.Path.{sym, ◌∙◌}
 use native.Mathlib.Omega.{arith}
 use Rattle.utf.proofs.Turns.{end-sound}
-use Rattle.utf.proofs.Units.{ran-none, ran-join}
+use Rattle.utf.proofs.Units.{ran_none, ran-join}
 use Rattle.utf.proofs.is_sound.Goals as goal
 
 pub loop-at-init : goal.loop-at-init
-loop-at-init c = ran-none _ _ _
+loop-at-init c = ran_none _ _ _
 
 pub block_end-end-requires : goal.block_end-end-requires
 block_end-end-requires c = c.sound_blocks-from.ensures.1

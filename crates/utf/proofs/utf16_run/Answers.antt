@@ -2,11 +2,11 @@
 use Prim.Native.Nat.{ℕ, ◌<◌}
 use native.Mathlib.Omega.{arith}
 use lib.ListN.{get_or}
-use Rattle.utf.proofs.Units.{ran-none, ran-unit}
+use Rattle.utf.proofs.Units.{ran_none, ran-unit}
 use Rattle.utf.proofs.utf16_run.Goals as goal
 
 pub loop-i-init : goal.loop-i-init
-loop-i-init c = (ran-none _ _ _, c.requires.0)
+loop-i-init c = (ran_none _ _ _, c.requires.0)
 
 pub overflow_add-i : goal.overflow_add-i
 overflow_add-i c = omega (arith, c.loop-i.invariant.1)

@@ -1,6 +1,7 @@
--- `utf::formed::past_inner` meets its contract. Invariant: what was passed is bytes 80 to BF (`InnerTo`). Measure: the bytes left.
+-- `utf::formed::past_inner` meets its contract. Invariant: what was passed is bytes 80 to BF (`InnerTo`).
 use mathlib.Core.Path.{sym, ◌∙◌, ap}
 use mathlib.Core.Bool.{not}
+use native.Mathlib.Omega.{arith}
 use Rattle.utf.proofs.Scalars.{inside-ends}
 use Rattle.utf.proofs.FormedRuns.{inner-none, inner-more, inner-stop, inner-end}
 use Rattle.utf.proofs.formed.past_inner.Goals as goal
@@ -13,10 +14,7 @@ returns-then-not-is_inner c = inner-stop _ _ _ c.loop-i.invariant (ap not (sym c
 
 pub loop-i-preserved : goal.loop-i-preserved
 loop-i-preserved c =
-    let l = c in
-    let s = c.args.s.now in
-    inner-more s c.args.at l.loop-i.i l.loop-i.invariant c.loop-i-test.true
-    (inside-ends _ _ _ (sym c.is_inner.ensures ∙ c.if-not-is_inner.false))
+    inner-more _ _ _ c.loop-i.invariant (omega arith) (inside-ends _ _ _ (sym c.is_inner.ensures ∙ c.if-not-is_inner.false))
 
 pub returns : goal.returns
-returns c = inner-end _ _ _ c.loop-i.invariant c.loop-i-test.false
+returns c = (inner-end _ _ _ c.loop-i.invariant (omega arith), omega arith)
