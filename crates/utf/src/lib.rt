@@ -115,11 +115,11 @@ fn utf16_run(s: &[u8], at: usize, end: usize) -> usize
     ensures { Ran true s.now at result }
 {
     let mut i = at;
-    while i + 1 < end {
-        if s[i + 1] / 8 == 27 {
+    for unit in s[at.min(end)..end].chunks_exact(2) {
+        if unit[1] / 8 == 27 {
             return i;
         }
-        i += 2;
+        i += unit.len();
     }
     i
 }
@@ -145,7 +145,7 @@ fn block_run(utf16: bool, s: &[u8], at: usize) -> usize
         if !is_single(utf16, block) {
             return i;
         }
-        i += 64;
+        i += block.len();
     }
     i
 }

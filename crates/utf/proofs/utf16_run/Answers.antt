@@ -1,24 +1,25 @@
--- `utf::utf16_run` meets its contract. Invariant: what was passed is sound (`Ran`), and a byte more is counted. Measure: the bytes left before `end`.
-use Prim.Native.Nat.{ℕ, ◌<◌}
+-- `utf::utf16_run` meets its contract (Invariants.antt).
+use Prim.Native.Nat.{ℕ, ◌<◌, min}
+use mathlib.Core.Path.{sym, ap, ◌∙◌}
 use native.Mathlib.Omega.{arith}
-use lib.ListN.{get_or}
-use Rattle.utf.proofs.Units.{ran_none, ran-unit}
+use lib.ListN.{length, get_or}
+use Rattle.std.proofs.lemmas.Slice.{between_is}
+use Rattle.std.specs.Slice.Iter.{chunks_exact_rest, chunks_exact_size}
+use Rattle.utf.proofs.Units.{ran_none}
+use Rattle.utf.proofs.Blocks.{units-begin, units-next}
 use Rattle.utf.proofs.utf16_run.Goals as goal
 
-pub loop-i-init : goal.loop-i-init
-loop-i-init c = (ran_none _ _ _, c.requires.0)
+pub loop-unit-init : goal.loop-unit-init
+loop-unit-init c = record {
+  ran = ran_none _ _ _;
+  two = ap chunks_exact_size c.into_iter-unit-iterator.ensures.into_iter_gives ∙ c.chunks_exact-unit-items.ensures.size;
+  left = ap chunks_exact_rest c.into_iter-unit-iterator.ensures.into_iter_gives
+      ∙ c.chunks_exact-unit-items.ensures.rest
+      ∙ rw c.min.ensures (between_is c.args.s.now (min c.args.at c.args.end) c.args.end ∙ units-begin c.args.s.now c.args.at c.args.end);
+}
 
-pub overflow_add-i : goal.overflow_add-i
-overflow_add-i c = omega (arith, c.loop-i.invariant.1)
-
-pub returns-then-s-i-eq27 : goal.returns-then-s-i-eq27
-returns-then-s-i-eq27 c = c.loop-i.invariant.0
-
-pub loop-i-preserved : goal.loop-i-preserved
-loop-i-preserved c =
-    let l = c.loop-i in
+pub loop-unit-preserved : goal.loop-unit-preserved
+loop-unit-preserved c =
     let bytes : (i : ℕ) → get_or c.args.s.now i 0 < 256 = λ i. (c.type_inv.s i).fits in
-    (ran-unit _ _ _ l.invariant.0 (omega arith) bytes c.if-s-i-eq27.false, omega arith)
-
-pub returns : goal.returns
-returns c = c.loop-i.invariant.0
+    let step = c.in-Some.ensures.steps in
+    units-next _ _ _ _ _ _ c.in-Some.unit.now _ _ c.loop-unit.invariant c.requires.1 step.0 step.1.0 step.1.1 bytes (λ e. omega arith)

@@ -1,11 +1,7 @@
--- `utf::utf16_run` meets its contract. Invariant: what was passed is sound (`Ran`), and a byte more is counted. Measure: the bytes left before `end`.
-use Prim.Native.Nat.{◌-◌, ◌<◌}
-use Rattle.utf.specs.Inner.StepRuns.{Ran}
-use mathlib.Core.Bool.{true}
+-- `utf::utf16_run` meets its contract. Invariant: what was passed is sound, and what is left is cut into units (`PassedUnits`, proofs/Blocks.antt).
+use Rattle.std.specs.Slice.Iter.{chunks_exact_rest, chunks_exact_size}
+use Rattle.utf.proofs.Blocks.{PassedUnits}
 use Rattle.utf.proofs.utf16_run.Given as goal
 
-abbrev pub invariant-loop-i : goal.invariant-loop-i
-invariant-loop-i l = Ran true l.s l.at l.i × (l.i < 0x10000000000000000 - 1)
-
-abbrev pub decreases-loop-i : goal.decreases-loop-i
-decreases-loop-i l = l.end - l.i
+abbrev pub invariant-loop-unit : goal.invariant-loop-unit
+invariant-loop-unit l = PassedUnits l.s l.at l.end l.i (chunks_exact_size l.unit-iterator) (chunks_exact_rest l.unit-iterator)
