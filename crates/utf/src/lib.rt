@@ -43,25 +43,27 @@ pub struct Taken {
     pub sound: bool,
 }
 
-fn taken_of(t: Step) -> Taken
-    ensures { (result.value ≡ step_value t) × (result.width ≡ width_of t) × (result.sound ≡ sound_of t) }
-{
-    match t {
-        Step::Scalar(v, n) => Taken {
-            value: v,
-            width: n,
-            sound: true,
-        },
-        Step::Bad(part) => Taken {
-            value: 0xfffd,
-            width: part,
-            sound: false,
-        },
-        Step::End => Taken {
-            value: 0,
-            width: 0,
-            sound: false,
-        },
+impl From<Step> for Taken {
+    ghost from_gives = { λ t r. (r.value ≡ step_value t) × (r.width ≡ width_of t) × (r.sound ≡ sound_of t) };
+
+    fn from(t: Step) -> Taken {
+        match t {
+            Step::Scalar(v, n) => Taken {
+                value: v,
+                width: n,
+                sound: true,
+            },
+            Step::Bad(part) => Taken {
+                value: 0xfffd,
+                width: part,
+                sound: false,
+            },
+            Step::End => Taken {
+                value: 0,
+                width: 0,
+                sound: false,
+            },
+        }
     }
 }
 
@@ -81,17 +83,14 @@ pub fn next_of(utf16: bool, s: &[u8], at: usize) -> Taken
     requires { at < length s.now }
     ensures { Took utf16 s.now at result.value result.width result.sound }
 {
-    if !utf16 {
-        let b = s[at];
-        if b < 128 {
-            return Taken {
-                value: b as u32,
-                width: 1,
-                sound: true,
-            };
-        }
+    if !utf16 && s[at] < 128 {
+        return Taken {
+            value: u32::from(s[at]),
+            width: 1,
+            sound: true,
+        };
     }
-    taken_of(step_at(utf16, s, at))
+    Taken::from(step_at(utf16, s, at))
 }
 
 // ---- whether it is sound
@@ -192,10 +191,7 @@ fn block_end(at: usize, n: usize) -> usize
     requires { at ≤ n }
     ensures { result ≡ min (at + 64) n }
 {
-    if n - at < 64 {
-        return n;
-    }
-    at + 64
+    at + (n - at).min(64)
 }
 
 // Whether no step is bad: block by block as far as that goes, then step by step through the block that does not pass, and so on. The look at
@@ -221,10 +217,7 @@ pub fn is_sound(utf16: bool, s: &[u8]) -> bool
 pub fn is_refused(utf16: bool, s: &[u8]) -> bool
     ensures { result ≡ refused utf16 s.now }
 {
-    if utf16 {
-        return !is_sound(true, s);
-    }
-    false
+    utf16 && !is_sound(true, s)
 }
 
 // ---- the length and the bytes

@@ -7,7 +7,7 @@ pub loop-at-init : goal.loop-at-init
 loop-at-init c = none-tallied _
 
 pub overflow_add-n : goal.overflow_add-n
-overflow_add-n c = omega (arith, c.loop-at.invariant.held, mark-le c.next_of-t.result.sound _ c.bad_mark-n.ensures)
+overflow_add-n c = omega (arith, c.loop-at.invariant.held, mark-le c.next_of-t.result.sound _ c.from-n.ensures)
 
 pub overflow_add-at : goal.overflow_add-at
 overflow_add-at c = omega (arith, c.next_of-t.ensures)
@@ -18,7 +18,7 @@ loop-at-smaller c = omega (arith, c.next_of-t.ensures)
 pub loop-at-preserved : goal.loop-at-preserved
 loop-at-preserved c =
     let in-loop = c in
-    tallied _ _ _ _ _ _ _ in-loop.loop-at.invariant in-loop.loop-at-test.true c.next_of-t.ensures c.bad_mark-n.ensures
+    tallied _ _ _ _ _ _ _ in-loop.loop-at.invariant in-loop.loop-at-test.true c.next_of-t.ensures c.from-n.ensures
 
 pub returns : goal.returns
 returns c = all-tallied _ _ _ c.loop-at.invariant c.loop-at-test.false
