@@ -2,7 +2,7 @@
 //
 // Mirrors `==` of two texts in the Rust; here each stays where it lies, in its own encoding. Definitions: specs/Text.antt.
 // Two in UTF-16 are told by their bytes, since a sound text has one spelling; only the empty text has many, all that are refused.
-ghost use Rattle.std.specs.Prelude.{◌≡◌, Bool, true, false, cond, [], ◌≤◌, ◌<◌, eqb, length};
+ghost use Rattle.std.specs.Prelude.{◌≡◌, Bool, true, false, [], ◌<◌, length, drop, MatchOption};
 ghost use Rattle.utf.specs.Text.{steps_of, bytes_of, text_of, eq_bytes};
 ghost use Rattle.utf.specs.Inner.StepRuns.{Paired};
 ghost use Rattle.utf.specs.Plain.{is_plain, Known};
@@ -12,41 +12,26 @@ use super::{is_refused, next_of};
 
 // ---- step by step
 
-// Whether the steps at two places stand for the same, and the places after them.
-#[derive(Clone, Copy)]
-pub struct Both {
-    pub same: bool,
-    pub i: usize,
-    pub j: usize,
-}
-
-// Two bytes of ASCII are compared as they stand.
-fn both_at(utf16_a: bool, a: &[u8], i: usize, utf16_b: bool, b: &[u8], j: usize) -> Both
+// The places after the steps at two places, if the two stand for the same. Two bytes of ASCII are compared as they stand.
+fn both_at(
+    utf16_a: bool,
+    a: &[u8],
+    i: usize,
+    utf16_b: bool,
+    b: &[u8],
+    j: usize,
+) -> Option<(usize, usize)>
     requires { (i < length a.now) × (j < length b.now) }
-    ensures { Paired utf16_a a.now i utf16_b b.now j result.same result.i result.j }
+    ensures { MatchOption result
+        (eq_bytes (bytes_of (steps_of utf16_a (drop i a.now))) (bytes_of (steps_of utf16_b (drop j b.now))) ≡ false)
+        (λ next. Paired utf16_a a.now i utf16_b b.now j next.0 next.1) }
 {
-    if !utf16_a {
-        if !utf16_b {
-            let x = a[i];
-            let y = b[j];
-            if x < 128 {
-                if y < 128 {
-                    return Both {
-                        same: x == y,
-                        i: i + 1,
-                        j: j + 1,
-                    };
-                }
-            }
-        }
+    if !utf16_a && !utf16_b && a[i] < 128 && b[j] < 128 {
+        return (a[i] == b[j]).then_some((i + 1, j + 1));
     }
     let t = next_of(utf16_a, a, i);
     let u = next_of(utf16_b, b, j);
-    Both {
-        same: t.value == u.value,
-        i: i + t.width,
-        j: j + u.width,
-    }
+    (t.value == u.value).then_some((i + t.width, j + u.width))
 }
 
 fn same_steps(utf16_a: bool, a: &[u8], utf16_b: bool, b: &[u8]) -> bool
@@ -58,12 +43,10 @@ fn same_steps(utf16_a: bool, a: &[u8], utf16_b: bool, b: &[u8]) -> bool
         if b.len() <= j {
             return false;
         }
-        let t = both_at(utf16_a, a, i, utf16_b, b, j);
-        if !t.same {
+        let Some(next) = both_at(utf16_a, a, i, utf16_b, b, j) else {
             return false;
-        }
-        i = t.i;
-        j = t.j;
+        };
+        (i, j) = next;
     }
     b.len() <= j
 }
