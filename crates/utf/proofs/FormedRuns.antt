@@ -1,7 +1,7 @@
 -- The steps through a block of places that are as in whole sequences are sound (`placed-turn`), where the next char is found from its first byte
 -- (`NextChar`, specs/Inner/StepRuns.antt). In order: the next char; a place; bytes 80 to BF in a row; the places of a block so far.
 use mathlib.Core.Path.{◌≡◌, refl, sym, subst, ap, ◌∙◌}
-use mathlib.Core.Bool.{Bool, true, false, not, cond}
+use mathlib.Core.Bool.{Bool, true, false, not}
 use mathlib.Core.List.{List}
 use Prim.Native.Nat.{ℕ, ◌+◌, ◌≤◌, ◌<◌, min}
 use native.Mathlib.Omega.{arith}

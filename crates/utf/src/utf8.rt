@@ -89,16 +89,16 @@ pub fn utf8_step(s: &[u8], at: usize) -> Step
 }
 
 // How many bytes a scalar value takes.
+#[tactic(auto, unfolding(crate::specs::Utf8::encode))]
 pub(crate) fn scalar_len(v: u32) -> usize
     ensures { result ≡ length (encode v) }
 {
-    if v < 0x80 {
-        return 1;
+    match v {
+        0x00..=0x7f => 1,
+        0x80..=0x7ff => 2,
+        0x800..=0xffff => 3,
+        _ => 4,
     }
-    if v < 0x800 {
-        return 2;
-    }
-    if v < 0x10000 { 3 } else { 4 }
 }
 
 // Writes a scalar value at `at`, and returns the place after it.

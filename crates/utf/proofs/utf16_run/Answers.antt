@@ -1,8 +1,8 @@
 -- `utf::utf16_run` meets its contract (Invariants.antt).
 use Prim.Native.Nat.{ℕ, ◌<◌, min}
-use mathlib.Core.Path.{sym, ap, ◌∙◌}
+use mathlib.Core.Path.{ap, ◌∙◌}
 use native.Mathlib.Omega.{arith}
-use lib.ListN.{length, get_or}
+use lib.ListN.{get_or}
 use Rattle.std.proofs.lemmas.Slice.{between_is}
 use Rattle.std.specs.Slice.Iter.{chunks_exact_rest, chunks_exact_size}
 use Rattle.utf.proofs.Units.{ran_none}

@@ -1,13 +1,9 @@
 -- `utf::formed::all_formed` meets its contract (Invariants.antt).
 use Prim.Native.Nat.{ℕ, ◌+◌, ◌<◌}
 use lib.ListN.{get_or}
-use borrow.Author.Tests.{eqb-true}
-use Rattle.utf.proofs.FormedRuns.{formed-first, formed-next, formed-all, placed-turn}
+use Rattle.utf.proofs.FormedRuns.{formed-next, placed-turn}
 use native.Mathlib.Omega.{arith}
 use Rattle.utf.proofs.formed.all_formed.Goals as goal
-
-pub loop-k-init : goal.loop-k-init
-loop-k-init c = formed-first _ _ _ c.requires.1
 
 pub loop-k-preserved : goal.loop-k-preserved
 loop-k-preserved c =
@@ -17,9 +13,3 @@ loop-k-preserved c =
     rw (c.min-least.ensures, c.from.ensures)
     (formed-next a.n a.s.now a.at l.least l.k _ l.invariant (omega arith)
     (λ t. placed-turn a.s.now bytes a.at (a.at + l.k) (omega (arith, c.requires.0)) (c.is_formed-x.ensures t)))
-
-pub returns : goal.returns
-returns c =
-    let a = c.args in
-    let l = c.loop-k in
-    λ t. formed-all a.n a.s.now a.at l.least l.k l.invariant (eqb-true l.least 1 t) (omega arith)

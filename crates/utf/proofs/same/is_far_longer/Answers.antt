@@ -1,15 +1,7 @@
 -- `utf::same::is_far_longer` meets its contract: it says yes only by the lengths, of which `text_of-far` tells.
-use mathlib.Core.Path.{sym}
-use mathlib.Core.Bool.{true≢false}
 use borrow.Author.Tests.{ltb-true}
 use Rattle.utf.proofs.Lengths.{by_lengths}
 use Rattle.utf.proofs.same.is_far_longer.Goals as goal
-
-pub returns-then-utf16_b : goal.returns-then-utf16_b
-returns-then-utf16_b c = λ e. absurd (true≢false (sym e))
-
-pub returns-then-b-eq0 : goal.returns-then-b-eq0
-returns-then-b-eq0 c = λ e. absurd (true≢false (sym e))
 
 pub returns : goal.returns
 returns c =

@@ -1,27 +1,14 @@
 -- `utf::same::same_steps` meets its contract. Invariant: what is left of the two texts is the same or not as they are. Measure: what is left of a.
-use mathlib.Core.Path.{refl, sym, ap, ◌∙◌}
+use mathlib.Core.Path.{sym, ap, ◌∙◌}
 use mathlib.Core.List.{List}
 use Prim.Native.Nat.{ℕ}
-use native.Mathlib.Omega.{arith}
 use lib.ListN.{drop}
 use Rattle.utf.specs.Text.{steps_of, bytes_of, eq_bytes}
 use Rattle.utf.proofs.Turns.{end-bytes, left-some, left-none}
 use Rattle.utf.proofs.same.same_steps.Goals as goal
 
-pub loop-i-init : goal.loop-i-init
-loop-i-init c = refl
-
 pub returns-then-b-j : goal.returns-then-b-j
 returns-then-b-j c = sym (left-some _ _ _ _ _ _ c.loop-i-test.true c.if-b-j.true) ∙ c.loop-i.invariant
-
-pub returns-in_default : goal.returns-in_default
-returns-in_default c = sym c.in_default.ensures ∙ c.loop-i.invariant
-
-pub loop-i-smaller : goal.loop-i-smaller
-loop-i-smaller c = omega (arith, c.in-Some.ensures.later)
-
-pub loop-i-preserved : goal.loop-i-preserved
-loop-i-preserved c = sym c.in-Some.ensures.bytes ∙ c.loop-i.invariant
 
 pub returns : goal.returns
 returns c =
