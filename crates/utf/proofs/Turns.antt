@@ -87,7 +87,7 @@ end-bytes utf16 s at h = ap bytes_of (steps_of-end utf16 s at h)
 pub paired : (wa : Bool) (a : List ℕ) (i u n : ℕ) (x : Bool) (wb : Bool) (b : List ℕ) (j v m : ℕ) (y : Bool) → i < length a → j < length b
     → Took wa a i u n x → Took wb b j v m y
     → MatchOption {T = ℕ × ℕ} (then_some (eqb u v) (i + n, j + m)) (eq_bytes (bytes_of (steps_of wa (drop i a))) (bytes_of (steps_of wb (drop j b))) ≡ false)
-        (λ next. Paired wa a i wb b j next.0 next.1)
+    (λ next. Paired wa a i wb b j next.0 next.1)
 paired wa a i u n x wb b j v m y h k t r = go (eqb u v) refl
   where
     rest : Bool
@@ -99,7 +99,7 @@ paired wa a i u n x wb b j v m y h k t r = go (eqb u v) refl
 
     go : (z : Bool) → eqb u v ≡ z
         → MatchOption {T = ℕ × ℕ} (then_some z (i + n, j + m)) (eq_bytes (bytes_of (steps_of wa (drop i a))) (bytes_of (steps_of wb (drop j b))) ≡ false)
-            (λ next. Paired wa a i wb b j next.0 next.1)
+        (λ next. Paired wa a i wb b j next.0 next.1)
     go true e = record { bytes = both ∙ ap (λ (z : Bool). z && rest) e; later = omega (arith, t.least) }
     go false e = both ∙ ap (λ (z : Bool). z && rest) e
 

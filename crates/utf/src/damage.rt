@@ -7,6 +7,7 @@ ghost use Rattle.utf.specs.Text.{steps_of, bad_count, damage_of, state_number, r
 use super::{is_sound, next_of};
 
 // The number of the text's state: 0 whole, 1 replaced characters, 2 bad UTF-16. Nothing is counted, so that a whole text is looked at once.
+// A number and no enum, since `state_number` of specs/Text.antt and the format of docs/FORMAT.md hold it.
 // Ruled out: 1 for EF BF BD in UTF-8, which is a U+FFFD of the file's own; 0 for 00 DC in UTF-16, a low surrogate that stands alone.
 pub fn state_of(utf16: bool, s: &[u8]) -> u32
     ensures { result ≡ state_number (damage_of utf16 s.now) }

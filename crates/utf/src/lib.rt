@@ -35,7 +35,8 @@ pub enum Step {
     End,
 }
 
-// What a step stands for, how far it goes, and whether it is sound.
+// What a step stands for, how far it goes, and whether it is sound: `Took` of specs/Inner/StepRuns.antt tells the three apart, and an Option or a Result
+// would be no plainer, since a bad step too has a value, U+FFFD, and a width.
 #[derive(Clone, Copy)]
 pub struct Taken {
     pub value: u32,
@@ -110,7 +111,7 @@ fn utf8_run(s: &[u8], at: usize, end: usize) -> usize
 
 // The first place from `at` on that holds a surrogate, or less than a unit before `end`: a unit's high byte tells, D8 to DF are 27 times 8 and up.
 fn utf16_run(s: &[u8], at: usize, end: usize) -> usize
-    requires { (at < 0x10000000000000000 - 1) × (end ≤ length s.now) }
+    requires { end ≤ length s.now }
     ensures { Ran true s.now at result }
 {
     let mut i = at;
@@ -125,7 +126,7 @@ fn utf16_run(s: &[u8], at: usize, end: usize) -> usize
 
 // Unit by unit: a place from `at` on, before which each step is sound; from `end` on nothing is looked at.
 fn sound_run(utf16: bool, s: &[u8], at: usize, end: usize) -> usize
-    requires { (at < 0x10000000000000000 - 1) × (end ≤ length s.now) }
+    requires { end ≤ length s.now }
     ensures { Ran utf16 s.now at result }
 {
     if utf16 {

@@ -53,7 +53,7 @@ fn same_steps(utf16_a: bool, a: &[u8], utf16_b: bool, b: &[u8]) -> bool
 
 // ---- by their bytes
 
-// Whether the bytes are the same. Names that differ mostly do so in their length or at their end; a short one is looked at byte by byte from there.
+// Whether the bytes are the same. Names that differ mostly do so in their length or at their end, which are looked at first.
 // Ruled out: true of bytes and of more that begin with them; true of two that differ in the last alone.
 pub fn same_bytes(a: &[u8], b: &[u8]) -> bool
     ensures { result ≡ eq_bytes a.now b.now }

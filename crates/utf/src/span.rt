@@ -1,4 +1,5 @@
-// Bytes looked at as a whole, with no early way out, so that the compiler takes many at once.
+// Bytes looked at as a whole, with no early way out, so that the compiler takes many at once: `all` would stop at the first byte that fails, and so look
+// at one byte at a time.
 //
 // `is_ascii` mirrors std's of that name. Definitions: specs/Plain.antt and specs/Inner/StepRuns.antt.
 ghost use Rattle.std.specs.Prelude.{◌≡◌, ◌&&◌, cond, ◌/◌, ◌%◌, max, eqb};

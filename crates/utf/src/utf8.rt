@@ -10,6 +10,7 @@ ghost use Rattle.utf.specs.Inner.Lead.{row, lead_of, step_by};
 use super::Step;
 
 // What a first byte says: how many bytes follow (4: it starts nothing), and the range of the second.
+// The 4 stays a number, since `lead_of` and `step_by` of specs/Inner/Lead.antt hold it.
 #[derive(Clone, Copy)]
 pub struct Lead {
     pub more: u8,

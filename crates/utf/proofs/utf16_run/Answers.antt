@@ -22,4 +22,4 @@ pub loop-unit-preserved : goal.loop-unit-preserved
 loop-unit-preserved c =
     let bytes : (i : ℕ) → get_or c.args.s.now i 0 < 256 = λ i. (c.type_inv.s i).fits in
     let step = c.in-Some.ensures.steps in
-    units-next _ _ _ _ _ _ c.in-Some.unit.now _ _ c.loop-unit.invariant c.requires.1 step.0 step.1.0 step.1.1 bytes (λ e. omega arith)
+    units-next _ _ _ _ _ _ c.in-Some.unit.now _ _ c.loop-unit.invariant c.requires step.0 step.1.0 step.1.1 bytes (λ e. omega arith)
