@@ -3,7 +3,7 @@
 use mathlib.Core.Path.{◌≡◌, refl, sym, ap, ◌∙◌}
 use mathlib.Core.Bool.{Bool, true, false, cond}
 use mathlib.Core.List.{List, [], ◌++◌, append_assoc, append-nil}
-use Prim.Native.Nat.{ℕ, ◌+◌, ◌-◌, ◌≤◌, ◌<◌, min}
+use Prim.Native.Nat.{ℕ, ◌+◌, ◌≤◌, ◌<◌, min}
 use native.Mathlib.Omega.{arith}
 use borrow.Author.Tests.{le-leb, lt-leb, leb-true}
 use lib.Dec.{leb}
@@ -16,7 +16,7 @@ use Rattle.utf.proofs.Turns.{turn-bytes, end-bytes}
 
 -- ---- the length, and no more than a usize holds
 pub record Counted (w : Bool) (s : List ℕ) (at n : ℕ) : Type 0 where
-  pub rest : n + length (bytes_of (steps_of w (drop at s))) ≡ length (bytes_of (steps_of w s))
+  pub rest : min (n + length (bytes_of (steps_of w (drop at s)))) 0xffffffffffffffff ≡ min (length (bytes_of (steps_of w s))) 0xffffffffffffffff
   pub held : n ≤ 0xffffffffffffffff
 
 pub none-counted : (w : Bool) (s : List ℕ) → Counted w s 0 0
@@ -30,11 +30,8 @@ module _ (w : Bool) (s : List ℕ) (at n value width k : ℕ) (sound : Bool) (c 
       ∙ length-append (encode value) (bytes_of (steps_of w (drop (at + width) s)))
       ∙ ap (λ (m : ℕ). m + length (bytes_of (steps_of w (drop (at + width) s)))) (sym e)
 
-  pub counted : k ≤ 0xffffffffffffffff - n → Counted w s (at + width) (n + k)
-  counted l = record { rest = omega (arith, c.rest, next); held = omega (arith, c.held) }
-
-  pub counted-past : 0xffffffffffffffff - n < k → 0xffffffffffffffff ≡ min (length (bytes_of (steps_of w s))) 0xffffffffffffffff
-  counted-past l = omega (arith, c.rest, c.held, next)
+  pub counted : (m : ℕ) → m ≡ min (n + k) 0xffffffffffffffff → Counted w s (at + width) m
+  counted m f = record { rest = omega (arith, c.rest, next, f); held = omega (arith, f) }
 
 pub all-counted : (w : Bool) (s : List ℕ) (at n : ℕ) → Counted w s at n → length s ≤ at → n ≡ min (length (bytes_of (steps_of w s))) 0xffffffffffffffff
 all-counted w s at n c h = omega (arith, c.rest, c.held, ap length (end-bytes w s at h))

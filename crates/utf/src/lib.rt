@@ -228,14 +228,11 @@ fn bytes_len(utf16: bool, s: &[u8]) -> usize
     ensures { result ≡ min (length (bytes_of (steps_of utf16 s.now))) 0xffffffffffffffff }
 {
     let mut at = 0;
-    let mut n = 0;
+    let mut n: usize = 0;
     while at < s.len() {
         let t = next_of(utf16, s, at);
         let k = scalar_len(t.value);
-        if 0xffffffffffffffff - n < k {
-            return 0xffffffffffffffff;
-        }
-        n += k;
+        n = n.saturating_add(k);
         at += t.width;
     }
     n
