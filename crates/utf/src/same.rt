@@ -65,23 +65,14 @@ pub fn same_bytes(a: &[u8], b: &[u8]) -> bool
 fn is_blank(s: &[u8]) -> bool
     ensures { result ≡ eq_bytes [] (text_of true s.now) }
 {
-    if is_refused(true, s) {
-        return true;
-    }
-    s.len() == 0
+    is_refused(true, s) || s.is_empty()
 }
 
 // Whether two texts in UTF-16 are the same: bytes that differ are the same text only where both are empty.
 fn same_utf16(a: &[u8], b: &[u8]) -> bool
     ensures { result ≡ eq_bytes (text_of true a.now) (text_of true b.now) }
 {
-    if same_bytes(a, b) {
-        return true;
-    }
-    if is_blank(a) {
-        return is_blank(b);
-    }
-    false
+    same_bytes(a, b) || is_blank(a) && is_blank(b)
 }
 
 // ---- the texts
@@ -92,13 +83,7 @@ fn is_far_longer(a: &[u8], utf16_b: bool, b: &[u8]) -> bool
     ensures { result ≡ true → (w : Bool) → (eq_bytes (text_of w a.now) (text_of utf16_b b.now) ≡ false)
         × (eq_bytes (text_of utf16_b b.now) (text_of w a.now) ≡ false) }
 {
-    if utf16_b {
-        return false;
-    }
-    if b.len() == 0 {
-        return false;
-    }
-    b.len() < a.len() / 16
+    !utf16_b && !b.is_empty() && b.len() < a.len() / 16
 }
 
 // Whether two texts, each in its own encoding, are the same. One that is far longer than the other is not looked at.
@@ -106,23 +91,18 @@ fn is_far_longer(a: &[u8], utf16_b: bool, b: &[u8]) -> bool
 pub fn same_text(utf16_a: bool, a: &[u8], utf16_b: bool, b: &[u8]) -> bool
     ensures { result ≡ eq_bytes (text_of utf16_a a.now) (text_of utf16_b b.now) }
 {
-    if utf16_a {
-        if utf16_b {
-            return same_utf16(a, b);
-        }
+    if utf16_a && utf16_b {
+        return same_utf16(a, b);
     }
-    if is_far_longer(a, utf16_b, b) {
-        return false;
-    }
-    if is_far_longer(b, utf16_a, a) {
+    if is_far_longer(a, utf16_b, b) || is_far_longer(b, utf16_a, a) {
         return false;
     }
     let no_b = is_refused(utf16_b, b);
     if is_refused(utf16_a, a) {
-        return no_b || b.len() == 0;
+        return no_b || b.is_empty();
     }
     if no_b {
-        return a.len() == 0;
+        return a.is_empty();
     }
     same_steps(utf16_a, a, utf16_b, b)
 }
@@ -146,10 +126,8 @@ pub fn same_known(plain: bool, utf16_a: bool, a: &[u8], utf16_b: bool, b: &[u8])
     requires { Known plain (is_plain utf16_b b.now) }
     ensures { result ≡ eq_bytes (text_of utf16_a a.now) (text_of utf16_b b.now) }
 {
-    if plain {
-        if utf16_a == utf16_b {
-            return same_bytes(a, b);
-        }
+    if plain && utf16_a == utf16_b {
+        return same_bytes(a, b);
     }
     same_text(utf16_a, a, utf16_b, b)
 }

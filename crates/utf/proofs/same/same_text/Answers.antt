@@ -7,13 +7,13 @@ pub returns-else-no_b : goal.returns-else-no_b
 returns-else-no_b c =
     let a = c.args in
     rw (text_of-refused a.utf16_a a.a.now (sym c.is_refused.ensures ∙ c.if-is_refused.true))
-    (text_of-empty a.utf16_b a.b.now (sym c.is_refused-no_b.ensures ∙ c.if-no_b.false)).1
+    (c.is_empty.ensures ∙ (text_of-empty a.utf16_b a.b.now (sym c.is_refused-no_b.ensures ∙ c.if-no_b.false)).1)
 
 pub returns-then-no_b-2 : goal.returns-then-no_b-2
 returns-then-no_b-2 c =
     let a = c.args in
     rw (text_of-refused a.utf16_b a.b.now (sym c.is_refused-no_b.ensures ∙ c.if-no_b-2.true))
-    (text_of-empty a.utf16_a a.a.now (sym c.is_refused.ensures ∙ c.if-is_refused.false)).0
+    (c.is_empty-then-no_b-2.ensures ∙ (text_of-empty a.utf16_a a.a.now (sym c.is_refused.ensures ∙ c.if-is_refused.false)).0)
 
 pub returns : goal.returns
 returns c =
