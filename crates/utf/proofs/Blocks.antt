@@ -3,13 +3,13 @@
 use mathlib.Core.Path.{◌≡◌, refl, sym, ap, ◌∙◌, subst}
 use mathlib.Core.Bool.{Bool, true, false, not, ◌&&◌, and-true, and-false, cond}
 use mathlib.Core.List.{List, ◌∷◌, ◌++◌}
-use Prim.Native.Nat.{ℕ, zero, suc, ◌+◌, ◌*◌, ◌/◌, ◌%◌, ◌≤◌, ◌<◌, max, min}
+use Prim.Native.Nat.{ℕ, zero, suc, ◌+◌, ◌*◌, ◌/◌, ◌%◌, ◌≤◌, ◌<◌, max}
 use native.Mathlib.Numerals.{add-one}
 use native.Mathlib.Omega.{arith}
-use borrow.Author.Tests.{ltb-true, le-ltb, eq-eqb, ne_eqb, eqb-true, eqb-false, not-true, leb-true, leb-false}
-use lib.Dec.{ltb, leb, eqb}
-use lib.ListN.{length, get_or, take, drop, length-append, length-drop, length-take, get_or-append, drop_of_length-le}
-use lib.Seq.{drop-cons, drop-length, drop-drop, get_or-take, get_or-drop}
+use borrow.Author.Tests.{ltb-true, le-ltb, eq-eqb, ne_eqb, eqb-true, eqb-false, not-true}
+use lib.Dec.{ltb, eqb}
+use lib.ListN.{length, get_or, take, drop, length-append, length-drop}
+use lib.Seq.{drop-cons, drop-length, drop-drop}
 use Rattle.std.proofs.lemmas.List.{take_at, drop_at}
 use Rattle.utf.specs.Plain.{is_ascii}
 use Rattle.utf.specs.Inner.StepRuns.{Ran, basic_from, is_basic, is_single}
@@ -106,44 +106,4 @@ passed-next utf16 s at i size size' block rest rest' p e f n bytes single =
       inside = omega (arith, within, wide);
       whole = e ∙ p.whole;
       left = rw wide (sym next ∙ drop-drop 64 i s);
-    }
-
--- the units before `end` that were passed end at i, and the rest is cut into units too
-pub record PassedUnits (s : List ℕ) (at end i size : ℕ) (rest : List ℕ) : Type 0 where
-  pub ran : Ran true s at i
-  pub two : size ≡ 2
-  pub left : rest ≡ drop i (take end s)
-
--- the code's part begins at `end` where i lies behind it: nothing is left
-pub units-begin : (s : List ℕ) (at end : ℕ) → drop (min at end) (take end s) ≡ drop at (take end s)
-units-begin s at end = go (leb at end) refl
-  where
-    front : length (take end s) ≤ end
-    front = omega (arith, length-take end s)
-
-    go : (t : Bool) → leb at end ≡ t → drop (min at end) (take end s) ≡ drop at (take end s)
-    go true e = ap (λ (k : ℕ). drop k (take end s)) (let z : min at end ≡ at = omega (arith, leb-true at end e) in z)
-    go false e =
-        let l = leb-false at end e in
-        let b : length (take end s) ≤ min at end = omega (arith, front) in
-        let c : length (take end s) ≤ at = omega (arith, front) in
-        rw (drop_of_length-le (take end s) b, drop_of_length-le (take end s) c)
-
-pub units-next : (s : List ℕ) (at end i size size' : ℕ) (unit rest rest' : List ℕ) → PassedUnits s at end i size rest → end ≤ length s
-    → size' ≡ size → rest ≡ unit ++ rest' → length unit ≡ size → ((k : ℕ) → get_or s k 0 < 256) → (get_or unit 1 0 / 8 ≡ 27 → ⊥)
-    → PassedUnits s at end (i + length unit) size' rest'
-units-next s at end i size size' unit rest rest' p h e f n bytes no-mark =
-    let more : drop i (take end s) ≡ unit ++ rest' = sym p.left ∙ f in
-    let wide : length unit ≡ 2 = n ∙ p.two in
-    let long = ap length more in
-    let within : i + 2 ≤ end = omega (arith, wide, long, length-append unit rest', length-drop i (take end s), length-take end s) in
-    let next : drop 2 (drop i (take end s)) ≡ rest' = rw more (drop_at unit rest' 2 wide) in
-    let second : get_or unit 1 0 ≡ get_or s (i + 1) 0 =
-    sym (get_or-append unit rest' 0 1 (omega (arith, wide)))
-    ∙ ap (λ (l : List ℕ). get_or l 1 0) (sym more)
-    ∙ get_or-drop i (take end s) 1 0
-    ∙ get_or-take end s (i + 1) 0 (omega (arith, within)) in record {
-      ran = rw wide (ran-unit s at i p.ran (omega (arith, within)) bytes (rw second at no-mark));
-      two = e ∙ p.two;
-      left = rw wide (sym next ∙ drop-drop 2 i (take end s));
     }

@@ -114,14 +114,14 @@ fn utf16_run(s: &[u8], at: usize, end: usize) -> usize
     requires { end ≤ length s.now }
     ensures { Ran true s.now at result }
 {
-    let mut i = at;
-    for unit in s[at.min(end)..end].chunks_exact(2) {
-        if unit[1] / 8 == 27 {
+    let units = end.saturating_sub(at) / 2;
+    for k in 0..units {
+        let i = at + 2 * k;
+        if s[i + 1] / 8 == 27 {
             return i;
         }
-        i += unit.len();
     }
-    i
+    at + 2 * units
 }
 
 // Unit by unit: a place from `at` on, before which each step is sound; from `end` on nothing is looked at.

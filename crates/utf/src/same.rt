@@ -26,8 +26,11 @@ fn both_at(
         (eq_bytes (bytes_of (steps_of utf16_a (drop i a.now))) (bytes_of (steps_of utf16_b (drop j b.now))) ≡ false)
         (λ next. Paired utf16_a a.now i utf16_b b.now j next.0 next.1) }
 {
-    if !utf16_a && !utf16_b && a[i] < 128 && b[j] < 128 {
-        return (a[i] == b[j]).then_some((i + 1, j + 1));
+    if !utf16_a && !utf16_b {
+        let (x, y) = (a[i], b[j]);
+        if x < 128 && y < 128 {
+            return (x == y).then_some((i + 1, j + 1));
+        }
     }
     let t = next_of(utf16_a, a, i);
     let u = next_of(utf16_b, b, j);

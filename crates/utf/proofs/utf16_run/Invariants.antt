@@ -1,7 +1,8 @@
--- `utf::utf16_run` meets its contract. Invariant: what was passed is sound, and what is left is cut into units (`PassedUnits`, proofs/Blocks.antt).
-use Rattle.std.specs.Slice.Iter.{chunks_exact_rest, chunks_exact_size}
-use Rattle.utf.proofs.Blocks.{PassedUnits}
+-- `utf::utf16_run` meets its contract. Invariant: the units that were passed are sound (`Ran`).
+use Prim.Native.Nat.{◌+◌, ◌*◌}
+use mathlib.Core.Bool.{true}
+use Rattle.utf.specs.Inner.StepRuns.{Ran}
 use Rattle.utf.proofs.utf16_run.Given as goal
 
-abbrev pub invariant-loop-unit : goal.invariant-loop-unit
-invariant-loop-unit l = PassedUnits l.s l.at l.end l.i (chunks_exact_size l.unit-iterator) (chunks_exact_rest l.unit-iterator)
+abbrev pub invariant-loop-k : goal.invariant-loop-k
+invariant-loop-k l = Ran true l.s l.at (l.at + 2 * l.k)
