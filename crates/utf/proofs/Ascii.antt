@@ -1,5 +1,5 @@
 -- Laws of `is_ascii` of specs/Plain.antt, for this crate and its callers. No contract cites this file.
--- In order: the greatest byte decides (`seenAscii-..`, with `most` the greatest byte so far); each byte is below 128 (`is_ascii-at`); the rest
+-- In order: the greatest byte decides (`seen_ascii-..`, with `most` the greatest byte so far); each byte is below 128 (`is_ascii-at`); the rest
 -- of such bytes, and their front (`is_ascii-drop`, `is_ascii-take`, `is_ascii-rest`).
 use mathlib.Core.Path.{◌≡◌, refl}
 use mathlib.Core.Bool.{Bool, true, false, ◌&&◌, and-true, and_assoc}

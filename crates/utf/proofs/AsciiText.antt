@@ -1,4 +1,4 @@
--- Texts of ASCII in either encoding: the greatest low byte and the greatest high byte decide (`seenUnits-..`); such a text is whole
+-- Texts of ASCII in either encoding: the greatest low byte and the greatest high byte decide (`seen_units-..`); such a text is whole
 -- (`ascii_text-sound`) and is its bytes, or the low bytes of its units (`ascii_text-utf8`, `ascii_text-utf16`); how they are written.
 -- No contract cites this file.
 use mathlib.Core.Path.{◌≡◌, refl, sym, ap, ◌∙◌}

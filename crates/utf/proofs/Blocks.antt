@@ -1,4 +1,4 @@
--- Blocks whose steps are single units: how the greatest mark decides (`seenBasic-..`, with `most` the greatest mark so far), and that each
+-- Blocks whose steps are single units: how the greatest mark decides (`seen_basic-..`, with `most` the greatest mark so far), and that each
 -- step in such a block is sound (`ran-block`). No contract cites this file.
 use mathlib.Core.Path.{◌≡◌, refl, sym, ap, ◌∙◌, subst}
 use mathlib.Core.Bool.{Bool, true, false, not, ◌&&◌, and-true, and-false, cond}
