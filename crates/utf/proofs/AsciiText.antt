@@ -143,9 +143,6 @@ pub record Copied (l out₀ out : List ℕ) (i : ℕ) : Type 0 where
   pub done : take i out ≡ take i l
   pub kept : drop i out ≡ drop i out₀
 
-pub none-copied : (l out : List ℕ) → Copied l out out 0
-none-copied l out = record { same = refl; done = refl; kept = refl }
-
 pub copied : (l out₀ out : List ℕ) (i v : ℕ) → Copied l out₀ out i → i < length l → i < length out → v ≡ get_or l i 0
     → Copied l out₀ (set out i v) (i + 1)
 copied l out₀ out i v c h k e = record {

@@ -21,9 +21,6 @@ pub record Tallied (s : List ℕ) (at n : ℕ) : Type 0 where
   pub rest : n + bad_count (steps_of false (drop at s)) ≡ bad_count (steps_of false s)
   pub held : n ≤ at
 
-pub none-tallied : (s : List ℕ) → Tallied s 0 0
-none-tallied s = record { rest = omega arith; held = omega arith }
-
 marked : (b : Bool) (k m : ℕ) → k ≡ from_bool (not b) → cond b m (suc m) ≡ k + m
 marked true k m e = omega (arith, e)
 marked false k m e = omega (arith, e)

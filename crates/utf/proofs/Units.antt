@@ -83,9 +83,6 @@ halted-bad utf16 s at end i value width sound r h t e = record {
   halts = λ _. stops _ _ sound (turn-sound utf16 s i value width sound h t) e;
 }
 
-pub halted-end : (utf16 : Bool) (s : List ℕ) (at end i : ℕ) → Ran utf16 s at i → end ≤ i → Halted utf16 s at end i
-halted-end utf16 s at end i r h = record { ran = r; halts = λ l. absurd (let z : ⊥ = omega arith in z) }
-
 -- ---- the spelling of a value: a unit, or a pair of them, the low byte first
 
 spell-unit : (a b : ℕ) → a < 256 → b < 256 → spell16 (a + b * 256) ≡ a ∷ b ∷ []
