@@ -12,7 +12,7 @@ pub mod span;
 pub mod utf16;
 pub mod utf8;
 
-ghost use Rattle.std.specs.Prelude.{◌≡◌, ◌+◌, ◌-◌, ◌≤◌, ◌<◌, min, true, false, ◌++◌, length, drop};
+ghost use Rattle.std.specs.Prelude.{◌≡◌, ◌+◌, ◌≤◌, ◌<◌, min, true, false, ◌++◌, length, drop};
 ghost use Rattle.utf.specs.Text.{step_of, step_value, width_of, sound_of, steps_of, bytes_of, is_sound, refused, text_of, put_text};
 ghost use Rattle.utf.specs.Inner.StepRuns.{Took, Ran, Halted};
 

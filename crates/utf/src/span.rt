@@ -2,7 +2,7 @@
 // at one byte at a time.
 //
 // `is_ascii` mirrors std's of that name. Definitions: specs/Plain.antt and specs/Inner/StepRuns.antt.
-ghost use Rattle.std.specs.Prelude.{◌≡◌, ◌&&◌, cond, ◌/◌, ◌%◌, max, eqb};
+ghost use Rattle.std.specs.Prelude.{◌≡◌, ◌&&◌, cond, ◌/◌, ◌%◌, eqb};
 ghost use Rattle.utf.specs.Plain.{is_ascii};
 ghost use Rattle.utf.specs.Inner.StepRuns.{is_basic, is_single, ascii_units};
 
