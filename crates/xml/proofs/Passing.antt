@@ -1,13 +1,12 @@
 -- Laws of a block (specs/Inner/Blocks.antt): what each of its bytes says, and that what it holds is chars of a name, and sound (`seen-block`).
 use mathlib.Core.Path.{◌≡◌, refl, sym, subst, ap, ◌∙◌}
-use mathlib.Core.Bool.{Bool, true, false, not, ◌&&◌, ◌||◌, cond}
+use mathlib.Core.Bool.{Bool, true, false, not, ◌&&◌, ◌||◌, cond, true≢false}
 use mathlib.Core.List.{List}
 use Prim.Native.Nat.{ℕ, zero, suc, ◌+◌, ◌*◌, ◌%◌, ◌≤◌, ◌<◌}
 use native.Mathlib.Omega.{arith}
 use borrow.Author.Tests.{eq-eqb, ne_eqb, eqb-true, eqb-false}
 use lib.Dec.{eqb}
 use lib.ListN.{length, get_or}
-use mir.Val.{bool_byte}
 use Rattle.utf.proofs.Tables.{both_true}
 use Rattle.xml.specs.declared.blocks.Form.{Form}
 use Rattle.xml.specs.declared.blocks.Form.TheVariants.{AsciiUnits, FarUnits, Ascii, Pairs, Triples}
@@ -23,37 +22,6 @@ pub either : (test x y : Bool) → ((test && x) || (not test && y)) ≡ cond tes
 either true true y = refl
 either true false y = refl
 either false x y = refl
-
--- ---- the least of the answers so far: 1 where all of them are true
-
-pub bool_byte-is : (b : Bool) → bool_byte b ≡ cond b 1 0
-bool_byte-is true = refl
-bool_byte-is false = refl
-
-module _ (form : Form) (s : List ℕ) (at k least x : ℕ)
-    (e : least ≡ cond (all_fit form s at k) 1 0) (f : x ≡ cond (fits_at form k (get_or s (at + k) 0)) 1 0) where
-  more : all_fit form s at (k + 1) ≡ (fits_at form k (get_or s (at + k) 0) && all_fit form s at k)
-  unfolding all_fit
-  more = let n : k + 1 ≡ suc k = omega arith in rw n
-
-  pub least-put : x < least → x ≡ cond (all_fit form s at (k + 1)) 1 0
-  least-put h = rw more (go (fits_at form k (get_or s (at + k) 0)) (all_fit form s at k) f e)
-    where
-      go : (p q : Bool) → x ≡ cond p 1 0 → least ≡ cond q 1 0 → x ≡ cond (p && q) 1 0
-      go true true i j = i
-      go true false i j = absurd (let z : ⊥ = omega arith in z)
-      go false q i j = i
-
-  pub least_kept : least ≤ x → least ≡ cond (all_fit form s at (k + 1)) 1 0
-  least_kept h = rw more (go (fits_at form k (get_or s (at + k) 0)) (all_fit form s at k) f e)
-    where
-      go : (p q : Bool) → x ≡ cond p 1 0 → least ≡ cond q 1 0 → least ≡ cond (p && q) 1 0
-      go true q i j = j
-      go false q i j = omega arith
-
-pub least-is : (least : ℕ) (q : Bool) → least ≡ cond q 1 0 → eqb least 1 ≡ q
-least-is least true e = eq-eqb least 1 e
-least-is least false e = ne_eqb least 1 (λ z. omega arith)
 
 -- ---- a byte of a block, at its place
 
@@ -72,6 +40,22 @@ all_fit-at form s at (suc n) k t h = go (all_fit-at form s at n k p.1) (eqb k n)
 -- the byte at place i of the text, which is place k of the block
 fit_at : (form : Form) (s : List ℕ) (at n k i : ℕ) → all_fit form s at n ≡ true → k < n → i ≡ at + k → fits_at form k (get_or s i 0) ≡ true
 fit_at form s at n k i t h e = ap (λ (j : ℕ). fits_at form k (get_or s j 0)) e ∙ all_fit-at form s at n k t h
+
+-- all of them fit, or one does not
+all_fit-each : (form : Form) (s : List ℕ) (at n : ℕ) → ((k : ℕ) → k < n → fits_at form k (get_or s (at + k) 0) ≡ true) → all_fit form s at n ≡ true
+unfolding all_fit
+all_fit-each form s at zero p = refl
+all_fit-each form s at (suc n) p = rw (p n (omega arith), all_fit-each form s at n (λ k h. p k (omega arith)))
+
+pub all_fit-is : (form : Form) (s : List ℕ) (at n : ℕ) (r : Bool)
+    → (r ≡ true → (k : ℕ) → k < n → fits_at form k (get_or s (at + k) 0) ≡ true)
+    → (r ≡ false → (k : ℕ) × (k < n) × (fits_at form k (get_or s (at + k) 0) ≡ false)) → r ≡ all_fit form s at n
+all_fit-is form s at n true p q = sym (all_fit-each form s at n (p refl))
+all_fit-is form s at n false p q = go (all_fit form s at n) refl
+  where
+    go : (b : Bool) → all_fit form s at n ≡ b → false ≡ all_fit form s at n
+    go false e = sym e
+    go true e = let f = q refl in absurd (true≢false (sym (all_fit-at form s at n f.0 e f.1) ∙ f.2))
 
 -- ---- chars one behind the other, the n-th at the place f n
 

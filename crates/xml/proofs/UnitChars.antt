@@ -2,7 +2,7 @@
 use mathlib.Core.Path.{◌≡◌, refl, sym, subst, ap, ◌∙◌}
 use mathlib.Core.Bool.{Bool, true, false, cond}
 use mathlib.Core.List.{List}
-use Prim.Native.Nat.{ℕ, ◌+◌, ◌*◌, ◌≤◌, ◌<◌}
+use Prim.Native.Nat.{ℕ, zero, suc, ◌+◌, ◌*◌, ◌≤◌, ◌<◌}
 use native.Mathlib.Omega.{arith}
 use borrow.Author.Tests.{ltb-true, ltb-false}
 use lib.Dec.{ltb}
@@ -81,39 +81,14 @@ module _ (b c : ℕ) (h : b < 256) where
       go false f true g = let k = ltb-true 0xef b g in unit-fdf0 (omega arith) (omega arith)
       go false f false g = absurd (n (ltb-false b 0xd0 f) (ltb-false 0xef b g))
 
--- ---- the units of a block so far: all are seen where the least of the answers is 1
+-- ---- units one behind the other
 
-pub record UnitsTo (s : List ℕ) (at least k : ℕ) : Type 0 where
-  pub within : k ≤ 32
-  pub small : least ≤ 1
-  pub seen : least ≡ 1 → Seen true s at (at + 2 * k)
-
-pub units-first : (s : List ℕ) (at : ℕ) → UnitsTo s at 1 0
-units-first s at = record {
-  within = omega arith;
-  small = omega arith;
-  seen = λ _. let e : at ≡ at + 2 * 0 = omega arith in subst (λ (j : ℕ). Seen true s at j) e (seen_none true s at);
-}
-
-module _ (s : List ℕ) (at least k x : ℕ) (b : Bool) (e : x ≡ cond b 1 0) (p : UnitsTo s at least k) (h : k < 32) where
-  pub units-put : x < least → UnitsTo s at x (k + 1)
-  units-put l = let m = p.small in record { within = omega arith; small = omega arith; seen = λ z. absurd (let y : ⊥ = omega arith in y) }
-
-  pub units-kept : at + 64 ≤ length s → ((i : ℕ) → get_or s i 0 < 256) → least ≤ x
-      → (b ≡ true → UnitChar (get_or s (at + 2 * k) 0) (get_or s (at + 2 * k + 1) 0)) → UnitsTo s at least (k + 1)
-  units-kept room bytes l n = record { within = omega arith; small = p.small; seen = λ z. go b e z n }
-    where
-      go : (t : Bool) → x ≡ cond t 1 0 → least ≡ 1 → (t ≡ true → UnitChar (get_or s (at + 2 * k) 0) (get_or s (at + 2 * k + 1) 0))
-          → Seen true s at (at + 2 * (k + 1))
-      go false f z m = absurd (let y : ⊥ = omega arith in y)
-      go true f z m =
-          let u = m refl in
-          let i : at + 2 * k + 2 ≡ at + 2 * (k + 1) = omega arith in
-          let one = seen-char s (at + 2 * k) (omega arith) bytes u.alone u.char in
-          subst (λ (j : ℕ). Seen true s at j) i (seen-on true s at (at + 2 * k) (at + 2 * k + 2) (p.seen z) one)
-
-pub units-all : (s : List ℕ) (at least k : ℕ) → UnitsTo s at least k → least ≡ 1 → 32 ≤ k → Seen true s at (at + 64)
-units-all s at least k p e h =
-    let m = p.within in
-    let i : at + 2 * k ≡ at + 64 = omega arith in
-    subst (λ (j : ℕ). Seen true s at j) i (p.seen e)
+pub units-all : (s : List ℕ) (at n : ℕ) → at + 2 * n ≤ length s → ((i : ℕ) → get_or s i 0 < 256)
+    → ((k : ℕ) → k < n → UnitChar (get_or s (at + 2 * k) 0) (get_or s (at + 2 * k + 1) 0)) → Seen true s at (at + 2 * n)
+units-all s at zero h b p = let e : at ≡ at + 2 * 0 = omega arith in subst (λ (j : ℕ). Seen true s at j) e (seen_none true s at)
+units-all s at (suc n) h b p =
+    let u = p n (omega arith) in
+    let one = seen-char s (at + 2 * n) (omega arith) b u.alone u.char in
+    let i : at + 2 * n + 2 ≡ at + 2 * suc n = omega arith in
+    subst (λ (j : ℕ). Seen true s at j) i
+    (seen-on true s at (at + 2 * n) (at + 2 * n + 2) (units-all s at n (omega arith) b (λ k l. p k (omega arith))) one)

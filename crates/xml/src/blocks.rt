@@ -3,7 +3,7 @@
 //
 // Mirrors nothing of xml/src/lib.rs (apk-info 13770539b8), whose loop goes by chars. A block is looked at byte by byte, each byte by its place, with no
 // early way out, so that the compiler takes many bytes at once. It holds chars of one form alone, of which the bytes say that they are chars.
-ghost use Rattle.std.specs.Prelude.{◌≡◌, cond, ◌+◌, ◌≤◌, ◌<◌, length};
+ghost use Rattle.std.specs.Prelude.{◌≡◌, true, false, cond, ℕ, ◌+◌, ◌≤◌, ◌<◌, length};
 ghost use Rattle.utf.specs.Utf8.{inside};
 ghost use Rattle.xml.specs.Inner.SeenChars.{ascii_low, far_high, is_trail, pair_lead, triple_lead, triple_second};
 ghost use Rattle.xml.specs.Inner.Blocks.{in_utf16, size_of, fits_at, all_fit};
@@ -120,21 +120,26 @@ fn fits(form: Form, k: usize, b: u8) -> bool
     }
 }
 
-// Whether each of the n bytes from `at` on fits. The least of the answers decides, so that the loop has no early way out.
+// Whether the test passes at each of the n places of a block. The least of the answers decides, so that the loop has no early way out.
+// Ruled out: true where the test fails at one place, false where it passes at all.
+pub fn all_pass<F: Fn(usize) -> bool>(n: usize, test: F) -> bool
+    requires { (k : ℕ) → k < n → F.pre test k }
+    ensures passes { result ≡ true → (k : ℕ) → k < n → F.post test k true }
+    ensures fails { result ≡ false → (k : ℕ) × (k < n) × F.post test k false }
+{
+    let mut least = 1;
+    for k in 0..n {
+        least = least.min(test(k) as u8);
+    }
+    least == 1
+}
+
+// Whether each of the n bytes from `at` on fits.
 fn all_fit(form: Form, n: usize, s: &[u8], at: usize) -> bool
     requires { at + n ≤ length s.now }
     ensures { result ≡ all_fit form s.now at n }
 {
-    let mut least = 1;
-    let mut k = 0;
-    while k < n {
-        let x = fits(form, k, s[at + k]) as u8;
-        if x < least {
-            least = x;
-        }
-        k += 1;
-    }
-    least == 1
+    all_pass(n, |k| fits(form, k, s[at + k]))
 }
 
 // How many bytes a block of the form takes at a place with 64 bytes behind it: 0 where none begins there.

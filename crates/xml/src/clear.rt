@@ -9,7 +9,7 @@ ghost use Rattle.std.specs.Prelude.{◌≡◌, true, false, ℕ, ◌+◌, ◌≤
 ghost use Rattle.xml.specs.Inner.ClearPlaces.{Clear};
 ghost use Rattle.xml.specs.Inner.NameRun.{Passed};
 
-use super::blocks::{ascii_low, between, is_trail};
+use super::blocks::{all_pass, ascii_low, between, is_trail};
 
 // ---- a place, by its byte and those behind it. False tells nothing
 
@@ -89,22 +89,12 @@ fn is_clear(near: bool, b: u8, c: u8, d: u8, e: u8) -> bool
 
 // ---- a block
 
-// Whether each of the 64 places from `at` on is clear. The least of the answers decides, so that the loop has no early way out.
+// Whether each of the 64 places from `at` on is clear.
 fn all_clear(near: bool, s: &[u8], at: usize) -> bool
     requires { at + 67 ≤ length s.now }
     ensures { result ≡ true → Passed false s.now at (at + 64) }
 {
-    let mut least = 1;
-    let mut k = 0;
-    while k < 64 {
-        let i = at + k;
-        let x = is_clear(near, s[i], s[i + 1], s[i + 2], s[i + 3]) as u8;
-        if x < least {
-            least = x;
-        }
-        k += 1;
-    }
-    least == 1
+    all_pass(64, |k| is_clear(near, s[at + k], s[at + k + 1], s[at + k + 2], s[at + k + 3]))
 }
 
 // The same, first by the bytes alone, which is quick and most often enough.

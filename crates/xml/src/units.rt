@@ -7,7 +7,7 @@ ghost use Rattle.std.specs.Prelude.{◌≡◌, true, ◌+◌, ◌≤◌, length}
 ghost use Rattle.xml.specs.Inner.SeenChars.{UnitChar};
 ghost use Rattle.xml.specs.Inner.NameRun.{Seen};
 
-use super::blocks::{ascii_low, between, far_high};
+use super::blocks::{all_pass, ascii_low, between, far_high};
 
 // ---- a unit. False tells nothing
 
@@ -54,22 +54,12 @@ fn is_unit(b: u8, c: u8) -> bool
 
 // ---- a block
 
-// Whether each of the 32 units from `at` on is one. The least of the answers decides, so that the loop has no early way out.
+// Whether each of the 32 units from `at` on is one.
 fn all_units(s: &[u8], at: usize) -> bool
     requires { at + 64 ≤ length s.now }
     ensures { result ≡ true → Seen true s.now at (at + 64) }
 {
-    let mut least = 1;
-    let mut k = 0;
-    while k < 32 {
-        let i = at + 2 * k;
-        let x = is_unit(s[i], s[i + 1]) as u8;
-        if x < least {
-            least = x;
-        }
-        k += 1;
-    }
-    least == 1
+    all_pass(32, |k| is_unit(s[at + 2 * k], s[at + 2 * k + 1]))
 }
 
 // The end of such blocks one behind the other: it is `to` or one soon behind it, or lies before `to`, where another unit stands in a block or too few

@@ -1,34 +1,11 @@
--- `xml::blocks::all_fit` meets its contract. Invariant: the least answer so far is 1 where each byte so far fits. Measure: the bytes left.
-use mathlib.Core.Path.{◌≡◌, refl, ap, ◌∙◌}
-use mathlib.Core.Bool.{Bool, cond}
-use Prim.Native.Nat.{ℕ}
-use Rattle.xml.specs.Inner.Blocks.{all_fit}
-use Rattle.xml.proofs.Passing.{bool_byte-is, least-put, least_kept, least-is}
-use native.Mathlib.Omega.{arith}
+-- `xml::blocks::all_fit` meets its contract: each byte fits, or one does not.
+use Rattle.std.proofs.Common.{rules}
+use Rattle.xml.proofs.Passing.{all_fit-is}
 use Rattle.xml.proofs.blocks.all_fit.Goals as goal
-use Rattle.xml.proofs.blocks.all_fit.Goals.{then-x-least, else-x-least}
-
-pub loop-k-init : goal.loop-k-init
-unfolding all_fit
-loop-k-init c = (omega arith, refl)
-
-pub loop-k-preserved : goal.loop-k-preserved
-loop-k-preserved c =
-    let l = c.loop-k in
-    let a = c.args in
-    let s = a.s.now in
-    let x = bool_byte-is c.fits-x.result ∙ ap (λ (b : Bool). cond {A = ℕ} b 1 0) c.fits-x.ensures in (
-      omega arith,
-      elim c.if-x-least.branch [
-        | then-x-least w ↦ rw w.least-is (least-put a.form s a.at l.k l.least _ l.invariant.1 x w.if-x-least.true)
-        | else-x-least w ↦ rw w.least-is (least_kept a.form s a.at l.k l.least _ l.invariant.1 x w.if-x-least.false)
-      ],
-    )
 
 pub returns : goal.returns
 returns c =
     let a = c.args in
-    let l = c.loop-k in
-    let k : l.k ≡ a.n = omega arith in
-    let s = a.s.now in
-    least-is l.least (all_fit a.form s a.at a.n) (l.invariant.1 ∙ ap (λ (n : ℕ). cond {A = ℕ} (all_fit a.form s a.at n) 1 0) k)
+    let p = c.all_pass.ensures.passes in
+    let q = c.all_pass.ensures.fails in
+    all_fit-is a.form a.s.now a.at a.n _ (λ t k h. let f = p t k h in search rules) (λ t. let f = q t in (f.0, f.1, search rules))
