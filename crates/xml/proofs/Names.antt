@@ -5,6 +5,7 @@ use mathlib.Core.List.{List}
 use Prim.Native.Nat.{ℕ, ◌+◌, ◌*◌, ◌/◌, ◌≤◌, ◌<◌}
 use native.Mathlib.Omega.{arith}
 use borrow.Author.Tests.{eq-eqb, ne_eqb, eqb-true}
+use denote.Enum.Bare.{sameb}
 use lib.Dec.{eqb}
 use lib.ListN.{length, get_or, drop}
 use Rattle.utf.specs.Text.{step_of, step_value, width_of, sound_of, steps_of, all_sound, is_sound}
@@ -12,9 +13,24 @@ use Rattle.utf.specs.Inner.StepRuns.{Took}
 use Rattle.utf.proofs.Steps.{step_of-is, steps_of-next, steps_of-end}
 use Rattle.utf.proofs.Turns.{took-ascii, turn-sound, end-sound, stops, goes}
 use Rattle.utf.proofs.Units.{took-unit}
+use Rattle.xml.specs.declared.Sort.{Sort}
+use Rattle.xml.specs.declared.Sort.TheVariants.{Outside, Start, Later}
+use Rattle.xml.specs.contracts.Sort.{the_type}
 use Rattle.xml.specs.NCName.{is_start, is_char, char_sort, class_of, all_char, is_nc_name, valid_name}
-use Rattle.xml.specs.Inner.NameRun.{sort_by, sort_at, begins, chars_in, Told, Passed, Seen, Went, Reached}
+use Rattle.xml.specs.Inner.NameRun.{sort_number, sort_by, sort_at, begins, chars_in, Told, Passed, Seen, Takes, Went, Reached}
 use Rattle.xml.proofs.Ranges.{char_sort-start, char_sort-char, class_of-ascii, ascii-of-class}
+
+-- ---- a sort that is compared with the one of what is in no name
+
+pub outside-sort : (k : Sort) → sameb the_type k Outside ≡ true → sort_number k ≡ 0
+outside-sort Outside e = refl
+outside-sort Start e = absurd (true≢false (sym e))
+outside-sort Later e = absurd (true≢false (sym e))
+
+pub inside-sort : (k : Sort) → sameb the_type k Outside ≡ false → sort_number k ≡ 0 → ⊥
+inside-sort Outside e z = true≢false e
+inside-sort Start e z = omega arith
+inside-sort Later e z = omega arith
 
 -- ---- what is told of a step
 
@@ -162,25 +178,21 @@ module _ (utf16 : Bool) (s : List ℕ) (at i to : ℕ) (p : Passed utf16 s at i)
 -- ---- so far from a place in UTF-8
 
 module _ (s : List ℕ) (at sort width : ℕ) (h : at < length s) (t : Told false s at sort width) where
-  pub went-none : sort ≡ 0 → Went false s at 0
-  went-none e = record {
-    passed = (seen_nothing false s at).passed;
-    stuck = λ k. stops _ _ (not (eqb sort 0)) (turn-char false s at sort width h t) (ap not (eq-eqb sort 0 e));
-    most = omega arith;
-  }
+  pub stuck-told : sort ≡ 0 → chars_in false (drop at s) ≡ false
+  stuck-told e = stops _ _ (not (eqb sort 0)) (turn-char false s at sort width h t) (ap not (eq-eqb sort 0 e))
 
   pub went-told : (sort ≡ 0 → ⊥) → Went false s at width
   went-told n = record {
     passed = passed-more false s at at sort width (seen_none false s at).passed h t n;
-    stuck = λ k. let l = t.least in absurd (let z : ⊥ = omega arith in z);
+    least = t.least;
     most = omega (arith, t.most);
   }
 
 pub went-one : (s : List ℕ) (at : ℕ) → at < length s → Passed false s at (at + 1) → Went false s at 1
-went-one s at h p = record { passed = p; stuck = λ k. absurd (let z : ⊥ = omega arith in z); most = omega arith }
+went-one s at h p = record { passed = p; least = omega arith; most = omega arith }
 
-pub went-seen : (s : List ℕ) (at width : ℕ) → Seen false s at (at + width) → at + width ≤ length s → (width ≡ 0 → ⊥) → Went false s at width
-went-seen s at width p m n = record { passed = p.passed; stuck = λ k. absurd (n k); most = omega arith }
+pub went-takes : (s : List ℕ) (at width : ℕ) → Takes false s at width → Went false s at width
+went-takes s at width t = let m = t.most in record { passed = t.seen.passed; least = t.least; most = omega arith }
 
 -- ---- the ends
 

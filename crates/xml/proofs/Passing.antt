@@ -1,4 +1,4 @@
--- Laws of a block (specs/Inner/Blocks.antt): what each of its bytes says, and that what it holds is chars of a name, and sound (`seen-block`).
+-- Laws of a block (specs/Inner/Blocks.antt): what each of its bytes says, and that what it holds is chars of a name, and sound (`block-takes`).
 use mathlib.Core.Path.{◌≡◌, refl, sym, subst, ap, ◌∙◌}
 use mathlib.Core.Bool.{Bool, true, false, not, ◌&&◌, ◌||◌, cond, true≢false}
 use mathlib.Core.List.{List}
@@ -12,7 +12,7 @@ use Rattle.xml.specs.declared.blocks.Form.{Form}
 use Rattle.xml.specs.declared.blocks.Form.TheVariants.{AsciiUnits, FarUnits, Ascii, Pairs, Triples}
 use Rattle.xml.specs.Inner.SeenChars.{is_pair, is_triple}
 use Rattle.xml.specs.Inner.Blocks.{in_utf16, size_of, is_odd, fits_at, all_fit}
-use Rattle.xml.specs.Inner.NameRun.{Seen}
+use Rattle.xml.specs.Inner.NameRun.{Seen, Takes}
 use Rattle.xml.proofs.Names.{seen_none, seen-on, seen-char}
 use Rattle.xml.proofs.SeenChars.{unit-low, unit-far, seen_low, seen-pair, seen-triple}
 
@@ -151,15 +151,23 @@ block_of Ascii s at h b e = ascii-bytes s at h e
 block_of Pairs s at h b e = pairs s at h e
 block_of Triples s at h b e = triples s at h e
 
-pub size_of-le : (form : Form) → size_of form ≤ 64
-size_of-le AsciiUnits = omega arith
-size_of-le FarUnits = omega arith
-size_of-le Ascii = omega arith
-size_of-le Pairs = omega arith
-size_of-le Triples = omega arith
+module _ (form : Form) where
+  size_of-ends : (1 ≤ size_of form) × (size_of form ≤ 64)
+  size_of-ends = go form
+    where
+      go : (f : Form) → (1 ≤ size_of f) × (size_of f ≤ 64)
+      go AsciiUnits = (omega arith, omega arith)
+      go FarUnits = (omega arith, omega arith)
+      go Ascii = (omega arith, omega arith)
+      go Pairs = (omega arith, omega arith)
+      go Triples = (omega arith, omega arith)
 
-pub seen-block : (form : Form) (s : List ℕ) (at n : ℕ) → n ≡ size_of form → at + 64 ≤ length s → ((k : ℕ) → get_or s k 0 < 256) → all_fit form s at n ≡ true
-    → Seen (in_utf16 form) s at (at + n) × (n ≤ 64)
-seen-block form s at n e h b f =
-    let all : all_fit form s at (size_of form) ≡ true = ap (λ (m : ℕ). all_fit form s at m) (sym e) ∙ f in
-    subst (λ (m : ℕ). Seen (in_utf16 form) s at (at + m) × (m ≤ 64)) (sym e) (block_of form s at h b all, size_of-le form)
+  pub size_of-le : size_of form ≤ 64
+  size_of-le = size_of-ends.1
+
+  pub block-takes : (s : List ℕ) (at n : ℕ) → n ≡ size_of form → at + 64 ≤ length s → ((k : ℕ) → get_or s k 0 < 256) → true ≡ all_fit form s at n
+      → Takes (in_utf16 form) s at n
+  block-takes s at n e h b f =
+      let all : all_fit form s at (size_of form) ≡ true = ap (λ (m : ℕ). all_fit form s at m) (sym e) ∙ sym f in
+      let m = size_of-ends in
+      subst (λ (m : ℕ). Takes (in_utf16 form) s at m) (sym e) (record { seen = block_of form s at h b all; least = m.0; most = omega arith })

@@ -7,36 +7,17 @@ use native.Mathlib.Omega.{arith}
 use borrow.Author.Tests.{le-leb, lt-leb, ltb-true, ltb-false}
 use lib.Dec.{ltb, eqb}
 use lib.ListN.{length, drop, get_or}
-use lib.Seq.{drop-cons}
+use Rattle.std.specs.List.{list_any}
 use Rattle.utf.specs.Utf8.{inside}
-use Rattle.utf.proofs.Scalars.{add-two}
 use Rattle.xml.specs.NCName.{in_ranges, name_start, name_more, is_start, is_char, char_sort, class_of}
+use Rattle.xml.specs.Inner.NameRun.{ends_of}
 
 -- ---- a list of ranges
 
-pub in_ranges-step : (rs : List ℕ) (v i : ℕ) → i + 1 < length rs
-    → in_ranges (drop i rs) v ≡ (inside (get_or rs i 0) (get_or rs (i + 1) 0) v || in_ranges (drop (i + 2) rs) v)
+pub in_ranges-any : (rs : List (ℕ × ℕ)) (v : ℕ) → list_any (λ (r : ℕ × ℕ). inside r.0 r.1 v) rs ≡ in_ranges (ends_of rs) v
 unfolding in_ranges
-in_ranges-step rs v i h =
-    let a : i < length rs = omega arith in
-    let b : suc i < length rs = omega arith in
-    let e : i + 1 ≡ suc i = omega arith in
-    rw (e, add-two, drop-cons rs i 0 a, drop-cons rs (suc i) 0 b)
-
-pub in_ranges-stop : (rs : List ℕ) (v i : ℕ) → length rs ≤ i + 1 → in_ranges (drop i rs) v ≡ false
-unfolding in_ranges
-in_ranges-stop [] v zero h = refl
-in_ranges-stop [] v (suc i) h = refl
-in_ranges-stop (a ∷ []) v zero h = refl
-in_ranges-stop (a ∷ b ∷ rs) v zero h = absurd (let z : ⊥ = omega arith in z)
-in_ranges-stop (a ∷ rs) v (suc i) h = in_ranges-stop rs v i (omega arith)
-
--- a turn that finds its range, and one that does not
-pub hits : (x y b : Bool) → x ≡ (b || y) → b ≡ true → x ≡ true
-hits x y b e h = e ∙ ap (λ (c : Bool). c || y) h
-
-pub misses : (x y b : Bool) → x ≡ (b || y) → b ≡ false → x ≡ y
-misses x y b e h = e ∙ ap (λ (c : Bool). c || y) h
+in_ranges-any [] v = refl
+in_ranges-any (r ∷ rs) v = rw (in_ranges-any rs v)
 
 -- ---- the sort of a value
 
@@ -57,6 +38,15 @@ char_sort-char v = go (in_ranges name_start v) (in_ranges name_more v)
     go true b = refl
     go false true = refl
     go false false = refl
+
+pub char_sort-most : (v : ℕ) → char_sort v < 3
+unfolding char_sort
+char_sort-most v = go (is_start v) (is_char v)
+  where
+    go : (a b : Bool) → cond a 1 (cond b 2 0) < 3
+    go true b = omega arith
+    go false true = omega arith
+    go false false = omega arith
 
 -- ---- a byte of ASCII, and one beyond
 

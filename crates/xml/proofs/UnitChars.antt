@@ -7,9 +7,10 @@ use native.Mathlib.Omega.{arith}
 use borrow.Author.Tests.{ltb-true, ltb-false}
 use lib.Dec.{ltb}
 use lib.ListN.{length, get_or}
-use Rattle.xml.specs.NCName.{char_sort}
+use Rattle.xml.specs.NCName.{char_sort, class_of}
 use Rattle.xml.specs.Inner.SeenChars.{ascii_low, far_high, UnitChar}
 use Rattle.xml.specs.Inner.NameRun.{Seen}
+use Rattle.xml.proofs.Ranges.{class_of-ascii}
 use Rattle.xml.proofs.Names.{seen_none, seen-on, seen-char}
 use Rattle.xml.proofs.SeenChars.{latin-char, char-latin, char-mark, char-near, char-far, char-low, unit-far}
 use Rattle.xml.proofs.ClearBytes.{char-dot, char-greek, char-joiner, char-tie, char-signs, char-2c00, char-f900, char-fdf0}
@@ -29,6 +30,14 @@ unit-dot b e = latin-unit b (λ z. char-dot (sym (ap char_sort e) ∙ z))
 
 pub unit-letter : (b : ℕ) → b < 256 → 0xc0 ≤ b → (b ≡ 0xd7 → ⊥) → (b ≡ 0xf7 → ⊥) → UnitChar b 0
 unit-letter b h l n m = latin-unit b (latin-char b l h n m)
+
+-- ---- ASCII, by its class
+
+pub unit-plain : (b c u class : ℕ) → u ≡ b + c * 256 → u < 128 → class ≡ class_of u → (class ≡ 0 → ⊥) → UnitChar b c
+unit-plain b c u class e h f n = record {
+  alone = λ z. omega arith;
+  char = λ z. n (f ∙ class_of-ascii u h ∙ ap char_sort e ∙ z);
+}
 
 -- ---- another one
 

@@ -3,11 +3,13 @@
 //
 // Mirrors nothing of xml/src/lib.rs (apk-info 13770539b8), whose loop goes by chars. A block is looked at byte by byte, each byte by its place, with no
 // early way out, so that the compiler takes many bytes at once. It holds chars of one form alone, of which the bytes say that they are chars.
-ghost use Rattle.std.specs.Prelude.{◌≡◌, true, false, cond, ℕ, ◌+◌, ◌≤◌, ◌<◌, length};
+ghost use Rattle.std.specs.Prelude.{◌≡◌, true, false, cond, ℕ, ◌+◌, ◌≤◌, ◌<◌, length, IfSome};
 ghost use Rattle.utf.specs.Utf8.{inside};
 ghost use Rattle.xml.specs.Inner.SeenChars.{ascii_low, far_high, is_trail, pair_lead, triple_lead, triple_second};
 ghost use Rattle.xml.specs.Inner.Blocks.{in_utf16, size_of, fits_at, all_fit};
-ghost use Rattle.xml.specs.Inner.NameRun.{Seen, Ahead};
+ghost use Rattle.xml.specs.Inner.NameRun.{Seen, Takes, Ahead};
+
+use std::ops::Range;
 
 // ---- a byte
 
@@ -142,16 +144,16 @@ fn all_fit(form: Form, n: usize, s: &[u8], at: usize) -> bool
     all_pass(n, |k| fits(form, k, s[at + k]))
 }
 
-// How many bytes a block of the form takes at a place with 64 bytes behind it: 0 where none begins there.
-fn block_len(form: Form, s: &[u8], at: usize) -> usize
+// How many bytes a block of the form takes at a place with 64 bytes behind it, where one begins there.
+fn block_len(form: Form, s: &[u8], at: usize) -> Option<usize>
     requires { at + 64 ≤ length s.now }
-    ensures { Seen (in_utf16 form) s.now at (at + result) × (result ≤ 64) }
+    ensures { IfSome result (λ n. Takes (in_utf16 form) s.now at n) }
 {
     let n = size_of(form);
     if all_fit(form, n, s, at) {
-        return n;
+        return Some(n);
     }
-    0
+    None
 }
 
 // The form that a block at a place can have: the high byte of its first unit tells it, and in UTF-8 its first byte.
@@ -181,10 +183,9 @@ fn blocks_end(utf16: bool, s: &[u8], at: usize) -> usize
 {
     let mut i = at;
     while 64 <= s.len() - i {
-        let n = block_len(form_at(utf16, s, i), s, i);
-        if n == 0 {
+        let Some(n) = block_len(form_at(utf16, s, i), s, i) else {
             return i;
-        }
+        };
         i += n;
     }
     i
@@ -192,28 +193,13 @@ fn blocks_end(utf16: bool, s: &[u8], at: usize) -> usize
 
 // ---- a stretch
 
-// What is looked at next: whole blocks end at `from`, and the chars from there to `to` are looked at one by one.
-#[derive(Clone, Copy)]
-pub struct Stretch {
-    pub from: usize,
-    pub to: usize,
-}
-
-// The stretch at a place inside. Where no block begins, the next is tried 256 bytes on, so that a text of which each block fails loses little.
+// What is looked at next, from a place inside: whole blocks end where it starts, and the chars in it are looked at one by one. Where no block begins, the
+// next is tried 256 bytes on, so that a text of which each block fails loses little.
 // Ruled out: a stretch of no bytes, and one that ends behind the text.
-pub fn stretch_at(utf16: bool, s: &[u8], at: usize) -> Stretch
+pub fn stretch_at(utf16: bool, s: &[u8], at: usize) -> Range<usize>
     requires { at < length s.now }
-    ensures { Ahead utf16 s.now at result.from result.to }
+    ensures { Ahead utf16 s.now at result.start result.end }
 {
     let from = blocks_end(utf16, s, at);
-    if 256 <= s.len() - from {
-        return Stretch {
-            from: from,
-            to: from + 256,
-        };
-    }
-    Stretch {
-        from: from,
-        to: s.len(),
-    }
+    from..from + (s.len() - from).min(256)
 }

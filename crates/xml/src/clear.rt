@@ -112,14 +112,12 @@ fn block_clear(s: &[u8], at: usize) -> bool
 fn past_trails(s: &[u8], at: usize) -> usize
     ensures { Passed false s.now at result }
 {
-    let mut i = at;
-    while i < s.len() {
+    for i in at..s.len() {
         if !is_trail(s[i]) {
             return i;
         }
-        i += 1;
     }
-    i
+    at.max(s.len())
 }
 
 // A place from `at` on, before which only chars of a name stand: the end of the blocks one behind the other. It is `to` or one soon behind it where a

@@ -3,11 +3,18 @@
 //
 // Mirrors nothing of xml/src/lib.rs (apk-info 13770539b8). A unit is told by its two bytes, b the low one and c the high one, with no early way out, so
 // that the compiler takes many at once. A unit of a surrogate pair is none of these, and is left to those who decode.
-ghost use Rattle.std.specs.Prelude.{◌≡◌, true, ◌+◌, ◌≤◌, length};
+ghost use Rattle.std.specs.Prelude.{◌≡◌, true, ◌+◌, ◌*◌, ◌≤◌, length};
 ghost use Rattle.xml.specs.Inner.SeenChars.{UnitChar};
 ghost use Rattle.xml.specs.Inner.NameRun.{Seen};
 
 use super::blocks::{all_pass, ascii_low, between, far_high};
+
+// The value of a unit, its low byte first.
+pub fn unit_of(b: u8, c: u8) -> u32
+    ensures { result ≡ b + c * 256 }
+{
+    u32::from(u16::from_le_bytes([b, c]))
+}
 
 // ---- a unit. False tells nothing
 

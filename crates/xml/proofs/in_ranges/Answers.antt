@@ -1,26 +1,19 @@
--- `xml::in_ranges` meets its contract. Invariant: v is in the ranges left where it is in any. Measure: the numbers left.
-use mathlib.Core.Path.{refl, sym, ◌∙◌}
-use native.Mathlib.Omega.{arith}
-use Rattle.xml.proofs.Ranges.{in_ranges-step, in_ranges-stop, hits, misses}
+-- `xml::in_ranges` meets its contract: some range holds the value.
+use Prim.Native.Nat.{ℕ}
+use mathlib.Core.Path.{◌≡◌, ◌∙◌}
+use Rattle.std.proofs.Common.{rules}
+use Rattle.std.specs.List.{list_any}
+use Rattle.utf.specs.Utf8.{inside}
+use Rattle.utf.proofs.Tests.{tests}
+use Rattle.std.proofs.lemmas.Iterator.{YieldsList-from_slice}
+use Rattle.std.proofs.lemmas.Iterator.Search.{any_from_yields_List}
+use Rattle.xml.proofs.Ranges.{in_ranges-any}
 use Rattle.xml.proofs.in_ranges.Goals as goal
-
-pub loop-i-init : goal.loop-i-init
-loop-i-init c = (omega arith, refl)
-
-pub returns-then-within : goal.returns-then-within
-returns-then-within c =
-    let a = c.args in
-    let l = c.loop-i in
-    sym (hits _ _ _ (in_ranges-step a.rs.now a.v l.i (omega arith)) (sym c.within.ensures ∙ c.if-within.true)) ∙ l.invariant.1
-
-pub loop-i-preserved : goal.loop-i-preserved
-loop-i-preserved c =
-    let a = c.args in
-    let l = c.loop-i in
-    (omega arith, sym (misses _ _ _ (in_ranges-step a.rs.now a.v l.i (omega arith)) (sym c.within.ensures ∙ c.if-within.false)) ∙ l.invariant.1)
 
 pub returns : goal.returns
 returns c =
     let a = c.args in
-    let l = c.loop-i in
-    sym (in_ranges-stop a.rs.now a.v l.i c.loop-i-test.false) ∙ l.invariant.1
+    let e : c.any.result ≡ list_any (λ (r : ℕ × ℕ). inside r.0 r.1 a.v) a.rs.now =
+    any_from_yields_List (λ (r : ℕ × ℕ). inside r.0 r.1 a.v) _ _ c.any.result c.any.ensures.ran (YieldsList-from_slice a.rs.now c.iter.ensures.rest)
+    (λ x b q k. search (rules, tests)) in
+    e ∙ in_ranges-any a.rs.now a.v
