@@ -1,9 +1,9 @@
 -- Laws of specs/Inner/ClearPlaces.antt: a clear place is passed by one byte, whether a char begins there or not (`clear-passes`).
--- In order: the values of four bytes that are clear; a place; the places of a block. Which bytes are clear: proofs/ClearBytes.antt.
+-- In order: the values of four bytes that are clear; a place. Which bytes are clear: proofs/ClearBytes.antt.
 use mathlib.Core.Path.{◌≡◌, refl, sym, subst, ap, ◌∙◌}
 use mathlib.Core.Bool.{Bool, true, false, cond}
 use mathlib.Core.List.{List}
-use Prim.Native.Nat.{ℕ, zero, suc, ◌+◌, ◌*◌, ◌%◌, ◌≤◌, ◌<◌}
+use Prim.Native.Nat.{ℕ, ◌+◌, ◌*◌, ◌%◌, ◌≤◌, ◌<◌}
 use native.Mathlib.Omega.{arith}
 use borrow.Author.Tests.{le-leb, lt-ltb, le-ltb, ltb-true, ltb-false}
 use lib.Dec.{ltb}
@@ -101,12 +101,3 @@ module _ (s : List ℕ) (bytes : (k : ℕ) → get_or s k 0 < 256) where
       let t = here at h in
       let inner = inner-passed at w t.least t.most i.second i.third i.fourth in
       record { later = omega arith; rest = sym inner.rest ∙ whole.rest }
-
--- ---- places one behind the other
-
-pub places-all : (s : List ℕ) (at n : ℕ) → ((k : ℕ) → k < n → Passed false s (at + k) (at + k + 1)) → Passed false s at (at + n)
-places-all s at zero p = let e : at ≡ at + 0 = omega arith in subst (λ (j : ℕ). Passed false s at j) e (none_passed s at)
-places-all s at (suc n) p =
-    let i : at + n + 1 ≡ at + suc n = omega arith in
-    subst (λ (j : ℕ). Passed false s at j) i
-    (passed_on false s at (at + n) (at + n + 1) (places-all s at n (λ k h. p k (omega arith))) (p n (omega arith)))

@@ -2,7 +2,7 @@
 use mathlib.Core.Path.{◌≡◌, refl, sym, subst, ap, ◌∙◌}
 use mathlib.Core.Bool.{Bool, true, false, not, ◌&&◌, cond, true≢false}
 use mathlib.Core.List.{List}
-use Prim.Native.Nat.{ℕ, ◌+◌, ◌*◌, ◌/◌, ◌≤◌, ◌<◌}
+use Prim.Native.Nat.{ℕ, suc, ◌+◌, ◌*◌, ◌/◌, ◌≤◌, ◌<◌}
 use native.Mathlib.Omega.{arith}
 use borrow.Author.Tests.{eq-eqb, ne_eqb, eqb-true}
 use denote.Enum.Bare.{sameb}
@@ -16,9 +16,10 @@ use Rattle.utf.proofs.Units.{took-unit}
 use Rattle.xml.specs.declared.Sort.{Sort}
 use Rattle.xml.specs.declared.Sort.TheVariants.{Outside, Start, Later}
 use Rattle.xml.specs.contracts.Sort.{the_type}
-use Rattle.xml.specs.NCName.{is_start, is_char, char_sort, class_of, all_char, is_nc_name, valid_name}
+use Rattle.xml.specs.NCName.{is_start, is_char, char_sort, all_char, is_nc_name, valid_name}
 use Rattle.xml.specs.Inner.NameRun.{sort_number, sort_by, sort_at, begins, chars_in, Told, Passed, Seen, Takes, Went, Reached}
-use Rattle.xml.proofs.Ranges.{char_sort-start, char_sort-char, class_of-ascii, ascii-of-class}
+use Rattle.xml.proofs.Chains.{chain_of}
+use Rattle.xml.proofs.Ranges.{char_sort-start, char_sort-char}
 
 -- ---- a sort that is compared with the one of what is in no name
 
@@ -43,17 +44,15 @@ told utf16 s at value width sort sound t e = record {
   most = t.most;
 }
 
-pub told-ascii : (s : List ℕ) (at sort : ℕ) → at < length s → sort ≡ class_of (get_or s at 0) → (sort ≡ 3 → ⊥) → Told false s at sort 1
-told-ascii s at sort h e n =
-    let a : get_or s at 0 < 128 = ascii-of-class (get_or s at 0) (λ f. n (e ∙ f)) in
-    told false s at (get_or s at 0) 1 sort true (took-ascii false s at refl h a) (e ∙ class_of-ascii (get_or s at 0) a)
+pub told-ascii : (s : List ℕ) (at sort : ℕ) → at < length s → get_or s at 0 < 128 → sort ≡ char_sort (get_or s at 0) → Told false s at sort 1
+told-ascii s at sort h a e = told false s at (get_or s at 0) 1 sort true (took-ascii false s at refl h a) e
 
-pub told-unit : (s : List ℕ) (at sort : ℕ) → at + 1 < length s → ((i : ℕ) → get_or s i 0 < 256) → get_or s at 0 + get_or s (at + 1) 0 * 256 < 128
-    → sort ≡ class_of (get_or s at 0 + get_or s (at + 1) 0 * 256) → Told true s at sort 2
-told-unit s at sort h b a e =
+pub told-unit : (s : List ℕ) (at sort : ℕ) → at + 1 < length s → ((i : ℕ) → get_or s i 0 < 256) → get_or s (at + 1) 0 ≡ 0
+    → sort ≡ char_sort (get_or s at 0) → Told true s at sort 2
+told-unit s at sort h b z e =
     let u = get_or s at 0 + get_or s (at + 1) 0 * 256 in
-    let n : get_or s (at + 1) 0 / 8 ≡ 27 → ⊥ = λ f. omega arith in
-    told true s at u 2 sort true (took-unit s at h b n) (e ∙ class_of-ascii u a)
+    let i : get_or s at 0 ≡ u = omega arith in
+    told true s at u 2 sort true (took-unit s at h b (λ f. omega arith)) (e ∙ ap char_sort i)
 
 -- ---- a turn
 
@@ -119,6 +118,9 @@ passed-more utf16 s at i sort width p h t n = record {
   rest = sym (goes _ _ (not (eqb sort 0)) (turn-char utf16 s i sort width h t) (ap not (ne_eqb sort 0 n))) ∙ p.rest;
 }
 
+pub passed-chain : (s : List ℕ) (f : ℕ → ℕ) (n at to : ℕ) → f 0 ≡ at → f n ≡ to → ((k j : ℕ) → k < n → j ≡ f (suc k) → Passed false s (f k) j) → Passed false s at to
+passed-chain s = chain_of (λ (i j : ℕ). Passed false s i j) (λ i. record { later = omega arith; rest = refl }) (λ i j k. passed_on false s i j k)
+
 -- ---- a run of chars that are sound
 
 pub seen_none : (utf16 : Bool) (s : List ℕ) (at : ℕ) → Seen utf16 s at at
@@ -129,6 +131,10 @@ seen_nothing utf16 s at = let e : at ≡ at + 0 = omega arith in subst (λ (to :
 
 pub seen-on : (utf16 : Bool) (s : List ℕ) (at i to : ℕ) → Seen utf16 s at i → Seen utf16 s i to → Seen utf16 s at to
 seen-on utf16 s at i to p q = record { passed = passed_on utf16 s at i to p.passed q.passed; sound = q.sound ∙ p.sound }
+
+pub seen-chain : (utf16 : Bool) (s : List ℕ) (f : ℕ → ℕ) (n at to : ℕ) → f 0 ≡ at → f n ≡ to → ((k j : ℕ) → k < n → j ≡ f (suc k) → Seen utf16 s (f k) j)
+    → Seen utf16 s at to
+seen-chain utf16 s = chain_of (λ (i j : ℕ). Seen utf16 s i j) (seen_none utf16 s) (λ i j k. seen-on utf16 s i j k)
 
 sort-sound : (utf16 : Bool) (v : ℕ) → char_sort v ≡ sort_by utf16 true v
 sort-sound true v = refl
@@ -144,21 +150,13 @@ seen_step utf16 s at value width h t n =
       sound = sym (goes _ _ true (turn-sound utf16 s at value width true h t) refl);
     }
 
-pub seen-ascii : (s : List ℕ) (at sort : ℕ) → at < length s → sort ≡ class_of (get_or s at 0) → (sort ≡ 0 → ⊥) → (sort ≡ 3 → ⊥) → Seen false s at (at + 1)
-seen-ascii s at sort h e n m =
-    let a : get_or s at 0 < 128 = ascii-of-class (get_or s at 0) (λ f. m (e ∙ f)) in
-    seen_step false s at (get_or s at 0) 1 h (took-ascii false s at refl h a) (λ z. n (e ∙ class_of-ascii (get_or s at 0) a ∙ z))
+pub seen-ascii : (s : List ℕ) (at : ℕ) → at < length s → get_or s at 0 < 128 → (char_sort (get_or s at 0) ≡ 0 → ⊥) → Seen false s at (at + 1)
+seen-ascii s at h a n = seen_step false s at (get_or s at 0) 1 h (took-ascii false s at refl h a) n
 
 -- a unit that is no surrogate
 pub seen-char : (s : List ℕ) (at : ℕ) → at + 1 < length s → ((k : ℕ) → get_or s k 0 < 256) → (get_or s (at + 1) 0 / 8 ≡ 27 → ⊥)
     → (char_sort (get_or s at 0 + get_or s (at + 1) 0 * 256) ≡ 0 → ⊥) → Seen true s at (at + 2)
 seen-char s at h b n c = seen_step true s at (get_or s at 0 + get_or s (at + 1) 0 * 256) 2 (omega arith) (took-unit s at h b n) c
-
-pub seen-unit : (s : List ℕ) (at sort : ℕ) → at + 1 < length s → ((k : ℕ) → get_or s k 0 < 256)
-    → get_or s at 0 + get_or s (at + 1) 0 * 256 < 128 → sort ≡ class_of (get_or s at 0 + get_or s (at + 1) 0 * 256) → (sort ≡ 0 → ⊥) → Seen true s at (at + 2)
-seen-unit s at sort h b a e n =
-    let u = get_or s at 0 + get_or s (at + 1) 0 * 256 in
-    seen-char s at h b (λ f. omega arith) (λ z. n (e ∙ class_of-ascii u a ∙ z))
 
 -- ---- as far as a place: no char stands before it, or it is reached
 

@@ -13,7 +13,7 @@ use Rattle.xml.specs.declared.blocks.Form.TheVariants.{AsciiUnits, FarUnits, Asc
 use Rattle.xml.specs.Inner.SeenChars.{is_pair, is_triple}
 use Rattle.xml.specs.Inner.Blocks.{in_utf16, size_of, is_odd, fits_at, all_fit}
 use Rattle.xml.specs.Inner.NameRun.{Seen, Takes}
-use Rattle.xml.proofs.Names.{seen_none, seen-on, seen-char}
+use Rattle.xml.proofs.Names.{seen-chain, seen-char}
 use Rattle.xml.proofs.SeenChars.{unit-low, unit-far, seen_low, seen-pair, seen-triple}
 
 -- ---- one of two answers, without a branch
@@ -57,14 +57,6 @@ all_fit-is form s at n false p q = go (all_fit form s at n) refl
     go false e = sym e
     go true e = let f = q refl in absurd (true≢false (sym (all_fit-at form s at n f.0 e f.1) ∙ f.2))
 
--- ---- chars one behind the other, the n-th at the place f n
-
-chain : (utf16 : Bool) (s : List ℕ) (f : ℕ → ℕ) (count : ℕ) → ((n : ℕ) → n < count → Seen utf16 s (f n) (f (suc n))) → (n : ℕ) → n ≤ count
-    → Seen utf16 s (f 0) (f n)
-chain utf16 s f count step zero h = seen_none utf16 s (f 0)
-chain utf16 s f count step (suc n) h =
-    seen-on utf16 s (f 0) (f n) (f (suc n)) (chain utf16 s f count step n (omega arith)) (step n (omega arith))
-
 -- ---- a block of each form
 
 module _ (s : List ℕ) (at : ℕ) (h : at + 64 ≤ length s) where
@@ -80,8 +72,8 @@ module _ (s : List ℕ) (at : ℕ) (h : at + 64 ≤ length s) where
   of_width utf16 width count size e step =
       let first : at + 0 * width ≡ at = omega arith in
       let last : at + count * width ≡ at + size = omega arith in
-      let all = chain utf16 s (λ n. at + n * width) count step count (omega arith) in
-      subst (λ (j : ℕ). Seen utf16 s at j) last (subst (λ (i : ℕ). Seen utf16 s i (at + count * width)) first all)
+      seen-chain utf16 s (λ n. at + n * width) count at (at + size) first last
+      (λ n j h i. subst (λ (x : ℕ). Seen utf16 s (at + n * width) x) (sym i) (step n h))
 
   ascii-units : ((k : ℕ) → get_or s k 0 < 256) → all_fit AsciiUnits s at 64 ≡ true → Seen true s at (at + 64)
   unfolding fits_at
@@ -165,9 +157,8 @@ module _ (form : Form) where
   pub size_of-le : size_of form ≤ 64
   size_of-le = size_of-ends.1
 
-  pub block-takes : (s : List ℕ) (at n : ℕ) → n ≡ size_of form → at + 64 ≤ length s → ((k : ℕ) → get_or s k 0 < 256) → true ≡ all_fit form s at n
+  pub block-takes : (s : List ℕ) (at n : ℕ) → n ≡ size_of form → at + 64 ≤ length s → ((k : ℕ) → get_or s k 0 < 256) → true ≡ all_fit form s at (size_of form)
       → Takes (in_utf16 form) s at n
   block-takes s at n e h b f =
-      let all : all_fit form s at (size_of form) ≡ true = ap (λ (m : ℕ). all_fit form s at m) (sym e) ∙ sym f in
       let m = size_of-ends in
-      subst (λ (m : ℕ). Takes (in_utf16 form) s at m) (sym e) (record { seen = block_of form s at h b all; least = m.0; most = omega arith })
+      subst (λ (m : ℕ). Takes (in_utf16 form) s at m) (sym e) (record { seen = block_of form s at h b (sym f); least = m.0; most = omega arith })

@@ -58,12 +58,20 @@ pub class_of-beyond : (b : ℕ) → 128 ≤ b → class_of b ≡ 3
 unfolding class_of
 class_of-beyond b h = rw (le-leb 128 b h)
 
-pub ascii-of-class : (b : ℕ) → (class_of b ≡ 3 → ⊥) → b < 128
-ascii-of-class b n = go (ltb b 128) refl
+-- what a class below 3 says, and another one
+pub class-ascii : (b k : ℕ) → k ≡ class_of b → k < 3 → (b < 128) × (k ≡ char_sort b)
+class-ascii b k e h = go (ltb b 128) refl
   where
-    go : (t : Bool) → ltb b 128 ≡ t → b < 128
-    go true e = ltb-true b 128 e
-    go false e = absurd (n (class_of-beyond b (ltb-false b 128 e)))
+    go : (t : Bool) → ltb b 128 ≡ t → (b < 128) × (k ≡ char_sort b)
+    go true f = let a = ltb-true b 128 f in (a, e ∙ class_of-ascii b a)
+    go false f = let z = class_of-beyond b (ltb-false b 128 f) in absurd (let y : ⊥ = omega arith in y)
+
+pub class-beyond : (b k : ℕ) → k ≡ class_of b → 3 ≤ k → 128 ≤ b
+class-beyond b k e h = go (ltb b 128) refl
+  where
+    go : (t : Bool) → ltb b 128 ≡ t → 128 ≤ b
+    go true f = let z = class_of-ascii b (ltb-true b 128 f) in let m = char_sort-most b in absurd (let y : ⊥ = omega arith in y)
+    go false f = ltb-false b 128 f
 
 -- ---- a value beyond ASCII: the ranges of ASCII do not hold it
 

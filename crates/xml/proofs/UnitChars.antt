@@ -2,22 +2,21 @@
 use mathlib.Core.Path.{◌≡◌, refl, sym, subst, ap, ◌∙◌}
 use mathlib.Core.Bool.{Bool, true, false, cond}
 use mathlib.Core.List.{List}
-use Prim.Native.Nat.{ℕ, zero, suc, ◌+◌, ◌*◌, ◌≤◌, ◌<◌}
+use Prim.Native.Nat.{ℕ, ◌+◌, ◌*◌, ◌≤◌, ◌<◌}
 use native.Mathlib.Omega.{arith}
 use borrow.Author.Tests.{ltb-true, ltb-false}
 use lib.Dec.{ltb}
 use lib.ListN.{length, get_or}
-use Rattle.xml.specs.NCName.{char_sort, class_of}
+use Rattle.xml.specs.NCName.{char_sort}
 use Rattle.xml.specs.Inner.SeenChars.{ascii_low, far_high, UnitChar}
 use Rattle.xml.specs.Inner.NameRun.{Seen}
-use Rattle.xml.proofs.Ranges.{class_of-ascii}
-use Rattle.xml.proofs.Names.{seen_none, seen-on, seen-char}
+use Rattle.xml.proofs.Names.{seen-chain, seen-char}
 use Rattle.xml.proofs.SeenChars.{latin-char, char-latin, char-mark, char-near, char-far, char-low, unit-far}
 use Rattle.xml.proofs.ClearBytes.{char-dot, char-greek, char-joiner, char-tie, char-signs, char-2c00, char-f900, char-fdf0}
 
 -- ---- the high byte 00
 
-latin-unit : (b : ℕ) → (char_sort b ≡ 0 → ⊥) → UnitChar b 0
+pub latin-unit : (b : ℕ) → (char_sort b ≡ 0 → ⊥) → UnitChar b 0
 latin-unit b n =
     let e : b + 0 * 256 ≡ b = omega arith in
     record { alone = λ z. omega arith; char = λ z. n (sym (ap char_sort e) ∙ z) }
@@ -30,14 +29,6 @@ unit-dot b e = latin-unit b (λ z. char-dot (sym (ap char_sort e) ∙ z))
 
 pub unit-letter : (b : ℕ) → b < 256 → 0xc0 ≤ b → (b ≡ 0xd7 → ⊥) → (b ≡ 0xf7 → ⊥) → UnitChar b 0
 unit-letter b h l n m = latin-unit b (latin-char b l h n m)
-
--- ---- ASCII, by its class
-
-pub unit-plain : (b c u class : ℕ) → u ≡ b + c * 256 → u < 128 → class ≡ class_of u → (class ≡ 0 → ⊥) → UnitChar b c
-unit-plain b c u class e h f n = record {
-  alone = λ z. omega arith;
-  char = λ z. n (f ∙ class_of-ascii u h ∙ ap char_sort e ∙ z);
-}
 
 -- ---- another one
 
@@ -92,12 +83,11 @@ module _ (b c : ℕ) (h : b < 256) where
 
 -- ---- units one behind the other
 
-pub units-all : (s : List ℕ) (at n : ℕ) → at + 2 * n ≤ length s → ((i : ℕ) → get_or s i 0 < 256)
-    → ((k : ℕ) → k < n → UnitChar (get_or s (at + 2 * k) 0) (get_or s (at + 2 * k + 1) 0)) → Seen true s at (at + 2 * n)
-units-all s at zero h b p = let e : at ≡ at + 2 * 0 = omega arith in subst (λ (j : ℕ). Seen true s at j) e (seen_none true s at)
-units-all s at (suc n) h b p =
-    let u = p n (omega arith) in
-    let one = seen-char s (at + 2 * n) (omega arith) b u.alone u.char in
-    let i : at + 2 * n + 2 ≡ at + 2 * suc n = omega arith in
-    subst (λ (j : ℕ). Seen true s at j) i
-    (seen-on true s at (at + 2 * n) (at + 2 * n + 2) (units-all s at n (omega arith) b (λ k l. p k (omega arith))) one)
+pub units-all : (s : List ℕ) (at n to : ℕ) → to ≡ at + 2 * n → ((k : ℕ) → k < n → at + 2 * k + 1 < length s) → ((i : ℕ) → get_or s i 0 < 256)
+    → ((k : ℕ) → k < n → UnitChar (get_or s (at + 2 * k) 0) (get_or s (at + 2 * k + 1) 0)) → Seen true s at to
+units-all s at n to e h b p =
+    seen-chain true s (λ k. at + 2 * k) n at to (omega arith) (sym e)
+    (λ k j l i.
+    let u = p k l in
+    let z : at + 2 * k + 2 ≡ j = omega arith in
+    subst (λ (x : ℕ). Seen true s (at + 2 * k) x) z (seen-char s (at + 2 * k) (h k l) b u.alone u.char))

@@ -136,12 +136,35 @@ pub fn all_pass<F: Fn(usize) -> bool>(n: usize, test: F) -> bool
     least == 1
 }
 
-// Whether each of the n bytes from `at` on fits.
-fn all_fit(form: Form, n: usize, s: &[u8], at: usize) -> bool
-    requires { at + n ≤ length s.now }
-    ensures { result ≡ all_fit form s.now at n }
+// How many of n places pass the test, one behind the other from the first on: n, or as many as stand before the first at which it fails.
+// Ruled out: a number that counts a place at which the test fails, and one that stops where it passes.
+pub fn passing<F: Fn(usize) -> bool>(n: usize, test: F) -> usize
+    requires { (k : ℕ) → k < n → F.pre test k }
+    ensures within { result ≤ n }
+    ensures passes { (k : ℕ) → k < result → F.post test k true }
+    ensures fails { result < n → F.post test result false }
 {
-    all_pass(n, |k| fits(form, k, s[at + k]))
+    for k in 0..n {
+        if !test(k) {
+            return k;
+        }
+    }
+    n
+}
+
+// Whether each of the bytes fits that a block of the form at a place has. Each form has a loop of its own: the compiler takes many bytes at once only
+// where the form is a constant in it.
+fn all_fit(form: Form, s: &[u8], at: usize) -> bool
+    requires { at + size_of form ≤ length s.now }
+    ensures { result ≡ all_fit form s.now at (size_of form) }
+{
+    match form {
+        Form::AsciiUnits => all_pass(64, |k| fits(Form::AsciiUnits, k, s[at + k])),
+        Form::FarUnits => all_pass(64, |k| fits(Form::FarUnits, k, s[at + k])),
+        Form::Ascii => all_pass(64, |k| fits(Form::Ascii, k, s[at + k])),
+        Form::Pairs => all_pass(64, |k| fits(Form::Pairs, k, s[at + k])),
+        Form::Triples => all_pass(48, |k| fits(Form::Triples, k, s[at + k])),
+    }
 }
 
 // How many bytes a block of the form takes at a place with 64 bytes behind it, where one begins there.
@@ -149,9 +172,8 @@ fn block_len(form: Form, s: &[u8], at: usize) -> Option<usize>
     requires { at + 64 ≤ length s.now }
     ensures { IfSome result (λ n. Takes (in_utf16 form) s.now at n) }
 {
-    let n = size_of(form);
-    if all_fit(form, n, s, at) {
-        return Some(n);
+    if all_fit(form, s, at) {
+        return Some(size_of(form));
     }
     None
 }

@@ -3,16 +3,18 @@
 // Mirrors the loop of `is_valid_name` in xml/src/lib.rs (apk-info 13770539b8), over bytes or units in place of chars. Definitions: specs/Inner/NameRun.antt.
 // A byte of ASCII in UTF-8, and a unit of ASCII in UTF-16, is its own value and is looked up; a char of which the bytes, or the unit's high byte, say
 // that it is a char of a name is passed, and in UTF-8 any byte at which no name ends (clear.rt); anything else is decoded first.
-ghost use Rattle.std.specs.Prelude.{◌≡◌, true, false, ◌+◌, ◌≤◌, ◌<◌, length, drop, IfSome, IsNone};
+ghost use Rattle.std.specs.Prelude.{◌≡◌, true, false, cond, ◌+◌, ◌*◌, ◌≤◌, ◌<◌, length, drop, IfSome, IsNone};
 ghost use Rattle.utf.specs.Text.{is_sound};
 ghost use Rattle.xml.specs.NCName.{valid_name};
 ghost use Rattle.xml.specs.Inner.SeenChars.{UnitChar, is_pair, is_triple};
 ghost use Rattle.xml.specs.Inner.NameRun.{IsTable, sort_number, begins, chars_in, Told, Seen, Takes, Went, Reached};
 
-use super::blocks::{far_high, is_trail, pair_lead, stretch_at, triple_lead, triple_second};
+use super::blocks::{
+    far_high, is_trail, pair_lead, passing, stretch_at, triple_lead, triple_second,
+};
 use super::clear::{clear_end, lead_clear};
-use super::units::{unit_of, units_end};
-use super::{Sort, sort_in};
+use super::units::units_end;
+use super::{Sort, ascii_sort, sort_in};
 use utf::next_of;
 
 // What a char is in a name, and how many bytes it takes.
@@ -20,6 +22,13 @@ use utf::next_of;
 pub struct Char {
     pub sort: Sort,
     pub width: usize,
+}
+
+// The value of a unit of UTF-16, of which b is the low byte.
+fn unit_of(b: u8, c: u8) -> u32
+    ensures { result ≡ b + c * 256 }
+{
+    u32::from(u16::from_le_bytes([b, c]))
 }
 
 // The char at a place inside. In UTF-8 what is damaged is U+FFFD, which is a start. In UTF-16 a unit that is no surrogate is its own value, and an
@@ -50,13 +59,33 @@ fn char_at(classes: &[u8], utf16: bool, s: &[u8], at: usize) -> Char
     }
 }
 
+// The sort of the char at a place inside, where it is one of ASCII.
+fn ascii_at(classes: &[u8], utf16: bool, s: &[u8], at: usize) -> Option<Sort>
+    requires { IsTable classes.now × (at < length s.now) }
+    ensures { IfSome result (λ sort. Told utf16 s.now at (sort_number sort) (cond utf16 2 1)) }
+{
+    if !utf16 {
+        return ascii_sort(classes, s[at]);
+    }
+    if s.len() - at < 2 {
+        return None;
+    }
+    if s[at + 1] != 0 {
+        return None;
+    }
+    ascii_sort(classes, s[at])
+}
+
 // Whether a text that is not empty begins with a start. `classes` is the table, which the caller makes once.
 // Ruled out: true of a digit, and true of an unpaired surrogate of UTF-16.
 pub fn begins_well(classes: &[u8], utf16: bool, s: &[u8]) -> bool
     requires { IsTable classes.now × (0 < length s.now) }
     ensures { result ≡ begins utf16 s.now }
 {
-    char_at(classes, utf16, s, 0).sort == Sort::Start
+    match ascii_at(classes, utf16, s, 0) {
+        Some(sort) => sort == Sort::Start,
+        None => char_at(classes, utf16, s, 0).sort == Sort::Start,
+    }
 }
 
 // ---- a run of chars that need no decoding
@@ -100,14 +129,13 @@ fn seen_width(classes: &[u8], s: &[u8], at: usize) -> Option<usize>
     requires { IsTable classes.now × (at < length s.now) }
     ensures { IfSome result (λ w. Takes false s.now at w) }
 {
-    let k = classes[s[at] as usize];
-    if k == 3 {
-        return wide_width(s, at);
+    if let Some(sort) = ascii_sort(classes, s[at]) {
+        if sort == Sort::Outside {
+            return None;
+        }
+        return Some(1);
     }
-    if k == 0 {
-        return None;
-    }
-    Some(1)
+    wide_width(s, at)
 }
 
 // Chars in UTF-8 whose bytes tell that they are chars.
@@ -131,25 +159,25 @@ fn is_plain_unit(classes: &[u8], b: u8, c: u8) -> bool
     requires { IsTable classes.now }
     ensures { result ≡ true → UnitChar b c }
 {
-    let u = unit_of(b, c);
-    if u < 128 {
-        return classes[u as usize] != 0;
+    if c != 0 {
+        return far_high(c);
     }
-    far_high(c)
+    match ascii_sort(classes, b) {
+        Some(sort) => sort != Sort::Outside,
+        None => false,
+    }
 }
 
-// A place from `at` on up to which such units stand. It is not behind `to`, or is `at`.
+// The end of such units one behind the other from `at` on, none of which ends behind `to`.
 fn units_run(classes: &[u8], s: &[u8], at: usize, to: usize) -> usize
     requires { IsTable classes.now × (to ≤ length s.now) }
     ensures { Seen true s.now at result }
 {
-    let units = to.saturating_sub(at) / 2;
-    for k in 0..units {
-        let i = at + 2 * k;
-        if !is_plain_unit(classes, s[i], s[i + 1]) {
-            return i;
-        }
-    }
+    let most = to.saturating_sub(at) / 2;
+    let units = passing(
+        most,
+        |k| is_plain_unit(classes, s[at + 2 * k], s[at + 2 * k + 1]),
+    );
     at + 2 * units
 }
 
@@ -195,11 +223,10 @@ fn utf8_width(classes: &[u8], s: &[u8], at: usize) -> Option<usize>
     ensures some { IfSome result (λ w. Went false s.now at w) }
 {
     let b = s[at];
-    let k = classes[b as usize];
-    if k == 0 {
-        return None;
-    }
-    if k != 3 {
+    if let Some(sort) = ascii_sort(classes, b) {
+        if sort == Sort::Outside {
+            return None;
+        }
         return Some(1);
     }
     if lead_clear(b) {

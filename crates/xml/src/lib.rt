@@ -12,7 +12,7 @@ pub mod chars;
 pub mod clear;
 pub mod units;
 
-ghost use Rattle.std.specs.Prelude.{◌≡◌, false, ◌<◌, ◌&&◌};
+ghost use Rattle.std.specs.Prelude.{◌≡◌, false, ◌<◌, ◌≤◌, ◌&&◌, IfSome, IsNone};
 ghost use Rattle.utf.specs.Text.{is_sound};
 ghost use Rattle.xml.specs.NCName.{in_ranges, char_sort, valid_name};
 ghost use Rattle.xml.specs.Inner.NameRun.{IsTable, ends_of, sort_number};
@@ -74,26 +74,25 @@ fn in_ranges(rs: &[(u32, u32)], v: u32) -> bool
     rs.iter().any(|&(first, last)| (first..=last).contains(&v))
 }
 
-// The sort of a class of the table that is not beyond ASCII.
-fn sort_of(class: u8) -> Sort
-    requires { class < 3 }
-    ensures { sort_number result ≡ class }
+// What a byte of ASCII is in a name; nothing of a byte beyond ASCII. `classes` is the table, which the caller makes once.
+fn ascii_sort(classes: &[u8], b: u8) -> Option<Sort>
+    requires { IsTable classes.now }
+    ensures ascii { IfSome result (λ sort. (b < 128) × (sort_number sort ≡ char_sort b)) }
+    ensures beyond { IsNone result → 128 ≤ b }
 {
-    match class {
-        0 => Sort::Outside,
-        1 => Sort::Start,
-        _ => Sort::Later,
+    match classes[b as usize] {
+        0 => Some(Sort::Outside),
+        1 => Some(Sort::Start),
+        2 => Some(Sort::Later),
+        _ => None,
     }
 }
 
-// What a value is in a name. `classes` is the table, which the caller makes once.
-fn sort_in(classes: &[u8], v: u32) -> Sort
-    requires { IsTable classes.now }
+// What a value beyond ASCII is in a name.
+fn beyond_sort(v: u32) -> Sort
+    requires { 128 ≤ v }
     ensures { sort_number result ≡ char_sort v }
 {
-    if v < 128 {
-        return sort_of(classes[v as usize]);
-    }
     if in_ranges(&START_BEYOND, v) {
         return Sort::Start;
     }
@@ -101,6 +100,17 @@ fn sort_in(classes: &[u8], v: u32) -> Sort
         return Sort::Later;
     }
     Sort::Outside
+}
+
+// What a value is in a name.
+fn sort_in(classes: &[u8], v: u32) -> Sort
+    requires { IsTable classes.now }
+    ensures { sort_number result ≡ char_sort v }
+{
+    if 128 <= v {
+        return beyond_sort(v);
+    }
+    ascii_sort(classes, v as u8).unwrap_or(Sort::Outside)
 }
 
 // Whether the text, in UTF-16 or UTF-8, is an NCName: blocks are passed whole, and what they leave is looked at char by char.

@@ -3,18 +3,11 @@
 //
 // Mirrors nothing of xml/src/lib.rs (apk-info 13770539b8). A unit is told by its two bytes, b the low one and c the high one, with no early way out, so
 // that the compiler takes many at once. A unit of a surrogate pair is none of these, and is left to those who decode.
-ghost use Rattle.std.specs.Prelude.{◌≡◌, true, ◌+◌, ◌*◌, ◌≤◌, length};
+ghost use Rattle.std.specs.Prelude.{◌≡◌, true, ◌+◌, ◌≤◌, length};
 ghost use Rattle.xml.specs.Inner.SeenChars.{UnitChar};
 ghost use Rattle.xml.specs.Inner.NameRun.{Seen};
 
-use super::blocks::{all_pass, ascii_low, between, far_high};
-
-// The value of a unit, its low byte first.
-pub fn unit_of(b: u8, c: u8) -> u32
-    ensures { result ≡ b + c * 256 }
-{
-    u32::from(u16::from_le_bytes([b, c]))
-}
+use super::blocks::{all_pass, ascii_low, between, far_high, passing};
 
 // ---- a unit. False tells nothing
 
@@ -69,22 +62,12 @@ fn all_units(s: &[u8], at: usize) -> bool
     all_pass(32, |k| is_unit(s[at + 2 * k], s[at + 2 * k + 1]))
 }
 
-// The end of such blocks one behind the other: it is `to` or one soon behind it, or lies before `to`, where another unit stands in a block or too few
-// bytes are left.
+// The end of such blocks one behind the other from `at` on, none of which ends behind `to`.
 // Ruled out: a place behind U+3000; a place behind an unpaired surrogate.
 pub fn units_end(s: &[u8], at: usize, to: usize) -> usize
     requires { to ≤ length s.now }
     ensures { Seen true s.now at result }
 {
-    let mut i = at;
-    while i < to {
-        if s.len() - i < 64 {
-            return i;
-        }
-        if !all_units(s, i) {
-            return i;
-        }
-        i += 64;
-    }
-    i
+    let blocks = passing(to.saturating_sub(at) / 64, |k| all_units(s, at + 64 * k));
+    at + 64 * blocks
 }

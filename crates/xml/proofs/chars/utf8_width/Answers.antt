@@ -1,24 +1,23 @@
--- `xml::chars::utf8_width` meets its contract: a byte of ASCII by its class, a byte that is clear, and else what stands there.
+-- `xml::chars::utf8_width` meets its contract: a byte of ASCII by its sort, a byte that is clear, and else what stands there.
+use mathlib.Core.Path.{sym, ◌∙◌}
 use Prim.Native.Nat.{ℕ, ◌<◌}
 use lib.ListN.{get_or}
-use Rattle.xml.proofs.Names.{told-ascii, went-told, stuck-told, went-one}
+use Rattle.xml.proofs.Names.{outside-sort, inside-sort, told-ascii, went-told, stuck-told, went-one}
 use Rattle.xml.proofs.ClearPlaces.{clear-passes}
-use native.Mathlib.Omega.{arith}
 use Rattle.xml.proofs.chars.utf8_width.Goals as goal
 
-pub returns-then-k-eq0-clause-none : goal.returns-then-k-eq0-clause-none
-returns-then-k-eq0-clause-none c =
-    let s = c.args.s.now in
-    let at = c.args.at in
-    let class = c.requires.0.right (get_or s at 0) (omega (arith, c.type_inv.s at)) in
-    λ z. stuck-told s at _ 1 c.requires.1 (told-ascii s at _ c.requires.1 class (λ z. omega arith)) c.if-k-eq0.true
+pub returns-then-eq-clause-none : goal.returns-then-eq-clause-none
+returns-then-eq-clause-none c =
+    let k = c.in-Some.sort in
+    let a = c.in-Some.ensures.ascii in
+    λ z.
+    stuck-told _ _ _ 1 c.requires.1 (told-ascii _ _ _ c.requires.1 a.0 a.1) (outside-sort k (sym c.eq.ensures ∙ c.if-eq.true))
 
-pub returns-then-k-ne3-clause-some : goal.returns-then-k-ne3-clause-some
-returns-then-k-ne3-clause-some c =
-    let s = c.args.s.now in
-    let at = c.args.at in
-    let class = c.requires.0.right (get_or s at 0) (omega (arith, c.type_inv.s at)) in
-    went-told s at _ 1 c.requires.1 (told-ascii s at _ c.requires.1 class c.if-k-ne3.true) c.if-k-eq0.false
+pub returns-in-Some-clause-some : goal.returns-in-Some-clause-some
+returns-in-Some-clause-some c =
+    let k = c.in-Some.sort in
+    let a = c.in-Some.ensures.ascii in
+    went-told _ _ _ 1 c.requires.1 (told-ascii _ _ _ c.requires.1 a.0 a.1) (inside-sort k (sym c.eq.ensures ∙ c.if-eq.false))
 
 pub returns-then-lead_clear-clause-some : goal.returns-then-lead_clear-clause-some
 returns-then-lead_clear-clause-some c =

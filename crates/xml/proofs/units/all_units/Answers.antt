@@ -10,5 +10,4 @@ pub returns : goal.returns
 returns c = λ t.
     let a = c.args in
     let bytes : (i : ℕ) → get_or a.s.now i 0 < 256 = λ i. (c.type_inv.s i).fits in
-    let p = c.all_pass.ensures.passes t in
-    units-all a.s.now a.at 32 (omega arith) bytes (λ k h. let f = p k h in search rules)
+    units-all a.s.now a.at 32 _ (omega arith) (λ k h. omega arith) bytes (λ k h. let f = c.all_pass.ensures.passes t k (omega arith) in search rules)
