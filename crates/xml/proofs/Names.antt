@@ -19,7 +19,7 @@ use Rattle.xml.specs.contracts.Sort.{the_type}
 use Rattle.xml.specs.NCName.{is_start, is_char, char_sort, all_char, is_nc_name, valid_name}
 use Rattle.xml.specs.Inner.NameRun.{sort_number, sort_by, sort_at, begins, chars_in, Told, Passed, Seen, Takes, Went, Reached}
 use Rattle.xml.proofs.Chains.{chain_of}
-use Rattle.xml.proofs.Ranges.{char_sort-start, char_sort-char}
+use Rattle.xml.proofs.Sorts.{char_sort-start, char_sort-char}
 
 -- ---- a sort that is compared with the one of what is in no name
 

@@ -1,15 +1,16 @@
 -- Which units of UTF-16 are chars of a name by themselves (`UnitChar`), a law for each test of src/units.rt, and the units of a block so far.
 use mathlib.Core.Path.{◌≡◌, refl, sym, subst, ap, ◌∙◌}
-use mathlib.Core.Bool.{Bool, true, false, cond}
+use mathlib.Core.Bool.{Bool, true, false, not}
 use mathlib.Core.List.{List}
 use Prim.Native.Nat.{ℕ, ◌+◌, ◌*◌, ◌≤◌, ◌<◌}
 use native.Mathlib.Omega.{arith}
-use borrow.Author.Tests.{ltb-true, ltb-false}
-use lib.Dec.{ltb}
+use borrow.Author.Tests.{ltb-true, ltb-false, eqb-false, not-true}
+use lib.Dec.{ltb, eqb}
 use lib.ListN.{length, get_or}
 use Rattle.xml.specs.NCName.{char_sort}
 use Rattle.xml.specs.Inner.SeenChars.{ascii_low, far_high, UnitChar}
-use Rattle.xml.specs.Inner.NameRun.{Seen}
+use Rattle.xml.specs.Inner.NameRun.{IsTable, Seen}
+use Rattle.xml.proofs.Sorts.{class_of-ascii}
 use Rattle.xml.proofs.Names.{seen-chain, seen-char}
 use Rattle.xml.proofs.SeenChars.{latin-char, char-latin, char-mark, char-near, char-far, char-low, unit-far}
 use Rattle.xml.proofs.ClearBytes.{char-dot, char-greek, char-joiner, char-tie, char-signs, char-2c00, char-f900, char-fdf0}
@@ -30,12 +31,19 @@ unit-dot b e = latin-unit b (λ z. char-dot (sym (ap char_sort e) ∙ z))
 pub unit-letter : (b : ℕ) → b < 256 → 0xc0 ≤ b → (b ≡ 0xd7 → ⊥) → (b ≡ 0xf7 → ⊥) → UnitChar b 0
 unit-letter b h l n m = latin-unit b (latin-char b l h n m)
 
+-- ---- ASCII, by its class in the table; another one, by its high byte
+
+pub unit_plain : {t : List ℕ} {b c u : ℕ} → IsTable t → u ≡ b + c * 256 → u < 128 → not (eqb (get_or t u 0) 0) ≡ true → UnitChar b c
+unit_plain {t} {b} {c} {u} r e h n =
+    let a = r.right u (omega arith) ∙ class_of-ascii u h in
+    record { alone = λ z. omega arith; char = λ z. eqb-false (get_or t u 0) 0 (not-true _ n) (a ∙ ap char_sort e ∙ z) }
+
+pub unit_far_high : {b c : ℕ} → b < 256 → far_high c ≡ true → UnitChar b c
+unit_far_high {b} {c} h e = let u = unit-far b c h e in record { alone = u.0; char = u.1 }
+
 -- ---- another one
 
 module _ (b c : ℕ) (h : b < 256) where
-  pub unit-is-far : far_high c ≡ true → UnitChar b c
-  unit-is-far e = let u = unit-far b c h e in record { alone = u.0; char = u.1 }
-
   pub unit-latin : 0x01 ≤ c → c ≤ 0x02 → UnitChar b c
   unit-latin l m = record { alone = λ z. omega arith; char = char-latin (b + c * 256) (omega arith) (omega arith) }
 

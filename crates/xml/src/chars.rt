@@ -14,7 +14,7 @@ use super::blocks::{
 };
 use super::clear::{clear_end, lead_clear};
 use super::units::units_end;
-use super::{Sort, ascii_sort, sort_in};
+use super::{Sort, ascii_sort, sort_of};
 use utf::next_of;
 
 // What a char is in a name, and how many bytes it takes.
@@ -33,15 +33,15 @@ fn unit_of(b: u8, c: u8) -> u32
 
 // The char at a place inside. In UTF-8 what is damaged is U+FFFD, which is a start. In UTF-16 a unit that is no surrogate is its own value, and an
 // unpaired surrogate is in no name.
-fn char_at(classes: &[u8], utf16: bool, s: &[u8], at: usize) -> Char
-    requires { IsTable classes.now × (at < length s.now) }
+fn char_at(utf16: bool, s: &[u8], at: usize) -> Char
+    requires { at < length s.now }
     ensures { Told utf16 s.now at (sort_number result.sort) result.width }
 {
     if utf16 & (2 <= s.len() - at) {
         let high = s[at + 1];
         if high / 8 != 27 {
             return Char {
-                sort: sort_in(classes, unit_of(s[at], high)),
+                sort: sort_of(unit_of(s[at], high)),
                 width: 2,
             };
         }
@@ -54,7 +54,7 @@ fn char_at(classes: &[u8], utf16: bool, s: &[u8], at: usize) -> Char
         };
     }
     Char {
-        sort: sort_in(classes, t.value),
+        sort: sort_of(t.value),
         width: t.width,
     }
 }
@@ -84,7 +84,7 @@ pub fn begins_well(classes: &[u8], utf16: bool, s: &[u8]) -> bool
 {
     match ascii_at(classes, utf16, s, 0) {
         Some(sort) => sort == Sort::Start,
-        None => char_at(classes, utf16, s, 0).sort == Sort::Start,
+        None => char_at(utf16, s, 0).sort == Sort::Start,
     }
 }
 
@@ -155,17 +155,16 @@ fn utf8_run(classes: &[u8], s: &[u8], at: usize, to: usize) -> usize
 
 // Whether a unit of UTF-16 needs no decoding: one of ASCII that is a char of a name, or one whose high byte says that it is a start. False tells
 // nothing.
+#[tactic(auto, using(crate::proofs::UnitChars::unit_plain, crate::proofs::UnitChars::unit_far_high))]
 fn is_plain_unit(classes: &[u8], b: u8, c: u8) -> bool
     requires { IsTable classes.now }
     ensures { result ≡ true → UnitChar b c }
 {
-    if c != 0 {
-        return far_high(c);
+    let u = unit_of(b, c);
+    if u < 128 {
+        return classes[u as usize] != 0;
     }
-    match ascii_sort(classes, b) {
-        Some(sort) => sort != Sort::Outside,
-        None => false,
-    }
+    far_high(c)
 }
 
 // The end of such units one behind the other from `at` on, none of which ends behind `to`.
@@ -191,7 +190,7 @@ fn utf16_chars(classes: &[u8], s: &[u8], at: usize, to: usize) -> usize
     let from = units_end(s, at, to);
     let mut i = units_run(classes, s, from, to);
     while i < to {
-        let u = char_at(classes, true, s, i);
+        let u = char_at(true, s, i);
         if u.sort == Sort::Outside {
             return i;
         }
@@ -201,15 +200,15 @@ fn utf16_chars(classes: &[u8], s: &[u8], at: usize, to: usize) -> usize
 }
 
 // How far to go from a char in UTF-8 that its first byte does not tell: nowhere where it is in no name.
-fn wide_step(classes: &[u8], s: &[u8], at: usize) -> Option<usize>
-    requires { IsTable classes.now × (at < length s.now) }
+fn wide_step(s: &[u8], at: usize) -> Option<usize>
+    requires { at < length s.now }
     ensures none { IsNone result → chars_in false (drop at s.now) ≡ false }
     ensures some { IfSome result (λ w. Went false s.now at w) }
 {
     if let Some(w) = wide_width(s, at) {
         return Some(w);
     }
-    let t = char_at(classes, false, s, at);
+    let t = char_at(false, s, at);
     if t.sort == Sort::Outside {
         return None;
     }
@@ -232,7 +231,7 @@ fn utf8_width(classes: &[u8], s: &[u8], at: usize) -> Option<usize>
     if lead_clear(b) {
         return Some(1);
     }
-    wide_step(classes, s, at)
+    wide_step(s, at)
 }
 
 // UTF-8: blocks that are clear, and then byte by byte.

@@ -15,7 +15,7 @@ pub mod units;
 ghost use Rattle.std.specs.Prelude.{◌≡◌, false, ◌<◌, ◌≤◌, ◌&&◌, IfSome, IsNone};
 ghost use Rattle.utf.specs.Text.{is_sound};
 ghost use Rattle.xml.specs.NCName.{in_ranges, char_sort, valid_name};
-ghost use Rattle.xml.specs.Inner.NameRun.{IsTable, ends_of, sort_number};
+ghost use Rattle.xml.specs.Inner.NameRun.{IsTable, sort_number};
 
 use blocks::stretch_at;
 use chars::{begins_well, chars_run, is_seen_name};
@@ -40,38 +40,12 @@ const CLASSES: [u8; 256] = *b"\
     \x03\x03\x03\x03\x03\x03\x03\x03\x03\x03\x03\x03\x03\x03\x03\x03\
     \x03\x03\x03\x03\x03\x03\x03\x03\x03\x03\x03\x03\x03\x03\x03\x03";
 
-// NameStartChar beyond ASCII, a first and a last number each.
-const START_BEYOND: [(u32, u32); 12] = [
-    (0xc0, 0xd6),
-    (0xd8, 0xf6),
-    (0xf8, 0x2ff),
-    (0x370, 0x37d),
-    (0x37f, 0x1fff),
-    (0x200c, 0x200d),
-    (0x2070, 0x218f),
-    (0x2c00, 0x2fef),
-    (0x3001, 0xd7ff),
-    (0xf900, 0xfdcf),
-    (0xfdf0, 0xfffd),
-    (0x10000, 0xeffff),
-];
-
-// What NameChar has besides beyond ASCII.
-const MORE_BEYOND: [(u32, u32); 3] = [(0xb7, 0xb7), (0x300, 0x36f), (0x203f, 0x2040)];
-
 // What a char is in a name: nothing, or a start, which may come first or later, or one that comes later only.
 #[derive(Clone, Copy, PartialEq, Eq)]
 pub enum Sort {
     Outside,
     Start,
     Later,
-}
-
-// Whether v lies in one of the ranges.
-fn in_ranges(rs: &[(u32, u32)], v: u32) -> bool
-    ensures { result ≡ in_ranges (ends_of rs.now) v }
-{
-    rs.iter().any(|&(first, last)| (first..=last).contains(&v))
 }
 
 // What a byte of ASCII is in a name; nothing of a byte beyond ASCII. `classes` is the table, which the caller makes once.
@@ -88,29 +62,30 @@ fn ascii_sort(classes: &[u8], b: u8) -> Option<Sort>
     }
 }
 
-// What a value beyond ASCII is in a name.
-fn beyond_sort(v: u32) -> Sort
-    requires { 128 ≤ v }
+// What a value is in a name: NameStartChar, and what NameChar has besides.
+#[tactic(auto, using(std::proofs::lemmas::Bool::Decides::nat_tests), unfolding(crate::specs::NCName::in_ranges, crate::specs::NCName::is_start, crate::specs::NCName::is_char, crate::specs::NCName::char_sort))]
+fn sort_of(v: u32) -> Sort
     ensures { sort_number result ≡ char_sort v }
 {
-    if in_ranges(&START_BEYOND, v) {
-        return Sort::Start;
+    match v {
+        0x41..=0x5a
+        | 0x5f
+        | 0x61..=0x7a
+        | 0xc0..=0xd6
+        | 0xd8..=0xf6
+        | 0xf8..=0x2ff
+        | 0x370..=0x37d
+        | 0x37f..=0x1fff
+        | 0x200c..=0x200d
+        | 0x2070..=0x218f
+        | 0x2c00..=0x2fef
+        | 0x3001..=0xd7ff
+        | 0xf900..=0xfdcf
+        | 0xfdf0..=0xfffd
+        | 0x10000..=0xeffff => Sort::Start,
+        0x2d..=0x2e | 0x30..=0x39 | 0xb7 | 0x300..=0x36f | 0x203f..=0x2040 => Sort::Later,
+        _ => Sort::Outside,
     }
-    if in_ranges(&MORE_BEYOND, v) {
-        return Sort::Later;
-    }
-    Sort::Outside
-}
-
-// What a value is in a name.
-fn sort_in(classes: &[u8], v: u32) -> Sort
-    requires { IsTable classes.now }
-    ensures { sort_number result ≡ char_sort v }
-{
-    if 128 <= v {
-        return beyond_sort(v);
-    }
-    ascii_sort(classes, v as u8).unwrap_or(Sort::Outside)
 }
 
 // Whether the text, in UTF-16 or UTF-8, is an NCName: blocks are passed whole, and what they leave is looked at char by char.

@@ -1,7 +1,7 @@
 -- `xml::ascii_sort` meets its contract, by the class of the byte.
 use mathlib.Core.Path.{sym, ◌∙◌}
 use native.Mathlib.Omega.{arith}
-use Rattle.xml.proofs.Ranges.{class-ascii, class-beyond}
+use Rattle.xml.proofs.Sorts.{class-ascii, class-beyond}
 use Rattle.xml.proofs.ascii_sort.Goals as goal
 
 pub returns-in-0-clause-ascii : goal.returns-in-0-clause-ascii

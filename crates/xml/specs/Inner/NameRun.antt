@@ -1,7 +1,6 @@
 -- What the code is told while it goes through a name. Only the contracts of inner functions cite this file.
 --
 --   IsTable    a table that has the class of each byte
---   ends_of     the first and the last numbers of ranges, one behind the other
 --   sort_number  the number of a sort (src/lib.rt): 1 first or later in a name, 2 later only, 0 in none
 --   sort_at     what a step is in a name: the sort of its value, and in none where it is bad in UTF-16, whose text is then refused
 --   begins     the first step is a start
@@ -13,7 +12,7 @@
 --   Went       from a place on so many bytes, one at least, are chars of a name
 --   Reached    what lies between two places is chars of a name, and where the second lies before `to`, what is left from there on is no part of one
 --   Ahead      what lies before `from` is chars of a name, and sound; `to` is a place inside or the end, behind `at`
-use Rattle.std.specs.Prelude.{◌≡◌, ℕ, ◌+◌, ◌≤◌, ◌<◌, Bool, false, not, ◌&&◌, cond, List, [], ◌∷◌, eqb, length, get_or, drop}
+use Rattle.std.specs.Prelude.{◌≡◌, ℕ, ◌+◌, ◌≤◌, ◌<◌, Bool, false, not, ◌&&◌, cond, List, eqb, length, get_or, drop}
 use Rattle.xml.specs.declared.Sort.{Sort}
 use Rattle.xml.specs.declared.Sort.TheVariants.{Outside, Start, Later}
 use Rattle.utf.specs.declared.Step.{Step}
@@ -23,10 +22,6 @@ use Rattle.xml.specs.NCName.{char_sort, class_of, all_char}
 pub record IsTable (t : List ℕ) : Type 0 where
   pub size : length t ≡ 256
   pub right : (b : ℕ) → b < 256 → get_or t b 0 ≡ class_of b
-
-abbrev pub ends_of : List (ℕ × ℕ) → List ℕ
-ends_of [] = []
-ends_of (r ∷ rs) = r.0 ∷ r.1 ∷ ends_of rs
 
 abbrev pub sort_number : Sort → ℕ
 sort_number Outside = 0

@@ -21,5 +21,5 @@ returns-then-high-ne27 c =
     let p = both_true a.utf16 (leb 2 (length s - a.at)) c.if-utf16-s.true in
     let two = leb-true 2 (length s - a.at) p.1 in
     let took = took-unit s a.at (omega arith) bytes c.if-high-ne27.true in
-    let unit = told true s a.at _ 2 _ true took (c.sort_in.ensures ∙ ap char_sort c.unit_of.ensures) in
-    subst (λ (u : Bool). Told u s a.at (sort_number c.sort_in.result) 2) (sym p.0) unit
+    let unit = told true s a.at _ 2 _ true took (c.sort_of.ensures ∙ ap char_sort c.unit_of.ensures) in
+    subst (λ (u : Bool). Told u s a.at (sort_number c.sort_of.result) 2) (sym p.0) unit

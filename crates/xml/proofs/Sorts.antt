@@ -1,23 +1,11 @@
--- Laws of the ranges of specs/NCName.antt: a list of ranges, two numbers at a time; what a value's sort says; ASCII and beyond.
-use mathlib.Core.Path.{◌≡◌, refl, ap, ◌∙◌}
+-- Laws of the sorts of specs/NCName.antt: what a value's sort says; ASCII and beyond.
+use mathlib.Core.Path.{◌≡◌, refl, ◌∙◌}
 use mathlib.Core.Bool.{Bool, true, false, not, ◌||◌, cond}
-use mathlib.Core.List.{List, [], ◌∷◌}
-use Prim.Native.Nat.{ℕ, zero, suc, ◌+◌, ◌≤◌, ◌<◌}
+use Prim.Native.Nat.{ℕ, ◌≤◌, ◌<◌}
 use native.Mathlib.Omega.{arith}
 use borrow.Author.Tests.{le-leb, lt-leb, ltb-true, ltb-false}
 use lib.Dec.{ltb, eqb}
-use lib.ListN.{length, drop, get_or}
-use Rattle.std.specs.List.{list_any}
-use Rattle.utf.specs.Utf8.{inside}
 use Rattle.xml.specs.NCName.{in_ranges, name_start, name_more, is_start, is_char, char_sort, class_of}
-use Rattle.xml.specs.Inner.NameRun.{ends_of}
-
--- ---- a list of ranges
-
-pub in_ranges-any : (rs : List (ℕ × ℕ)) (v : ℕ) → list_any (λ (r : ℕ × ℕ). inside r.0 r.1 v) rs ≡ in_ranges (ends_of rs) v
-unfolding in_ranges
-in_ranges-any [] v = refl
-in_ranges-any (r ∷ rs) v = rw (in_ranges-any rs v)
 
 -- ---- the sort of a value
 
@@ -72,42 +60,3 @@ class-beyond b k e h = go (ltb b 128) refl
     go : (t : Bool) → ltb b 128 ≡ t → 128 ≤ b
     go true f = let z = class_of-ascii b (ltb-true b 128 f) in let m = char_sort-most b in absurd (let y : ⊥ = omega arith in y)
     go false f = ltb-false b 128 f
-
--- ---- a value beyond ASCII: the ranges of ASCII do not hold it
-
-start-beyond : (v : ℕ) → 128 ≤ v → in_ranges name_start v ≡ in_ranges (drop 6 name_start) v
-unfolding in_ranges
-start-beyond v h =
-    rw (
-      le-leb 0x41 v (omega arith),
-      lt-leb v 0x5a (omega arith),
-      le-leb 0x5f v (omega arith),
-      lt-leb v 0x5f (omega arith),
-      le-leb 0x61 v (omega arith),
-      lt-leb v 0x7a (omega arith),
-    )
-
-more-beyond : (v : ℕ) → 128 ≤ v → in_ranges name_more v ≡ in_ranges (drop 6 name_more) v
-unfolding in_ranges
-more-beyond v h =
-    rw (
-      le-leb 0x2d v (omega arith),
-      lt-leb v 0x2d (omega arith),
-      le-leb 0x2e v (omega arith),
-      lt-leb v 0x2e (omega arith),
-      le-leb 0x30 v (omega arith),
-      lt-leb v 0x39 (omega arith),
-    )
-
-module _ (v : ℕ) (h : 128 ≤ v) where
-  pub char_sort-one : in_ranges (drop 6 name_start) v ≡ true → char_sort v ≡ 1
-  unfolding char_sort is_start
-  char_sort-one e = rw (start-beyond v h ∙ e)
-
-  pub char_sort-two : in_ranges (drop 6 name_start) v ≡ false → in_ranges (drop 6 name_more) v ≡ true → char_sort v ≡ 2
-  unfolding char_sort is_start is_char
-  char_sort-two e f = rw (start-beyond v h ∙ e, more-beyond v h ∙ f)
-
-  pub char_sort-none : in_ranges (drop 6 name_start) v ≡ false → in_ranges (drop 6 name_more) v ≡ false → char_sort v ≡ 0
-  unfolding char_sort is_start is_char
-  char_sort-none e f = rw (start-beyond v h ∙ e, more-beyond v h ∙ f)
