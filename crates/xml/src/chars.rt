@@ -24,11 +24,11 @@ pub struct Char {
     pub width: usize,
 }
 
-// The value of a unit of UTF-16, of which b is the low byte.
+// The value of a unit of UTF-16, of which b is the low byte. The compiler reads a unit at once in this form, and not by `u16::from_le_bytes`.
 fn unit_of(b: u8, c: u8) -> u32
     ensures { result ≡ b + c * 256 }
 {
-    u32::from(u16::from_le_bytes([b, c]))
+    u32::from(b) + u32::from(c) * 256
 }
 
 // The char at a place inside. In UTF-8 what is damaged is U+FFFD, which is a start. In UTF-16 a unit that is no surrogate is its own value, and an

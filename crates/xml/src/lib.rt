@@ -62,8 +62,9 @@ fn ascii_sort(classes: &[u8], b: u8) -> Option<Sort>
     }
 }
 
-// What a value is in a name: NameStartChar, and what NameChar has besides.
-#[tactic(auto, using(std::proofs::lemmas::Bool::Decides::nat_tests), unfolding(crate::specs::NCName::in_ranges, crate::specs::NCName::is_start, crate::specs::NCName::is_char, crate::specs::NCName::char_sort))]
+// What a value is in a name: a start by the ranges of NameStartChar, and later only by those that NameChar has besides.
+// Ruled out: a start for U+00B7, which may only follow; anything but Outside for U+00D7, U+037E and a surrogate.
+#[tactic(auto, using(std::proofs::lemmas::Bool::Decides::nat_tests), unfolding(crate::specs::NCName::char_sort))]
 fn sort_of(v: u32) -> Sort
     ensures { sort_number result ≡ char_sort v }
 {
