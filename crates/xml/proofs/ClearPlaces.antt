@@ -1,7 +1,7 @@
 -- Laws of specs/Inner/ClearPlaces.antt: a clear place is passed by one byte, whether a char begins there or not (`clear-passes`).
 -- In order: the values of four bytes that are clear; a place. Which bytes are clear: proofs/ClearBytes.antt.
 use mathlib.Core.Path.{◌≡◌, refl, sym, subst, ap, ◌∙◌}
-use mathlib.Core.Bool.{Bool, true, false, cond}
+use mathlib.Core.Bool.{Bool, true, false}
 use mathlib.Core.List.{List}
 use Prim.Native.Nat.{ℕ, ◌+◌, ◌*◌, ◌%◌, ◌≤◌, ◌<◌}
 use native.Mathlib.Omega.{arith}

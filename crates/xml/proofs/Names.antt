@@ -1,5 +1,5 @@
 -- One turn of the loop over a name, and where it starts and ends.
-use mathlib.Core.Path.{◌≡◌, refl, sym, subst, ap, ◌∙◌}
+use mathlib.Core.Path.{◌≡◌, refl, sym, ap, ◌∙◌}
 use mathlib.Core.Bool.{Bool, true, false, not, ◌&&◌, cond, true≢false}
 use mathlib.Core.List.{List}
 use Prim.Native.Nat.{ℕ, suc, ◌+◌, ◌*◌, ◌/◌, ◌≤◌, ◌<◌}
@@ -17,7 +17,7 @@ use Rattle.xml.specs.declared.Sort.{Sort}
 use Rattle.xml.specs.declared.Sort.TheVariants.{Outside, Start, Later}
 use Rattle.xml.specs.contracts.Sort.{the_type}
 use Rattle.xml.specs.NCName.{is_start, is_char, char_sort, all_char, is_nc_name, valid_name}
-use Rattle.xml.specs.Inner.NameRun.{sort_number, sort_by, sort_at, begins, chars_in, Told, Passed, Seen, Takes, Went, Reached}
+use Rattle.xml.specs.Inner.NameRun.{sort_number, sort_by, sort_at, begins, chars_in, Told, Passed, Seen, Went, Reached}
 use Rattle.xml.proofs.Chains.{chain_of}
 use Rattle.xml.proofs.Sorts.{char_sort-start, char_sort-char}
 
@@ -85,9 +85,6 @@ module _ (utf16 : Bool) (s : List ℕ) (at sort width : ℕ) (h : at < length s)
 
 -- ---- the first char
 
-pub told-begins : (utf16 : Bool) (s : List ℕ) (sort width : ℕ) → Told utf16 s 0 sort width → eqb sort 1 ≡ begins utf16 s
-told-begins utf16 s sort width t = ap (λ (k : ℕ). eqb k 1) t.sort-is
-
 begins-by : (k : ℕ) (x : Bool) → (eqb k 1 && x) ≡ (eqb k 1 && (not (eqb k 0) && x))
 begins-by k x = go (eqb k 1) refl
   where
@@ -126,9 +123,6 @@ passed-chain s = chain_of (λ (i j : ℕ). Passed false s i j) (λ i. record { l
 pub seen_none : (utf16 : Bool) (s : List ℕ) (at : ℕ) → Seen utf16 s at at
 seen_none utf16 s at = record { passed = record { later = omega arith; rest = refl }; sound = refl }
 
-pub seen_nothing : (utf16 : Bool) (s : List ℕ) (at : ℕ) → Seen utf16 s at (at + 0)
-seen_nothing utf16 s at = let e : at ≡ at + 0 = omega arith in subst (λ (to : ℕ). Seen utf16 s at to) e (seen_none utf16 s at)
-
 pub seen-on : (utf16 : Bool) (s : List ℕ) (at i to : ℕ) → Seen utf16 s at i → Seen utf16 s i to → Seen utf16 s at to
 seen-on utf16 s at i to p q = record { passed = passed_on utf16 s at i to p.passed q.passed; sound = q.sound ∙ p.sound }
 
@@ -160,18 +154,12 @@ seen-char s at h b n c = seen_step true s at (get_or s at 0 + get_or s (at + 1) 
 
 -- ---- as far as a place: no char stands before it, or it is reached
 
-module _ (utf16 : Bool) (s : List ℕ) (at i to : ℕ) (p : Passed utf16 s at i) where
-  pub reached-to : to ≤ i → Reached utf16 s at to i
-  reached-to h = record { passed = p; stuck = λ k. absurd (let z : ⊥ = omega arith in z) }
-
-  pub reached-none : (sort width : ℕ) → i < length s → Told utf16 s i sort width → sort ≡ 0 → Reached utf16 s at to i
-  reached-none sort width h t e = record {
-    passed = p;
-    stuck = λ k. stops _ _ (not (eqb sort 0)) (turn-char utf16 s i sort width h t) (ap not (eq-eqb sort 0 e));
-  }
-
-  pub reached-stuck : chars_in utf16 (drop i s) ≡ false → Reached utf16 s at to i
-  reached-stuck e = record { passed = p; stuck = λ k. e }
+pub reached-none : (utf16 : Bool) (s : List ℕ) (at i to : ℕ) → Passed utf16 s at i → (sort width : ℕ) → i < length s → Told utf16 s i sort width → sort ≡ 0
+    → Reached utf16 s at to i
+reached-none utf16 s at i to p sort width h t e = record {
+  passed = p;
+  stuck = λ k. stops _ _ (not (eqb sort 0)) (turn-char utf16 s i sort width h t) (ap not (eq-eqb sort 0 e));
+}
 
 -- ---- so far from a place in UTF-8
 
@@ -188,9 +176,6 @@ module _ (s : List ℕ) (at sort width : ℕ) (h : at < length s) (t : Told fals
 
 pub went-one : (s : List ℕ) (at : ℕ) → at < length s → Passed false s at (at + 1) → Went false s at 1
 went-one s at h p = record { passed = p; least = omega arith; most = omega arith }
-
-pub went-takes : (s : List ℕ) (at width : ℕ) → Takes false s at width → Went false s at width
-went-takes s at width t = let m = t.most in record { passed = t.seen.passed; least = t.least; most = omega arith }
 
 -- ---- the ends
 
@@ -238,11 +223,5 @@ pub whole-utf8 : (utf16 : Bool) (s : List ℕ) (r : Bool) → utf16 ≡ false �
 whole-utf8 true s r w e = absurd (true≢false w)
 whole-utf8 false s r w e = e
 
-pub both : (x y : Bool) → x ≡ true → y ≡ true → true ≡ (x && y)
-both x y e f = rw (e, f)
-
 pub not_first : (x y : Bool) → x ≡ false → false ≡ (x && y)
 not_first x y e = rw e
-
-pub then-second : (x y r : Bool) → x ≡ true → r ≡ y → r ≡ (x && y)
-then-second x y r e f = rw e f

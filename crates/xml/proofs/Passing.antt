@@ -1,6 +1,6 @@
 -- Laws of a block (specs/Inner/Blocks.antt): what each of its bytes says, and that what it holds is chars of a name, and sound (`block-takes`).
 use mathlib.Core.Path.{◌≡◌, refl, sym, subst, ap, ◌∙◌}
-use mathlib.Core.Bool.{Bool, true, false, not, ◌&&◌, ◌||◌, cond, true≢false}
+use mathlib.Core.Bool.{Bool, true, false, true≢false}
 use mathlib.Core.List.{List}
 use Prim.Native.Nat.{ℕ, zero, suc, ◌+◌, ◌*◌, ◌%◌, ◌≤◌, ◌<◌}
 use native.Mathlib.Omega.{arith}
@@ -15,13 +15,6 @@ use Rattle.xml.specs.Inner.Blocks.{in_utf16, size_of, is_odd, fits_at, all_fit}
 use Rattle.xml.specs.Inner.NameRun.{Seen, Takes}
 use Rattle.xml.proofs.Names.{seen-chain, seen-char}
 use Rattle.xml.proofs.SeenChars.{unit-low, unit-far, seen_low, seen-pair, seen-triple}
-
--- ---- one of two answers, without a branch
-
-pub either : (test x y : Bool) → ((test && x) || (not test && y)) ≡ cond test x y
-either true true y = refl
-either true false y = refl
-either false x y = refl
 
 -- ---- a byte of a block, at its place
 

@@ -42,6 +42,7 @@ pub fn ascii_low(b: u8) -> bool
 
 // Whether each unit of UTF-16 with the high byte b is a start, whatever its low byte is.
 // Ruled out: true of 03, which U+037E has; true of D8, which a surrogate has.
+#[tactic(auto, unfolding(crate::specs::Inner::SeenChars::far_high))]
 pub fn far_high(b: u8) -> bool
     ensures { result ≡ far_high b }
 {
@@ -50,6 +51,7 @@ pub fn far_high(b: u8) -> bool
 
 // Whether b may follow the first byte of a char in UTF-8.
 // Ruled out: true of C0, true of 7F.
+#[tactic(auto, unfolding(crate::specs::Inner::SeenChars::is_trail))]
 pub fn is_trail(b: u8) -> bool
     ensures { result ≡ is_trail b }
 {
@@ -58,6 +60,7 @@ pub fn is_trail(b: u8) -> bool
 
 // Whether each char of two bytes in UTF-8 that begins with b is a char of a name.
 // Ruled out: true of CD, which U+037E has; true of C3, which U+00D7 has.
+#[tactic(auto, unfolding(crate::specs::Inner::SeenChars::pair_lead))]
 pub fn pair_lead(b: u8) -> bool
     ensures { result ≡ pair_lead b }
 {
@@ -66,6 +69,7 @@ pub fn pair_lead(b: u8) -> bool
 
 // Whether each char of three bytes in UTF-8 that begins with b is a start, but for those whose second byte is 80.
 // Ruled out: true of E2, which U+2190 has; true of ED, behind which A0 to BF is ill-formed.
+#[tactic(auto, unfolding(crate::specs::Inner::SeenChars::triple_lead))]
 pub fn triple_lead(b: u8) -> bool
     ensures { result ≡ triple_lead b }
 {
@@ -74,6 +78,7 @@ pub fn triple_lead(b: u8) -> bool
 
 // Whether b may be the second byte of such a char.
 // Ruled out: true of 80, which U+3000 has behind E3; true of C0.
+#[tactic(auto, unfolding(crate::specs::Inner::SeenChars::triple_second))]
 pub fn triple_second(b: u8) -> bool
     ensures { result ≡ triple_second b }
 {
@@ -106,6 +111,7 @@ fn size_of(form: Form) -> usize
 }
 
 // Whether b may stand at place k of a block.
+#[tactic(auto, unfolding(crate::specs::Inner::Blocks::fits_at))]
 fn fits(form: Form, k: usize, b: u8) -> bool
     ensures { result ≡ fits_at form k b }
 {

@@ -91,6 +91,7 @@ pub fn begins_well(classes: &[u8], utf16: bool, s: &[u8]) -> bool
 // ---- a run of chars that need no decoding
 
 // Whether two bytes in UTF-8 are a char of a name: the first byte tells it, and with C3, which U+00D7 and U+00F7 have, the second too. False tells nothing.
+#[tactic(auto, unfolding(crate::specs::Inner::SeenChars::is_pair, crate::specs::Inner::SeenChars::latin_pair))]
 fn is_pair(b: u8, c: u8) -> bool
     ensures { result ≡ is_pair b c }
 {
@@ -98,6 +99,7 @@ fn is_pair(b: u8, c: u8) -> bool
 }
 
 // Whether three bytes in UTF-8 are one. False tells nothing.
+#[tactic(auto, unfolding(crate::specs::Inner::SeenChars::is_triple))]
 fn is_triple(b: u8, c: u8, d: u8) -> bool
     ensures { result ≡ is_triple b c d }
 {
