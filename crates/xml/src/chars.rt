@@ -24,11 +24,11 @@ pub struct Char {
     pub width: usize,
 }
 
-// The value of a unit of UTF-16, of which b is the low byte. The compiler reads a unit at once in this form, and not by `u16::from_le_bytes`.
+// The value of a unit of UTF-16, of which b is the low byte.
 fn unit_of(b: u8, c: u8) -> u32
     ensures { result ≡ b + c * 256 }
 {
-    u32::from(b) + u32::from(c) * 256
+    u32::from(u16::from_le_bytes([b, c]))
 }
 
 // The char at a place inside. In UTF-8 what is damaged is U+FFFD, which is a start. In UTF-16 a unit that is no surrogate is its own value, and an
@@ -157,7 +157,7 @@ fn utf8_run(classes: &[u8], s: &[u8], at: usize, to: usize) -> usize
 
 // Whether a unit of UTF-16 needs no decoding: one of ASCII that is a char of a name, or one whose high byte says that it is a start. False tells
 // nothing.
-#[tactic(auto, using(crate::proofs::UnitChars::unit_plain, crate::proofs::UnitChars::unit_far_high))]
+#[tactic(auto, using(crate::proofs::UnitChars::unit_plain, crate::proofs::UnitChars::unit_high))]
 fn is_plain_unit(classes: &[u8], b: u8, c: u8) -> bool
     requires { IsTable classes.now }
     ensures { result ≡ true → UnitChar b c }
@@ -166,7 +166,8 @@ fn is_plain_unit(classes: &[u8], b: u8, c: u8) -> bool
     if u < 128 {
         return classes[u as usize] != 0;
     }
-    far_high(c)
+    // not `far_high(c)`: the compiler reads both bytes at once only where neither is used by itself
+    far_high((u / 256) as u8)
 }
 
 // The end of such units one behind the other from `at` on, none of which ends behind `to`.
