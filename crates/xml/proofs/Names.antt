@@ -115,7 +115,8 @@ passed-more utf16 s at i sort width p h t n = record {
   rest = sym (goes _ _ (not (eqb sort 0)) (turn-char utf16 s i sort width h t) (ap not (ne_eqb sort 0 n))) ∙ p.rest;
 }
 
-pub passed-chain : (s : List ℕ) (f : ℕ → ℕ) (n at to : ℕ) → f 0 ≡ at → f n ≡ to → ((k j : ℕ) → k < n → j ≡ f (suc k) → Passed false s (f k) j) → Passed false s at to
+pub passed-chain : (s : List ℕ) (f : ℕ → ℕ) (n at to : ℕ) → f 0 ≡ at → f n ≡ to → ((k j : ℕ) → k < n → j ≡ f (suc k) → Passed false s (f k) j)
+    → Passed false s at to
 passed-chain s = chain_of (λ (i j : ℕ). Passed false s i j) (λ i. record { later = omega arith; rest = refl }) (λ i j k. passed_on false s i j k)
 
 -- ---- a run of chars that are sound

@@ -150,7 +150,8 @@ module _ (form : Form) where
   pub size_of-le : size_of form ≤ 64
   size_of-le = size_of-ends.1
 
-  pub block-takes : (s : List ℕ) (at n : ℕ) → n ≡ size_of form → at + 64 ≤ length s → ((k : ℕ) → get_or s k 0 < 256) → true ≡ all_fit form s at (size_of form)
+  pub block-takes : (s : List ℕ) (at n : ℕ) → n ≡ size_of form → at + 64 ≤ length s
+      → ((k : ℕ) → get_or s k 0 < 256) → true ≡ all_fit form s at (size_of form)
       → Takes (in_utf16 form) s at n
   block-takes s at n e h b f =
       let m = size_of-ends in

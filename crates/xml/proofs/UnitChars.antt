@@ -2,7 +2,7 @@
 use mathlib.Core.Path.{◌≡◌, refl, sym, subst, ap, ◌∙◌}
 use mathlib.Core.Bool.{Bool, true, false, not}
 use mathlib.Core.List.{List}
-use Prim.Native.Nat.{ℕ, ◌+◌, ◌*◌, ◌/◌, ◌≤◌, ◌<◌}
+use Prim.Native.Nat.{ℕ, ◌+◌, ◌*◌, ◌≤◌, ◌<◌}
 use native.Mathlib.Omega.{arith}
 use borrow.Author.Tests.{ltb-true, ltb-false, eqb-false, not-true}
 use lib.Dec.{ltb, eqb}
@@ -36,15 +36,12 @@ unit-letter b h l n m = latin-unit b (latin-char b l h n m)
 pub unit_is_far : {b c : ℕ} → b < 256 → far_high c ≡ true → UnitChar b c
 unit_is_far {b} {c} h e = let u = unit-far b c h e in record { alone = u.0; char = u.1 }
 
--- ---- a unit by its value: ASCII by its class in the table, another one by its high byte
+-- ---- a unit of ASCII, by its class in the table
 
 pub unit_plain : {t : List ℕ} {b c u : ℕ} → IsTable t → u ≡ b + c * 256 → u < 128 → not (eqb (get_or t u 0) 0) ≡ true → UnitChar b c
 unit_plain {t} {b} {c} {u} r e h n =
     let a = r.right u (omega arith) ∙ class_of-ascii u h in
     record { alone = λ z. omega arith; char = λ z. eqb-false (get_or t u 0) 0 (not-true _ n) (a ∙ ap char_sort e ∙ z) }
-
-pub unit_high : {b c u : ℕ} → u ≡ b + c * 256 → b < 256 → far_high (u / 256) ≡ true → UnitChar b c
-unit_high {b} {c} {u} e h f = let z : u / 256 ≡ c = omega arith in unit_is_far h (sym (ap far_high z) ∙ f)
 
 -- ---- another one
 
@@ -96,8 +93,8 @@ module _ (b c : ℕ) (h : b < 256) where
 
 -- ---- units one behind the other
 
-pub units-all : (s : List ℕ) (at n to : ℕ) → to ≡ at + 2 * n → ((k : ℕ) → k < n → at + 2 * k + 1 < length s) → ((i : ℕ) → get_or s i 0 < 256)
-    → ((k : ℕ) → k < n → UnitChar (get_or s (at + 2 * k) 0) (get_or s (at + 2 * k + 1) 0)) → Seen true s at to
+pub units-all : (s : List ℕ) (at n to : ℕ) → to ≡ at + 2 * n → ((k : ℕ) → k < n → at + 2 * k + 1 < length s)
+    → ((i : ℕ) → get_or s i 0 < 256) → ((k : ℕ) → k < n → UnitChar (get_or s (at + 2 * k) 0) (get_or s (at + 2 * k + 1) 0)) → Seen true s at to
 units-all s at n to e h b p =
     seen-chain true s (λ k. at + 2 * k) n at to (omega arith) (sym e)
     (λ k j l i.

@@ -155,10 +155,9 @@ fn utf8_run(classes: &[u8], s: &[u8], at: usize, to: usize) -> usize
     i
 }
 
-// Whether a unit of UTF-16 needs no decoding: one of ASCII that is a char of a name, or one whose high byte says that it is a start. False tells
-// nothing.
-#[tactic(auto, using(crate::proofs::UnitChars::unit_plain, crate::proofs::UnitChars::unit_high))]
-fn is_plain_unit(classes: &[u8], b: u8, c: u8) -> bool
+// Whether a unit of UTF-16 is one of ASCII that is a char of a name.
+#[tactic(auto, using(crate::proofs::UnitChars::unit_plain))]
+fn is_ascii_unit(classes: &[u8], b: u8, c: u8) -> bool
     requires { IsTable classes.now }
     ensures { result ≡ true → UnitChar b c }
 {
@@ -166,21 +165,23 @@ fn is_plain_unit(classes: &[u8], b: u8, c: u8) -> bool
     if u < 128 {
         return classes[u as usize] != 0;
     }
-    // not `far_high(c)`: the compiler reads both bytes at once only where neither is used by itself
-    far_high((u / 256) as u8)
+    false
 }
 
-// The end of such units one behind the other from `at` on, none of which ends behind `to`.
+// The end of the units one behind the other from `at` on that need no decoding, none of which ends behind `to`: those of ASCII, and then those whose high
+// byte says that they are starts. Each has a loop of its own: the compiler reads the two bytes of a unit at once only where neither is used by itself.
 fn units_run(classes: &[u8], s: &[u8], at: usize, to: usize) -> usize
     requires { IsTable classes.now × (to ≤ length s.now) }
     ensures { Seen true s.now at result }
 {
     let most = to.saturating_sub(at) / 2;
-    let units = passing(
+    let ascii = passing(
         most,
-        |k| is_plain_unit(classes, s[at + 2 * k], s[at + 2 * k + 1]),
+        |k| is_ascii_unit(classes, s[at + 2 * k], s[at + 2 * k + 1]),
     );
-    at + 2 * units
+    let from = at + 2 * ascii;
+    let far = passing(most - ascii, |k| far_high(s[from + 2 * k + 1]));
+    from + 2 * far
 }
 
 // ---- a run of chars, up to one that is in no name

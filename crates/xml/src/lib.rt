@@ -21,7 +21,7 @@ use blocks::stretch_at;
 use chars::{begins_well, chars_run, is_seen_name};
 use utf::is_sound;
 
-// The class of each byte: 0 in no name, 1 first or later, 2 later only, 3 beyond ASCII.
+// The class of each byte: 0 in no name, 1 first or later, 2 later only, 3 beyond ASCII. Numbers here: 256 names of an enum would be no plainer.
 const CLASSES: [u8; 256] = *b"\
     \x00\x00\x00\x00\x00\x00\x00\x00\x00\x00\x00\x00\x00\x00\x00\x00\
     \x00\x00\x00\x00\x00\x00\x00\x00\x00\x00\x00\x00\x00\x00\x00\x00\
