@@ -14,7 +14,7 @@ pub mod units;
 
 ghost use Rattle.std.specs.Prelude.{◌≡◌, false, ◌<◌, ◌≤◌, ◌&&◌, IfSome, IsNone};
 ghost use Rattle.utf.specs.Text.{is_sound};
-ghost use Rattle.xml.specs.NCName.{in_ranges, char_sort, valid_name};
+ghost use Rattle.xml.specs.NCName.{char_sort, valid_name};
 ghost use Rattle.xml.specs.Inner.NameRun.{IsTable, sort_number};
 
 use blocks::stretch_at;
