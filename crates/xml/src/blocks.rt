@@ -130,7 +130,7 @@ fn fits(form: Form, k: usize, b: u8) -> bool
 
 // Whether the test passes at each of the n places of a block. The least of the answers decides, so that the loop has no early way out.
 // Ruled out: true where the test fails at one place, false where it passes at all.
-pub fn all_pass<F: Fn(usize) -> bool>(n: usize, test: F) -> bool
+pub(crate) fn all_pass<F: Fn(usize) -> bool>(n: usize, test: F) -> bool
     requires { (k : ℕ) → k < n → F.pre test k }
     ensures passes { result ≡ true → (k : ℕ) → k < n → F.post test k true }
     ensures fails { result ≡ false → (k : ℕ) × (k < n) × F.post test k false }
@@ -144,7 +144,7 @@ pub fn all_pass<F: Fn(usize) -> bool>(n: usize, test: F) -> bool
 
 // How many of n places pass the test, one behind the other from the first on: n, or as many as stand before the first at which it fails.
 // Ruled out: a number that counts a place at which the test fails, and one that stops where it passes.
-pub fn passing<F: Fn(usize) -> bool>(n: usize, test: F) -> usize
+pub(crate) fn passing<F: Fn(usize) -> bool>(n: usize, test: F) -> usize
     requires { (k : ℕ) → k < n → F.pre test k }
     ensures within { result ≤ n }
     ensures passes { (k : ℕ) → k < result → F.post test k true }
