@@ -12,7 +12,8 @@ use super::{is_sound, next_of};
 pub fn state_of(utf16: bool, s: &[u8]) -> u32
     ensures { result ≡ state_number (damage_of utf16 s.now) }
 {
-    if is_sound(utf16, s) {
+    let sound = is_sound(utf16, s);
+    if sound {
         return 0;
     }
     if utf16 {
