@@ -91,7 +91,7 @@ pub struct TextsWritten {
     pub length: usize,
 }
 
-// The numbers of a `ReadAnswer`, as a listing prints them.
+// The numbers of a reading's answer, as a listing prints them.
 #[derive(Clone, Copy)]
 pub struct Numbers {
     pub refusal: u32,
@@ -102,7 +102,7 @@ pub struct Numbers {
     pub notes: u32,
 }
 
-// The numbers of a `TextAnswer`.
+// The numbers of a text question's answer.
 #[derive(Clone, Copy)]
 pub struct TextNumbers {
     pub refusal: u32,
@@ -112,7 +112,7 @@ pub struct TextNumbers {
     pub replaced: u32,
 }
 
-// The numbers of a `LinesAnswer`.
+// The numbers of what was printed.
 #[derive(Clone, Copy)]
 pub struct LinesNumbers {
     pub refusal: u32,
@@ -120,7 +120,7 @@ pub struct LinesNumbers {
     pub length: u64,
 }
 
-// The numbers of a `FirstAnswer`.
+// The numbers of a first-value question's answer.
 #[derive(Clone, Copy)]
 pub struct FirstNumbers {
     pub refusal: u32,
@@ -130,7 +130,7 @@ pub struct FirstNumbers {
     pub reference: u32,
 }
 
-// The numbers of a `ValueAnswer`.
+// The numbers of a value text's answer.
 #[derive(Clone, Copy)]
 pub struct ValueNumbers {
     pub refusal: u32,
@@ -141,7 +141,7 @@ pub struct ValueNumbers {
     pub replaced: u32,
 }
 
-// The numbers of a `ManyTexts`.
+// The numbers of many texts' answer.
 #[derive(Clone, Copy)]
 pub struct ManyNumbers {
     pub refusal: u32,
@@ -381,7 +381,7 @@ pub fn many_numbers(a: Result<TextsWritten, Refusal>) -> ManyNumbers
 
 // ---- many pairs
 
-// The numbers of a `ManyAnswer`.
+// The numbers of many pairs' answer.
 #[derive(Clone, Copy)]
 pub struct PairNumbers {
     pub refusal: u32,

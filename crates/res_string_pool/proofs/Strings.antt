@@ -4,7 +4,7 @@
 use Rattle.std.specs.Prelude.{Some, None}
 use Prim.Native.Nat.{ℕ, ◌+◌, ◌*◌, ◌%◌, ◌≤◌, ◌<◌}
 use native.Mathlib.Omega.{arith}
-use mathlib.Core.Path.{◌≡◌, refl, sym}
+use mathlib.Core.Path.{◌≡◌, refl, sym, ap}
 use mathlib.Core.List.{List}
 use mathlib.Core.Bool.{Bool, true, false}
 use borrow.Author.Tests.{leb-true, leb-false, le-leb, lt-leb}
@@ -64,8 +64,9 @@ module _ (l : List ℕ) (at n closing : ℕ) where
       go true t =
           let p : at + n + closing ≤ length l = leb-true (at + n + closing) (length l) t in
           let s = within-content p in
-          let a : at ≡ k = cc in
-          let b : n ≡ u = cc in
+          let both : ◌≡◌ {A = ℕ × ℕ} (at, n) (k, u) = cc in
+          let a : at ≡ k = ap (λ (pair : ℕ × ℕ). pair.0) both in
+          let b : n ≡ u = ap (λ (pair : ℕ × ℕ). pair.1) both in
           (a, b, omega arith)
       go false t =
           let s = within-cut (leb-false (at + n + closing) (length l) t) in

@@ -1,6 +1,6 @@
 // A string of the pool: where its content lies.
 //
-// Mirrors structs/res_string_pool.rs (apk-info 13770539b8): `split_string`. Answers: `Split`, in lib.rt. Definitions: specs/Content.antt.
+// Mirrors structs/res_string_pool.rs (apk-info 13770539b8): `split_string`. Definitions: specs/Content.antt.
 // Differs from the Rust: the content is told by its place and length, so that a caller can hand out a part of the file.
 ghost use Rattle.std.specs.Prelude.{◌≡◌, ◌≤◌, ◌<◌};
 ghost use Rattle.field.specs.Le.{u8le, u16le};

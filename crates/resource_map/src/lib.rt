@@ -1,7 +1,7 @@
 // The resource map: resource ids by string index.
 //
-// Mirrors structs/xml_elements.rs (apk-info 13770539b8): `XMLResourceMap::parse`. Answers: `MapRead`, how many ids or which part
-// ran out. Definitions: specs/Map.antt. Differs from the Rust: the ids stay in the file, and one is read when it is asked for.
+// Mirrors structs/xml_elements.rs (apk-info 13770539b8): `XMLResourceMap::parse`. Definitions: specs/Map.antt.
+// Differs from the Rust: the ids stay in the file, and one is read when it is asked for.
 #![tactic(auto)]
 
 ghost use Rattle.std.specs.Prelude.{◌≡◌, ◌+◌, ◌*◌, ◌≤◌, length};

@@ -44,7 +44,7 @@ pub struct Added {
     pub round_up: RoundUp,
 }
 
-// The numbers of an `AddAnswer`.
+// The numbers of an answer to a file that is to be added.
 #[derive(Clone, Copy)]
 pub struct AddNumbers {
     pub refusal: u32,

@@ -2,7 +2,9 @@
 -- In order: a text that begins with p is as long (`starts_with-short`, `starts_with-le`); one byte of both (`starts_with-step`,
 -- `starts_with-differs`); all of p was compared (`starts_with-end`); what is left is no
 -- longer (`without-le`), and ASCII where the text is (`is_ascii-without`).
-use Rattle.std.proofs.Common.{◌≡◌, ℕ, ◌+◌, ◌<◌, ◌≤◌, Bool, true, false, cond, ◌&&◌, eqb, List, [], ◌∷◌, length, get_or, drop, refl, suc-le-suc, zero-le, le_of_suc-le-suc, not-suc-le-zero, add-one, arith, length-drop, drop-cons, eq-eqb, ne_eqb}
+use Rattle.std.proofs.Common.{◌≡◌, ℕ, ◌+◌, ◌<◌, ◌≤◌, Bool, true, false, cond, ◌&&◌, eqb, List, [], ◌∷◌, length, get_or, drop, refl}
+use Rattle.std.proofs.Common.{suc-le-suc, zero-le, le_of_suc-le-suc, not-suc-le-zero, add-one, arith, length-drop, drop-cons, eq-eqb}
+use Rattle.std.proofs.Common.{ne_eqb}
 use mathlib.Core.Bool.{and-false}
 use lib.Seq.{drop-length}
 use Rattle.utf.specs.Plain.{is_ascii}

@@ -3,7 +3,8 @@
 -- ids rise, how far an entry's id is from the first (`rises_by`), an entry with the id (`rising-found`), and the two parts that a
 -- search by halves knows (`Between`), one law for each way that a turn goes.
 use Rattle.std.specs.Prelude.{Some, None}
-use Rattle.std.proofs.Common.{◌≡◌, ℕ, zero, suc, ◌+◌, ◌*◌, ◌/◌, ◌<◌, ◌≤◌, Bool, true, false, ltb, List, [], ◌∷◌, length, get_or, sym, refl, ◌∙◌, arith, ltb-false, ltb-true, eq-eqb, ne_eqb}
+use Rattle.std.proofs.Common.{◌≡◌, ℕ, zero, suc, ◌+◌, ◌*◌, ◌/◌, ◌<◌, ◌≤◌, Bool, true, false, ltb, List, [], ◌∷◌, length, get_or, sym, refl}
+use Rattle.std.proofs.Common.{◌∙◌, arith, ltb-false, ltb-true, eq-eqb, ne_eqb}
 use Rattle.system_types.specs.Names.{top_byte, Rising, name_by_id, system_name}
 use Rattle.system_types.proofs.Laws.{get_d-behind}
 

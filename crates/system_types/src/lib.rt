@@ -1,6 +1,6 @@
 // The names of the framework's resources, by id: a table that the caller lends, its rule, and a name of it.
 //
-// Mirrors structs/system_types.rs (apk-info 13770539b8): `get_type_name`. Answers: `NamesRead`, `Lookup`. Definitions: specs/Names.antt.
+// Mirrors structs/system_types.rs (apk-info 13770539b8): `get_type_name`. Definitions: specs/Names.antt.
 // Differs from the Rust: there the table is compiled in, here it is three words a name over an area of bytes; and a name is
 // answered whole, so that leaving out `android:attr/` is a question of its own.
 #![tactic(auto)]
@@ -124,7 +124,7 @@ fn check_each(names: &[u32], area: &[u8], plain: bool) -> Result<(), usize>
 
 // Whether the lent names keep their rule. All of them are looked at, each time: a caller who asks often pays for each question. Where
 // the one pass finds all good, no entry is asked by itself.
-// Ruled out: Good for a table with a word too many, and the earlier of two entries whose ids do not rise.
+// Ruled out: Ok for a table with a word too many, and the earlier of two entries whose ids do not rise.
 pub fn check_names(names: &[u32], area: &[u8]) -> Result<(), usize>
     ensures { result ≡ names_of (lends names.now area.now) }
 {
@@ -188,7 +188,7 @@ fn by_halves(names: &[u32], wanted: ResourceId) -> Option<(u32, u32)>
 }
 
 // The name of an id: where it is guessed, if it is there, and else by halves.
-// Ruled out: the name of another id with the same low bytes, and Missing for the first or the last entry.
+// Ruled out: the name of another id with the same low bytes, and None for the first or the last entry.
 pub fn get_type_name(names: &[u32], id: ResourceId) -> Option<(u32, u32)>
     requires { Rising names.now }
     ensures { result ≡ system_name id.0 names.now }
