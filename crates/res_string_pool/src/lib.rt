@@ -141,10 +141,10 @@ fn second(garbage: Garbage, at: usize, m: &[u8]) -> PoolRead
     requires { at ≤ file_limit }
     ensures { result ≡ second_by garbage at m.now (header_of m.now) }
 {
-    match header_at(m, 0) {
-        None => short(garbage, PoolEnd::HeaderShort(m.len())),
-        Some(h) => pool_from(garbage, at, h, m),
-    }
+    let Some(h) = header_at(m, 0) else {
+        return short(garbage, PoolEnd::HeaderShort(m.len()));
+    };
+    pool_from(garbage, at, h, m)
 }
 
 // The pool behind the chunk with the header h, which stands in its place and is skipped by its size.
@@ -171,10 +171,13 @@ pub fn pool_of(s: &[u8]) -> PoolRead
     requires { length s.now ≤ file_limit }
     ensures { result ≡ pool_of s.now }
 {
-    match header_at(s, 0) {
-        None => short(Garbage::default(), PoolEnd::HeaderShort(s.len())),
-        Some(h) if h.kind == 1 => pool_from(Garbage::default(), 0, h, s),
-        Some(h) => behind_garbage(h, s),
+    let Some(h) = header_at(s, 0) else {
+        return short(Garbage::default(), PoolEnd::HeaderShort(s.len()));
+    };
+    if h.kind == 1 {
+        pool_from(Garbage::default(), 0, h, s)
+    } else {
+        behind_garbage(h, s)
     }
 }
 

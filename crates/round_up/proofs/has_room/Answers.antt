@@ -4,8 +4,8 @@ use native.Mathlib.Omega.{arith}
 use Rattle.round_up.proofs.Laws.{has_room-past, has_room-next, has_room-end}
 use Rattle.round_up.proofs.has_room.Goals as goal
 
-pub returns-then-more-i : goal.returns-then-more-i
-returns-then-more-i c =
+pub returns-then-more-counts : goal.returns-then-more-counts
+returns-then-more-counts c =
     let l = c.loop-i in
     let a = c.args in
     sym (has_room-past a.counts.now a.share.now l.i (omega arith) (omega arith) (omega arith)) ∙ l.invariant

@@ -4,4 +4,4 @@ use Rattle.round_up.specs.Inner.Turns.{laid_of}
 use Rattle.round_up.proofs.read_share.Given as goal
 
 abbrev pub invariant-loop-k : goal.invariant-loop-k
-invariant-loop-k l = l.share ≡ laid_of l.class l.kinds l.k
+invariant-loop-k l = l.share ≡ laid_of l.class l.fn.kinds l.k

@@ -7,7 +7,7 @@ use Rattle.res_string_pool.proofs.content.split_utf16.Goals as goal
 
 pub returns-then-u-ge32768 : goal.returns-then-u-ge32768
 returns-then-u-ge32768 c =
-    let n = 2 * (c.unit_at-u.result % 32768 * 65536 + c.unit_at.result) in
+    let n = 2 * (c.unit_at-u.result % 32768 * 65536 + c.unit_at-low.result) in
     c.content_in.ensures ∙ split16-by-two c.args.s.now n (omega arith) (omega arith)
 
 pub returns : goal.returns
