@@ -1,12 +1,10 @@
 -- Laws of `starts_with` and `without` of specs/Names.antt. No contract cites this file.
--- In order: a text that begins with p is as long (`starts_with-le`); the library's test and its `strip_prefix` (`starts_with-needle`,
--- `without-stripped`); what is left is no longer (`without-le`), and ASCII where the text is (`is_ascii-without`).
-use Rattle.std.specs.Prelude.{Option, Some, None}
-use Rattle.std.specs.Option.{MatchOption, unwrap_or}
+-- In order: a text that begins with p is as long (`starts_with-le`); the library's test (`starts_with-needle`); what is left is no
+-- longer (`without-le`), and ASCII where the text is (`is_ascii-without`).
 use Rattle.std.specs.Cmp.Lexicographic.{pointwise}
-use Rattle.std.proofs.Common.{◌≡◌, ℕ, zero, suc, ◌+◌, ◌≤◌, Bool, true, false, cond, ◌&&◌, eqb, List, [], ◌∷◌, length, take, drop, refl, sym, ◌∙◌}
-use Rattle.std.proofs.Common.{suc-le-suc, zero-le, arith, length-drop}
-use denote.Ref.{Bor}
+use Rattle.std.proofs.Common.{◌≡◌, ℕ, ◌≤◌, Bool, true, false, cond, ◌&&◌, eqb, List, [], ◌∷◌, length, take, drop, refl, sym}
+use Rattle.std.proofs.Common.{suc-le-suc, zero-le, arith, length-drop, eqb-true, eq-eqb, ne_eqb}
+use borrow.Author.Tests.{eqb-false}
 use Rattle.utf.specs.Plain.{is_ascii}
 use Rattle.utf.proofs.Ascii.{is_ascii-drop}
 use Rattle.system_types.specs.Names.{starts_with, without}
@@ -22,30 +20,17 @@ starts_with-le (a ∷ s) (x ∷ p) h = suc-le-suc (starts_with-le s p (second (e
     second false false e = e
 
 eqb-sym : (x a : ℕ) → eqb x a ≡ eqb a x
-eqb-sym zero zero = refl
-eqb-sym zero (suc a) = refl
-eqb-sym (suc x) zero = refl
-eqb-sym (suc x) (suc a) = eqb-sym x a
+eqb-sym x a = go (eqb a x) refl
+  where
+    go : (b : Bool) → eqb a x ≡ b → eqb x a ≡ b
+    go true e = eq-eqb x a (sym (eqb-true a x e))
+    go false e = ne_eqb x a (λ p. eqb-false a x e (sym p))
 
--- what the library's `starts_with` and `strip_prefix` of slices say
+-- what the library's `starts_with` of slices says
 pub starts_with-needle : (s p : List ℕ) → pointwise eqb p (take (length p) s) ≡ starts_with s p
 starts_with-needle s [] = refl
 starts_with-needle [] (x ∷ p) = refl
 starts_with-needle (a ∷ s) (x ∷ p) = rw (eqb-sym x a, starts_with-needle s p)
-
-starts_with-front : (s p : List ℕ) → pointwise eqb (take (length p) s) p ≡ starts_with s p
-starts_with-front s [] = refl
-starts_with-front [] (x ∷ p) = refl
-starts_with-front (a ∷ s) (x ∷ p) = rw (starts_with-front s p)
-
-pub without-stripped
-    : (s p : List ℕ) (whole : Bor (List ℕ)) (r : Option (Bor (List ℕ)))
-    → whole.now ≡ s
-    → MatchOption r (pointwise eqb (take (length p) s) p ≡ false)
-    (λ rest. (pointwise eqb (take (length p) s) p ≡ true) × (rest.now ≡ drop (length p) s) × (length rest.now + length p ≡ length s))
-    → (unwrap_or r whole).now ≡ without p s
-without-stripped s p whole None e h = rw (sym (starts_with-front s p) ∙ h) e
-without-stripped s p whole (Some rest) e h = rw (sym (starts_with-front s p) ∙ h.0) h.1.0
 
 pub without-le : (p s : List ℕ) → length (without p s) ≤ length s
 without-le p s = go (starts_with s p)

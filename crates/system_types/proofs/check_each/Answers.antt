@@ -1,5 +1,5 @@
 -- `system_types::check_each` meets its contract. Invariant: what the entries left say is what all of them say.
-use Rattle.std.proofs.Common.{◌≡◌, ◌*◌, ◌<◌, ◌≤◌, length, drop, not, sym, ap, refl, ◌∙◌, arith, length-drop}
+use Rattle.std.proofs.Common.{Err, ◌≡◌, ◌*◌, ◌/◌, ◌<◌, ◌≤◌, length, drop, not, sym, ap, refl, ◌∙◌, arith, length-drop}
 use Rattle.system_types.proofs.Laws.{names_from-refused, names_from-passed, names_from-stop, names_from-left}
 use Rattle.system_types.proofs.check_each.Goals as goal
 
@@ -32,7 +32,7 @@ returns-then-names-ne0 c =
     let w = drop (3 * l.k) a.names.now in
     let some : 1 ≤ length w = rw length-drop (omega arith) in
     let few : length w < 3 = rw length-drop (omega arith) in
-    let all : c.if-names-ne0.whole ≡ l.k = omega arith in
+    let all : length a.names.now / 3 ≡ l.k = omega arith in
     ap Err all ∙ sym (names_from-left a.area.now l.last l.k w some few) ∙ l.invariant
 
 pub returns : goal.returns

@@ -12,8 +12,8 @@ returns-then-names-place c =
     let a = c.args in
     let rising = c.requires in
     let top = c.if-id-ne1.false in
-    let place = c.guess-place.result in
-    let inside = c.if-place-names.true in
+    let place = c.in-Some.place in
+    let inside = c.in-Some.ensures in
     let found = rising-found a.id.0 a.names.now place rising inside c.if-names-place.true in
     sym (system_name-top a.id.0 a.names.now top ∙ found)
 
