@@ -68,6 +68,7 @@ fn count_of(start: u32, styles: u32) -> u32
 // ---- the parts
 
 // Which part runs out in the n bytes behind the five numbers.
+#[tactic(auto, unfolding(crate::specs::Pool::end_of))]
 fn end_of(n: usize, count: usize, styles: usize, size: usize) -> PoolEnd
     requires { (count < 4294967296) × (styles < 4294967296) }
     ensures { result ≡ end_of n count styles size }

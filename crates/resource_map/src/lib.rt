@@ -25,6 +25,7 @@ fn ids_in(h: ResChunkHeader) -> u32
 }
 
 // The ids behind the header h, with `left` bytes there.
+#[tactic(auto, unfolding(crate::specs::Map::ids_by))]
 fn ids_of(h: ResChunkHeader, left: usize) -> Result<u32, MapShort>
     ensures { result ≡ ids_by left h }
 {

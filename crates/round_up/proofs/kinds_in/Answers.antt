@@ -1,7 +1,6 @@
 -- `round_up::kinds_in` meets its contract. Invariant: the counts are those of the first i notes.
 use Rattle.round_up.specs.Kinds.{kinds_from, how_many, tally}
-use mathlib.Core.Path.{◌≡◌, refl, ◌∙◌, ap}
-use Prim.Native.Nat.{ℕ}
+use mathlib.Core.Path.{refl, ◌∙◌}
 use native.Mathlib.Omega.{arith}
 use Rattle.round_up.specs.RoundUp.{kinds}
 use Rattle.round_up.proofs.Tallies.{kinds_from-length, tally-le, kinds-turn}
@@ -22,9 +21,3 @@ loop-i-preserved c =
     let l = c.loop-i in
     let words = c.args.words.now in
     c.count_kind.ensures ∙ rw l.invariant (kinds-turn words l.i)
-
-pub returns : goal.returns
-returns c =
-    let l = c.loop-i in
-    let n : l.i ≡ c.min-n.result = omega arith in
-    l.invariant ∙ ap (λ (k : ℕ). tally kinds 0 (kinds_from k c.args.words.now)) (n ∙ c.min-n.ensures)

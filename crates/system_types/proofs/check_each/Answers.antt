@@ -1,13 +1,7 @@
 -- `system_types::check_each` meets its contract. Invariant: what the entries left say is what all of them say.
-use Rattle.std.proofs.Common.{Err, ◌≡◌, ◌*◌, ◌/◌, ◌<◌, ◌≤◌, length, drop, not, sym, ap, refl, ◌∙◌, arith, length-drop}
+use Rattle.std.proofs.Common.{Err, ◌≡◌, ◌*◌, ◌/◌, ◌<◌, ◌≤◌, length, drop, not, sym, ap, ◌∙◌, arith, length-drop}
 use Rattle.system_types.proofs.Laws.{names_from-refused, names_from-passed, names_from-stop, names_from-left}
 use Rattle.system_types.proofs.check_each.Goals as goal
-
-pub loop-k-init : goal.loop-k-init
-loop-k-init c = refl
-
-pub is_good-requires : goal.is_good-requires
-is_good-requires c = c.requires
 
 pub returns-then-not-is_good : goal.returns-then-not-is_good
 returns-then-not-is_good c =
