@@ -1,13 +1,13 @@
 -- Laws of what a file adds (specs/RoundUp.antt): classes, rows, and the turns of `read_share`. No contract cites this file.
 use Rattle.std.specs.Prelude.{Result, Ok, Err}
-use Prim.Native.Nat.{ℕ, suc, ◌+◌, ◌-◌, ◌*◌, ◌≤◌, ◌<◌}
+use Prim.Native.Nat.{ℕ, suc, ◌+◌, ◌-◌, ◌*◌, ◌<◌}
 use native.Mathlib.Omega.{arith}
 use native.Mathlib.Numerals.{add-one}
 use mathlib.Core.Path.{◌≡◌, refl, sym, ◌∙◌, ap}
 use mathlib.Core.List.{List, [], ◌∷◌, ◌++◌, append_assoc, append-nil}
 use mathlib.Core.Bool.{Bool, true, false, cond}
 use lib.ListN.{length, get_or, set, take, replicate, length-append, length-set, replicate-append-replicate}
-use lib.Seq.{take-suc, take_all, length-take-le, set-append_left}
+use lib.Seq.{take-suc, length-take-le, set-append_left}
 use lib.Dec.{leb, eqb}
 use borrow.Author.Tests.{eq-eqb, ne_eqb}
 use Rattle.errors.specs.Refusal.{numbers_of}
@@ -91,12 +91,6 @@ module _ (class : ℕ) (counts : List ℕ) (inside : class < classes) (whole : l
       ∙ sym (append_assoc done (row_of class v) (zeros_for (k + 1)))
       ∙ ap (λ (l : List ℕ). l ++ zeros_for (k + 1)) (sym (rows_more k h)))
 
-  pub laid-all : (k : ℕ) → kinds ≤ k → k ≤ kinds → laid_of class counts k ≡ read_share counts class
-  laid-all k a b =
-      let e : k ≡ kinds = omega arith in
-      ap (laid_of class counts) e
-      ∙ ap (λ (l : List ℕ). head_of ++ l) (append-nil (cells_of class (take kinds counts)) ∙ ap (cells_of class) (take_all kinds counts (omega arith)))
-
 -- ---- a share
 
 -- the number of an answer has a place
@@ -122,13 +116,6 @@ share_by-length counts number len h = go (eqb number 0)
     go false = length-set (replicate {A = ℕ} places 0) (refused_from + number) 1
 
 -- ---- adding a share, and the answer of `add_reading`
-
-module _ (before share : List ℕ) (room : Bool) (told : room ≡ has_room before share) where
-  pub adds-all : room ≡ true → (after : List ℕ) → after ≡ sums before share → AddsShare before share true after
-  adds-all h after e = let q = sym told ∙ h in record { room = sym q; counts = rw q e }
-
-  pub adds_none : room ≡ false → AddsShare before share false before
-  adds_none h = let q = sym told ∙ h in record { room = sym q; counts = rw q }
 
 module _ (r : RoundUp) (counts : List ℕ) (a : Result ReadCounts Refusal) (len : ℕ) (n : Numbers) (share : List ℕ) (told : n ≡ numbers_of a)
     (shared : share ≡ share_by counts n.refusal len) (room : Bool) (after : List ℕ) (adds : AddsShare r.counts share room after) where

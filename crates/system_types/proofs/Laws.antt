@@ -56,11 +56,6 @@ module _ (area : List ℕ) (last id start n : ℕ) where
       → is_good area last id start n ≡ true
   is_good-plain e p q r t = is_good-ascii p q r t ∙ is_ascii-take n (drop start area) (is_ascii-drop start area e)
 
--- a test that another had let through
-pub behind_test : (t b r : Bool) → r ≡ cond t false b → r ≡ true → b ≡ true
-behind_test true b r e h = let z : ◌≡◌ {A = ℕ} 0 1 = cc in absurd (let y : ⊥ = omega arith in y)
-behind_test false b r e h = sym e ∙ h
-
 -- ---- the table, entry by entry
 
 -- entry k of the words w, and those behind it
