@@ -88,6 +88,7 @@ fn bare_block(s: &[u8], at: usize) -> bool
 }
 
 // A position that the run of the sort 0 from `at` on passes: behind all the blocks of eight bare headers that begin at `at`.
+// This loop and the next go on by what they pass, and the place is their answer: over `chunks_exact` it would be counted beside.
 fn skip_bare(s: &[u8], at: usize) -> usize
     requires { at ≤ length s.now }
     ensures { (skip_run s.now at 0 ≡ skip_run s.now result 0) × (at ≤ result) × (result ≤ length s.now) }

@@ -46,6 +46,7 @@ impl ResChunkHeader {
 
 // The header that the bytes from `at` on begin with.
 // Ruled out: a header made of 7 bytes and a zero, and none where exactly 8 bytes are left.
+#[tactic(auto, using(crate::proofs::Laws::header_none_at, crate::proofs::Laws::header_some_at))]
 pub fn header_at(s: &[u8], at: usize) -> Option<ResChunkHeader>
     requires { at ≤ length s.now }
     ensures { result ≡ header_of (drop at s.now) }
