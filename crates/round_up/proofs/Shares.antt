@@ -9,7 +9,6 @@ use mathlib.Core.Bool.{Bool, true, false, cond}
 use lib.ListN.{length, get_or, set, take, replicate, length-append, length-set, replicate-append-replicate}
 use lib.Seq.{take-suc, length-take-le, set-append_left}
 use lib.Dec.{leb, eqb}
-use borrow.Author.Tests.{eq-eqb, ne_eqb}
 use Rattle.errors.specs.Refusal.{numbers_of}
 use Rattle.errors.proofs.Laws.{refusal_number-le}
 use Rattle.errors.specs.declared.Numbers.{Numbers}
@@ -32,6 +31,9 @@ class_of-lt n = go (leb n (class_bound 0)) (leb n (class_bound 1)) (leb n (class
     go false false false true e = omega arith
     go false false false false true = omega arith
     go false false false false false = omega arith
+
+-- for `share_by`
+pub ruleset class_bounds = (class_of-lt)
 
 pub set-append-add : (xs ys : List ℕ) (n : ℕ) (a : ℕ) → set (xs ++ ys) (length xs + n) a ≡ xs ++ set ys n a
 set-append-add [] ys n a = ap (λ (i : ℕ). set ys i a) (let z : 0 + n ≡ n = omega arith in z)
@@ -98,14 +100,6 @@ pub number_lt : (a : Result ReadCounts Refusal) → (numbers_of a).refusal < num
 unfolding numbers_of
 number_lt (Ok c) = omega arith
 number_lt (Err r) = omega (arith, refusal_number-le r)
-
-pub share_by-read : (counts : List ℕ) (number len : ℕ) → number ≡ 0 → share_by counts number len ≡ read_share counts (class_of len)
-unfolding share_by
-share_by-read counts number len e = rw (eq-eqb number 0 e)
-
-pub share_by-refused : (counts : List ℕ) (number len : ℕ) → (number ≡ 0 → ⊥) → share_by counts number len ≡ refused_share number
-unfolding share_by
-share_by-refused counts number len e = rw (ne_eqb number 0 e)
 
 pub share_by-length : (counts : List ℕ) (number len : ℕ) → length counts ≡ kinds → length (share_by counts number len) ≡ places
 unfolding share_by

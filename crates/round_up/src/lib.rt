@@ -162,6 +162,7 @@ fn refused_share(number: u32) -> [u32; PLACES]
 }
 
 // What a file adds: refusal 0 is a file read. Ruled out: the notes of a file that was refused.
+#[tactic(auto, using(crate::proofs::Shares::class_bounds), unfolding(crate::specs::RoundUp::share_by))]
 pub fn share_by(kinds: [u32; ROUND_UP_KINDS], number: u32, file_length: usize) -> [u32; PLACES]
     requires { number < 53 }
     ensures { result ≡ share_by kinds number file_length }
