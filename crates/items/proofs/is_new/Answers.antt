@@ -1,4 +1,4 @@
--- `items::is_new` meets its contract. Invariant: what the items before j say is what all of them say. Measure: j.
+-- `items::is_new` meets its contract. Invariant: what the items before j say is what all of them say.
 use mathlib.Core.Path.{refl, sym, ◌∙◌}
 use native.Mathlib.Omega.{arith}
 use Rattle.items.proofs.Laws.{is_new-same, is_new-other}

