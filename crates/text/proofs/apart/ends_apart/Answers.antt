@@ -1,6 +1,4 @@
 -- `text::apart::ends_apart` meets its contract: nothing is said of what is not known to be plain.
-use mathlib.Core.Path.{sym}
-use mathlib.Core.Bool.{true≢false}
 use Rattle.text.proofs.apart.ends_apart.Goals as goal
 
 pub pool_apart-requires : goal.pool_apart-requires
@@ -8,6 +6,3 @@ pool_apart-requires c = (c.requires.0, c.requires.1, c.requires.2.holds c.if-pla
 
 pub returns-then-plain : goal.returns-then-plain
 returns-then-plain c = c.pool_apart.ensures
-
-pub returns : goal.returns
-returns c = λ e. absurd (true≢false (sym e))

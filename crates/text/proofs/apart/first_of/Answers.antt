@@ -1,10 +1,12 @@
--- `text::apart::first_of` meets its contract: by whether names are lent.
-use borrow.Author.Tests.{eq-eqb, ne_eqb}
+-- `text::apart::first_of` meets its contract: no names, or some.
+use mathlib.Core.Path.{◌≡◌, sym, ◌∙◌}
+use mathlib.Core.Bool.{true, false}
+use lib.Dec.{eqb}
 use lib.ListN.{length}
 use Rattle.text.proofs.apart.first_of.Goals as goal
 
-pub returns-then-names-eq0 : goal.returns-then-names-eq0
-returns-then-names-eq0 c = rw (eq-eqb (length c.args.names.now) 0 c.if-names-eq0.true)
+pub returns-then-is_empty : goal.returns-then-is_empty
+returns-then-is_empty c = let e : eqb (length c.args.names.now) 0 ≡ true = sym c.is_empty.ensures ∙ c.if-is_empty.true in rw e
 
-pub returns : goal.returns
-returns c = rw (ne_eqb (length c.args.names.now) 0 c.if-names-eq0.false)
+pub returns-else-is_empty : goal.returns-else-is_empty
+returns-else-is_empty c = let e : eqb (length c.args.names.now) 0 ≡ false = sym c.is_empty.ensures ∙ c.if-is_empty.false in rw e

@@ -1,6 +1,4 @@
 -- `text::apart::pool_apart` meets its contract: by where both were found.
-use mathlib.Core.Path.{sym}
-use mathlib.Core.Bool.{true≢false}
 use Rattle.text.proofs.Read.{inside-pool}
 use Rattle.text.proofs.apart.pool_apart.Goals as goal
 
@@ -11,15 +9,6 @@ part_apart-requires c =
       c.requires.1,
       c.requires.2,
     )
-
-pub returns-in-Nothing : goal.returns-in-Nothing
-returns-in-Nothing c = λ e. absurd (true≢false (sym e))
-
-pub returns-in-Cut : goal.returns-in-Cut
-returns-in-Cut c = λ e. absurd (true≢false (sym e))
-
-pub returns-in-System : goal.returns-in-System
-returns-in-System c = λ e. absurd (true≢false (sym e))
 
 pub returns-in-Pool : goal.returns-in-Pool
 returns-in-Pool c = λ e. rw c.in-Pool.is (c.part_apart.ensures e)

@@ -10,9 +10,6 @@ use Rattle.text.proofs.apart.surely_differs.Goals as goal
 pub returns-then-index-k : goal.returns-then-index-k
 returns-then-index-k c = λ e. absurd (true≢false (sym e))
 
-pub returns-then-h-index : goal.returns-then-h-index
-returns-then-h-index c = λ e. absurd (true≢false (sym e))
-
 pub place_apart-requires : goal.place_apart-requires
 place_apart-requires c =
     let at-if2 = c in

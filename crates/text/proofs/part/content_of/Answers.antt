@@ -3,6 +3,7 @@ use native.Mathlib.Omega.{arith}
 use mathlib.Core.Path.{sym, ap}
 use Rattle.text.specs.Content.{raw_of}
 use Rattle.text.proofs.Read.{inside-system, inside-pool, part_of-nothing, part_of-cut, part_of-system, part_of-pool}
+use mathlib.Core.Logic.{inl, inr}
 use Rattle.text.proofs.part.content_of.Goals as goal
 
 pub overflow_add-result : goal.overflow_add-result
@@ -35,13 +36,10 @@ pub returns-in-Nothing : goal.returns-in-Nothing
 returns-in-Nothing c =
     let s = c in
     let a = s.args in
-    λ w. sym (ap raw_of (part_of-nothing w a.t.now a.area.now c.in-Nothing.is))
-
-pub returns-in-Cut : goal.returns-in-Cut
-returns-in-Cut c =
-    let s = c in
-    let a = s.args in
-    λ w. sym (ap raw_of (part_of-cut w a.t.now a.area.now c.in-Cut.is))
+    λ w. elim c.in-Nothing.is [
+      | inl e ↦ sym (ap raw_of (part_of-nothing w a.t.now a.area.now e))
+      | inr e ↦ sym (ap raw_of (part_of-cut w a.t.now a.area.now e))
+    ]
 
 pub returns-in-System : goal.returns-in-System
 returns-in-System c =

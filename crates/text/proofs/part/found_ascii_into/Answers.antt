@@ -6,6 +6,7 @@ use Rattle.text.specs.declared.Found.{Found}
 use Rattle.text.specs.Content.{text_in}
 use Rattle.text.specs.Inner.Found.{part_of, ascii_in}
 use Rattle.text.proofs.Read.{inside-system, inside-pool, part_of-system, part_of-pool, text_in-system, Wrote-by, wrote_none, text_of-held}
+use mathlib.Core.Logic.{inl, inr}
 use Rattle.text.proofs.part.found_ascii_into.Goals as goal
 
 pub overflow_add-at : goal.overflow_add-at
@@ -49,12 +50,10 @@ ascii_into-requires-in-Pool c =
 pub returns-in-Nothing : goal.returns-in-Nothing
 returns-in-Nothing c =
     let a = c.args in
-    wrote_none a.out.now (sym (ap (λ (g : Found). text_in (part_of a.utf16 a.t.now a.area.now g)) c.in-Nothing.is))
-
-pub returns-in-Cut : goal.returns-in-Cut
-returns-in-Cut c =
-    let a = c.args in
-    wrote_none a.out.now (sym (ap (λ (g : Found). text_in (part_of a.utf16 a.t.now a.area.now g)) c.in-Cut.is))
+    elim c.in-Nothing.is [
+      | inl e ↦ wrote_none a.out.now (sym (ap (λ (g : Found). text_in (part_of a.utf16 a.t.now a.area.now g)) e))
+      | inr e ↦ wrote_none a.out.now (sym (ap (λ (g : Found). text_in (part_of a.utf16 a.t.now a.area.now g)) e))
+    ]
 
 pub returns-in-System : goal.returns-in-System
 returns-in-System c =
