@@ -1,7 +1,9 @@
 -- `head::mapped` meets its contract: by the case of the map (`mapped_by-of`), and where the part that is short should begin.
-use Rattle.std.specs.Prelude.{Err}
+use Rattle.std.specs.Prelude.{Result, Err}
 use Prim.Native.Nat.{ℕ, ◌+◌}
-use mathlib.Core.Path.{ap, ◌∙◌}
+use mathlib.Core.Path.{◌≡◌, ap, ◌∙◌}
+use Rattle.resource_map.specs.declared.MapShort.{MapShort as MapMissing}
+use Rattle.resource_map.specs.declared.MapShort.TheVariants as map_short
 use Rattle.head.specs.declared.MapPart.TheVariants.{MapHeader, MapIds}
 use Rattle.head.specs.Head.{cut_map}
 use Rattle.head.proofs.Cases.{mapped_by-of}
@@ -15,13 +17,17 @@ returns-in-Ok c =
 pub returns-in-Err-Header : goal.returns-in-Err-Header
 returns-in-Err-Header c =
     let a = c.args in
+    let m : ◌≡◌ {A = Result ℕ MapMissing} c.map_of-read.result (Err (map_short.Header c.in-Err-Header.left)) =
+    c.in-Err-Header.is ∙ ap Err (rw c.in-Err-Header.is at c.in-Err-Header.field-0-is) in
     c.map_short.ensures
     ∙ ap (λ (v : ℕ). cut_map a.garbage a.p (a.p.strings + a.p.size) (MapHeader v)) c.begins_at.ensures
-    ∙ mapped_by-of a.garbage a.p (a.p.strings + a.p.size) a.t.now c.map_of-read.ensures (c.in-Err-Header.is ∙ ap Err c.in-Err-Header.field-0-is)
+    ∙ mapped_by-of a.garbage a.p (a.p.strings + a.p.size) a.t.now c.map_of-read.ensures m
 
 pub returns-in-Err-Ids : goal.returns-in-Err-Ids
 returns-in-Err-Ids c =
     let a = c.args in
+    let m : ◌≡◌ {A = Result ℕ MapMissing} c.map_of-read.result (Err (map_short.Ids c.in-Err-Ids.left)) =
+    c.in-Err-Ids.is ∙ ap Err (rw c.in-Err-Ids.is at c.in-Err-Ids.field-0-is) in
     c.map_short-in-Err-Ids.ensures
     ∙ ap (λ (v : ℕ). cut_map a.garbage a.p (a.p.strings + a.p.size) (MapIds v)) c.begins_at-in-Err-Ids.ensures
-    ∙ mapped_by-of a.garbage a.p (a.p.strings + a.p.size) a.t.now c.map_of-read.ensures (c.in-Err-Ids.is ∙ ap Err c.in-Err-Ids.field-0-is)
+    ∙ mapped_by-of a.garbage a.p (a.p.strings + a.p.size) a.t.now c.map_of-read.ensures m

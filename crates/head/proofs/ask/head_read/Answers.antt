@@ -7,5 +7,5 @@ use Rattle.head.proofs.ask.head_read.Goals as goal
 pub returns-then-is_whole : goal.returns-then-is_whole
 returns-then-is_whole c = head_read-whole c.args.opened (sym c.is_whole.ensures ∙ c.if-is_whole.true)
 
-pub returns : goal.returns
-returns c = ap Err c.refusal_of.ensures ∙ head_read-cut c.args.opened (sym c.is_whole.ensures ∙ c.if-is_whole.false)
+pub returns-else-is_whole : goal.returns-else-is_whole
+returns-else-is_whole c = ap Err c.refusal_of.ensures ∙ head_read-cut c.args.opened (sym c.is_whole.ensures ∙ c.if-is_whole.false)

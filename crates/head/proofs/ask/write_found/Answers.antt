@@ -2,6 +2,7 @@
 use Rattle.text.specs.Inner.Found.{part_of}
 use Rattle.text.specs.Content.{text_in, damage_in}
 use Rattle.head.specs.Ask.{state_told}
+use Rattle.head.proofs.Zeros.{zero-tail}
 use Rattle.head.proofs.Questions.{gives-short, gives-text}
 use Rattle.head.proofs.ask.write_found.Goals as goal
 
@@ -11,7 +12,7 @@ returns-then-out-n c =
     let p7 = p4 in
     let a = p7.args in
     gives-short (text_in (part_of a.utf16 a.t.now a.area.now a.f)) a.out.now _ _ p7.found_into-n.result p7.found_into-n.ensures
-    (state_told (damage_in (part_of a.utf16 a.t.now a.area.now a.f))) p4.if-out-n.true c.zero_from.ensures
+    (state_told (damage_in (part_of a.utf16 a.t.now a.area.now a.f))) p4.if-out-n.true c.zero.ensures
 
 pub returns : goal.returns
 returns c =
@@ -19,4 +20,4 @@ returns c =
     let p7 = p4 in
     let a = p7.args in
     gives-text (text_in (part_of a.utf16 a.t.now a.area.now a.f)) a.out.now _ _ p7.found_into-n.result p7.found_into-n.ensures
-    (state_told (damage_in (part_of a.utf16 a.t.now a.area.now a.f))) p4.if-out-n.false c.zero_from-2.ensures c.found_told-state.ensures
+    (state_told (damage_in (part_of a.utf16 a.t.now a.area.now a.f))) p4.if-out-n.false (zero-tail _ c.zero-2.new.out p7.found_into-n.result c.zero-2.ensures) c.found_told-state.ensures
