@@ -4,16 +4,16 @@ use mathlib.Core.Path.{◌∙◌, sym, ap}
 use Rattle.system_types.specs.Names.{lends}
 use Rattle.events.proofs.naming.attribute_event.Goals as goal
 
-pub known_state-state-requires : goal.known_state-state-requires
-known_state-state-requires c = c.requires
+pub known_state-requires : goal.known_state-requires
+known_state-requires c = c.requires
 
 pub returns-in-NoText : goal.returns-in-NoText
 returns-in-NoText c =
     let asked = c in
     let a = asked.args in
     let N = names_in a.mode a.h a.t.now (lends a.names.now a.area.now) in (
-      ap (attribute_by N a.a) (sym c.in-NoText.is ∙ asked.known_state-state.ensures.0),
-      asked.known_state-state.ensures.1,
+      ap (attribute_by N a.a) (sym c.in-NoText.is ∙ asked.known_state.ensures.0),
+      asked.known_state.ensures.1,
     )
 
 pub returns-in-Invalid : goal.returns-in-Invalid
@@ -21,8 +21,8 @@ returns-in-Invalid c =
     let asked = c in
     let a = asked.args in
     let N = names_in a.mode a.h a.t.now (lends a.names.now a.area.now) in (
-      c.invalid_attribute.ensures ∙ ap (attribute_by N a.a) (sym c.in-Invalid.is ∙ asked.known_state-state.ensures.0),
-      asked.known_state-state.ensures.1,
+      ap (attribute_by N a.a) (sym c.in-Invalid.is ∙ asked.known_state.ensures.0),
+      asked.known_state.ensures.1,
     )
 
 pub returns-in-Valid : goal.returns-in-Valid
@@ -30,6 +30,6 @@ returns-in-Valid c =
     let asked = c in
     let a = asked.args in
     let N = names_in a.mode a.h a.t.now (lends a.names.now a.area.now) in (
-      c.valid_attribute.ensures ∙ ap (attribute_by N a.a) (sym c.in-Valid.is ∙ asked.known_state-state.ensures.0),
-      asked.known_state-state.ensures.1,
+      c.valid_attribute.ensures ∙ ap (attribute_by N a.a) (sym c.in-Valid.is ∙ asked.known_state.ensures.0),
+      asked.known_state.ensures.1,
     )

@@ -3,4 +3,4 @@ use mathlib.Core.Path.{◌∙◌}
 use Rattle.events.proofs.notes.count_step.Goals as goal
 
 pub returns : goal.returns
-returns c = c.to_step.ensures ∙ rw (c.pool_next.ensures, c.count_note.ensures)
+returns c = c.to_step.ensures ∙ rw (c.pool_next.ensures, c.note_if.ensures)

@@ -3,4 +3,4 @@ use mathlib.Core.Path.{◌∙◌}
 use Rattle.events.proofs.notes.gap_step.Goals as goal
 
 pub returns : goal.returns
-returns c = c.to_step.ensures ∙ rw (c.gap_next.ensures, c.gap_note.ensures)
+returns c = c.to_step.ensures ∙ rw (c.gap_next.ensures, c.note_if.ensures, c.from.ensures)

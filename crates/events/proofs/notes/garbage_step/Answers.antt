@@ -3,4 +3,4 @@ use mathlib.Core.Path.{◌∙◌}
 use Rattle.events.proofs.notes.garbage_step.Goals as goal
 
 pub returns : goal.returns
-returns c = c.to_step.ensures ∙ rw c.garbage_note.ensures
+returns c = c.to_step.ensures ∙ rw c.note_if.ensures

@@ -3,4 +3,4 @@ use mathlib.Core.Path.{◌∙◌}
 use Rattle.events.proofs.notes.offsets_step.Goals as goal
 
 pub returns : goal.returns
-returns c = c.to_step.ensures ∙ rw (c.map_next.ensures, c.offsets_note.ensures, c.outside_in-outside.ensures)
+returns c = c.to_step.ensures ∙ rw (c.map_next.ensures, c.note_if.ensures, c.outside_in-outside.ensures)

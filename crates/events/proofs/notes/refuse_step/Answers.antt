@@ -3,4 +3,4 @@ use mathlib.Core.Path.{◌∙◌}
 use Rattle.events.proofs.notes.refuse_step.Goals as goal
 
 pub returns : goal.returns
-returns c = c.to_step.ensures ∙ rw c.refusal_of-refusal.ensures
+returns c = c.to_step.ensures ∙ rw c.refusal_of.ensures

@@ -4,4 +4,4 @@ use Rattle.events.proofs.notes.trailing_step.Goals as goal
 
 pub returns : goal.returns
 returns c = c.to_step.ensures ∙
-    rw (c.trailing_next.ensures, c.trailing_note.ensures, c.trailing_of.ensures)
+    rw (c.trailing_next.ensures, c.note_if.ensures, c.trailing_of-trailing.ensures)

@@ -1,17 +1,16 @@
 -- `events::turns::cut_step` meets its contract: the arms are those of `cut_step`.
 use Rattle.events.specs.Inner.Steps.{cut_step}
+use mathlib.Core.Logic.{inl, inr}
 use mathlib.Core.Path.{◌∙◌, sym, ap}
 use Rattle.events.proofs.turns.cut_step.Goals as goal
 
 pub returns-in-CutLine : goal.returns-in-CutLine
 returns-in-CutLine c =
     let a = c.args in
-    c.quiet_step.ensures ∙ ap (cut_step a.n a.c) (sym c.in-CutLine.is)
-
-pub returns-in-CutHead : goal.returns-in-CutHead
-returns-in-CutHead c =
-    let a = c.args in
-    c.quiet_step-in-CutHead.ensures ∙ ap (cut_step a.n a.c) (sym c.in-CutHead.is)
+    elim c.in-CutLine.is [
+      | inl e ↦ c.quiet_step.ensures ∙ ap (cut_step a.n a.c) (sym e)
+      | inr e ↦ c.quiet_step.ensures ∙ ap (cut_step a.n a.c) (sym e)
+    ]
 
 pub returns-in-CutGap : goal.returns-in-CutGap
 returns-in-CutGap c =
