@@ -127,6 +127,7 @@ fn start_len(s: XmlStartElement) -> usize
 // ---- what stands here
 
 // What a start says of itself.
+#[tactic(auto, unfolding(crate::specs::Chunk::start_of))]
 fn start_at(l: &[u8]) -> XmlStartElement
     requires { 36 ≤ length l.now }
     ensures { result ≡ start_of l.now }
@@ -143,6 +144,7 @@ fn start_at(l: &[u8]) -> XmlStartElement
 
 // The attribute at the front.
 // Ruled out: the raw value at 8 for the data at 16, and the two bytes at 12 for the type at 15.
+#[tactic(auto, unfolding(crate::specs::Chunk::attribute_at))]
 pub fn attribute_at(l: &[u8]) -> XmlAttributeElement
     requires { 20 ≤ length l.now }
     ensures { result ≡ attribute_at l.now }
@@ -156,6 +158,7 @@ pub fn attribute_at(l: &[u8]) -> XmlAttributeElement
 }
 
 // A start whose line and comment are there: whole, or the first of its parts that is cut.
+#[tactic(auto, using(crate::proofs::Tests::tests), unfolding(crate::specs::Chunk::start_turn))]
 fn start_turn(l: &[u8]) -> Turn
     ensures { result ≡ start_turn l.now }
 {
