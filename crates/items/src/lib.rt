@@ -1,7 +1,7 @@
 // The names of attributes' values: a table that the caller lends, its rule, and what it says of a value.
 //
-// Mirrors structs/attrs_manifest.rs (apk-info 13770539b8): `get_attr_value`. An answer is the first item that
-// breaks the rule (`check_items`), or what an attribute's items say of a value (`Said`).
+// Mirrors structs/attrs_manifest.rs (apk-info 13770539b8): `get_attr_value`. Answers: nothing or the number of the first item that breaks the
+// rule (`check_items`); what an attribute's items say of a value (`Said`).
 // Definitions: specs/Items.antt, specs/Flags.antt, specs/Values.antt. Differs from the Rust: there the table is compiled in, here it is six words an item
 // over an area of bytes.
 #![tactic(auto)]
@@ -75,6 +75,7 @@ pub fn part_of<'a>(area: &'a [u8], start: u32, n: u32) -> &'a [u8]
 
 // The item with the number k, of a table that has it.
 // Ruled out: the words of a neighbour.
+#[tactic(auto, unfolding(crate::specs::Items::item_at))]
 pub fn item_at(items: &[u32], k: usize) -> Item
     requires { item_width * k + item_width ≤ length items.now }
     ensures { result ≡ item_at items.now k }

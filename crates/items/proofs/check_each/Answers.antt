@@ -13,9 +13,6 @@ loop-k-init c =
     let a = c.args in
     table-first a.area.now a.items.now
 
-pub is_good-requires : goal.is_good-requires
-is_good-requires c = (c.requires.0, omega arith, c.requires.1)
-
 pub returns-then-not-is_good : goal.returns-then-not-is_good
 returns-then-not-is_good c =
     let a = c.args in
