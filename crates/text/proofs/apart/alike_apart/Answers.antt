@@ -1,24 +1,9 @@
 -- `text::apart::alike_apart` meets its contract: another byte in the same place of a string of the same length (`other-alike`).
 use Prim.Native.Nat.{◌+◌}
-use native.Mathlib.Omega.{arith}
 use mathlib.Core.Path.{sym, ◌∙◌}
 use borrow.Author.Tests.{eqb-false, not-true}
-use Rattle.text.proofs.Marking.{other-alike, alike-room}
+use Rattle.text.proofs.Marking.{other-alike}
 use Rattle.text.proofs.apart.alike_apart.Goals as goal
-
-pub u16_at-requires : goal.u16_at-requires
-u16_at-requires c =
-    let s = c in
-    let a = s.args in
-    omega (arith, (alike-room a.h.utf16 a.t.now (a.h.strings + a.h.size) a.p a.k s.requires.1 c.if-k-p.false).0)
-
-pub bounds-t-p : goal.bounds-t-p
-bounds-t-p c =
-    let at-if1 = c in
-    let s = at-if1 in
-    let a = s.args in
-    let end = a.h.strings + a.h.size in
-    omega (arith, (alike-room a.h.utf16 a.t.now end a.p a.k s.requires.1 at-if1.if-k-p.false).1)
 
 pub returns-then-u16_at-k : goal.returns-then-u16_at-k
 returns-then-u16_at-k c =

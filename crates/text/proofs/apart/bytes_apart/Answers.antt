@@ -1,5 +1,5 @@
 -- `text::apart::bytes_apart` meets its contract: other lengths, another byte near the end (`other_at`), or other bytes; of a long text nothing is said.
-use Rattle.text.proofs.Others.{other_length, other_at, other-slices}
+use Rattle.text.proofs.Others.{other_length, other_at}
 use Rattle.text.proofs.apart.bytes_apart.Goals as goal
 
 pub returns-then-m-n : goal.returns-then-m-n
@@ -16,9 +16,3 @@ returns-then-t-q c =
     let a = s.args in
     λ _. other_at a.t.now a.q a.m a.at a.n s.requires.0 s.requires.1 a.back at-if1.if-m-n.false s.requires.2
     at-if2.if-back-n.true c.if-t-q.true
-
-pub returns-then-n-lt-LONG : goal.returns-then-n-lt-LONG
-returns-then-n-lt-LONG c =
-    let s = c in
-    let a = s.args in
-    λ e. other-slices a.t.now a.q a.m a.at a.n c.same_bytes.ensures e
