@@ -3,16 +3,8 @@ use Rattle.text.specs.Inner.Found.{part_of}
 use Rattle.text.specs.Content.{text_in, damage_in}
 use Rattle.head.specs.Ask.{state_told}
 use Rattle.head.proofs.Zeros.{zero-tail}
-use Rattle.head.proofs.Questions.{gives-short, gives-text}
+use Rattle.head.proofs.Questions.{gives-text}
 use Rattle.head.proofs.ask.write_found.Goals as goal
-
-pub returns-then-out-n : goal.returns-then-out-n
-returns-then-out-n c =
-    let p4 = c in
-    let p7 = p4 in
-    let a = p7.args in
-    gives-short (text_in (part_of a.utf16 a.t.now a.area.now a.f)) a.out.now _ _ p7.found_into-n.result p7.found_into-n.ensures
-    (state_told (damage_in (part_of a.utf16 a.t.now a.area.now a.f))) p4.if-out-n.true c.zero.ensures
 
 pub returns : goal.returns
 returns c =
