@@ -1,4 +1,4 @@
--- What is known to be plain, by where it was found; the Android namespace is (`known-android`), and its own text (`is_text-android`), and so in UTF-16.
+-- The Android namespace is plain (`known-android`), and so is its UTF-16; and each is its own text (`is_text-android`). No contract cites this file.
 use Prim.Native.Nat.{ℕ}
 use mathlib.Core.Path.{◌≡◌, refl, sym, ap, ◌∙◌}
 use mathlib.Core.List.{List, [], ◌∷◌}
