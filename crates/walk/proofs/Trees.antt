@@ -1,6 +1,7 @@
 -- What an element that opens or closes does to the tables, as one push of specs/Settle.antt. No contract cites this file.
 -- In order: words put at a place, the list of open elements, a node opens (`node_opens`, `node-full`), an element closes (`node-closes`).
 -- Not here: attributes (Attributes.antt).
+use Rattle.std.specs.Prelude.{Ok, Err}
 use Prim.Native.Nat.{ℕ, ◌+◌, ◌*◌, ◌/◌, ◌≤◌, ◌<◌}
 use native.Mathlib.Omega.{arith}
 use mathlib.Core.Path.{◌≡◌, refl, sym, ◌∙◌, ap, subst}
@@ -20,7 +21,7 @@ use Rattle.tables.specs.Inner.Keys.{Key, keys_of}
 use Rattle.tables.specs.Inner.Ways.{front_words}
 use Rattle.tables.proofs.Ways.{hung-none}
 use Rattle.walk.specs.declared.tree.Tree.{Tree}
-use Rattle.walk.specs.declared.placing.Placed.TheVariants.{Done, Full}
+use Rattle.walk.specs.declared.placing.Stop.TheVariants.{Full}
 use Rattle.walk.specs.Settle.{Room, going, push, parent_in, closed_in}
 use Rattle.walk.specs.Reading.{Dropped, none_dropped, dropped_from, dropped_in}
 use Rattle.walk.specs.Inner.Tree.{parent_of, opened_tree, closed_tree, opened_words, Linked, above_root_of, Tied, tables_of, behind_of, Chained, PlacesBy}
@@ -134,10 +135,10 @@ module _ (rule : Rule) (key : Key) (ns ats ns' : List ℕ) (t : Tree) (name : St
     chained : Chained key ns' ats u
     chained _ = hung-none (keys_of key (drop (attribute_width * u.first + front_words) ats)) (drop (node_width * u.nodes) ns') (behind_of u) (omega (arith, ua, uf))
 
-    done : PlacesBy rule key (Done u) ns ats t o (Open name fixed line) ns' ats
+    done : PlacesBy rule key (Ok u) ns ats t o (Open name fixed line) ns' ats
     done = record { stack = t.nodes ∷ o; tied = tied; few = rw (un, ua) (omega arith); chained = chained; pushed = pushed }
 
-  pub node_opens : (o : List ℕ) → Tied ns ats t o → PlacesBy rule key (Done (opened_tree t)) ns ats t o (Open name fixed line) ns' ats
+  pub node_opens : (o : List ℕ) → Tied ns ats t o → PlacesBy rule key (Ok (opened_tree t)) ns ats t o (Open name fixed line) ns' ats
   node_opens [] h =
       let z : t.nodes ≡ 0 = omega (arith, h.linked, lw) in
       rw (eq-eqb t.nodes 0 z)
@@ -161,7 +162,7 @@ module _ (rule : Rule) (key : Key) (ns ats ns' : List ℕ) (t : Tree) (name : St
 
 -- no place for it
 pub node-full : (rule : Rule) (key : Key) (ns ats ns' : List ℕ) (t : Tree) (name : StringIndex) (fixed line : ℕ) (o : List ℕ) → Tied ns ats t o
-    → length ns < node_width * t.nodes + node_width → PlacesBy rule key (Full (NodesFull (length ns / node_width))) ns ats t o (Open name fixed line) ns' ats
+    → length ns < node_width * t.nodes + node_width → PlacesBy rule key (Err (Full (NodesFull (length ns / node_width)))) ns ats t o (Open name fixed line) ns' ats
 node-full rule key ns ats ns' t name fixed line o h none r os cs rn ra =
     let lw : length (take (node_width * t.nodes) ns) ≡ node_width * t.nodes = length-take-le (node_width * t.nodes) ns h.sized.nodes in
     let over : r.nodes < length (take (node_width * t.nodes) ns) + node_width = omega (arith, lw) in
@@ -173,7 +174,7 @@ module _ (rule : Rule) (key : Key) (ns ats : List ℕ) (t : Tree) where
   abbrev u : List ℕ
   u = take (node_width * t.nodes) ns
 
-  stays : (o : List ℕ) → Tied ns ats t o → Chained key ns ats t → closed_in o ≡ o → PlacesBy rule key (Done t) ns ats t o Close ns ats
+  stays : (o : List ℕ) → Tied ns ats t o → Chained key ns ats t → closed_in o ≡ o → PlacesBy rule key (Ok t) ns ats t o Close ns ats
   stays o h l e = record { stack = o; tied = h; few = omega arith; chained = l; pushed = λ r os cs rn ra. rw e }
 
   -- the parent word of the innermost is the next of the open elements
@@ -183,7 +184,7 @@ module _ (rule : Rule) (key : Key) (ns ats : List ℕ) (t : Tree) where
       rw (← h.top) (sym (get_or-take (node_width * t.nodes) ns (node_width * k + node_parent) 0 (omega (arith, h.linked.1, lu))) ∙ h.linked.2)
 
   pub node-closes : (o : List ℕ) → Tied ns ats t o → Chained key ns ats t
-      → PlacesBy rule key (Done (cond (eqb t.inner 0) t (closed_tree t (get_or ns (node_width * t.inner + node_parent) 0)))) ns ats t o Close ns ats
+      → PlacesBy rule key (Ok (cond (eqb t.inner 0) t (closed_tree t (get_or ns (node_width * t.inner + node_parent) 0)))) ns ats t o Close ns ats
   node-closes [] h l = rw (eq-eqb t.inner 0 (sym h.top)) (stays [] h l refl)
   node-closes (k ∷ []) h l = rw (eq-eqb t.inner 0 (sym h.top ∙ h.linked.0)) (stays (k ∷ []) h l refl)
   node-closes (k ∷ j ∷ []) h l =

@@ -1,9 +1,9 @@
-// The covered core of the reading: what a file leaves in lent tables, up to the note table, which is the caller's to write.
+// The reading of a file into lent tables of nodes and attributes. It stops at each note, for the caller to write into the note table.
 //
 // Mirrors axml.rs (apk-info 13770539b8): `AXML::new` and `get_xml_tree`. tree.rt keeps the tree, placing.rt puts events away, passing.rt
 // passes chunks that change nothing, ending.rt ends a reading. Definitions: specs/Reading.antt and specs/Settle.antt say what comes back,
 // the others what the code does on its way.
-// Differs from the Rust: tables are lent and have limited room, and the reading stops at each note for the caller to write it.
+// Differs from the Rust: tables are lent and have limited room, and the caller writes the notes.
 #![tactic(auto)]
 
 pub mod ending;
@@ -58,6 +58,13 @@ pub struct State {
     pub notes: Notes,
 }
 
+// What a place of the note table holds where there is no note.
+pub const NO_NOTE: Note = Note {
+    kind: 0,
+    a: 0,
+    b: 0,
+};
+
 fn no_tree() -> Tree
     ensures { result ≡ no_tree }
 {
@@ -76,9 +83,6 @@ fn no_tree() -> Tree
 pub fn begin(room: usize, cap: u32, mode: u32) -> State
     ensures { result ≡ first room cap mode }
 {
-    let cur = first_cursor();
-    let tree = no_tree();
-    let notes = Notes::new();
     let opened = Opened {
         garbage: Garbage {
             found: false,
@@ -100,19 +104,15 @@ pub fn begin(room: usize, cap: u32, mode: u32) -> State
     State {
         done: false,
         slot: 0,
-        note: Note {
-            kind: 0,
-            a: 0,
-            b: 0,
-        },
+        note: NO_NOTE,
         room,
         cap,
         mode,
         stage: Stage::Fresh,
         opened,
-        cur,
-        tree,
-        notes,
+        cur: first_cursor(),
+        tree: no_tree(),
+        notes: Notes::new(),
     }
 }
 
@@ -120,25 +120,10 @@ pub fn begin(room: usize, cap: u32, mode: u32) -> State
 fn started(st: State, opened: Opened) -> State
     ensures { result ≡ started_by st opened }
 {
-    let cur = first_cursor();
-    let tree = no_tree();
-    let notes = Notes::new();
     State {
-        done: false,
-        slot: 0,
-        note: Note {
-            kind: 0,
-            a: 0,
-            b: 0,
-        },
-        room: st.room,
-        cap: st.cap,
-        mode: st.mode,
         stage: Stage::Reading,
         opened,
-        cur,
-        tree,
-        notes,
+        ..begin(st.room, st.cap, st.mode)
     }
 }
 
@@ -164,19 +149,14 @@ fn read_on(
     let mut cur = st.cur;
     let mut tree = st.tree;
     loop {
-        let h = run_in(
+        let halt = run_in(
             file, names, area, st.mode, opened, nodes, attributes, memory, cur, tree, numbers,
         );
-        cur = h.cur;
-        tree = h.tree;
-        let stop = h.stop;
-        match stop {
-            Stop::Full(x) => {
-                return refuse(nodes, attributes, st, x);
-            }
-            Stop::Finished => {
-                return finish(nodes, attributes, st, tree);
-            }
+        cur = halt.cur;
+        tree = halt.tree;
+        match halt.stop {
+            Stop::Full(x) => return refuse(nodes, attributes, st, x),
+            Stop::Finished => return finish(nodes, attributes, st, tree),
             Stop::Due(x) => {
                 if notes.is_due(st.cap, kind_index(x)) {
                     return note_due(nodes, attributes, st, cur, tree, x);
@@ -204,8 +184,7 @@ fn start(
         nodes.new attributes.new
         × KnownSoFar file.now (lends names.now area.now) result memory.new numbers.new }
 {
-    let entered = enter(file, names, area, Asker::Reading(st.cap, st.mode));
-    match entered {
+    match enter(file, names, area, Asker::Reading(st.cap, st.mode)) {
         Err(x) => refuse(nodes, attributes, st, x),
         Ok(opened) => read_on(
             file,
@@ -225,10 +204,8 @@ fn start(
 pub fn answer_of(st: State) -> Result<ReadCounts, Refusal>
     ensures { Answers st result }
 {
-    let stage = st.stage;
-    match stage {
-        Stage::Fresh => Err(Refusal::MissingRoot),
-        Stage::Reading => Err(Refusal::MissingRoot),
+    match st.stage {
+        Stage::Fresh | Stage::Reading => Err(Refusal::MissingRoot),
         Stage::Clearing(answer) => answer,
     }
 }
@@ -252,8 +229,7 @@ pub fn advance_knowing(
         nodes.new attributes.new
         × KnownSoFar file.now (lends names.now area.now) result memory.new numbers.new }
 {
-    let stage = st.stage;
-    match stage {
+    match st.stage {
         Stage::Fresh => start(file, names, area, nodes, attributes, st, memory, numbers),
         Stage::Reading => read_on(file, names, area, nodes, attributes, st, memory, numbers),
         Stage::Clearing(answer) => clear_next(st, answer),

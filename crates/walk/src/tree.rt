@@ -15,6 +15,7 @@ ghost use Rattle.events.specs.declared.Event.TheVariants.{Attribute};
 ghost use Rattle.walk.specs.Inner.Tree.{parent_of, opened_tree, closed_tree, kept_tree, opened_words, kept_nodes, kept_attributes, new_words, front_of, Fit, Far, Puts, KeepsIn, AsksFor};
 
 use common::StringIndex;
+use errors::Refusal;
 use records::{
     ATTRIBUTE_WORDS, NO_PARENT, NODE_COUNT, NODE_PARENT, attribute_place, node_place,
     put_attribute, put_node,
@@ -37,16 +38,6 @@ pub struct Tree {
     pub attributes_before_it: u32,
 }
 
-// What became of an attribute.
-#[derive(Clone, Copy)]
-pub enum Put {
-    // it repeats one of its element, or there is no element
-    NotStored,
-    // no place
-    Full,
-    Stored(Tree),
-}
-
 impl Tree {
     fn opened(self) -> Tree
         requires { self.nodes < 4294967295 }
@@ -56,32 +47,27 @@ impl Tree {
         if n == 0 {
             return Tree {
                 nodes: 1,
-                attributes: self.attributes,
                 first: self.attributes,
                 inner: 0,
                 above_root: 0,
                 attributes_before_it: 0,
+                ..self
             };
         }
-        let open = self.inner;
-        if open == 0 {
-            return Tree {
-                nodes: n + 1,
-                attributes: self.attributes,
-                first: self.attributes,
-                inner: n,
-                above_root: n,
-                attributes_before_it: self.attributes,
-            };
-        }
-        Tree {
+        let opened = Tree {
             nodes: n + 1,
-            attributes: self.attributes,
             first: self.attributes,
             inner: n,
-            above_root: self.above_root,
-            attributes_before_it: self.attributes_before_it,
+            ..self
+        };
+        if self.inner == 0 {
+            return Tree {
+                above_root: n,
+                attributes_before_it: self.attributes,
+                ..opened
+            };
         }
+        opened
     }
 
     fn closed(self, parent: u32) -> Tree
@@ -89,21 +75,15 @@ impl Tree {
     {
         if parent == 0 {
             return Tree {
-                nodes: self.nodes,
-                attributes: self.attributes,
-                first: self.first,
                 inner: 0,
                 above_root: 0,
                 attributes_before_it: 0,
+                ..self
             };
         }
         Tree {
-            nodes: self.nodes,
-            attributes: self.attributes,
-            first: self.first,
             inner: parent,
-            above_root: self.above_root,
-            attributes_before_it: self.attributes_before_it,
+            ..self
         }
     }
 
@@ -112,12 +92,8 @@ impl Tree {
         ensures { result ≡ kept_tree self }
     {
         Tree {
-            nodes: self.nodes,
             attributes: self.attributes + 1,
-            first: self.first,
-            inner: self.inner,
-            above_root: self.above_root,
-            attributes_before_it: self.attributes_before_it,
+            ..self
         }
     }
 }
@@ -210,7 +186,7 @@ fn keep_far(
     prefix: u32,
     a: XmlAttributeElement,
     numbers: &mut [u64],
-) -> Put
+) -> Result<Option<Tree>, Refusal>
     requires { Asks t.now (lends names.now area.now) h × Fit nodes.old attributes.old tree × Far nodes.old tree
         × Numbered h t.now (lends names.now area.now) numbers.old }
     ensures { ((is_repeat (by_prefix (same_name h t.now (lends names.now area.now))) (new_words tree prefix a) (front_of tree attributes.old) ≡ false
@@ -241,10 +217,10 @@ fn keep_far(
         numbers,
     );
     if e.found {
-        return Put::NotStored;
+        return Ok(None);
     }
     if attributes.len() - used < ATTRIBUTE_WORDS {
-        return Put::Full;
+        return Err(Refusal::AttributesFull(attributes.len() / ATTRIBUTE_WORDS));
     }
     let u = store(nodes, attributes, tree, prefix, a);
     link(
@@ -254,10 +230,11 @@ fn keep_far(
         e.at,
         e.left,
     );
-    Put::Stored(u)
+    Ok(Some(u))
 }
 
-// An attribute of the last node, unless it repeats one of that node's; `numbers` is what is known of long texts.
+// An attribute of the last node: the tree with it, or None where it repeats one of that node's or there is no node, or the refusal where it has
+// no place. `numbers` is what is known of long texts.
 // Ruled out: a place asked for a repeat, and the node's count of attributes left as it was.
 pub fn keep(
     t: &[u8],
@@ -270,7 +247,7 @@ pub fn keep(
     prefix: u32,
     a: XmlAttributeElement,
     numbers: &mut [u64],
-) -> Put
+) -> Result<Option<Tree>, Refusal>
     requires { AsksFor (Attribute prefix a) t.now (lends names.now area.now) h × Fit nodes.old attributes.old tree
         × Numbered h t.now (lends names.now area.now) numbers.old }
     ensures { KeepsIn (by_prefix (same_name h t.now (lends names.now area.now)))
@@ -280,7 +257,7 @@ pub fn keep(
 {
     let n = tree.nodes;
     if n == 0 {
-        return Put::NotStored;
+        return Ok(None);
     }
     let from = attribute_place(tree.first);
     let used = attribute_place(tree.attributes);
@@ -299,7 +276,7 @@ pub fn keep(
         ns,
         numbers,
     ) {
-        return Put::NotStored;
+        return Ok(None);
     }
     if far {
         return keep_far(
@@ -307,9 +284,9 @@ pub fn keep(
         );
     }
     if attributes.len() - used < ATTRIBUTE_WORDS {
-        return Put::Full;
+        return Err(Refusal::AttributesFull(attributes.len() / ATTRIBUTE_WORDS));
     }
-    Put::Stored(store(nodes, attributes, tree, prefix, a))
+    Ok(Some(store(nodes, attributes, tree, prefix, a)))
 }
 
 // How many nodes are kept at the end: all before the second open element (W29). Ruled out: a finished child of a dropped element counted, and

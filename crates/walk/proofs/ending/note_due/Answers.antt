@@ -3,14 +3,14 @@ use native.Mathlib.Omega.{arith}
 use mathlib.Core.Path.{refl}
 use Rattle.walk.proofs.ending.note_due.Goals as goal
 
-pub returns-then-notes-st : goal.returns-then-notes-st
-returns-then-notes-st c = record {
+pub returns-then-st : goal.returns-then-st
+returns-then-st c = record {
   place = λ _. record { state = c.noted.ensures; nodes = refl; attributes = refl };
-  none = λ h. absurd (let z : ⊥ = omega (arith, c.if-notes-st.true) in z);
+  none = λ h. absurd (let z : ⊥ = omega (arith, c.if-st.true) in z);
 }
 
 pub returns : goal.returns
 returns c = record {
-  place = λ h. absurd (let z : ⊥ = omega (arith, c.if-notes-st.false) in z);
+  place = λ h. absurd (let z : ⊥ = omega (arith, c.if-st.false) in z);
   none = λ _. c.refuse.ensures;
 }

@@ -9,10 +9,8 @@ returns-then-open-eq0 c = rw (eq-eqb _ _ c.if-open-eq0.true)
 
 pub bounds-nodes-i : goal.bounds-nodes-i
 bounds-nodes-i c =
-    let at-start = c in
-    omega (arith, at-start.requires c.if-open-eq0.false, c.node_place-i.ensures)
+    omega (arith, c.requires c.if-open-eq0.false, c.node_place-i.ensures)
 
 pub returns : goal.returns
 returns c =
-    let at-if1 = c in
-    c.closed.ensures ∙ rw (ne_eqb _ _ at-if1.if-open-eq0.false, c.node_place-i.ensures)
+    c.closed.ensures ∙ rw (ne_eqb _ _ c.if-open-eq0.false, c.node_place-i.ensures)

@@ -16,8 +16,7 @@ use Rattle.walk.proofs.tree.keep.Goals as goal
 
 pub returns-then-n-eq0 : goal.returns-then-n-eq0
 returns-then-n-eq0 c =
-    let at-start = c in
-    ((λ l. record { there = λ n. absurd (n c.if-n-eq0.true); nodes = refl; attributes = refl }), at-start.requires.2)
+    ((λ l. record { there = λ n. absurd (n c.if-n-eq0.true); nodes = refl; attributes = refl }), c.requires.2)
 
 pub overflow_sub-used : goal.overflow_sub-used
 overflow_sub-used c = omega (
@@ -97,35 +96,22 @@ slice_bounds-has-end c = omega (
 
 pub has-requires : goal.has-requires
 has-requires c =
-    let at-start = c in
-    let p = at-start.requires in (p.0.0, p.0.1, p.2)
-
-pub shape_of-numbers-then-has : goal.shape_of-numbers-then-has
-shape_of-numbers-then-has c =
-    let at_has = c in
-    let at-start = c in
-    at_has.has.ensures.1.room ∙ sym at-start.requires.2.room
+    let p = c.requires in (p.0.0, p.0.1, p.2)
 
 pub returns-then-has : goal.returns-then-has
-returns-then-has c =
-    let at_has = c in
-    let at-front-of = c in
-    let at-is-far = c in
-    let at-attribute-place2 = c in
-    let at-attribute-place = c in
-    let at-start = c in (
-      (let s = at-start in let a = s.args in let lent = lends a.names.now a.area.now in let same = same_name a.h a.t.now lent in let
-          key = key_by a.h a.t.now lent in λ l. record {
-            there = λ _. front-found a.nodes.now a.attributes.now a.tree s.requires.1.sized (by_prefix same)
-                (new_words a.tree a.prefix a.a) _ _ _ _ _ at-attribute-place.attribute_place-from.ensures
-                at-attribute-place2.attribute_place-used.ensures refl at-is-far.is_far-far.result at_has.has.result at-is-far.is_far-far.ensures
-                at-front-of.front_of-front.ensures (at_has.has.ensures.0 (a.tree.nodes - 1) a.a.data_type a.a.«data») c.if-has.true;
-            nodes =
-                refl;
-            attributes = refl;
-          }),
-      at_has.has.ensures.1,
-    )
+returns-then-has c = (
+  (let s = c in let a = s.args in let lent = lends a.names.now a.area.now in let same = same_name a.h a.t.now lent in let
+      key = key_by a.h a.t.now lent in λ l. record {
+        there = λ _. front-found a.nodes.now a.attributes.now a.tree s.requires.1.sized (by_prefix same)
+            (new_words a.tree a.prefix a.a) _ _ _ _ _ c.attribute_place-from.ensures
+            c.attribute_place-used.ensures refl c.is_far-far.result c.has.result c.is_far-far.ensures
+            c.front_of-front.ensures (c.has.ensures.0 (a.tree.nodes - 1) a.a.data_type a.a.«data») c.if-has.true;
+        nodes =
+            refl;
+        attributes = refl;
+      }),
+  c.has.ensures.1,
+)
 
 pub keep_far-requires : goal.keep_far-requires
 keep_far-requires c =
@@ -149,30 +135,17 @@ keep_far-requires c =
       c.has.ensures.1,
     )
 
-pub shape_of-numbers-then-far : goal.shape_of-numbers-then-far
-shape_of-numbers-then-far c =
-    let at-keep-far = c in
-    let at-start = c in
-    at-keep-far.keep_far.ensures.1.room ∙ sym at-start.requires.2.room
-
 pub returns-then-far : goal.returns-then-far
 returns-then-far c =
-    let at-keep-far = c in
     let then3 = c in
-    let else2 = c in
-    let at_has = c in
-    let at-front-of = c in
-    let at-is-far = c in
-    let at-attribute-place2 = c in
-    let at-attribute-place = c in
-    let at-start = c in (
-      (let s = at-start in let a = s.args in let lent = lends a.names.now a.area.now in let same = same_name a.h a.t.now lent in let
-          key = key_by a.h a.t.now lent in at-keep-far.keep_far.ensures.0
+    let else2 = c in (
+      (let s = c in let a = s.args in let lent = lends a.names.now a.area.now in let same = same_name a.h a.t.now lent in let
+          key = key_by a.h a.t.now lent in c.keep_far.ensures.0
           (front-first a.nodes.now a.attributes.now a.tree s.requires.1.sized (by_prefix same) (new_words a.tree a.prefix a.a) _ _ _ 0
-          _ at-attribute-place.attribute_place-from.ensures at-attribute-place2.attribute_place-used.ensures refl at-is-far.is_far-far.result
-          at_has.has.result false then3.if-far.true at-front-of.front_of-front.ensures
-          (at_has.has.ensures.0 (a.tree.nodes - 1) a.a.data_type a.a.«data») else2.if-has.false)),
-      at-keep-far.keep_far.ensures.1,
+          _ c.attribute_place-from.ensures c.attribute_place-used.ensures refl c.is_far-far.result
+          c.has.result false then3.if-far.true c.front_of-front.ensures
+          (c.has.ensures.0 (a.tree.nodes - 1) a.a.data_type a.a.«data») else2.if-has.false)),
+      c.keep_far.ensures.1,
     )
 
 pub overflow_sub-attributes : goal.overflow_sub-attributes
@@ -182,30 +155,27 @@ overflow_sub-attributes c = omega (
   c.requires.1.sized.attributes,
 )
 
-pub shape_of-numbers-then-attributes-used-lt-ATTRIBUTE_WORDS : goal.shape_of-numbers-then-attributes-used-lt-ATTRIBUTE_WORDS
-shape_of-numbers-then-attributes-used-lt-ATTRIBUTE_WORDS c =
-    let at_has = c in
-    let at-start = c in
-    at_has.has.ensures.1.room ∙ sym at-start.requires.2.room
-
 pub returns-then-attributes-used-lt-ATTRIBUTE_WORDS : goal.returns-then-attributes-used-lt-ATTRIBUTE_WORDS
 returns-then-attributes-used-lt-ATTRIBUTE_WORDS c = (
   (let s = c in let a = s.args in let lent = lends a.names.now a.area.now in let same =
-      same_name a.h a.t.now lent in let key = key_by a.h a.t.now lent in λ l. record {
-        some = c.if-n-eq0.false;
-        new = front-near a.nodes.now a.attributes.now a.tree s.requires.1.sized (by_prefix same)
-            (new_words a.tree a.prefix a.a) _ _ _ 0 _
-            c.attribute_place-from.ensures c.attribute_place-used.ensures refl c.is_far-far.result
-            c.has.result false c.if-far.false
-            c.front_of-front.ensures
-            (c.has.ensures.0 (a.tree.nodes - 1) a.a.data_type a.a.«data»)
-            c.if-has.false;
-        full = omega (
-          arith,
-          c.if-attributes-used-lt-ATTRIBUTE_WORDS.true,
-          c.attribute_place-used.ensures,
-        );
-      }),
+      same_name a.h a.t.now lent in let key = key_by a.h a.t.now lent in λ l. (
+        refl,
+        record {
+          some = c.if-n-eq0.false;
+          new = front-near a.nodes.now a.attributes.now a.tree s.requires.1.sized (by_prefix same)
+              (new_words a.tree a.prefix a.a) _ _ _ 0 _
+              c.attribute_place-from.ensures c.attribute_place-used.ensures refl c.is_far-far.result
+              c.has.result false c.if-far.false
+              c.front_of-front.ensures
+              (c.has.ensures.0 (a.tree.nodes - 1) a.a.data_type a.a.«data»)
+              c.if-has.false;
+          full = omega (
+            arith,
+            c.if-attributes-used-lt-ATTRIBUTE_WORDS.true,
+            c.attribute_place-used.ensures,
+          );
+        },
+      )),
   c.has.ensures.1,
 )
 
@@ -220,12 +190,6 @@ store-requires c = (
     c.attribute_place-used.ensures,
   ),
 )
-
-pub shape_of-numbers : goal.shape_of-numbers
-shape_of-numbers c =
-    let at_has = c in
-    let at-start = c in
-    at_has.has.ensures.1.room ∙ sym at-start.requires.2.room
 
 pub returns : goal.returns
 returns c = (

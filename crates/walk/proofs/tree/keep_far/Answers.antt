@@ -14,8 +14,7 @@ use Rattle.walk.proofs.tree.keep_far.Goals as goal
 
 pub key_of-key-requires : goal.key_of-key-requires
 key_of-key-requires c =
-    let at-start = c in
-    (at-start.requires.0, c.find-g.ensures, at-start.requires.3)
+    (c.requires.0, c.find-g.ensures, c.requires.3)
 
 pub slice_bounds-seek-count : goal.slice_bounds-seek-count
 slice_bounds-seek-count c = omega (
@@ -42,47 +41,29 @@ slice_bounds-seek-end c = omega (
 
 pub seek-e-requires : goal.seek-e-requires
 seek-e-requires c =
-    let at-key-of = c in
-    let at-find = c in
-    let at-node-place = c in
-    let at-attribute-place2 = c in
-    let at-attribute-place = c in
-    let at-start = c in
-    let s = at-start in
+    let s = c in
     let a = s.args in (
       s.requires.0,
-      at-find.find-g.ensures,
-      at-key-of.key_of-key.ensures.1,
+      c.find-g.ensures,
+      c.key_of-key.ensures.1,
       behind-room a.nodes.now a.attributes.now a.tree s.requires.1.sized
-          s.requires.2 _ _ _ (ap (λ (k : ℕ). k + front_words) at-attribute-place.attribute_place-from.ensures)
-          at-attribute-place2.attribute_place-used.ensures at-node-place.node_place-free.ensures,
+          s.requires.2 _ _ _ (ap (λ (k : ℕ). k + front_words) c.attribute_place-from.ensures)
+          c.attribute_place-used.ensures c.node_place-free.ensures,
     )
-
-pub shape_of-numbers-then-e : goal.shape_of-numbers-then-e
-shape_of-numbers-then-e c =
-    let at-seek = c in
-    let at-start = c in
-    at-seek.seek-e.ensures.1.room ∙ sym at-start.requires.3.room
 
 pub returns-then-e : goal.returns-then-e
-returns-then-e c =
-    let at-seek = c in
-    let at-key-of = c in
-    let at-node-place = c in
-    let at-attribute-place2 = c in
-    let at-attribute-place = c in
-    let at-start = c in (
-      (let s = at-start in let a = s.args in let lent = lends a.names.now a.area.now in let same = same_name a.h a.t.now lent in let
-          key = key_by a.h a.t.now lent in λ none l. record {
-            there = λ _. far-repeat a.nodes.now a.attributes.now a.tree s.requires.1.sized s.requires.2 key same a.prefix a.a _ _ _
-                at-key-of.key_of-key.result at-seek.seek-e.result true (ap (λ (k : ℕ). k + front_words) at-attribute-place.attribute_place-from.ensures)
-                at-attribute-place2.attribute_place-used.ensures at-node-place.node_place-free.ensures l at-seek.seek-e.ensures.0
-                at-key-of.key_of-key.ensures.0 none c.if-e.true;
-            nodes = refl;
-            attributes = refl;
-          }),
-      at-seek.seek-e.ensures.1,
-    )
+returns-then-e c = (
+  (let s = c in let a = s.args in let lent = lends a.names.now a.area.now in let same = same_name a.h a.t.now lent in let
+      key = key_by a.h a.t.now lent in λ none l. record {
+        there = λ _. far-repeat a.nodes.now a.attributes.now a.tree s.requires.1.sized s.requires.2 key same a.prefix a.a _ _ _
+            c.key_of-key.result c.seek-e.result true (ap (λ (k : ℕ). k + front_words) c.attribute_place-from.ensures)
+            c.attribute_place-used.ensures c.node_place-free.ensures l c.seek-e.ensures.0
+            c.key_of-key.ensures.0 none c.if-e.true;
+        nodes = refl;
+        attributes = refl;
+      }),
+  c.seek-e.ensures.1,
+)
 
 pub overflow_sub-attributes : goal.overflow_sub-attributes
 overflow_sub-attributes c = omega (
@@ -91,33 +72,30 @@ overflow_sub-attributes c = omega (
   c.requires.1.sized.attributes,
 )
 
-pub shape_of-numbers-then-attributes-used-lt-ATTRIBUTE_WORDS : goal.shape_of-numbers-then-attributes-used-lt-ATTRIBUTE_WORDS
-shape_of-numbers-then-attributes-used-lt-ATTRIBUTE_WORDS c =
-    let at-seek = c in
-    let at-start = c in
-    at-seek.seek-e.ensures.1.room ∙ sym at-start.requires.3.room
-
 pub returns-then-attributes-used-lt-ATTRIBUTE_WORDS : goal.returns-then-attributes-used-lt-ATTRIBUTE_WORDS
 returns-then-attributes-used-lt-ATTRIBUTE_WORDS c = (
   (let s = c in let a = s.args in let lent = lends a.names.now
-      a.area.now in let same = same_name a.h a.t.now lent in let key = key_by a.h a.t.now lent in λ none l. record {
-        some = λ z. omega (arith, s.requires.2.some);
-        new = far-repeat a.nodes.now a.attributes.now a.tree s.requires.1.sized s.requires.2
-            key same a.prefix a.a _ _ _
-            c.key_of-key.result
-            c.seek-e.result false
-            (ap (λ (k : ℕ). k + front_words)
-            c.attribute_place-from.ensures)
-            c.attribute_place-used.ensures
-            c.node_place-free.ensures l c.seek-e.ensures.0
-            c.key_of-key.ensures.0 none
-            c.if-e.false;
-        full = omega (
-          arith,
-          c.if-attributes-used-lt-ATTRIBUTE_WORDS.true,
-          c.attribute_place-used.ensures,
-        );
-      }),
+      a.area.now in let same = same_name a.h a.t.now lent in let key = key_by a.h a.t.now lent in λ none l. (
+        refl,
+        record {
+          some = λ z. omega (arith, s.requires.2.some);
+          new = far-repeat a.nodes.now a.attributes.now a.tree s.requires.1.sized s.requires.2
+              key same a.prefix a.a _ _ _
+              c.key_of-key.result
+              c.seek-e.result false
+              (ap (λ (k : ℕ). k + front_words)
+              c.attribute_place-from.ensures)
+              c.attribute_place-used.ensures
+              c.node_place-free.ensures l c.seek-e.ensures.0
+              c.key_of-key.ensures.0 none
+              c.if-e.false;
+          full = omega (
+            arith,
+            c.if-attributes-used-lt-ATTRIBUTE_WORDS.true,
+            c.attribute_place-used.ensures,
+          );
+        },
+      )),
   c.seek-e.ensures.1,
 )
 
@@ -187,12 +165,6 @@ link-requires c =
           c.if-e.false (omega (arith, seen, pos))).below in omega
           (arith, seen, n)),
     )
-
-pub shape_of-numbers : goal.shape_of-numbers
-shape_of-numbers c =
-    let at-seek = c in
-    let at-start = c in
-    at-seek.seek-e.ensures.1.room ∙ sym at-start.requires.3.room
 
 pub returns : goal.returns
 returns c = (

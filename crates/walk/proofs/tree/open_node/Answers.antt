@@ -3,7 +3,4 @@ use Rattle.walk.proofs.tree.open_node.Goals as goal
 
 pub returns : goal.returns
 returns c =
-    let at-put = c in
-    let at-parent-of = at-put in
-    let at_place = at-parent-of in
-    (c.opened.ensures, rw (at_place.node_place.ensures, at-parent-of.parent_of.ensures) at at-put.put_node.ensures)
+    (c.opened.ensures, rw (c.node_place.ensures, c.parent_of.ensures) at c.put_node.ensures)
