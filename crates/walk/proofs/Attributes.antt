@@ -51,18 +51,23 @@ module _ (rule : Rule) (key : Key) (ns ats : List ℕ) (t : Tree) (o : List ℕ)
       let y : length (take (node_width * t.nodes) ns) ≡ 0 = omega (arith, lu) in
       record { stack = o; tied = h; few = omega arith; chained = l; pushed = λ r os cs rn ra. rw (eq-eqb _ 0 y) }
 
-  pub attribute-same : Chained key ns ats t → (t.nodes ≡ 0 → ⊥) → is_repeat rule (new_words t p a) (own_words t ats) ≡ true → PlacesBy rule key (Ok t) ns ats t o (Attribute p a) ns ats
+  pub attribute-same : Chained key ns ats t → (t.nodes ≡ 0 → ⊥) → is_repeat rule (new_words t p a) (own_words t ats) ≡ true
+      → PlacesBy rule key (Ok t) ns ats t o (Attribute p a) ns ats
   attribute-same l z e = record { stack = o; tied = h; few = omega arith; chained = l; pushed = λ r os cs rn ra. rw (ne_eqb _ 0 (some z), lu, dn, ← owned, e) }
 
   pub attribute-full : (ns' ats' : List ℕ) → (t.nodes ≡ 0 → ⊥) → is_repeat rule (new_words t p a) (own_words t ats) ≡ false
-      → length ats < attribute_width * t.attributes + attribute_width → PlacesBy rule key (Err (Full (AttributesFull (length ats / attribute_width)))) ns ats t o (Attribute p a) ns' ats'
+      → length ats < attribute_width * t.attributes + attribute_width
+      → PlacesBy rule key (Err (Full (AttributesFull (length ats / attribute_width)))) ns ats t o (Attribute p a) ns' ats'
   attribute-full ns' ats' z e none r os cs rn ra =
       let over : r.attributes < length (take (attribute_width * t.attributes) ats) + attribute_width = omega (arith, la) in
       rw (ne_eqb _ 0 (some z), lu, dn, ← owned, e, lt-leb _ _ over, ra)
 
-  pub attribute-kept : (ns' ats' : List ℕ) → (t.nodes ≡ 0 → ⊥) → is_repeat rule (new_words t p a) (own_words t ats) ≡ false → attribute_width * t.attributes + attribute_width ≤ length ats
-      → length ns' ≡ length ns → length ats' ≡ length ats → ats' ≡ take (attribute_width * t.attributes) ats ++ new_words t p a ++ drop (attribute_width * t.attributes + attribute_width) ats
-      → take (node_width * t.nodes) ns' ≡ set (take (node_width * t.nodes) ns) (node_width * (t.nodes - 1) + node_count) (t.attributes + 1 - t.first) → Chained key ns' ats' (kept_tree t)
+  pub attribute-kept : (ns' ats' : List ℕ) → (t.nodes ≡ 0 → ⊥) → is_repeat rule (new_words t p a) (own_words t ats) ≡ false
+      → attribute_width * t.attributes + attribute_width ≤ length ats
+      → length ns' ≡ length ns → length ats' ≡ length ats
+      → ats' ≡ take (attribute_width * t.attributes) ats ++ new_words t p a ++ drop (attribute_width * t.attributes + attribute_width) ats
+      → take (node_width * t.nodes) ns' ≡ set (take (node_width * t.nodes) ns) (node_width * (t.nodes - 1) + node_count) (t.attributes + 1 - t.first)
+      → Chained key ns' ats' (kept_tree t)
       → PlacesBy rule key (Ok (kept_tree t)) ns ats t o (Attribute p a) ns' ats'
   attribute-kept ns' ats' z e room ln lats put words l = record {
     stack = o;
@@ -73,12 +78,15 @@ module _ (rule : Rule) (key : Key) (ns ats : List ℕ) (t : Tree) (o : List ℕ)
         first = omega (arith, h.sized.first);
         inside = h.sized.inside;
       };
-      linked = rw words (linked-set (take (node_width * t.nodes) ns) (node_width * (t.nodes - 1) + node_count) (t.attributes + 1 - t.first) (t.nodes - 1) o refl h.linked);
+      linked =
+          rw words
+          (linked-set (take (node_width * t.nodes) ns) (node_width * (t.nodes - 1) + node_count) (t.attributes + 1 - t.first) (t.nodes - 1) o refl h.linked);
       top = h.top;
       above_root = h.above_root;
       attributes_before_it = λ q.
           rw words
-          (get_or-set_other (take (node_width * t.nodes) ns) (node_width * (t.nodes - 1) + node_count) (node_width * t.above_root + node_first) (t.attributes + 1 - t.first) 0 (λ y. omega arith)
+          (get_or-set_other (take (node_width * t.nodes) ns) (node_width * (t.nodes - 1) + node_count) (node_width * t.above_root + node_first)
+          (t.attributes + 1 - t.first) 0 (λ y. omega arith)
           ∙ h.attributes_before_it q);
       below = omega (arith, h.below);
     };
@@ -86,7 +94,8 @@ module _ (rule : Rule) (key : Key) (ns ats : List ℕ) (t : Tree) (o : List ℕ)
     chained = l;
     pushed = λ r os cs rn ra. (
         let fit : length (take (attribute_width * t.attributes) ats) + attribute_width ≤ r.attributes = omega (arith, la) in
-        let count : (attribute_width * t.attributes + attribute_width - attribute_width * t.first) / attribute_width ≡ t.attributes + 1 - t.first = omega (arith, h.sized.first) in
+        let count : (attribute_width * t.attributes + attribute_width - attribute_width * t.first) / attribute_width ≡ t.attributes + 1 - t.first =
+        omega (arith, h.sized.first) in
         rw (ne_eqb _ 0 (some z), lu, dn, ← owned, e, le-leb _ _ fit, words, more, la, count));
   }
     where
@@ -97,8 +106,10 @@ module _ (rule : Rule) (key : Key) (ns ats : List ℕ) (t : Tree) (o : List ℕ)
 
 -- ---- as `keep` says it
 
-module _ (rule : Rule) (key : Key) (ns ats ns' ats' : List ℕ) (t : Tree) (o : List ℕ) (h : Tied ns ats t o) (l : Chained key ns ats t) (p : ℕ) (a : XmlAttributeElement) where
-  pub keep_same : {r : Result (Option Tree) Refusal} → r ≡ Ok None → Keeps rule key r t p a ns ats ns' ats' → PlacesBy rule key (Ok t) ns ats t o (Attribute p a) ns' ats'
+module _ (rule : Rule) (key : Key) (ns ats ns' ats' : List ℕ) (t : Tree) (o : List ℕ) (h : Tied ns ats t o) (l : Chained key ns ats t) (p : ℕ)
+    (a : XmlAttributeElement) where
+  pub keep_same : {r : Result (Option Tree) Refusal} → r ≡ Ok None → Keeps rule key r t p a ns ats ns' ats'
+      → PlacesBy rule key (Ok t) ns ats t o (Attribute p a) ns' ats'
   keep_same e q₀ = let q = rw e at q₀ in rw (q.nodes, q.attributes) (go (eqb t.nodes 0) refl q.there)
     where
       go : (b : Bool) → eqb t.nodes 0 ≡ b → ((t.nodes ≡ 0 → ⊥) → is_repeat rule (new_words t p a) (own_words t ats) ≡ true)
@@ -110,7 +121,8 @@ module _ (rule : Rule) (key : Key) (ns ats ns' ats' : List ℕ) (t : Tree) (o : 
       → PlacesBy rule key (Err (Full x)) ns ats t o (Attribute p a) ns' ats'
   keep-full x e q₀ = let q = rw e at q₀ in rw q.0 (attribute-full rule key ns ats t o h p a ns' ats' q.1.some q.1.new q.1.full)
 
-  pub keep-stored : {r : Result (Option Tree) Refusal} (u : Tree) → r ≡ Ok (Some u) → Keeps rule key r t p a ns ats ns' ats' → length ns' ≡ length ns → length ats' ≡ length ats
+  pub keep-stored : {r : Result (Option Tree) Refusal} (u : Tree) → r ≡ Ok (Some u) → Keeps rule key r t p a ns ats ns' ats' → length ns' ≡ length ns
+      → length ats' ≡ length ats
       → PlacesBy rule key (Ok u) ns ats t o (Attribute p a) ns' ats'
   keep-stored u e q₀ ln la =
       let q = rw e at q₀ in

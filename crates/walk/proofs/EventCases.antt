@@ -235,7 +235,8 @@ not-other e e' p h q = subst (λ (x : Event). Other x) (sym p ∙ q) h
 -- ---- those that leave the tables alone
 
 module _ (rule : Rule) (key : Key) (ns ats : List ℕ) (t : Tree) (o : List ℕ) (e : Event) where
-  pub place-as : (p : Result Tree Stop) (ns' ats' : List ℕ) (e' : Event) → e ≡ e' → PlacesBy rule key p ns ats t o e' ns' ats' → PlacesBy rule key p ns ats t o e ns' ats'
+  pub place-as : (p : Result Tree Stop) (ns' ats' : List ℕ) (e' : Event) → e ≡ e' → PlacesBy rule key p ns ats t o e' ns' ats'
+      → PlacesBy rule key p ns ats t o e ns' ats'
   place-as p ns' ats' e' q h = rw q h
 
   pub place-nothing : Tied ns ats t o → Chained key ns ats t → e ≡ Nothing → PlacesBy rule key (Ok t) ns ats t o e ns ats

@@ -57,7 +57,8 @@ module _ (mode : ℕ) (t : List ℕ) (lent : Lent) (b : List ℕ) (o : Opened) w
 
   module _ (ns₀ ats₀ : List ℕ) (c₀ : Cursor) (tree₀ : Tree) (g : Running t lent b o ns₀ ats₀ c₀ tree₀) (ns ats : List ℕ) (c : Cursor) (tree : Tree)
       (h : RunHead mode t lent b o ns₀ ats₀ c₀ tree₀ g ns ats c tree) (s : Step) (es : s ≡ step_of N o t b c) (ns' ats' : List ℕ)
-      (ln : length ns' ≡ length ns) (la : length ats' ≡ length ats) (p : Result Tree Stop) (places : Places N.repeats (key_by o.head t lent) p ns ats tree s.event ns' ats')
+      (ln : length ns' ≡ length ns) (la : length ats' ≡ length ats) (p : Result Tree Stop)
+      (places : Places N.repeats (key_by o.head t lent) p ns ats tree s.event ns' ats')
       (not_end : NotEnd p s.event) where
     st : Stepped N o t b c s
     st = rw es (stepped N o t b c h.now.within)
@@ -84,7 +85,9 @@ module _ (mode : ℕ) (t : List ℕ) (lent : Lent) (b : List ℕ) (o : Opened) w
         let q = rw e at put in
         let less : steps b s.cur < steps b c = run-less u e in
         record {
-          now = record { stack = q.stack; ready = h.now.ready; within = st.within; tied = q.tied; chained = q.chained; budget = omega (arith, q.few, h.now.budget) };
+          now =
+              record
+              { stack = q.stack; ready = h.now.ready; within = st.within; tied = q.tied; chained = q.chained; budget = omega (arith, q.few, h.now.budget) };
           ln = ln ∙ h.ln;
           la = la ∙ h.la;
           low = omega (arith, h.low);
@@ -104,7 +107,16 @@ module _ (mode : ℕ) (t : List ℕ) (lent : Lent) (b : List ℕ) (o : Opened) w
         let first-is : pending N o t b c ≡ Note x ∷ pending N o t b s.cur = st.same ∙ ap (λ (y : Event). event_list y ++ pending N o t b s.cur) q.event in
         rw (q.nodes, q.attributes)
         (record {
-          now = record { stack = h.now.stack; ready = h.now.ready; within = st.within; tied = h.now.tied; chained = h.now.chained; budget = omega (arith, h.now.budget) };
+          now =
+              record {
+                stack = h.now.stack;
+                ready = h.now.ready;
+                within = st.within;
+                tied = h.now.tied;
+                chained = h.now.chained;
+                budget = omega
+                    (arith, h.now.budget);
+              };
           less = omega (arith, h.low);
           goes = λ r os cs rn ra.
               (h.same r os cs rn ra ∙ ap (λ (y : List Event). settle N.repeats r (going (tables_of ns ats tree h.now.stack os cs)) y) first-is);

@@ -76,7 +76,8 @@ above_in w (dropped_from k) n h e some = omega (arith, h.1)
 -- ---- a node opens
 
 module _ (rule : Rule) (key : Key) (ns ats ns' : List ℕ) (t : Tree) (name : StringIndex) (fixed line : ℕ) (room : node_width * t.nodes + node_width ≤ length ns)
-    (len : length ns' ≡ length ns) (put : ns' ≡ take (node_width * t.nodes) ns ++ opened_words t name.0 fixed line ++ drop (node_width * t.nodes + node_width) ns) where
+    (len : length ns' ≡ length ns)
+    (put : ns' ≡ take (node_width * t.nodes) ns ++ opened_words t name.0 fixed line ++ drop (node_width * t.nodes + node_width) ns) where
   abbrev w : List ℕ
   w = take (node_width * t.nodes) ns
 
@@ -107,11 +108,13 @@ module _ (rule : Rule) (key : Key) (ns ats ns' : List ℕ) (t : Tree) (name : St
 
   module _ (o : List ℕ) (h : Tied ns ats t o) (u : Tree) (un : u.nodes ≡ t.nodes + 1) (ua : u.attributes ≡ t.attributes)
       (uf : u.first ≡ t.attributes) (ui : u.inner ≡ t.nodes) (us : above_root_of (dropped_in (t.nodes ∷ o)) ≡ u.above_root)
-      (uu : (u.above_root ≡ 0 → ⊥) → get_or (w ++ opening) (node_width * u.above_root + node_first) 0 ≡ u.attributes_before_it) (ub : u.attributes_before_it ≤ t.attributes) where
+      (uu : (u.above_root ≡ 0 → ⊥) → get_or (w ++ opening) (node_width * u.above_root + node_first) 0 ≡ u.attributes_before_it)
+      (ub : u.attributes_before_it ≤ t.attributes) where
     pushed : (r : Room) (os : List NoteOf) (cs : List ℕ) → r.nodes ≡ length ns → r.attributes ≡ length ats
         → push rule r (going (tables_of ns ats t o os cs)) (Open name fixed line) ≡ going (tables_of ns' ats u (t.nodes ∷ o) os cs)
     pushed r os cs rn ra =
-        let la : length (take (attribute_width * t.attributes) ats) ≡ attribute_width * t.attributes = length-take-le (attribute_width * t.attributes) ats h.sized.attributes in
+        let la : length (take (attribute_width * t.attributes) ats) ≡ attribute_width * t.attributes =
+        length-take-le (attribute_width * t.attributes) ats h.sized.attributes in
         let fit : length w + node_width ≤ r.nodes = omega (arith, lw) in
         let da : attribute_width * t.attributes / attribute_width ≡ t.attributes = omega arith in
         let dn : node_width * t.nodes / node_width ≡ t.nodes = omega arith in
@@ -133,7 +136,8 @@ module _ (rule : Rule) (key : Key) (ns ats ns' : List ℕ) (t : Tree) (name : St
     }
 
     chained : Chained key ns' ats u
-    chained _ = hung-none (keys_of key (drop (attribute_width * u.first + front_words) ats)) (drop (node_width * u.nodes) ns') (behind_of u) (omega (arith, ua, uf))
+    chained _ =
+        hung-none (keys_of key (drop (attribute_width * u.first + front_words) ats)) (drop (node_width * u.nodes) ns') (behind_of u) (omega (arith, ua, uf))
 
     done : PlacesBy rule key (Ok u) ns ats t o (Open name fixed line) ns' ats
     done = record { stack = t.nodes ∷ o; tied = tied; few = rw (un, ua) (omega arith); chained = chained; pushed = pushed }
@@ -142,14 +146,14 @@ module _ (rule : Rule) (key : Key) (ns ats ns' : List ℕ) (t : Tree) (name : St
   node_opens [] h =
       let z : t.nodes ≡ 0 = omega (arith, h.linked, lw) in
       rw (eq-eqb t.nodes 0 z)
-      (done [] h (record { nodes = 1; attributes = t.attributes; first = t.attributes; inner = 0; above_root = 0; attributes_before_it = 0 }) (omega arith) refl refl (sym z)
+      (done [] h (record t { nodes = 1; first = t.attributes; inner = 0; above_root = 0; attributes_before_it = 0 }) (omega arith) refl refl (sym z)
       refl (λ n. absurd (n refl)) (omega arith))
   node_opens (k ∷ []) h =
       let q = linked-some w k [] h.linked in
       let e : t.inner ≡ 0 = sym h.top ∙ h.linked.0 in
       rw (ne_eqb t.nodes 0 (λ z. omega (arith, lw)), eq-eqb t.inner 0 e)
       (done (k ∷ []) h
-      (record { nodes = t.nodes + 1; attributes = t.attributes; first = t.attributes; inner = t.nodes; above_root = t.nodes; attributes_before_it = t.attributes })
+      (record t { nodes = t.nodes + 1; first = t.attributes; inner = t.nodes; above_root = t.nodes; attributes_before_it = t.attributes })
       refl refl refl refl refl (λ _. get_d-behind w opening (node_width * t.nodes) node_first lw) (omega arith))
   node_opens (k ∷ j ∷ r) h =
       let q = linked-some w k (j ∷ r) h.linked in
@@ -157,12 +161,14 @@ module _ (rule : Rule) (key : Key) (ns ats ns' : List ℕ) (t : Tree) (name : St
       let b = above_in w (dropped_in (k ∷ j ∷ r)) t.above_root (dropped-stored w (k ∷ j ∷ r) h.linked) h.above_root in
       rw (ne_eqb t.nodes 0 (λ z. omega (arith, lw)), ne_eqb t.inner 0 e)
       (done (k ∷ j ∷ r) h
-      (record { nodes = t.nodes + 1; attributes = t.attributes; first = t.attributes; inner = t.nodes; above_root = t.above_root; attributes_before_it = t.attributes_before_it })
-      refl refl refl refl h.above_root (λ n. get_or-append w opening 0 (node_width * t.above_root + node_first) (omega (arith, b n)) ∙ h.attributes_before_it n) h.below)
+      (record t { nodes = t.nodes + 1; first = t.attributes; inner = t.nodes })
+      refl refl refl refl h.above_root
+      (λ n. get_or-append w opening 0 (node_width * t.above_root + node_first) (omega (arith, b n)) ∙ h.attributes_before_it n) h.below)
 
 -- no place for it
 pub node-full : (rule : Rule) (key : Key) (ns ats ns' : List ℕ) (t : Tree) (name : StringIndex) (fixed line : ℕ) (o : List ℕ) → Tied ns ats t o
-    → length ns < node_width * t.nodes + node_width → PlacesBy rule key (Err (Full (NodesFull (length ns / node_width)))) ns ats t o (Open name fixed line) ns' ats
+    → length ns < node_width * t.nodes + node_width
+    → PlacesBy rule key (Err (Full (NodesFull (length ns / node_width)))) ns ats t o (Open name fixed line) ns' ats
 node-full rule key ns ats ns' t name fixed line o h none r os cs rn ra =
     let lw : length (take (node_width * t.nodes) ns) ≡ node_width * t.nodes = length-take-le (node_width * t.nodes) ns h.sized.nodes in
     let over : r.nodes < length (take (node_width * t.nodes) ns) + node_width = omega (arith, lw) in

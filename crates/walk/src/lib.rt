@@ -14,7 +14,7 @@ pub mod tree;
 ghost use Rattle.std.specs.Prelude.{◌≡◌};
 ghost use Rattle.system_types.specs.Names.{lends};
 ghost use Rattle.walk.specs.declared.Stage.TheVariants.{Fresh, Reading as InBody};
-ghost use Rattle.walk.specs.Inner.Outcome.{no_tree, first, started_by, StateOk, AdvanceKeeps, Answers};
+ghost use Rattle.walk.specs.Inner.Outcome.{first, started_by, StateOk, AdvanceKeeps, Answers};
 ghost use Rattle.walk.specs.Inner.KnownSoFar.{KnownSoFar};
 
 use anomaly::{Note, Notes, kind_index};
@@ -65,19 +65,6 @@ pub const NO_NOTE: Note = Note {
     b: 0,
 };
 
-fn no_tree() -> Tree
-    ensures { result ≡ no_tree }
-{
-    Tree {
-        nodes: 0,
-        attributes: 0,
-        first: 0,
-        inner: 0,
-        above_root: 0,
-        attributes_before_it: 0,
-    }
-}
-
 // The state before the first call, for a note table of `room` places, `cap` notes of each kind, and the mode of the reading.
 // Ruled out: a state that has counted notes, and one that takes the head for opened.
 pub fn begin(room: usize, cap: u32, mode: u32) -> State
@@ -111,7 +98,7 @@ pub fn begin(room: usize, cap: u32, mode: u32) -> State
         stage: Stage::Fresh,
         opened,
         cur: first_cursor(),
-        tree: no_tree(),
+        tree: Tree::default(),
         notes: Notes::new(),
     }
 }
@@ -144,13 +131,11 @@ fn read_on(
         nodes.new attributes.new
         × KnownSoFar file.now (lends names.now area.now) result memory.new numbers.new }
 {
-    let opened = st.opened;
-    let notes = st.notes;
     let mut cur = st.cur;
     let mut tree = st.tree;
     loop {
         let halt = run_in(
-            file, names, area, st.mode, opened, nodes, attributes, memory, cur, tree, numbers,
+            file, names, area, st.mode, st.opened, nodes, attributes, memory, cur, tree, numbers,
         );
         cur = halt.cur;
         tree = halt.tree;
@@ -158,10 +143,10 @@ fn read_on(
             Stop::Full(x) => return refuse(nodes, attributes, st, x),
             Stop::Finished => return finish(nodes, attributes, st, tree),
             Stop::Due(x) => {
-                if notes.is_due(st.cap, kind_index(x)) {
+                if st.notes.is_due(st.cap, kind_index(x)) {
                     return note_due(nodes, attributes, st, cur, tree, x);
                 }
-                cur = pass_in(file, opened, notes, st.cap, cur);
+                cur = pass_in(file, st.opened, st.notes, st.cap, cur);
             }
         }
     }

@@ -12,7 +12,8 @@ ghost use Rattle.text.specs.Inner.Found.{Asks};
 ghost use Rattle.tables.specs.Inner.Keys.{key_by};
 ghost use Rattle.tables.specs.Inner.Numbered.{Numbered};
 ghost use Rattle.events.specs.declared.Event.TheVariants.{Attribute};
-ghost use Rattle.walk.specs.Inner.Tree.{parent_of, opened_tree, closed_tree, kept_tree, opened_words, kept_nodes, kept_attributes, new_words, front_of, Fit, Far, Puts, KeepsIn, AsksFor};
+ghost use Rattle.walk.specs.Inner.Tree.{parent_of, opened_tree, closed_tree, kept_tree, opened_words, kept_nodes, kept_attributes, new_words};
+ghost use Rattle.walk.specs.Inner.Tree.{front_of, Fit, Far, Puts, KeepsIn, AsksFor};
 
 use common::StringIndex;
 use errors::Refusal;
@@ -28,7 +29,7 @@ use xml_elements::XmlAttributeElement;
 
 // How many nodes and attributes are stored, how many attributes before those of the last node, the innermost open element, the one that is
 // open above the first (0: none), and how many attributes were there before it.
-#[derive(Clone, Copy)]
+#[derive(Clone, Copy, Default)]
 pub struct Tree {
     pub nodes: u32,
     pub attributes: u32,

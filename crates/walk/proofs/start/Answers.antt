@@ -11,8 +11,12 @@ read_on-requires c =
     let s = c.started in
     let e = sym c.enter.ensures ∙ c.in-Ok.is in
     let p = started-asks a.file.now (lends a.names.now a.area.now) a.nodes.now a.attributes.now a.st c.requires.0 c.requires.1 e
-    s.result s.ensures in
-    (p.0, p.1, knows-started a.file.now (lends a.names.now a.area.now) _ _ c.requires.2.looks-room c.requires.2.texts-room a.st c.requires.1 c.requires.2 _ s.result s.ensures)
+    s.result s.ensures in (
+      p.0,
+      p.1,
+      knows-started a.file.now (lends a.names.now a.area.now) _ _ c.requires.2.looks-room c.requires.2.texts-room a.st c.requires.1 c.requires.2 _
+          s.result s.ensures,
+    )
 
 pub returns-in-Err : goal.returns-in-Err
 returns-in-Err c =

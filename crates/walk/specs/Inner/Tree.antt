@@ -8,7 +8,8 @@
 --               before it are Chained
 --   Places       what `place` does with an event: it is PutAway (Ok), one push of specs/Settle.antt; or it is refused, or Passes to the caller
 --   AsksFor      an attribute asks for texts, and its name is valid but for the leading one's; no other event asks
-use Rattle.std.specs.Prelude.{ℕ, ◌+◌, ◌-◌, ◌*◌, ◌≤◌, ◌<◌, ◌≡◌, List, [], ◌∷◌, ◌++◌, true, false, cond, length, take, drop, set, get_or, eqb, ◌/◌, Option, Some, None, Result, Ok, Err}
+use Rattle.std.specs.Prelude.{ℕ, ◌+◌, ◌-◌, ◌*◌, ◌≤◌, ◌<◌, ◌≡◌, List, [], ◌∷◌, ◌++◌, true, false, cond}
+use Rattle.std.specs.Prelude.{length, take, drop, set, get_or, eqb, ◌/◌, Option, Some, None, Result, Ok, Err}
 use Rattle.anomaly.specs.declared.Note.{Note as NoteOf}
 use Rattle.errors.specs.declared.Refusal.{Refusal}
 use Rattle.errors.specs.declared.Refusal.TheVariants.{AttributesFull}
@@ -36,18 +37,18 @@ parent_of t = cond (eqb t.nodes 0) no_parent t.inner
 
 abbrev pub opened_tree : Tree → Tree
 opened_tree t =
-    cond (eqb t.nodes 0) (record { nodes = 1; attributes = t.attributes; first = t.attributes; inner = 0; above_root = 0; attributes_before_it = 0 })
+    cond (eqb t.nodes 0) (record t { nodes = 1; first = t.attributes; inner = 0; above_root = 0; attributes_before_it = 0 })
     (cond (eqb t.inner 0)
-    (record { nodes = t.nodes + 1; attributes = t.attributes; first = t.attributes; inner = t.nodes; above_root = t.nodes; attributes_before_it = t.attributes })
-    (record { nodes = t.nodes + 1; attributes = t.attributes; first = t.attributes; inner = t.nodes; above_root = t.above_root; attributes_before_it = t.attributes_before_it }))
+    (record t { nodes = t.nodes + 1; first = t.attributes; inner = t.nodes; above_root = t.nodes; attributes_before_it = t.attributes })
+    (record t { nodes = t.nodes + 1; first = t.attributes; inner = t.nodes }))
 
 abbrev pub closed_tree : Tree → ℕ → Tree
 closed_tree t p =
-    cond (eqb p 0) (record { nodes = t.nodes; attributes = t.attributes; first = t.first; inner = 0; above_root = 0; attributes_before_it = 0 })
-    (record { nodes = t.nodes; attributes = t.attributes; first = t.first; inner = p; above_root = t.above_root; attributes_before_it = t.attributes_before_it })
+    cond (eqb p 0) (record t { inner = 0; above_root = 0; attributes_before_it = 0 })
+    (record t { inner = p })
 
 abbrev pub kept_tree : Tree → Tree
-kept_tree t = record { nodes = t.nodes; attributes = t.attributes + 1; first = t.first; inner = t.inner; above_root = t.above_root; attributes_before_it = t.attributes_before_it }
+kept_tree t = record t { attributes = t.attributes + 1 }
 
 -- the words of the node that opens
 abbrev pub opened_words : Tree → ℕ → ℕ → ℕ → List ℕ
@@ -91,13 +92,20 @@ pub record Tied (ns ats : List ℕ) (t : Tree) (o : List ℕ) : Type 0 where
   pub linked : Linked (take (node_width * t.nodes) ns) o
   pub top : top_of o ≡ t.inner
   pub above_root : above_root_of (dropped_in o) ≡ t.above_root
-  pub attributes_before_it : (t.above_root ≡ 0 → ⊥) → get_or (take (node_width * t.nodes) ns) (node_width * t.above_root + node_first) 0 ≡ t.attributes_before_it
+  pub attributes_before_it : (t.above_root ≡ 0 → ⊥)
+      → get_or (take (node_width * t.nodes) ns) (node_width * t.above_root + node_first) 0 ≡ t.attributes_before_it
   pub below : t.attributes_before_it ≤ t.attributes
 
 -- with the notes os and the counts cs
 abbrev pub tables_of : List ℕ → List ℕ → Tree → List ℕ → List NoteOf → List ℕ → Tables
-tables_of ns ats t o os cs =
-    record { nodes = take (node_width * t.nodes) ns; attributes = take (attribute_width * t.attributes) ats; first = attribute_width * t.first; stack = o; notes = os; counts = cs }
+tables_of ns ats t o os cs = record {
+  nodes = take (node_width * t.nodes) ns;
+  attributes = take (attribute_width * t.attributes) ats;
+  first = attribute_width * t.first;
+  stack = o;
+  notes = os;
+  counts = cs;
+}
 
 -- ---- an attribute
 

@@ -50,8 +50,11 @@ pub returns-in-LeftOut : goal.returns-in-LeftOut
 returns-in-LeftOut c =
     let a = c.args in
     let rule = by_prefix (same_name a.h a.t.now (lends a.names.now a.area.now)) in
-    let key = key_by a.h a.t.now (lends a.names.now a.area.now) in
-    ((λ o h l. place-left rule key a.nodes.now a.attributes.now a.tree o a.e c.in-LeftOut.field-0 h l c.in-LeftOut.is), not-other a.e _ c.in-LeftOut.is tt, c.requires.2)
+    let key = key_by a.h a.t.now (lends a.names.now a.area.now) in (
+      (λ o h l. place-left rule key a.nodes.now a.attributes.now a.tree o a.e c.in-LeftOut.field-0 h l c.in-LeftOut.is),
+      not-other a.e _ c.in-LeftOut.is tt,
+      c.requires.2,
+    )
 
 pub returns-in-Close : goal.returns-in-Close
 returns-in-Close c =
