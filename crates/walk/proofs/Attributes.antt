@@ -13,8 +13,8 @@ use lib.Dec.{eqb}
 use Rattle.errors.specs.declared.Refusal.{Refusal}
 use Rattle.errors.specs.declared.Refusal.TheVariants.{AttributesFull}
 use Rattle.xml_elements.specs.declared.XmlAttributeElement.{XmlAttributeElement}
-use Rattle.records.specs.Words.{node_width, node_first, node_count, attribute_width, attribute_words}
-use Rattle.records.specs.Repeats.{Rule, by_prefix, is_repeat}
+use Rattle.records.specs.Words.{node_width, node_first, node_count, attribute_width}
+use Rattle.records.specs.Repeats.{Rule, is_repeat}
 use Rattle.events.specs.declared.Event.TheVariants.{Attribute}
 use Rattle.tables.specs.Inner.Keys.{Key}
 use Rattle.walk.specs.declared.tree.Tree.{Tree}

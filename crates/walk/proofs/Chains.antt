@@ -1,7 +1,7 @@
 -- The last node's attributes behind the first 32, as `keep_far` finds and leaves them: linked, in the words behind the nodes. No contract cites this file.
 -- In order: which attributes are far (`far-of`), what is compared one by one (`front-found`, `front-near`, `front-first`), the words behind the first 32
--- (`behind-hung`, `own_behind`), the node's count (`counted-nodes`),
--- one more where it is not linked (`chained-near`), and where it is (`linked-nodes`, `chained-far`).
+-- (`behind-hung`, `own_behind`), the node's count (`counted-nodes`), one more where it is not linked (`chained-near`), and where it is (`linked-nodes`,
+-- `chained-far`).
 use Prim.Native.Nat.{ℕ, ◌+◌, ◌-◌, ◌*◌, ◌/◌, ◌≤◌, ◌<◌}
 use native.Mathlib.Omega.{arith}
 use native.Mathlib.Nat.{pos_of_ne-zero}
@@ -39,14 +39,6 @@ far-of ns ats t own links z h eo el e =
     leb-true (link_width * ((own - front_words) / attribute_width) + link_width) links b.1 in
     let q : (own - front_words) / attribute_width ≡ behind_of t = omega (arith, h.first) in
     record { some = pos_of_ne-zero z; many = omega (arith, h.first); room = omega arith }
-
--- the words that are compared one by one are own words
-pub front-le : (far : Bool) (own links front : ℕ) → far ≡ is_far own links → front ≡ cond far front_words own → front ≤ own
-front-le true own links front e q =
-    let m : front_words ≤ own =
-    leb-true front_words own (both (leb front_words own) (leb (link_width * ((own - front_words) / attribute_width) + link_width) links) (sym e)).0 in
-    omega (arith, q)
-front-le false own links front e q = omega (arith, q)
 
 -- what `has` says of them: yes for one of them is yes for all
 module _ (ns ats : List ℕ) (t : Tree) (h : Sized ns ats t) (rule : Rule) (new : List ℕ) (f u own links front : ℕ) (ef : f ≡ attribute_width * t.first)

@@ -13,7 +13,6 @@ use lib.Seq.{take_all, take-suc-set}
 use lib.Dec.{ltb}
 use Rattle.anomaly.specs.declared.Note.{Note as NoteOf}
 use Rattle.system_types.specs.Names.{Lent}
-use Rattle.walk.specs.declared.Stage.{Stage}
 use Rattle.walk.specs.declared.Stage.TheVariants.{Fresh, Reading as InBody, Clearing}
 use Rattle.walk.specs.declared.State.{State}
 use Rattle.walk.specs.Reading.{Reading, zero_note}

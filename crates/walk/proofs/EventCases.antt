@@ -1,9 +1,7 @@
--- What an event asks and does, by its case: which ask for texts, and that their names are valid (`asks-for`), which are not the end, and those that
--- leave the tables alone.
--- No contract cites this file.
+-- What an event asks and does, by its case: which ask for texts, and that their names are valid (`asks-for`), which are not the end, and what
+-- `place` does with an event whose case is known (`place-as`). No contract cites this file.
 use Rattle.std.specs.Prelude.{Result, Ok, Err}
 use Prim.Native.Nat.{ℕ}
-use native.Mathlib.Omega.{arith}
 use mathlib.Core.Path.{◌≡◌, refl, sym, ◌∙◌, ap, subst}
 use mathlib.Core.List.{List}
 use mathlib.Core.Bool.{Bool, true, false, not, cond, ◌&&◌}
@@ -44,7 +42,7 @@ use Rattle.tables.specs.Inner.Keys.{Key}
 use Rattle.walk.specs.declared.tree.Tree.{Tree}
 use Rattle.walk.specs.declared.placing.Stop.{Stop}
 use Rattle.walk.specs.declared.placing.Stop.TheVariants.{Full, Due, Finished}
-use Rattle.walk.specs.Inner.Tree.{Tied, Chained, PlacesBy, NotEnd, AsksFor}
+use Rattle.walk.specs.Inner.Tree.{PlacesBy, NotEnd, AsksFor}
 
 -- ---- which events ask for texts
 
@@ -232,18 +230,9 @@ Other (Refuse x) = Unit {0}
 pub not-other : (e e' : Event) → e ≡ e' → Other e' → e ≡ Finish → ⊥
 not-other e e' p h q = subst (λ (x : Event). Other x) (sym p ∙ q) h
 
--- ---- those that leave the tables alone
+-- ---- an event whose case is known
 
 module _ (rule : Rule) (key : Key) (ns ats : List ℕ) (t : Tree) (o : List ℕ) (e : Event) where
   pub place-as : (p : Result Tree Stop) (ns' ats' : List ℕ) (e' : Event) → e ≡ e' → PlacesBy rule key p ns ats t o e' ns' ats'
       → PlacesBy rule key p ns ats t o e ns' ats'
   place-as p ns' ats' e' q h = rw q h
-
-  pub place-nothing : Tied ns ats t o → Chained key ns ats t → e ≡ Nothing → PlacesBy rule key (Ok t) ns ats t o e ns ats
-  place-nothing h l q = rw q (record { stack = o; tied = h; few = omega arith; chained = l; pushed = λ r os cs rn ra. refl })
-
-  pub place-left : (n : StringIndex) → Tied ns ats t o → Chained key ns ats t → e ≡ LeftOut n → PlacesBy rule key (Ok t) ns ats t o e ns ats
-  place-left n h l q = rw q (record { stack = o; tied = h; few = omega arith; chained = l; pushed = λ r os cs rn ra. refl })
-
-  pub place-refused : (x : Refusal) → e ≡ Refuse x → PlacesBy rule key (Err (Full x)) ns ats t o e ns ats
-  place-refused x q = rw q (λ r os cs rn ra. refl)

@@ -8,9 +8,6 @@ use Rattle.axml.proofs.read.Goals as goal
 pub loop-st-init : goal.loop-st-init
 loop-st-init c = start _ _ _ _ _ _ _ _ c.begin-st.ensures
 
-pub advance-st-requires : goal.advance-st-requires
-advance-st-requires c = c.loop-st.invariant.good
-
 pub offset_bounds-notes-st : goal.offset_bounds-notes-st
 offset_bounds-notes-st c =
     let l = c.loop-st in

@@ -7,7 +7,3 @@ pub advance_knowing-requires : goal.advance_knowing-requires
 advance_knowing-requires c =
     let a = c.args in
     (c.requires, knows-none a.file.now (lends a.names.now a.area.now) a.st)
-
-pub returns : goal.returns
-returns c =
-    c.advance_knowing.ensures.0

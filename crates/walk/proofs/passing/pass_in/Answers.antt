@@ -2,20 +2,14 @@
 use Rattle.anomaly.specs.declared.ResAnomaly.TheVariants.{NonXmlChunk}
 use Rattle.anomaly.proofs.Laws.{kind_index-lt}
 use Rattle.head.specs.Head.{body_in}
-use Rattle.walk.proofs.PastCap.{past-cap, on-here, on-chunk}
+use Rattle.walk.proofs.PastCap.{past-cap, on-chunk}
 use Rattle.walk.proofs.passing.pass_in.Goals as goal
 
 pub is_due-requires : goal.is_due-requires
 is_due-requires c = rw c.kind_index.ensures (kind_index-lt (NonXmlChunk 0))
 
-pub returns-then-is_due : goal.returns-then-is_due
-returns-then-is_due c = on-here _ _ _ _
-
 pub is_due-requires-2 : goal.is_due-requires-2
 is_due-requires-2 c = rw c.kind_index-2.ensures (kind_index-lt _)
-
-pub returns-then-is_due-2 : goal.returns-then-is_due-2
-returns-then-is_due-2 c = on-here _ _ _ _
 
 pub pass_foreign-requires : goal.pass_foreign-requires
 pass_foreign-requires c =
@@ -31,6 +25,3 @@ returns-in-AtChunk c =
     rw c.passed_to.ensures
     (on-chunk (body_in a.file.now a.o.head) a.cap a.notes.counts a.c p.result.at p.result.run c.in-AtChunk.is reach
     (one, other))
-
-pub returns-in_default : goal.returns-in_default
-returns-in_default c = on-here _ _ _ _

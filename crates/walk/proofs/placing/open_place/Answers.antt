@@ -1,14 +1,7 @@
 -- `walk::placing::open_place` meets its contract: the node is pushed where it has a place (proofs/Trees.antt).
 use native.Mathlib.Omega.{arith}
-use Rattle.walk.proofs.Trees.{node_opens, node-full}
+use Rattle.walk.proofs.Trees.{node_opens}
 use Rattle.walk.proofs.placing.open_place.Goals as goal
-
-pub returns-then-nodes-node_place-lt-NODE_WORDS : goal.returns-then-nodes-node_place-lt-NODE_WORDS
-returns-then-nodes-node_place-lt-NODE_WORDS c =
-    let a = c.args in
-    λ rule key o h l.
-    node-full rule key a.nodes.now a.attributes.now a.nodes.now a.tree a.name a.fixed a.line o h
-    (omega (arith, c.if-nodes-node_place-lt-NODE_WORDS.true, c.node_place.ensures))
 
 pub returns : goal.returns
 returns c =

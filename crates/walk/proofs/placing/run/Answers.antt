@@ -1,7 +1,7 @@
 -- `walk::placing::run` meets its contract: each turn of its loop is one step of the reading, put away.
 -- Invariant: the reading from here comes to what it came to at first, and what is known of names and of long texts holds. Measure: the cursor's steps.
 -- The mathematics of a turn: proofs/Running.antt.
-use mathlib.Core.Path.{refl, sym, ◌∙◌}
+use mathlib.Core.Path.{refl, ◌∙◌}
 use Rattle.system_types.specs.Names.{lends}
 use Rattle.walk.proofs.EventCases.{asks-for}
 use Rattle.walk.proofs.Running.{run-first, fit_of, run-less, run-goes, run-stops}

@@ -1,10 +1,6 @@
 -- `walk::placing::run_in` meets its contract: the two parts of the file are the tables and the body that the definitions take.
 use Rattle.walk.proofs.placing.run_in.Goals as goal
 
-pub run-requires : goal.run-requires
-run-requires c =
-    rw (c.body_of-b.ensures, c.tables_of-t.ensures) c.requires
-
 pub returns : goal.returns
 returns c =
     rw (c.body_of-b.ensures, c.tables_of-t.ensures) at c.run.ensures

@@ -11,92 +11,8 @@ use Rattle.system_types.specs.Names.{lends}
 use Rattle.text.specs.Content.{same_name}
 use Rattle.tables.specs.Inner.Keys.{key_by}
 use Rattle.walk.specs.Inner.Tree.{new_words}
-use Rattle.walk.proofs.Chains.{far-of, front-le, front-found, front-near, front-first, counted-nodes, chained-near}
+use Rattle.walk.proofs.Chains.{far-of, front-found, front-near, front-first, counted-nodes, chained-near}
 use Rattle.walk.proofs.tree.keep.Goals as goal
-
-pub returns-then-n-eq0 : goal.returns-then-n-eq0
-returns-then-n-eq0 c =
-    ((λ l. record { there = λ n. absurd (n c.if-n-eq0.true); nodes = refl; attributes = refl }), c.requires.2)
-
-pub overflow_sub-used : goal.overflow_sub-used
-overflow_sub-used c = omega (
-  arith,
-  c.attribute_place-used.ensures,
-  c.attribute_place-from.ensures,
-  c.requires.1.sized.first,
-)
-
-pub overflow_sub-nodes : goal.overflow_sub-nodes
-overflow_sub-nodes c = omega (arith, c.node_place.ensures, c.requires.1.sized.nodes)
-
-pub overflow_sub-used-2 : goal.overflow_sub-used-2
-overflow_sub-used-2 c = omega (
-  arith,
-  c.attribute_place-used.ensures,
-  c.attribute_place-from.ensures,
-  c.requires.1.sized.first,
-)
-
-pub overflow_add-from : goal.overflow_add-from
-overflow_add-from c = omega (
-  arith,
-  front-le c.is_far-far.result _ _ c.front_of-front.result c.is_far-far.ensures c.front_of-front.ensures,
-  c.attribute_place-used.ensures,
-  c.attribute_place-from.ensures,
-  c.requires.1.sized.first,
-  c.requires.1.sized.attributes,
-  c.requires.1.many,
-)
-
-pub offset_bounds-attributes-from : goal.offset_bounds-attributes-from
-offset_bounds-attributes-from c = omega (
-  arith,
-  front-le c.is_far-far.result _ _ c.front_of-front.result c.is_far-far.ensures c.front_of-front.ensures,
-  c.attribute_place-used.ensures,
-  c.attribute_place-from.ensures,
-  c.requires.1.sized.first,
-  c.requires.1.sized.attributes,
-  c.requires.1.many,
-)
-
-pub slice_bounds-has-count : goal.slice_bounds-has-count
-slice_bounds-has-count c = omega (
-  arith,
-  front-le c.is_far-far.result _ _ c.front_of-front.result c.is_far-far.ensures c.front_of-front.ensures,
-  c.attribute_place-used.ensures,
-  c.attribute_place-from.ensures,
-  c.requires.1.sized.first,
-  c.requires.1.sized.attributes,
-  c.requires.1.many,
-)
-
-pub slice_bounds-has-start : goal.slice_bounds-has-start
-slice_bounds-has-start c = omega (
-  arith,
-  front-le c.is_far-far.result _ _ c.front_of-front.result c.is_far-far.ensures
-      c.front_of-front.ensures,
-  c.attribute_place-used.ensures,
-  c.attribute_place-from.ensures,
-  c.requires.1.sized.first,
-  c.requires.1.sized.attributes,
-  c.requires.1.many,
-)
-
-pub slice_bounds-has-end : goal.slice_bounds-has-end
-slice_bounds-has-end c = omega (
-  arith,
-  front-le c.is_far-far.result _ _ c.front_of-front.result c.is_far-far.ensures
-      c.front_of-front.ensures,
-  c.attribute_place-used.ensures,
-  c.attribute_place-from.ensures,
-  c.requires.1.sized.first,
-  c.requires.1.sized.attributes,
-  c.requires.1.many,
-)
-
-pub has-requires : goal.has-requires
-has-requires c =
-    let p = c.requires in (p.0.0, p.0.1, p.2)
 
 pub returns-then-has : goal.returns-then-has
 returns-then-has c = (
@@ -177,18 +93,6 @@ returns-then-attributes-used-lt-ATTRIBUTE_WORDS c = (
         },
       )),
   c.has.ensures.1,
-)
-
-pub store-requires : goal.store-requires
-store-requires c = (
-  c.requires.1,
-  pos_of_ne-zero
-      c.if-n-eq0.false,
-  omega (
-    arith,
-    c.if-attributes-used-lt-ATTRIBUTE_WORDS.false,
-    c.attribute_place-used.ensures,
-  ),
 )
 
 pub returns : goal.returns

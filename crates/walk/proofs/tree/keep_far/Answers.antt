@@ -1,7 +1,7 @@
 -- `walk::tree::keep_far` meets its contract: the attributes behind the first 32 are sought along their links, and a new one is linked (proofs/Chains.antt).
 use Prim.Native.Nat.{ℕ, ◌+◌, ◌*◌, ◌≤◌}
 use native.Mathlib.Omega.{arith}
-use mathlib.Core.Path.{refl, sym, ap, ◌∙◌}
+use mathlib.Core.Path.{refl, ap}
 use mathlib.Core.Bool.{true, false}
 use lib.ListN.{length}
 use Rattle.records.specs.Words.{attribute_width}
@@ -11,33 +11,6 @@ use Rattle.tables.specs.Inner.Keys.{key_by}
 use Rattle.tables.specs.Inner.Ways.{front_words}
 use Rattle.walk.proofs.Chains.{behind-room, count-is, count-seen, link-room, far-repeat, linked-nodes, ends-here, chained-far}
 use Rattle.walk.proofs.tree.keep_far.Goals as goal
-
-pub key_of-key-requires : goal.key_of-key-requires
-key_of-key-requires c =
-    (c.requires.0, c.find-g.ensures, c.requires.3)
-
-pub slice_bounds-seek-count : goal.slice_bounds-seek-count
-slice_bounds-seek-count c = omega (
-  arith,
-  c.attribute_place-from.ensures,
-  c.attribute_place-used.ensures,
-  c.requires.2.many,
-)
-
-pub slice_bounds-seek-start : goal.slice_bounds-seek-start
-slice_bounds-seek-start c = omega (
-  arith,
-  c.attribute_place-from.ensures,
-  c.attribute_place-used.ensures,
-  c.requires.2.many,
-)
-
-pub slice_bounds-seek-end : goal.slice_bounds-seek-end
-slice_bounds-seek-end c = omega (
-  arith,
-  c.attribute_place-used.ensures,
-  c.requires.1.sized.attributes,
-)
 
 pub seek-e-requires : goal.seek-e-requires
 seek-e-requires c =
@@ -65,13 +38,6 @@ returns-then-e c = (
   c.seek-e.ensures.1,
 )
 
-pub overflow_sub-attributes : goal.overflow_sub-attributes
-overflow_sub-attributes c = omega (
-  arith,
-  c.attribute_place-used.ensures,
-  c.requires.1.sized.attributes,
-)
-
 pub returns-then-attributes-used-lt-ATTRIBUTE_WORDS : goal.returns-then-attributes-used-lt-ATTRIBUTE_WORDS
 returns-then-attributes-used-lt-ATTRIBUTE_WORDS c = (
   (let s = c in let a = s.args in let lent = lends a.names.now
@@ -97,48 +63,6 @@ returns-then-attributes-used-lt-ATTRIBUTE_WORDS c = (
         },
       )),
   c.seek-e.ensures.1,
-)
-
-pub store-u-requires : goal.store-u-requires
-store-u-requires c = (
-  c.requires.1,
-  c.requires.2.some,
-  omega (
-    arith,
-    c.if-attributes-used-lt-ATTRIBUTE_WORDS.false,
-    c.attribute_place-used.ensures,
-  ),
-)
-
-pub offset_bounds-nodes-free-2 : goal.offset_bounds-nodes-free-2
-offset_bounds-nodes-free-2 c = omega (
-  arith,
-  c.node_place-free.ensures,
-  c.requires.1.many,
-)
-
-pub slice_bounds-link-count : goal.slice_bounds-link-count
-slice_bounds-link-count c = omega (
-  arith,
-  c.node_place-free.ensures,
-  c.requires.1.sized.nodes,
-  c.store-u.auto.nodes,
-)
-
-pub slice_bounds-link-start : goal.slice_bounds-link-start
-slice_bounds-link-start c = omega (
-  arith,
-  c.node_place-free.ensures,
-  c.requires.1.sized.nodes,
-  c.store-u.auto.nodes,
-)
-
-pub overflow_sub-used : goal.overflow_sub-used
-overflow_sub-used c = omega (
-  arith,
-  c.attribute_place-from.ensures,
-  c.attribute_place-used.ensures,
-  c.requires.2.many,
 )
 
 pub link-requires : goal.link-requires
