@@ -17,7 +17,8 @@ fn read_to_list(file: &[u8], nodes: &mut [u32], attributes: &mut [u32]) -> Liste
     ensures { ReadsToList file.now nodes.old attributes.old result.answer
         nodes.new attributes.new result.notes }
 {
-    if LISTED_FILE < file.len() {
+    let too_long = LISTED_FILE < file.len();
+    if too_long {
         zero_all(nodes);
         zero_all(attributes);
         return Listed {

@@ -3,9 +3,9 @@ use mathlib.Core.Path.{refl}
 use Rattle.listed.proofs.Lists.{refused-unread, read-whole}
 use Rattle.listed.proofs.read_to_list.Goals as goal
 
-pub returns-then-file-gt-LISTED_FILE : goal.returns-then-file-gt-LISTED_FILE
-returns-then-file-gt-LISTED_FILE c =
-    refused-unread _ _ _ _ _ _ _ c.if-file-gt-LISTED_FILE.true c.zero_all.ensures c.zero_all-then-file-gt-LISTED_FILE.ensures refl refl
+pub returns-then-too_long : goal.returns-then-too_long
+returns-then-too_long c =
+    refused-unread _ _ _ _ _ _ _ c.if-too_long.true c.zero_all.ensures c.zero_all-then-too_long.ensures refl refl
 
 pub returns : goal.returns
-returns c = read-whole _ _ _ _ _ _ _ c.if-file-gt-LISTED_FILE.false c.read_listed.ensures
+returns c = read-whole _ _ _ _ _ _ _ c.if-too_long.false c.read_listed.ensures
