@@ -80,6 +80,13 @@ fn put_reference(out: &mut [u8], names: &[u32], area: &[u8], v: u32) -> usize
     }
 }
 
+// A name, a part of the area.
+fn put_name(out: &mut [u8], area: &[u8], start: u32, n: u32) -> usize
+    ensures { Wrote 4294967296 0 (part_in area.now start n) out.old result out.new }
+{
+    put_bytes(out, 0, part_of(area, start, n))
+}
+
 // `@` for an id of the framework, `?` for any other.
 fn mark_of(v: u32) -> u8
     ensures { result ≡ cond (eqb (top_byte v) 1) 64 63 }
@@ -96,7 +103,7 @@ fn put_attribute(out: &mut [u8], names: &[u32], area: &[u8], v: u32) -> usize
 {
     let name = get_type_name(names, ResourceId(v));
     match name {
-        Some((start, n)) => put_bytes(out, 0, part_of(area, start, n)),
+        Some((start, n)) => put_name(out, area, start, n),
         None => put_marked(out, mark_of(v), v),
     }
 }
