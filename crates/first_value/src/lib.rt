@@ -1,6 +1,6 @@
 // The first value of a tag and a name: a question to tables that a reading, or anyone, has filled.
 //
-// Mirrors axml.rs (apk-info 13770539b8), `get_attribute_value`, without resolving references. Answers: `FirstAnswer`.
+// Mirrors axml.rs (apk-info 13770539b8), `get_attribute_value`, without resolving references. Answers: a `FirstValue`, or a refusal.
 // Definitions: specs/Question.antt. Differs from the Rust: the tree is two lent tables, which may hold any words, so they are looked at
 // before they are searched; head and names are checked again at each call.
 #![tactic(auto)]

@@ -1,6 +1,6 @@
 // Whether lent tables fit the counts that come with them: before a record is read, it is there.
 //
-// Mirrors nothing of the Rust's, whose tree is its own. Answers: `Fit`. Definitions: specs/Question.antt, docs/FORMAT.md, Q6.
+// Mirrors nothing of the Rust's, whose tree is its own. Answers: nothing, or the number of the first node that does not fit. Definitions: specs/Question.antt, docs/FORMAT.md, Q6.
 ghost use Rattle.std.specs.Prelude.{◌≡◌, ◌+◌, ◌*◌, ◌≤◌, ltb, length};
 ghost use Rattle.records.specs.Words.{node_width};
 ghost use Rattle.first_value.specs.Question.{runs_from, fit_of};

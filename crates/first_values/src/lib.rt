@@ -1,7 +1,8 @@
 // Many pairs of tag and name, asked of one file and its tables at once: the names are checked, the head is opened and the tables are looked at
 // once, whatever the number of pairs.
 //
-// Mirrors axml.rs (apk-info 13770539b8), `get_attribute_value`, called once for each pair. Answers: `ManyAnswer`, and a lent list of words.
+// Mirrors axml.rs (apk-info 13770539b8), `get_attribute_value`, called once for each pair. Answers: how many, or a refusal, and a lent list
+// of words.
 // Definitions: specs/Pairs.antt, over those of the single question (crate first_value), which answers each pair.
 #![tactic(auto)]
 

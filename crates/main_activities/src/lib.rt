@@ -1,6 +1,6 @@
 // Which screens a launcher starts: the names of the activities and aliases with a main intent filter, as attribute numbers in a lent list.
 //
-// Mirrors axml.rs (apk-info 13770539b8), `get_main_activities`. Answers: `MainAnswer`, how many there are, or a refusal.
+// Mirrors axml.rs (apk-info 13770539b8), `get_main_activities`. Answers: how many there are, or a refusal.
 // Definitions: specs/Activities.antt. Differs from the Rust: the tree is two lent tables, which may hold any words, so a child is told by the
 // order of the records too (docs/FORMAT.md, S2), and one pass over the nodes answers, each function going on where the one that it called stopped.
 #![tactic(auto)]
@@ -25,7 +25,7 @@ use tests::{find_named, has_tag, is_enabled, is_launcher_child, is_main_child, p
 use text::Head;
 use value_text::open_value;
 
-// The numbers of a `MainAnswer`.
+// The numbers of an answer of `main_activities`.
 #[derive(Clone, Copy)]
 pub struct MainNumbers {
     pub refusal: u32,

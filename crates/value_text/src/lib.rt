@@ -1,7 +1,7 @@
 // The text of a value, as a page shows it.
 //
 // Mirrors structs/common.rs (apk-info 13770539b8), `to_string` without resources of its own, and axml.rs where it asks `get_attr_value`
-// first. Answers: `ValueAnswer`, length and state of the text and the bits that no name covers, or a refusal. Definitions: specs/Value.antt.
+// first. Answers: a `ValueWritten`, length and state of the text and the bits that no name covers, or a refusal. Definitions: specs/Value.antt.
 // Differs from the Rust: float, dimension and fraction have no text here (docs/DIFFERENCES.md).
 #![tactic(auto)]
 
