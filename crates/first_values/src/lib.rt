@@ -95,9 +95,8 @@ fn answer_each(
         ≡ answers_from (asks_in h t.now (lends names.now area.now) nodes.now node_count attributes.now)
         pair_area.now n pairs.now ++ drop (answer_width * n) answers.old }
 {
-    let mut k: usize = 0;
     let mut node = None;
-    while k < n {
+    for k in 0..n {
         node = node_for(
             t, names, area, h, nodes, pairs, pair_area, node_count, k, node,
         );
@@ -111,7 +110,6 @@ fn answer_each(
             node,
         );
         put_answer(answers, k, first_numbers(value));
-        k += 1;
     }
 }
 

@@ -35,12 +35,10 @@ pub fn read_pairs(pairs: &[u32], area: &[u8]) -> Result<usize, usize>
     ensures { result ≡ pairs_of pairs.now area.now }
 {
     let n = pairs.len() / PAIR_WORDS;
-    let mut k: usize = 0;
-    while k < n {
+    for k in 0..n {
         if !is_pair_inside(pairs, area, k) {
             return Err(k);
         }
-        k += 1;
     }
     if pairs.len() % PAIR_WORDS != 0 {
         return Err(n);
