@@ -93,10 +93,9 @@ fn scan_filter(
         (children_of (tree_of h t.now (lends names.now area.now) items.now
         item_area.now nodes.now attributes.now count) f))) }
 {
-    let mut k = f + 1;
     let mut main = false;
     let mut launcher = false;
-    while k < count {
+    for k in f + 1..count {
         if parent_at(nodes, k) < f {
             return Scan {
                 next: k,
@@ -111,10 +110,9 @@ fn scan_filter(
         );
         main = main | m;
         launcher = launcher | l;
-        k += 1;
     }
     Scan {
-        next: k,
+        next: count,
         yes: main & launcher,
     }
 }
@@ -284,13 +282,12 @@ fn put_given(
     if !yes {
         return n;
     }
-    let name = find_named(
+    let Some(j) = find_named(
         t, names, area, h, items, item_area, nodes, attributes, b"name", count, k,
-    );
-    match name {
-        Some(j) => put_number(list, n, j),
-        None => n,
-    }
+    ) else {
+        return n;
+    };
+    put_number(list, n, j)
 }
 
 // ---- an application
@@ -470,11 +467,8 @@ fn open_main(
     ensures { result ≡ main_open file.now (lends names.now area.now) items.now item_area.now
         nodes.now attributes.now node_count attribute_count }
 {
-    let opened = open_value(file, names, area, items, item_area);
-    match opened {
-        Ok(h) => fitted(h, fit_of(nodes, attributes, node_count, attribute_count)),
-        Err(why) => Err(why),
-    }
+    let h = open_value(file, names, area, items, item_area)?;
+    fitted(h, fit_of(nodes, attributes, node_count, attribute_count))
 }
 
 // The attribute numbers of the names of the activities and aliases that a launcher starts, in `list`, in the order of the tree, zeros behind

@@ -159,32 +159,14 @@ pub fn form_of(kind: u32) -> Form
 pub fn is_other(form: Form) -> bool
     ensures { result ≡ is_other form }
 {
-    match form {
-        Form::Reference => false,
-        Form::Attribute => false,
-        Form::Pool => false,
-        Form::Number => false,
-        Form::Word => false,
-        Form::Truth => false,
-        Form::Color => false,
-        Form::Other => true,
-    }
+    matches!(form, Form::Other)
 }
 
 // Whether a value of the form is a string of the pool.
 pub fn is_pool(form: Form) -> bool
     ensures { result ≡ is_pool form }
 {
-    match form {
-        Form::Reference => false,
-        Form::Attribute => false,
-        Form::Pool => true,
-        Form::Number => false,
-        Form::Word => false,
-        Form::Truth => false,
-        Form::Color => false,
-        Form::Other => false,
-    }
+    matches!(form, Form::Pool)
 }
 
 // The text of a value at the front of a buffer; what stands behind it is anything.
