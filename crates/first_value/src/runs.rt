@@ -35,6 +35,7 @@ fn runs_fit(nodes: &[u32], node_count: u32, attribute_count: u32) -> Result<(), 
 
 // The counts first, by the words of both tables, and then each node.
 // Ruled out: the first bad node where a count is past the words, and a fit where a node without attributes begins past the count.
+#[tactic(auto, unfolding(crate::specs::Question::fit_of))]
 pub fn fit_of(
     nodes: &[u32],
     attributes: &[u32],

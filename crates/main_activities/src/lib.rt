@@ -33,7 +33,8 @@ pub struct MainNumbers {
     pub count: u64,
 }
 
-// The node to go on with, and whether what was looked for stands before it.
+// The node to go on with, and whether what was looked for stands before it. No Option: there is a node to go on with in both cases, and a loop
+// that goes on at it is no `for`.
 #[derive(Clone, Copy)]
 pub struct Scan {
     pub next: u32,
@@ -48,6 +49,7 @@ pub struct Going {
 }
 
 // The numbers of an answer. Ruled out: a count beside a refusal, and a refusal that is told by its value alone.
+#[tactic(auto, unfolding(crate::specs::Activities::main_numbers_of))]
 pub fn main_numbers(a: Result<usize, Refusal>) -> MainNumbers
     ensures { result ≡ main_numbers_of a }
 {

@@ -136,6 +136,7 @@ fn put_told(answers: &mut [u32], k: usize, at: usize, told: Told) -> usize
 // ---- a text behind others
 
 // The attribute of record k, of a table that has it.
+#[tactic(auto, unfolding(crate::specs::Many::attribute_at))]
 pub fn attribute_at(attributes: &[u32], k: usize) -> Attribute
     requires { attribute_width * k + attribute_width ≤ length attributes.now }
     ensures { result ≡ attribute_at attributes.now k }

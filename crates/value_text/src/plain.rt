@@ -130,6 +130,7 @@ pub fn string_state(t: &[u8], area: &[u8], utf16: bool, f: Found) -> TextState
 }
 
 // How a value of a type is written.
+#[tactic(auto, unfolding(crate::specs::Inner::Forms::form_of))]
 pub fn form_of(kind: u32) -> Form
     ensures { result ≡ form_of (value_type_of kind) }
 {
