@@ -1,6 +1,6 @@
 -- `first_values::pairs::read_pairs` meets its contract: it stops at the first pair that does not lie inside.
 -- Invariant: the pairs from k on say what all of them say.
-use Prim.Native.Nat.{◌-◌, ◌*◌, ◌/◌, ◌%◌, ◌≤◌}
+use Prim.Native.Nat.{◌-◌, ◌*◌, ◌/◌, ◌%◌}
 use mathlib.Core.Path.{◌≡◌}
 use lib.ListN.{length, drop}
 use Rattle.records.specs.Words.{pair_width}
