@@ -2,8 +2,7 @@
 // once, whatever the number of pairs.
 //
 // Mirrors axml.rs (apk-info 13770539b8), `get_attribute_value`, called once for each pair. Answers: how many, or a refusal, and a lent list
-// of words.
-// Definitions: specs/Pairs.antt, over those of the single question (crate first_value), which answers each pair.
+// of words. Definitions: specs/Pairs.antt, over those of the single question (crate first_value), which answers each pair.
 #![tactic(auto)]
 
 pub mod pairs;
