@@ -141,8 +141,9 @@ run_inside h t lent tag attributes k (suc n) w {first} {number} f e =
         → first + number ≤ attributes
     go true p f' c e' ind = let z : ◌≡◌ {A = ℕ} 0 1 = cc in absurd (let y : ⊥ = omega arith in y)
     go false p f' true e' ind =
-        let a : get_or w node_first 0 ≡ first = cc in
-        let b : get_or w node_count 0 ≡ number = cc in
+        let both : ◌≡◌ {A = ℕ × ℕ} (get_or w node_first 0, get_or w node_count 0) (first, number) = cc in
+        let a : get_or w node_first 0 ≡ first = ap (λ (pair : ℕ × ℕ). pair.0) both in
+        let b : get_or w node_count 0 ≡ number = ap (λ (pair : ℕ × ℕ). pair.1) both in
         let q = ltb-false attributes (get_or w node_first 0 + get_or w node_count 0) p in
         omega arith
     go false p f' false e' ind = ind f' e'
