@@ -1,4 +1,5 @@
 -- A form held against a text byte by byte, as the code does it. No contract cites this file.
+use Rattle.std.specs.Prelude.{Some, None}
 use Prim.Native.Nat.{ℕ, ◌+◌, ◌-◌, ◌≤◌, ◌<◌, min}
 use mathlib.Core.Path.{◌≡◌, refl, sym, ap, subst, ◌∙◌}
 use mathlib.Core.Bool.{Bool, true, false, cond, ◌||◌}
@@ -91,28 +92,27 @@ written-more : (i v n : ℕ) (vs before now now' : List ℕ) → now ≡ written
 written-more i v n vs before now now' e m q =
     q ∙ (rw (e, m) (sym (written-append vs (v ∷ []) before i ∙ written_one (i + length vs) v (written i vs before))))
 
-module _ (text : List ℕ) (i : ℕ) (now : List ℕ) (f r : Taking) (n : Figure) (g : f.good ≡ true) (l : f.at < length text) (e : get_or text f.at 0 ≡ 61)
-    (k : IsFigure text n (number_at_front (drop (f.at + 1) text))) where
+module _ (text : List ℕ) (i : ℕ) (now : List ℕ) (f r : Taking) (g : f.good ≡ true) (l : f.at < length text) (e : get_or text f.at 0 ≡ 61) where
   next-number : (ns s : List ℕ) → s ≡ drop f.at text → next 61 (front ns s) ≡ numbered ns (number_at_front (drop (f.at + 1) text))
   next-number ns s q = next-at 61 ns s text f.at q l ∙ rw e
 
-  none_of : (ns : List ℕ) (x : Number) → IsFigure text n x → n.found ≡ false → numbered ns x ≡ lost
-  none_of ns nothing h z = refl
-  none_of ns (number v s) h z = contra n.found h.found z
+  none_of : (ns : List ℕ) (x : Number) → IsFigure text None x → numbered ns x ≡ lost
+  none_of ns nothing h = refl
+  none_of ns (number v s) h = absurd h
 
-  pub moves-none : n.found ≡ false → (r.good ≡ false) × (r.count ≡ 0) → MovesOn text i 61 now f r now
-  moves-none z q = record { holds = on; few = let y = q.1 in omega arith; same = refl } where
+  pub moves-none : IsFigure text None (number_at_front (drop (f.at + 1) text)) → (r.good ≡ false) × (r.count ≡ 0) → MovesOn text i 61 now f r now
+  moves-none k q = record { holds = on; few = let y = q.1 in omega arith; same = refl } where
     on : (before : List ℕ) (x : Front) → Holds text i before now f x → Holds text i before now r (next 61 x)
     on before lost h = contra f.good g h.lost
     on before (front ns s) h =
-        subst (Holds text i before now r) (sym (next-number ns s h.rest ∙ none_of ns (number_at_front (drop (f.at + 1) text)) k z))
+        subst (Holds text i before now r) (sym (next-number ns s h.rest ∙ none_of ns (number_at_front (drop (f.at + 1) text)) k))
         (record { lost = q.0; same = h.same })
 
   first_of :
-      (x : Number) (before : List ℕ) → IsFigure text n x → n.found ≡ true → now ≡ written i [] before → length now ≡ length before →
+      (n : Figure) (x : Number) (before : List ℕ) → IsFigure text (Some n) x → now ≡ written i [] before → length now ≡ length before →
       r ≡ record { good = true; over = is_over n.value; first = n.value; count = 1; at = n.end } → Holds text i before now r (numbered [] x)
-  first_of nothing before h z w m q = contra n.found z h
-  first_of (number v s) before h z w m q =
+  first_of n nothing before h w m q = absurd h
+  first_of n (number v s) before h w m q =
       rw q (record {
         good = refl;
         over = over-one v n.value h.value;
@@ -125,17 +125,17 @@ module _ (text : List ℕ) (i : ℕ) (now : List ℕ) (f r : Taking) (n : Figure
       })
 
   pub moves-first :
-      n.found ≡ true → f.count ≡ 0 → r ≡ record { good = true; over = is_over n.value; first = n.value; count = 1; at = n.end } →
+      (n : Figure) → IsFigure text (Some n) (number_at_front (drop (f.at + 1) text)) → f.count ≡ 0 → r ≡ record { good = true; over = is_over n.value; first = n.value; count = 1; at = n.end } →
       MovesOn text i 61 now f r now
-  moves-first z o q = record { holds = on; few = rw q (omega arith); same = refl } where
+  moves-first n k o q = record { holds = on; few = rw q (omega arith); same = refl } where
     on : (before : List ℕ) (x : Front) → Holds text i before now f x → Holds text i before now r (next 61 x)
     on before lost h = contra f.good g h.lost
     on before (front [] s) h =
         subst (Holds text i before now r) (sym (next-number [] s h.rest))
-        (first_of (number_at_front (drop (f.at + 1) text)) before k z (h.words no-over) h.same q)
+        (first_of n (number_at_front (drop (f.at + 1) text)) before k (h.words no-over) h.same q)
     on before (front (m ∷ ns) s) h = absurd (let y = h.count in let x : ⊥ = omega arith in x)
 
-  module _ (now' : List ℕ) (st : n.value < 4294967296 → now' ≡ set now (i + (f.count - 1)) n.value) (sm : length now' ≡ length now) where
+  module _ (n : Figure) (k : IsFigure text (Some n) (number_at_front (drop (f.at + 1) text))) (now' : List ℕ) (st : n.value < 4294967296 → now' ≡ set now (i + (f.count - 1)) n.value) (sm : length now' ≡ length now) where
     more-words :
         (m v : ℕ) (ns before : List ℕ) → n.value ≡ min v 4294967296 → f.count ≡ length (m ∷ ns) →
         (any_over (m ∷ ns) ≡ false → now ≡ written i ns before) → any_over ((m ∷ ns) ++ (v ∷ [])) ≡ false → now' ≡ written i (ns ++ (v ∷ [])) before
@@ -148,11 +148,11 @@ module _ (text : List ℕ) (i : ℕ) (now : List ℕ) (f r : Taking) (n : Figure
         written-more i v (f.count - 1) ns before now now' (w p.0) d3 (st d2 ∙ ap (λ (x : ℕ). set now (i + (f.count - 1)) x) d)
 
     more_of :
-        (x : Number) (m : ℕ) (ns s before : List ℕ) → IsFigure text n x → n.found ≡ true → HoldsFront text i before now f (m ∷ ns) s →
+        (x : Number) (m : ℕ) (ns s before : List ℕ) → IsFigure text (Some n) x → HoldsFront text i before now f (m ∷ ns) s →
         r ≡ record { good = true; over = (f.over || is_over n.value); first = f.first; count = f.count + 1; at = n.end } →
         Holds text i before now' r (numbered (m ∷ ns) x)
-    more_of nothing m ns s before h z b q = contra n.found z h
-    more_of (number v u) m ns s before h z b q =
+    more_of nothing m ns s before h b q = absurd h
+    more_of (number v u) m ns s before h b q =
         rw q (record {
           good = refl;
           over = ap (λ (x : Bool). x || is_over n.value) b.over ∙ (ap (λ (x : Bool). any_over (m ∷ ns) || x) (over-one v n.value h.value) ∙
@@ -166,14 +166,14 @@ module _ (text : List ℕ) (i : ℕ) (now : List ℕ) (f r : Taking) (n : Figure
         })
 
     pub moves_more :
-        n.found ≡ true → (f.count ≡ 0 → ⊥) → r ≡ record { good = true; over = (f.over || is_over n.value); first = f.first; count = f.count + 1; at = n.end } →
+        (f.count ≡ 0 → ⊥) → r ≡ record { good = true; over = (f.over || is_over n.value); first = f.first; count = f.count + 1; at = n.end } →
         MovesOn text i 61 now f r now'
-    moves_more z o q = record { holds = on; few = rw q (omega arith); same = sm } where
+    moves_more o q = record { holds = on; few = rw q (omega arith); same = sm } where
       on : (before : List ℕ) (x : Front) → Holds text i before now f x → Holds text i before now' r (next 61 x)
       on before lost h = contra f.good g h.lost
       on before (front [] s) h = absurd (o h.count)
       on before (front (m ∷ ns) s) h =
-          subst (Holds text i before now' r) (sym (next-number (m ∷ ns) s h.rest)) (more_of (number_at_front (drop (f.at + 1) text)) m ns s before k z h q)
+          subst (Holds text i before now' r) (sym (next-number (m ∷ ns) s h.rest)) (more_of (number_at_front (drop (f.at + 1) text)) m ns s before k h q)
 
 -- ---- all bytes of a form
 

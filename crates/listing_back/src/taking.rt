@@ -2,15 +2,14 @@
 //
 // A form is the text of a line with its numbers left out, so a number is taken behind each `=` of it. The first number of a line is told, and the
 // others are stored as words where the table has a place for them. The one place in code that has the ten forms: `take_form`.
-ghost use Rattle.std.specs.Prelude.{◌≡◌, true, false, cond, ◌||◌, [], ◌+◌, ◌-◌, ◌*◌, ◌≤◌, ◌<◌, min, length, drop, get_or, set};
+ghost use Rattle.std.specs.Prelude.{◌≡◌, true, false, cond, ◌||◌, Some, [], ◌+◌, ◌-◌, ◌*◌, ◌≤◌, ◌<◌, min, length, drop, get_or, set};
 ghost use Rattle.listing_back.specs.Forms.{is_digit, nothing, number, digits_from, number_at_front, taken};
 ghost use Rattle.listing_back.specs.Due.{is_over};
 ghost use Rattle.listing_back.specs.Inner.Stands.{IsFigure, Holds, MovesOn, form_at};
 
-// A number: whether there is one, the number or 2^32 where it is over 32 bits, and the place behind it.
+// A number, or 2^32 where it is over 32 bits, and the place behind it.
 #[derive(Clone, Copy)]
 pub struct Figure {
-    pub found: bool,
     pub value: u64,
     pub end: usize,
 }
@@ -55,83 +54,63 @@ fn more(v: u64, b: u8) -> u64
     if n < 4294967296 { n } else { 4294967296 }
 }
 
-fn figure_of(value: u64, end: usize) -> Figure
-    ensures { result ≡ record { found = true; value = value; end = end } }
-{
-    Figure {
-        found: true,
-        value: value,
-        end: end,
-    }
-}
-
-fn no_figure() -> Figure
-    ensures { result.found ≡ false }
-{
-    Figure {
-        found: false,
-        value: 0,
-        end: 0,
-    }
-}
-
 // The digits from a place on.
 fn digits_from(text: &[u8], from: usize) -> Figure
     requires { from ≤ length text.now }
-    ensures { IsFigure text.now result (digits_from 0 (drop from text.now)) }
+    ensures { IsFigure text.now (Some result) (digits_from 0 (drop from text.now)) }
 {
     let mut v: u64 = 0;
     let mut p: usize = from;
     while p < text.len() {
         if !is_digit(text[p]) {
-            return figure_of(v, p);
+            return Figure { value: v, end: p };
         }
         v = more(v, text[p]);
         p += 1;
     }
-    figure_of(v, p)
+    Figure { value: v, end: p }
 }
 
 // A byte of the text, 0 behind its end.
 fn byte_at(text: &[u8], p: usize) -> u8
     ensures { result ≡ get_or text.now p 0 }
 {
-    if p < text.len() {
-        return text[p];
-    }
-    0
+    text.get(p).copied().unwrap_or(0)
 }
 
 // A 0 at this place: no number where another digit follows it.
-fn zero_at(text: &[u8], p: usize) -> Figure
+fn zero_at(text: &[u8], p: usize) -> Option<Figure>
     requires { p < length text.now }
     ensures { IsFigure text.now result
         (cond (is_digit (get_or text.now (p + 1) 0)) nothing (number 0 (drop (p + 1) text.now))) }
 {
     let b = byte_at(text, p + 1);
     if is_digit(b) {
-        return no_figure();
+        return None;
     }
-    figure_of(0, p + 1)
+    Some(Figure {
+        value: 0,
+        end: p + 1,
+    })
 }
 
 // The number at this place. Ruled out: a leading zero taken, `+1`, and a number over 32 bits that wraps.
 #[tactic(auto, using(crate::proofs::Figures::zero_first))]
-fn number_at(text: &[u8], p: usize) -> Figure
+fn number_at(text: &[u8], p: usize) -> Option<Figure>
     requires { p ≤ length text.now }
     ensures { IsFigure text.now result (number_at_front (drop p text.now)) }
 {
     if text.len() <= p {
-        return no_figure();
+        return None;
     }
     let b = text[p];
     if b == 48 {
         return zero_at(text, p);
     }
     if !is_digit(b) {
-        return no_figure();
+        return None;
     }
-    digits_from(text, p)
+    Some(digits_from(text, p))
 }
 
 // ---- a line
@@ -232,10 +211,9 @@ fn number_next(text: &[u8], f: Taking, words: &mut [u32], i: usize) -> Taking
     requires { (f.good ≡ true) × (f.at < length text.now) × (get_or text.now f.at 0 ≡ 61) × (i ≤ length words.old) × (f.count < 9223372036854775808) }
     ensures { MovesOn text.now i 61 words.old f result words.new }
 {
-    let n = number_at(text, f.at + 1);
-    if !n.found {
+    let Some(n) = number_at(text, f.at + 1) else {
         return nowhere();
-    }
+    };
     let count = f.count;
     if count == 0 {
         return first_taken(n);

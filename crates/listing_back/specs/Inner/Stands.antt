@@ -4,7 +4,7 @@
 --   Holds      what a form has taken so far: the first number is told, the others are words of the table from the place i on, where no number is over
 --   MovesOn    a byte of a form more, whatever was taken before
 --   form_at     the form with this number
-use Rattle.std.specs.Prelude.{ℕ, ◌+◌, ◌≤◌, min, ◌≡◌, true, false, List, [], length, drop, get_or}
+use Rattle.std.specs.Prelude.{ℕ, ◌+◌, ◌≤◌, min, ◌≡◌, true, false, Option, Some, None, List, [], length, drop, get_or}
 use Rattle.digits.specs.Written.{written}
 use Rattle.listing_back.specs.Forms.{Number, nothing, number, Front, lost, front, next, forms}
 use Rattle.listing_back.specs.Due.{any_over}
@@ -12,14 +12,15 @@ use Rattle.listing_back.specs.declared.taking.Figure.{Figure}
 use Rattle.listing_back.specs.declared.taking.Taking.{Taking}
 
 pub record FigureAt (text : List ℕ) (r : Figure) (v : ℕ) (s : List ℕ) : Type 0 where
-  pub found : r.found ≡ true
   pub value : r.value ≡ min v 4294967296
   pub rest : s ≡ drop r.end text
   pub inside : r.end ≤ length text
 
-abbrev pub IsFigure : List ℕ → Figure → Number → Type 0
-IsFigure text r nothing = r.found ≡ false
-IsFigure text r (number v s) = FigureAt text r v s
+abbrev pub IsFigure : List ℕ → Option Figure → Number → Type 0
+IsFigure text None nothing = Unit {0}
+IsFigure text None (number v s) = ⊥
+IsFigure text (Some r) nothing = ⊥
+IsFigure text (Some r) (number v s) = FigureAt text r v s
 
 pub record HoldsFront (text : List ℕ) (i : ℕ) (before now : List ℕ) (f : Taking) (ns s : List ℕ) : Type 0 where
   pub good : f.good ≡ true
