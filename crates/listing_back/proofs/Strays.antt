@@ -1,4 +1,5 @@
 -- A line that is not due, and the tests of the head's numbers, as the code looks at them. No contract cites this file.
+use Rattle.std.specs.Prelude.{Some, None}
 use Prim.Native.Nat.{ℕ, suc, ◌+◌, ◌≤◌, ◌<◌, min}
 use mathlib.Core.Path.{◌≡◌, refl, sym, ap, ◌∙◌}
 use mathlib.Core.Bool.{Bool, true, false, cond}
@@ -16,14 +17,13 @@ use Rattle.listing_back.specs.Back.{is_listed}
 use Rattle.listing_back.specs.Inner.Stands.{HoldsFront, Holds, form_at}
 use Rattle.listing_back.specs.Inner.Steps.{equals_in, TakesAlone, test_by}
 use Rattle.listing_back.specs.declared.taking.Taking.{Taking}
-use Rattle.listing_back.proofs.Holding.{contra}
 use Rattle.listing_back.proofs.Lines.{held-lost}
 
 -- ---- what was taken, by what the code tells
 
-pub lost-of : (text : List ℕ) (i : ℕ) (before now : List ℕ) (t : Taking) (x : Front) → Holds text i before now t x → t.good ≡ false → x ≡ lost
-lost-of text i before now t lost h e = refl
-lost-of text i before now t (front ns s) h e = contra t.good h.good e
+pub lost-of : (text : List ℕ) (i : ℕ) (before now : List ℕ) (x : Front) → Holds text i before now None x → x ≡ lost
+lost-of text i before now lost h = refl
+lost-of text i before now (front ns s) h = absurd h
 
 pub record FrontOf (text : List ℕ) (i : ℕ) (before now : List ℕ) (t : Taking) (x : Front) : Type 0 where
   pub numbers : List ℕ
@@ -31,9 +31,9 @@ pub record FrontOf (text : List ℕ) (i : ℕ) (before now : List ℕ) (t : Taki
   pub is : x ≡ front numbers rest
   pub holds : HoldsFront text i before now t numbers rest
 
-pub front_of : {text : List ℕ} {i : ℕ} {before now : List ℕ} {t : Taking} (x : Front) → Holds text i before now t x → t.good ≡ true → FrontOf text i before now t x
-front_of {t = t} lost h e = contra t.good e h.lost
-front_of (front ns s) h e = record { numbers = ns; rest = s; is = refl; holds = h }
+pub front_of : {text : List ℕ} {i : ℕ} {before now : List ℕ} {t : Taking} (x : Front) → Holds text i before now (Some t) x → FrontOf text i before now t x
+front_of lost h = absurd h
+front_of (front ns s) h = record { numbers = ns; rest = s; is = refl; holds = h }
 
 -- ---- how many numbers a form has
 
@@ -63,20 +63,20 @@ taken-many form s e = many-on form [] s e ∙ (let z : 0 + equals_in form ≡ eq
 
 -- ---- a line of any form
 
-module _ {text : List ℕ} {t : Taking} (x : Front) (k : TakesAlone text t x) where
-  pub stray-none : t.good ≡ false → 0 ≡ stray_by x 0
-  stray-none e = rw (lost-of text 1 k.before k.after t x k.holds e)
+pub stray-none : {text : List ℕ} (x : Front) → TakesAlone text None x → 0 ≡ stray_by x 0
+stray-none {text} x k = rw (lost-of text 1 k.before k.after x k.holds)
 
-  stray-found : (b : Bool) → t.good ≡ true → t.over ≡ b → stray_by x 0 ≡ cond b 25 26
-  stray-found b e o =
-      let f = front_of x k.holds e in
+module _ {text : List ℕ} {t : Taking} (x : Front) (k : TakesAlone text (Some t) x) where
+  stray-found : (b : Bool) → t.over ≡ b → stray_by x 0 ≡ cond b 25 26
+  stray-found b o =
+      let f = front_of x k.holds in
       ap (λ (y : Front). stray_by y 0) f.is ∙ ap (λ (y : Bool). cond y 25 26) (sym f.holds.over ∙ o)
 
-  pub stray-over : t.good ≡ true → t.over ≡ true → 25 ≡ stray_by x 0
-  stray-over e o = sym (stray-found true e o)
+  pub stray-over : t.over ≡ true → 25 ≡ stray_by x 0
+  stray-over o = sym (stray-found true o)
 
-  pub stray-fine : t.good ≡ true → t.over ≡ false → 26 ≡ stray_by x 0
-  stray-fine e o = sym (stray-found false e o)
+  pub stray-fine : t.over ≡ false → 26 ≡ stray_by x 0
+  stray-fine o = sym (stray-found false o)
 
 pub stray-start : (text : List ℕ) (at : ℕ) → at < length text → stray (drop at text) ≡ stray_in (drop 0 forms) (drop at text)
 unfolding stray

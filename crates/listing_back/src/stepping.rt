@@ -44,7 +44,7 @@ pub fn gone(at: usize, number: u32) -> Spot
 // ---- a line that is not due
 
 // A line of this form, of which no word is kept.
-fn take_alone(text: &[u8], at: usize, n: u32) -> Taking
+fn take_alone(text: &[u8], at: usize, n: u32) -> Option<Taking>
     requires { (at ≤ length text.now) × (n < 10) }
     ensures { TakesAlone text.now result (taken (form_at n) (drop at text.now)) }
 {
@@ -57,10 +57,9 @@ fn stray_as(text: &[u8], at: usize, n: u32) -> u32
     requires { (at ≤ length text.now) × (n < 10) }
     ensures { result ≡ stray_by (taken (form_at n) (drop at text.now)) 0 }
 {
-    let t = take_alone(text, at, n);
-    if !t.good {
+    let Some(t) = take_alone(text, at, n) else {
         return 0;
-    }
+    };
     if t.over {
         return 25;
     }
@@ -132,10 +131,9 @@ pub fn number_due(text: &[u8], before: Spot, n: u32, line: usize, kind: u32) -> 
         return before;
     }
     let at = before.at;
-    let t = take_alone(text, at, n);
-    if !t.good {
+    let Some(t) = take_alone(text, at, n) else {
         return stopped(stray_at(text, at), line);
-    }
+    };
     if !passes(kind, t.first) {
         return stopped(24, line);
     }
@@ -166,10 +164,9 @@ fn record_due(
     ensures { RecordOn text.now before line n words.old i k places full result words.new }
 {
     let at = before.at;
-    let t = take_form(text, at, n, words, i);
-    if !t.good {
+    let Some(t) = take_form(text, at, n, words, i) else {
         return stopped(stray_at(text, at), line);
-    }
+    };
     if t.over {
         return stopped(25, line);
     }

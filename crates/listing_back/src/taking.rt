@@ -2,7 +2,7 @@
 //
 // A form is the text of a line with its numbers left out, so a number is taken behind each `=` of it. The first number of a line is told, and the
 // others are stored as words where the table has a place for them. The one place in code that has the ten forms: `take_form`.
-ghost use Rattle.std.specs.Prelude.{◌≡◌, true, false, cond, ◌||◌, Some, [], ◌+◌, ◌-◌, ◌*◌, ◌≤◌, ◌<◌, min, length, drop, get_or, set};
+ghost use Rattle.std.specs.Prelude.{◌≡◌, cond, ◌||◌, Some, [], ◌+◌, ◌-◌, ◌*◌, ◌≤◌, ◌<◌, min, length, drop, get_or, set};
 ghost use Rattle.listing_back.specs.Forms.{is_digit, nothing, number, digits_from, number_at_front, taken};
 ghost use Rattle.listing_back.specs.Due.{is_over};
 ghost use Rattle.listing_back.specs.Inner.Stands.{IsFigure, Holds, MovesOn, form_at};
@@ -14,11 +14,9 @@ pub struct Figure {
     pub end: usize,
 }
 
-// What a form has taken so far: whether the text is as it says, whether a number was over 32 bits, the first number, how many there were,
-// and the place reached.
+// What a form has taken so far: whether a number was over 32 bits, the first number, how many there were, and the place reached.
 #[derive(Clone, Copy)]
 pub struct Taking {
-    pub good: bool,
     pub over: bool,
     pub first: u64,
     pub count: usize,
@@ -124,56 +122,25 @@ fn is_over(v: u64) -> bool
 fn either(a: bool, b: bool) -> bool
     ensures { result ≡ (a || b) }
 {
-    if a {
-        return true;
-    }
-    b
-}
-
-fn nowhere() -> Taking
-    ensures { (result.good ≡ false) × (result.count ≡ 0) }
-{
-    Taking {
-        good: false,
-        over: false,
-        first: 0,
-        count: 0,
-        at: 0,
-    }
-}
-
-fn begun(at: usize) -> Taking
-    ensures { result ≡ record { good = true; over = false; first = 0; count = 0; at = at } }
-{
-    Taking {
-        good: true,
-        over: false,
-        first: 0,
-        count: 0,
-        at: at,
-    }
+    a || b
 }
 
 // One byte further.
 fn passed(f: Taking) -> Taking
     requires { f.at < 18446744073709551615 }
-    ensures { result ≡ record { good = true; over = f.over; first = f.first; count = f.count; at = f.at + 1 } }
+    ensures { result ≡ record { over = f.over; first = f.first; count = f.count; at = f.at + 1 } }
 {
     Taking {
-        good: true,
-        over: f.over,
-        first: f.first,
-        count: f.count,
         at: f.at + 1,
+        ..f
     }
 }
 
 // The first number of a line.
 fn first_taken(n: Figure) -> Taking
-    ensures { result ≡ record { good = true; over = is_over n.value; first = n.value; count = 1; at = n.end } }
+    ensures { result ≡ record { over = is_over n.value; first = n.value; count = 1; at = n.end } }
 {
     Taking {
-        good: true,
         over: is_over(n.value),
         first: n.value,
         count: 1,
@@ -184,10 +151,9 @@ fn first_taken(n: Figure) -> Taking
 // A number more.
 fn more_taken(f: Taking, n: Figure) -> Taking
     requires { f.count < 18446744073709551615 }
-    ensures { result ≡ record { good = true; over = (f.over || is_over n.value); first = f.first; count = f.count + 1; at = n.end } }
+    ensures { result ≡ record { over = (f.over || is_over n.value); first = f.first; count = f.count + 1; at = n.end } }
 {
     Taking {
-        good: true,
         over: either(f.over, is_over(n.value)),
         first: f.first,
         count: f.count + 1,
@@ -207,59 +173,57 @@ fn store(words: &mut [u32], place: usize, v: u64)
 }
 
 // Behind an `=` at the place reached: a number.
-fn number_next(text: &[u8], f: Taking, words: &mut [u32], i: usize) -> Taking
-    requires { (f.good ≡ true) × (f.at < length text.now) × (get_or text.now f.at 0 ≡ 61) × (i ≤ length words.old) × (f.count < 9223372036854775808) }
+fn number_next(text: &[u8], f: Taking, words: &mut [u32], i: usize) -> Option<Taking>
+    requires { (f.at < length text.now) × (get_or text.now f.at 0 ≡ 61) × (i ≤ length words.old) × (f.count < 9223372036854775808) }
     ensures { MovesOn text.now i 61 words.old f result words.new }
 {
-    let Some(n) = number_at(text, f.at + 1) else {
-        return nowhere();
-    };
+    let n = number_at(text, f.at + 1)?;
     let count = f.count;
     if count == 0 {
-        return first_taken(n);
+        return Some(first_taken(n));
     }
     store(words, i + (count - 1), n.value);
-    more_taken(f, n)
+    Some(more_taken(f, n))
 }
 
 // A byte of the form at the place reached.
-fn hold_byte(text: &[u8], c: u8, f: Taking, words: &mut [u32], i: usize) -> Taking
+fn hold_byte(text: &[u8], c: u8, f: Taking, words: &mut [u32], i: usize) -> Option<Taking>
     requires { (i ≤ length words.old) × (f.count < 9223372036854775808) }
     ensures { MovesOn text.now i c words.old f result words.new }
 {
-    if !f.good {
-        return f;
-    }
     let at = f.at;
     if text.len() <= at {
-        return nowhere();
+        return None;
     }
     if text[at] != c {
-        return nowhere();
+        return None;
     }
     if c == 61 {
         return number_next(text, f, words, i);
     }
-    passed(f)
+    Some(passed(f))
 }
 
 // A line of this form at this place, its words from i on.
-fn take_line(text: &[u8], at: usize, form: &[u8], words: &mut [u32], i: usize) -> Taking
+fn take_line(text: &[u8], at: usize, form: &[u8], words: &mut [u32], i: usize) -> Option<Taking>
     requires { (at ≤ length text.now) × (i ≤ length words.old) }
     ensures { Holds text.now i words.old words.new result (taken form.now (drop at text.now)) }
 {
-    let mut f = begun(at);
-    let mut j: usize = 0;
-    while j < form.len() {
-        f = hold_byte(text, form[j], f, words, i);
-        j += 1;
+    let mut f = Taking {
+        over: false,
+        first: 0,
+        count: 0,
+        at,
+    };
+    for c in form {
+        f = hold_byte(text, *c, f, words, i)?;
     }
-    f
+    Some(f)
 }
 
 // ---- the ten forms
 
-fn take_first(text: &[u8], at: usize, n: u32, words: &mut [u32], i: usize) -> Taking
+fn take_first(text: &[u8], at: usize, n: u32, words: &mut [u32], i: usize) -> Option<Taking>
     requires { (at ≤ length text.now) × (i ≤ length words.old) × (n < 3) }
     ensures { Holds text.now i words.old words.new result (taken (form_at n) (drop at text.now)) }
 {
@@ -272,7 +236,7 @@ fn take_first(text: &[u8], at: usize, n: u32, words: &mut [u32], i: usize) -> Ta
     take_line(text, at, b"cap=\n", words, i)
 }
 
-fn take_count(text: &[u8], at: usize, n: u32, words: &mut [u32], i: usize) -> Taking
+fn take_count(text: &[u8], at: usize, n: u32, words: &mut [u32], i: usize) -> Option<Taking>
     requires { (at ≤ length text.now) × (i ≤ length words.old) × (2 < n) × (n < 7) }
     ensures { Holds text.now i words.old words.new result (taken (form_at n) (drop at text.now)) }
 {
@@ -288,7 +252,7 @@ fn take_count(text: &[u8], at: usize, n: u32, words: &mut [u32], i: usize) -> Ta
     take_line(text, at, b"notes=\n", words, i)
 }
 
-fn take_record(text: &[u8], at: usize, n: u32, words: &mut [u32], i: usize) -> Taking
+fn take_record(text: &[u8], at: usize, n: u32, words: &mut [u32], i: usize) -> Option<Taking>
     requires { (at ≤ length text.now) × (i ≤ length words.old) × (6 < n) × (n < 10) }
     ensures { Holds text.now i words.old words.new result (taken (form_at n) (drop at text.now)) }
 {
@@ -314,7 +278,7 @@ fn take_record(text: &[u8], at: usize, n: u32, words: &mut [u32], i: usize) -> T
 }
 
 // A line of the form with this number (`forms`) at this place, its words from i on.
-pub fn take_form(text: &[u8], at: usize, n: u32, words: &mut [u32], i: usize) -> Taking
+pub fn take_form(text: &[u8], at: usize, n: u32, words: &mut [u32], i: usize) -> Option<Taking>
     requires { (at ≤ length text.now) × (i ≤ length words.old) × (n < 10) }
     ensures { Holds text.now i words.old words.new result (taken (form_at n) (drop at text.now)) }
 {

@@ -7,7 +7,7 @@
 --   CountsOn     a line of the head more, whatever the numbers before it, where the test is one of the three kinds
 --   RecordOn     the line of a record more, its words behind those before it; RecordsOn the lines of all records of a table
 --   EndsOn       the end of the text
-use Rattle.std.specs.Prelude.{ℕ, suc, ◌+◌, ◌*◌, ◌/◌, ◌≤◌, ◌≡◌, Bool, true, cond, List, [], ◌∷◌, ◌++◌, length, take, drop, eqb}
+use Rattle.std.specs.Prelude.{ℕ, suc, ◌+◌, ◌*◌, ◌/◌, ◌≤◌, ◌≡◌, Bool, true, cond, Option, List, [], ◌∷◌, ◌++◌, length, take, drop, eqb}
 use Rattle.listing_back.specs.Forms.{Front}
 use Rattle.listing_back.specs.Due.{Step, stops, goes, Test, Table, head_line, record_line, records, ended}
 use Rattle.listing_back.specs.Back.{is_listed}
@@ -19,7 +19,7 @@ unfoldable pub equals_in : List ℕ → ℕ
 equals_in [] = 0
 equals_in (c ∷ form) = cond (eqb c 61) (suc (equals_in form)) (equals_in form)
 
-pub record TakesAlone (text : List ℕ) (r : Taking) (x : Front) : Type 0 where
+pub record TakesAlone (text : List ℕ) (r : Option Taking) (x : Front) : Type 0 where
   pub before : List ℕ
   pub after : List ℕ
   pub holds : Holds text 1 before after r x
