@@ -130,10 +130,7 @@ fn passed(f: Taking) -> Taking
     requires { f.at < 18446744073709551615 }
     ensures { result ≡ record { over = f.over; first = f.first; count = f.count; at = f.at + 1 } }
 {
-    Taking {
-        at: f.at + 1,
-        ..f
-    }
+    Taking { at: f.at + 1, ..f }
 }
 
 // The first number of a line.
