@@ -17,6 +17,7 @@ use Rattle.listing_back.specs.Due.{Step, stops, goes, any_over, stray, Test, hea
 use Rattle.listing_back.specs.Inner.Stands.{Holds, form_at}
 use Rattle.listing_back.specs.Inner.Steps.{equals_in, TakesAlone, test_by, step_of, CountsOn, table_of, RecordOn, RecordsOn, EndsOn}
 use Rattle.listing_back.specs.declared.taking.Taking.{Taking}
+use Rattle.listing_back.specs.declared.stepping.Kind.{Kind}
 use Rattle.listing_back.specs.declared.stepping.Spot.{Spot}
 use Rattle.listing_back.proofs.Lines.{any_over-first}
 use Rattle.listing_back.proofs.Steps.{records-stops}
@@ -44,7 +45,7 @@ gone-inside text r a b q h = rw q h
 
 -- ---- a line of the head
 
-module _ (text : List ℕ) (before : Spot) (n line kind : ℕ) where
+module _ (text : List ℕ) (before : Spot) (n line : ℕ) (kind : Kind) where
   pub counts-stopped : (before.fault ≡ 0 → ⊥) → before.at ≤ length text → CountsOn text before n line kind before
   counts-stopped h i =
       record {

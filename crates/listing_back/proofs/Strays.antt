@@ -16,6 +16,8 @@ use Rattle.listing_back.specs.Due.{any_over, stray_by, stray_in, stray}
 use Rattle.listing_back.specs.Back.{is_listed}
 use Rattle.listing_back.specs.Inner.Stands.{HoldsFront, Holds, form_at}
 use Rattle.listing_back.specs.Inner.Steps.{equals_in, TakesAlone, test_by}
+use Rattle.listing_back.specs.declared.stepping.Kind.{Kind}
+use Rattle.listing_back.specs.declared.stepping.Kind.TheVariants.{Any, Zero, Listed}
 use Rattle.listing_back.specs.declared.taking.Taking.{Taking}
 use Rattle.listing_back.proofs.Lines.{held-lost}
 
@@ -169,11 +171,13 @@ module _ (n : ℕ) where
       sym (listed-map a b c d e) ∙ lt-leb n 52 f
 
 -- a number over 32 bits is told as 2 ^ 32, which passes the same tests
-pub test-capped : (kind v w : ℕ) → w ≡ min v 4294967296 → test_by kind w ≡ test_by kind v
+pub test-capped : (kind : Kind) (v w : ℕ) → w ≡ min v 4294967296 → test_by kind w ≡ test_by kind v
 test-capped kind v w e = go (ltb v 4294967296) refl where
+  over : (kind : Kind) → 4294967296 ≤ v → 4294967296 ≤ w → test_by kind w ≡ test_by kind v
+  over Any h a = refl
+  over Zero h a = rw (ne_eqb w 0 (λ z. let y : ⊥ = omega arith in y), ne_eqb v 0 (λ z. let y : ⊥ = omega arith in y))
+  over Listed h a = rw (listed-over w a, listed-over v h)
+
   go : (t : Bool) → ltb v 4294967296 ≡ t → test_by kind w ≡ test_by kind v
   go true q = let h = ltb-true v 4294967296 q in let z : w ≡ v = omega arith in ap (test_by kind) z
-  go false q =
-      let h = ltb-false v 4294967296 q in
-      let a : 4294967296 ≤ w = omega arith in
-      rw (listed-over w a, listed-over v h, ne_eqb w 0 (λ z. let y : ⊥ = omega arith in y), ne_eqb v 0 (λ z. let y : ⊥ = omega arith in y))
+  go false q = let h = ltb-false v 4294967296 q in over kind h (omega arith)
