@@ -16,14 +16,8 @@ use Rattle.res_string_pool.specs.Content.{width8, length8, width16, length16, wi
 -- ---- the cases of a length
 
 module _ (l : List ℕ) (at : ℕ) where
-  pub width8-two : 128 ≤ u8le l at → width8 l at ≡ 2
-  width8-two p = rw (le-leb 128 (u8le l at) p)
-
   pub width8-one : u8le l at < 128 → width8 l at ≡ 1
   width8-one p = rw (lt-leb 128 (u8le l at) p)
-
-  pub length8-two : 128 ≤ u8le l at → length8 l at ≡ u8le l at % 128 * 256 + u8le l (at + 1)
-  length8-two p = rw (le-leb 128 (u8le l at) p)
 
   pub length8-one : u8le l at < 128 → length8 l at ≡ u8le l at
   length8-one p = rw (lt-leb 128 (u8le l at) p)

@@ -121,7 +121,7 @@ pub record AddsShare (before share : List ℕ) (r : Bool) (after : List ℕ) : T
   pub counts : after ≡ cond (has_room before share) (sums before share) before
 
 abbrev pub added_of : List ℕ → Added
-added_of counts = record { answer = (Ok tt); round_up = record { counts = counts } }
+added_of counts = record { answer = Ok tt; round_up = record { counts = counts } }
 
 abbrev pub full_of : RoundUp → Added
 full_of r = record { answer = Err RoundUpFull; round_up = r }

@@ -2,10 +2,10 @@
 -- In order: what a good entry is (`isGood-..`); the table entry by entry (`namesFrom-..`); good names rise (`rising-of-good`); a
 -- name that is found lies in the area, is not empty and is ASCII (`system_name-of-good`).
 use Rattle.std.specs.Prelude.{Some, None, Result, Ok, Err}
-use Rattle.std.proofs.Common.{◌≡◌, ℕ, zero, suc, ◌+◌, ◌-◌, ◌*◌, ◌<◌, ◌≤◌, Bool, true, false, cond, not, ◌&&◌, eqb, ltb, leb, List, [], ◌∷◌}
-use Rattle.std.proofs.Common.{length, get_or, take, drop, sym, refl, ap, ◌∙◌, add-one, arith, drop-cons, ltb-true, le-ltb, lt-ltb, eq-eqb}
-use Rattle.std.proofs.Common.{ne_eqb, eqb-true, le-leb, leb-true}
-use borrow.Author.Tests.{not-true, not-false, lt-leb}
+use Rattle.std.proofs.Common.{◌≡◌, ℕ, zero, suc, ◌+◌, ◌*◌, ◌<◌, ◌≤◌, Bool, true, false, cond, not, ◌&&◌, eqb, ltb, leb, List, [], ◌∷◌}
+use Rattle.std.proofs.Common.{length, get_or, take, drop, sym, refl, ap, ◌∙◌, add-one, arith, drop-cons, ltb-true, lt-ltb, eq-eqb}
+use Rattle.std.proofs.Common.{eqb-true, le-leb, leb-true}
+use borrow.Author.Tests.{not-true, not-false}
 use Rattle.system_types.specs.Names.{Lent, top_byte, is_good, names_from, names_of, Rising, name_by_id, system_name}
 use Rattle.utf.specs.Plain.{is_ascii}
 use Rattle.utf.proofs.Tables.{both_true}
@@ -37,22 +37,6 @@ module _ (area : List ℕ) (last id start n : ℕ) where
         ascii = f.1;
       }
 
-  pub is_good-falls : id ≤ last → is_good area last id start n ≡ false
-  unfolding is_good
-  is_good-falls p = rw (le-ltb last id p)
-
-  pub is_good-top : last < id → (top_byte id ≡ 1 → ⊥) → is_good area last id start n ≡ false
-  unfolding is_good
-  is_good-top p q = rw (lt-ltb last id p, ne_eqb (top_byte id) 1 q)
-
-  pub is_good-empty : last < id → top_byte id ≡ 1 → n < 1 → is_good area last id start n ≡ false
-  unfolding is_good
-  is_good-empty p q r = rw (lt-ltb last id p, eq-eqb (top_byte id) 1 q, lt-leb 1 n r)
-
-  pub is_good-past : last < id → top_byte id ≡ 1 → 1 ≤ n → length area < start + n → is_good area last id start n ≡ false
-  unfolding is_good
-  is_good-past p q r t = rw (lt-ltb last id p, eq-eqb (top_byte id) 1 q, le-leb 1 n r, lt-leb (start + n) (length area) t)
-
   pub is_good-ascii
       : last < id
       → top_byte id ≡ 1
@@ -61,15 +45,6 @@ module _ (area : List ℕ) (last id start n : ℕ) where
       → is_good area last id start n ≡ is_ascii (take n (drop start area))
   unfolding is_good
   is_good-ascii p q r t = rw (lt-ltb last id p, eq-eqb (top_byte id) 1 q, le-leb 1 n r, le-leb (start + n) (length area) t)
-
-  -- the part, from its start to its end
-  pub is_good-by
-      : last < id
-      → top_byte id ≡ 1
-      → 1 ≤ n
-      → start + n ≤ length area
-      → is_good area last id start n ≡ is_ascii (take (start + n - start) (drop start area))
-  is_good-by p q r t = let e : start + n - start ≡ n = omega arith in rw e (is_good-ascii p q r t)
 
   -- an area that is ASCII as a whole
   pub is_good-plain
@@ -80,11 +55,6 @@ module _ (area : List ℕ) (last id start n : ℕ) where
       → start + n ≤ length area
       → is_good area last id start n ≡ true
   is_good-plain e p q r t = is_good-ascii p q r t ∙ is_ascii-take n (drop start area) (is_ascii-drop start area e)
-
--- a test that another had let through
-pub behind_test : (t b r : Bool) → r ≡ cond t false b → r ≡ true → b ≡ true
-behind_test true b r e h = let z : ◌≡◌ {A = ℕ} 0 1 = cc in absurd (let y : ⊥ = omega arith in y)
-behind_test false b r e h = sym e ∙ h
 
 -- ---- the table, entry by entry
 

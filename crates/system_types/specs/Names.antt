@@ -37,7 +37,7 @@ is_good area last id start n =
 
 -- the entries from number k on, behind one with the id `last`
 unfoldable pub names_from : List ℕ → ℕ → ℕ → List ℕ → Result (Unit {0}) ℕ
-names_from area last k [] = (Ok tt)
+names_from area last k [] = Ok tt
 names_from area last k (id ∷ []) = Err k
 names_from area last k (id ∷ start ∷ []) = Err k
 names_from area last k (id ∷ start ∷ n ∷ w) = cond (is_good area last id start n) (names_from area id (k + 1) w) (Err k)
