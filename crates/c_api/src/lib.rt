@@ -2,8 +2,9 @@
 // call them.
 //
 // A slice is lent as two C parameters, a pointer and a number of elements. The answers are structs of numbers, and stay so in this crate: the C
-// interface needs them, since C has no enums that hold values. Notes are lent as words (crate records), in the layout of C's `struct axml_note`; `axml::read` has them as records, and
-// `same-reading` (proofs/Same.antt) says that both are one reading. Definitions: specs/Words.antt, specs/Answers.antt.
+// interface needs them, since C has no enums that hold values. Notes are lent as words (crate records), in the layout of C's `struct axml_note`;
+// `axml::read` has them as records, and `same-reading` (proofs/Same.antt) says that both are one reading. Definitions: specs/Words.antt,
+// specs/Answers.antt.
 #![tactic(auto)]
 
 pub mod abi;

@@ -17,7 +17,8 @@ use Rattle.listed.specs.Lists.{listed_text, Lists}
 use Rattle.listed.proofs.Lists.{lists-longer}
 use Rattle.listed.proofs.Fits.{lists-answer, lists-le, lists-never}
 use Rattle.errors.specs.declared.Refusal.{Refusal}
-use Rattle.listing.specs.Inner.Input.{Runs, Listed}
+use Rattle.listing.specs.Streams.{Listed}
+use Rattle.listing.specs.Inner.Input.{Runs}
 
 -- in the room of a listing the answer is a text
 pub lists-told :

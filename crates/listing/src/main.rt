@@ -10,7 +10,8 @@ ghost use Rattle.std.specs.Prelude.{◌≤◌, ◌<◌, length, OnOk, Ok};
 ghost use Rattle.records.specs.Limits.{listed_file};
 ghost use Rattle.listed.specs.Lists.{Lists};
 ghost use Rattle.listed.specs.Roomy.{Roomy};
-ghost use Rattle.listing.specs.Inner.Input.{Runs, Listed};
+ghost use Rattle.listing.specs.Streams.{Listed};
+ghost use Rattle.listing.specs.Inner.Input.{Runs};
 
 use listing_text::LISTED_BYTES;
 use records::{ATTRIBUTE_WORDS, LISTED_ATTRIBUTES, LISTED_FILE, LISTED_NODES, NODE_WORDS};

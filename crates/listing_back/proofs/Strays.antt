@@ -17,7 +17,7 @@ use Rattle.listing_back.specs.Back.{is_listed}
 use Rattle.listing_back.specs.Inner.Stands.{HoldsFront, Holds, form_at}
 use Rattle.listing_back.specs.Inner.Steps.{equals_in, TakesAlone, test_by}
 use Rattle.listing_back.specs.declared.stepping.Kind.{Kind}
-use Rattle.listing_back.specs.declared.stepping.Kind.TheVariants.{Any, Zero, Listed}
+use Rattle.listing_back.specs.declared.stepping.Kind.TheVariants.{Any, Zero, Code}
 use Rattle.listing_back.specs.declared.taking.Taking.{Taking}
 use Rattle.listing_back.proofs.Lines.{held-lost}
 
@@ -176,7 +176,7 @@ test-capped kind v w e = go (ltb v 4294967296) refl where
   over : (kind : Kind) → 4294967296 ≤ v → 4294967296 ≤ w → test_by kind w ≡ test_by kind v
   over Any h a = refl
   over Zero h a = rw (ne_eqb w 0 (λ z. let y : ⊥ = omega arith in y), ne_eqb v 0 (λ z. let y : ⊥ = omega arith in y))
-  over Listed h a = rw (listed-over w a, listed-over v h)
+  over Code h a = rw (listed-over w a, listed-over v h)
 
   go : (t : Bool) → ltb v 4294967296 ≡ t → test_by kind w ≡ test_by kind v
   go true q = let h = ltb-true v 4294967296 q in let z : w ≡ v = omega arith in ap (test_by kind) z

@@ -91,7 +91,7 @@ fn heading_of(a: Spot, b: Spot, c: Spot, d: Spot, e: Spot, f: Spot, g: Spot) -> 
 pub fn read_head(text: &[u8]) -> Heading
     ensures { ReadsHead text.now result }
 {
-    let a = number_due(text, gone(0, 0), 0, 1, Kind::Listed);
+    let a = number_due(text, gone(0, 0), 0, 1, Kind::Code);
     let b = number_due(text, a, 1, 2, value_kind(a.number));
     let c = number_due(text, b, 2, 3, Kind::Any);
     let counted = count_kind(a.number);

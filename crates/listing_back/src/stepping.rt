@@ -112,7 +112,7 @@ fn is_listed(n: u64) -> bool
 pub enum Kind {
     Any,
     Zero,
-    Listed, // a refusal that can be listed
+    Code, // the number of a refusal that can be listed
 }
 
 fn passes(kind: Kind, n: u64) -> bool
@@ -121,7 +121,7 @@ fn passes(kind: Kind, n: u64) -> bool
     match kind {
         Kind::Any => true,
         Kind::Zero => n == 0,
-        Kind::Listed => is_listed(n),
+        Kind::Code => is_listed(n),
     }
 }
 

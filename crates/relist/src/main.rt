@@ -134,7 +134,8 @@ fn run<R: Read, W: Write>(
     out: &mut [u8],
 ) -> io::Result<()>
     requires { (length notes.old ≡ note_width * listed_notes) × (length text.old ≡ listed_bytes + 1) × (listed_bytes + 1 ≤ length out.old) }
-    ensures { OnOk result (RelistsAll (R.remaining reader.old) (length text.old) (length nodes.old) (length attributes.old) (length notes.old) (W.contents writer.old) (W.contents writer.new)) }
+    ensures { OnOk result (RelistsAll (R.remaining reader.old) (length text.old) (length nodes.old) (length attributes.old) (length notes.old)
+        (W.contents writer.old) (W.contents writer.new)) }
 {
     let n = read_in(reader, text)?;
     if text.len() <= n {

@@ -14,7 +14,7 @@ use Rattle.listing_back.specs.Back.{is_listed}
 use Rattle.listing_back.specs.Inner.Stands.{Holds, form_at}
 use Rattle.listing_back.specs.declared.taking.Taking.{Taking}
 use Rattle.listing_back.specs.declared.stepping.Kind.{Kind}
-use Rattle.listing_back.specs.declared.stepping.Kind.TheVariants.{Any, Zero, Listed}
+use Rattle.listing_back.specs.declared.stepping.Kind.TheVariants.{Any, Zero, Code}
 use Rattle.listing_back.specs.declared.stepping.Spot.{Spot}
 
 unfoldable pub equals_in : List ℕ → ℕ
@@ -29,7 +29,7 @@ pub record TakesAlone (text : List ℕ) (r : Option Taking) (x : Front) : Type 0
 abbrev pub test_by : Kind → ℕ → Bool
 test_by Any n = true
 test_by Zero n = eqb n 0
-test_by Listed n = is_listed n
+test_by Code n = is_listed n
 
 abbrev pub step_of : List ℕ → List ℕ → Spot → Step
 step_of text ws p = cond (eqb p.fault 0) (goes ws (drop p.at text)) (stops p.fault p.value)
