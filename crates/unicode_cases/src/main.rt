@@ -161,6 +161,7 @@ fn walk(file: &[u8]) -> Tally {
     let mut from = 0;
     let mut to = 0;
     let mut at = 0;
+    // No `for`: where the next record begins is known only from this one, and nothing yields them as an iterator.
     while at < file.len() {
         let r = record_at(file, at);
         let v = judge(file, r, utf16, from, to);
