@@ -36,5 +36,4 @@ returns c =
     let a = c.args in
     let l = c.loop-k in
     let name = text_in (part_of a.utf16 a.t.now a.area.now a.f) in
-    let all : length a.items.now / item_width ≡ l.k = omega arith in
-    rw all (first-end a.item_area.now name a.items.now l.k (omega arith) (omega arith) l.invariant)
+    first-end a.item_area.now name a.items.now l.k (omega arith) l.invariant
