@@ -14,7 +14,7 @@ use common::StringIndex;
 
 // A note as it is lent and printed: the number of its kind, and two numbers that the kind explains.
 #[repr(C)]
-#[derive(Clone, Copy)]
+#[derive(Clone, Copy, Debug, PartialEq, Eq)]
 pub struct Note {
     pub kind: u32,
     pub a: u32,
@@ -22,7 +22,7 @@ pub struct Note {
 }
 
 // What was amiss, with the numbers that a note tells of it.
-#[derive(Clone, Copy)]
+#[derive(Clone, Copy, Debug, PartialEq, Eq)]
 pub enum ResAnomaly {
     StringPoolGarbageChunk(u32, u32), // a chunk of another type where the pool was expected: its type, and how many bytes were skipped
     StringCountMismatch(u32, u32), // the declared number of strings, and how many offsets there are
@@ -45,6 +45,7 @@ pub const KINDS: usize = 14;
 
 // The place of a kind in the counts, in the order of the Rust's declaration, ours behind them.
 // Ruled out: one place for two kinds, and a place past the last.
+#[tactic(auto, unfolding(crate::specs::Note::kind_index))]
 pub fn kind_index(x: ResAnomaly) -> usize
     ensures { result ≡ kind_index x }
 {
@@ -73,30 +74,39 @@ fn made(kind: u32, a: u32, b: u32) -> Note
     Note { kind, a, b }
 }
 
+impl From<ResAnomaly> for Note {
+    ghost from_gives = { λ x note. note ≡ note_of x };
+
+    #[tactic(auto, unfolding(crate::specs::Note::note_of))]
+    fn from(x: ResAnomaly) -> Note {
+        match x {
+            ResAnomaly::StringPoolGarbageChunk(chunk_type, skipped) => made(0, chunk_type, skipped),
+            ResAnomaly::StringCountMismatch(declared, actual) => made(1, declared, actual),
+            ResAnomaly::StringOffsetsOutOfBounds(count) => made(2, count, 0),
+            ResAnomaly::NonXmlChunk(chunk_type) => made(3, chunk_type, 0),
+            ResAnomaly::XmlNodeHeaderSize(header_size) => made(4, header_size, 0),
+            ResAnomaly::UnknownChunk(chunk_type) => made(5, chunk_type, 0),
+            ResAnomaly::AttributeStartShifted(attribute_start) => made(6, attribute_start, 0),
+            ResAnomaly::AttributeSizeMismatch(attribute_size) => made(7, attribute_size, 0),
+            ResAnomaly::ElementTrailingBytes(len) => made(8, len, 0),
+            ResAnomaly::InvalidElementName(name, has_text) => made(9, name.0, has_text),
+            ResAnomaly::InvalidAttributeName(name) => made(10, name.0, 0),
+            ResAnomaly::TruncatedXml => made(11, 0, 0),
+            ResAnomaly::UnclosedElements(count) => made(12, count, 0),
+            ResAnomaly::DamagedElementName(name, state) => made(32, name.0, state),
+        }
+    }
+}
+
 // What is printed of an anomaly. Ruled out: a and b in each other's place, and a number left over where a kind has none.
 pub fn note_of(x: ResAnomaly) -> Note
     ensures { result ≡ note_of x }
 {
-    match x {
-        ResAnomaly::StringPoolGarbageChunk(chunk_type, skipped) => made(0, chunk_type, skipped),
-        ResAnomaly::StringCountMismatch(declared, actual) => made(1, declared, actual),
-        ResAnomaly::StringOffsetsOutOfBounds(count) => made(2, count, 0),
-        ResAnomaly::NonXmlChunk(chunk_type) => made(3, chunk_type, 0),
-        ResAnomaly::XmlNodeHeaderSize(header_size) => made(4, header_size, 0),
-        ResAnomaly::UnknownChunk(chunk_type) => made(5, chunk_type, 0),
-        ResAnomaly::AttributeStartShifted(attribute_start) => made(6, attribute_start, 0),
-        ResAnomaly::AttributeSizeMismatch(attribute_size) => made(7, attribute_size, 0),
-        ResAnomaly::ElementTrailingBytes(len) => made(8, len, 0),
-        ResAnomaly::InvalidElementName(name, has_text) => made(9, name.0, has_text),
-        ResAnomaly::InvalidAttributeName(name) => made(10, name.0, 0),
-        ResAnomaly::TruncatedXml => made(11, 0, 0),
-        ResAnomaly::UnclosedElements(count) => made(12, count, 0),
-        ResAnomaly::DamagedElementName(name, state) => made(32, name.0, state),
-    }
+    Note::from(x)
 }
 
 // The note state: how many notes of each kind are kept, and how many in all, which is the place of the next in the table.
-#[derive(Clone, Copy)]
+#[derive(Clone, Copy, Debug, PartialEq, Eq)]
 pub struct Notes {
     pub counts: [u32; KINDS],
     pub used: usize,
@@ -129,8 +139,10 @@ impl Notes {
         ensures { result ≡ stored_in self kind }
     {
         let mut counts = self.counts;
-        counts[kind] = counts[kind] + 1;
-        let used = self.used + 1;
-        Notes { counts, used }
+        counts[kind] += 1;
+        Notes {
+            counts,
+            used: self.used + 1,
+        }
     }
 }

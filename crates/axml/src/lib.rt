@@ -27,6 +27,7 @@ pub use round_up::{
     notes_of, refused_by,
 };
 pub use value_text::{Attribute, value_text};
+use walk::NO_NOTE;
 pub use xml::is_valid_name;
 
 // Reads `file` into the three tables, and answers the counts or the refusal. `names` and `area` are the lent system names, `cap` is how many
@@ -50,12 +51,10 @@ pub fn read(
     loop {
         st = walk::advance(file, names, area, nodes, attributes, st);
         if st.done {
-            break;
+            return walk::answer_of(st);
         }
-        let at = st.slot;
-        notes[at] = st.note;
+        notes[st.slot] = st.note;
     }
-    walk::answer_of(st)
 }
 
 // The answer of a reading, and its notes by value.
@@ -71,11 +70,7 @@ pub fn read_listed(file: &[u8], nodes: &mut [u32], attributes: &mut [u32]) -> Li
     ensures { Reads file.now (lends [] []) nodes.old attributes.old (replicate listed_notes zero_note) listed_cap merged
         result.answer nodes.new attributes.new result.notes }
 {
-    let mut notes = [Note {
-        kind: 0,
-        a: 0,
-        b: 0,
-    }; LISTED_NOTES];
+    let mut notes = [NO_NOTE; LISTED_NOTES];
     let answer = read(
         file,
         &[],

@@ -1,6 +1,6 @@
 // A file added to a round-up that C lends as words: the counts of crate round_up in its order, 132 of them.
 //
-// C has no `ReadAnswer`: the reading is told by the number of its refusal, 0 for a file read, and by its notes, which are counted here from the
+// C has no `Result`: the reading is told by the number of its refusal, 0 for a file read, and by its notes, which are counted here from the
 // words of the note table. The round-up is changed where it lies, or not at all. Definitions: specs/Adding.antt.
 ghost use Rattle.std.specs.Prelude.{◌≡◌};
 ghost use Rattle.c_api.specs.Adding.{AddsWords};

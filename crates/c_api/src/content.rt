@@ -28,12 +28,7 @@ fn place_of(t: &[u8], area: &[u8], f: Found) -> AxmlContentAnswer
     ensures { result ≡ place_of f }
 {
     match f {
-        Found::Nothing => AxmlContentAnswer {
-            slice: 0,
-            start: 0,
-            length: 0,
-        },
-        Found::Cut => AxmlContentAnswer {
+        Found::Nothing | Found::Cut => AxmlContentAnswer {
             slice: 0,
             start: 0,
             length: 0,

@@ -1,9 +1,10 @@
 // The C interface: the functions of include/axml.h, with what they promise. Rattle crates call them here; C and Rust link the exports of c_api_c, which
 // call them.
 //
-// A slice is lent as two C parameters, a pointer and a number of elements. The answers are structs of numbers, since C has no enums that
-// hold values. Notes are lent as words (crate records), in the layout of C's `struct axml_note`; `axml::read` has them as records, and
-// `same-reading` (proofs/Same.antt) says that both are one reading. Definitions: specs/Words.antt, specs/Answers.antt.
+// A slice is lent as two C parameters, a pointer and a number of elements. The answers are structs of numbers, and stay so in this crate: the C
+// interface needs them, since C has no enums that hold values. Notes are lent as words (crate records), in the layout of C's `struct axml_note`;
+// `axml::read` has them as records, and `same-reading` (proofs/Same.antt) says that both are one reading. Definitions: specs/Words.antt,
+// specs/Answers.antt.
 #![tactic(auto)]
 
 pub mod abi;
@@ -70,11 +71,7 @@ fn put_note(words: &mut [u32], place: usize, note: Note)
 fn is_clearing(stage: Stage) -> bool
     ensures { result ≡ is_clearing stage }
 {
-    match stage {
-        Stage::Fresh => false,
-        Stage::Reading => false,
-        Stage::Clearing(_) => true,
-    }
+    matches!(stage, Stage::Clearing(_))
 }
 
 // The loop of `axml::read` over words. It clears the places behind the notes, and the words behind the last place, all at once.

@@ -16,20 +16,16 @@ use field::u32_at;
 
 // Whether a chunk of this type belongs to the XML tree: 0x100 to 0x104 and 0x17f.
 // Ruled out: yes for 0x105, because it lies between two XML types, and yes for 0x180, the resource map.
+#[tactic(auto, unfolding(crate::specs::Sort::is_xml))]
 pub fn is_xml_node(h: ResChunkHeader) -> bool
     ensures { result ≡ is_xml h.kind }
 {
-    if h.kind == 0x17f {
-        return true;
-    }
-    if h.kind < 0x100 {
-        return false;
-    }
-    h.kind <= 0x104
+    matches!(h.kind, 0x100..=0x104 | 0x17f)
 }
 
 // 0: not XML. 1: XML whose header size is not 16. 2: ordinary, the only sort that is looked into.
 // Ruled out: 1 for a chunk that is not XML and whose header size is not 16, and 2 for XML whose header size is 8.
+#[tactic(auto, unfolding(crate::specs::Sort::chunk_sort))]
 pub fn sort_of(h: ResChunkHeader) -> u32
     ensures { result ≡ chunk_sort h }
 {
@@ -42,14 +38,12 @@ pub fn sort_of(h: ResChunkHeader) -> u32
 
 // Where the content of a chunk ends whose 8 bytes of header end at `at`.
 // Ruled out: the end of the file where the content passes it, and `at` where the content ends at the very end.
+#[tactic(auto, unfolding(crate::specs::Sort::content_size))]
 pub fn skip_content(s: &[u8], at: usize, size: u32) -> usize
     requires { at ≤ length s.now }
     ensures { result ≡ at + content_size (length s.now - at) size }
 {
-    if size <= 8 {
-        return at;
-    }
-    let content = (size - 8) as usize;
+    let content = size.saturating_sub(8) as usize;
     if content <= s.len() - at {
         return at + content;
     }
@@ -62,16 +56,13 @@ pub fn run_used(s: &[u8], at: usize, sort: u32) -> usize
     requires { at ≤ length s.now }
     ensures { (result ≡ run_used sort (drop at s.now)) × (at + result ≤ length s.now) }
 {
-    let read = header_at(s, at);
-    match read {
-        None => 0,
-        Some(h) => {
-            if sort_of(h) == sort {
-                skip_content(s, at + 8, h.size) - at
-            } else {
-                0
-            }
-        }
+    let Some(h) = header_at(s, at) else {
+        return 0;
+    };
+    if sort_of(h) == sort {
+        skip_content(s, at + 8, h.size) - at
+    } else {
+        0
     }
 }
 
@@ -90,15 +81,14 @@ fn bare_block(s: &[u8], at: usize) -> bool
     ensures { result ≡ all_bare 8 (drop at s.now) }
 {
     let mut doubts: u8 = 0;
-    let mut k = 0;
-    while k < 8 {
-        doubts = doubts + doubt_at(s, at + 8 * k);
-        k += 1;
+    for k in 0..8 {
+        doubts += doubt_at(s, at + 8 * k);
     }
     doubts == 0
 }
 
 // A position that the run of the sort 0 from `at` on passes: behind all the blocks of eight bare headers that begin at `at`.
+// This loop and the next go on by what they pass, and the place is their answer: over `chunks_exact` it would be counted beside.
 fn skip_bare(s: &[u8], at: usize) -> usize
     requires { at ≤ length s.now }
     ensures { (skip_run s.now at 0 ≡ skip_run s.now result 0) × (at ≤ result) × (result ≤ length s.now) }
@@ -127,7 +117,7 @@ pub fn skip_run(s: &[u8], at: usize, sort: u32) -> usize
         if n == 0 {
             return p;
         }
-        p = p + n;
+        p += n;
         if (n == 8) & (sort == 0) & (retry <= p) {
             p = skip_bare(s, p);
             retry = p + 512;

@@ -1,8 +1,10 @@
 -- Laws of specs/Header.antt. No contract cites this file.
--- In order: a whole header has its 8 bytes (`header_of-long`, `header_of-long-at`); it stands there whatever follows (`header_of-append`).
+-- In order: the header at a place (`header_none_at`, `header_some_at`); a whole header has its 8 bytes (`header_of-long`,
+-- `header_of-long-at`); it stands there whatever follows (`header_of-append`).
 use Rattle.std.specs.Prelude.{Some, None}
 use Prim.Native.Nat.{ℕ, ◌+◌, ◌-◌, ◌≤◌, ◌<◌}
 use native.Mathlib.Omega.{arith}
+use native.Mathlib.Nat.{add-zero}
 use mathlib.Core.Path.{◌≡◌, refl}
 use mathlib.Core.List.{List, ◌++◌}
 use mathlib.Core.Bool.{Bool, true, false}
@@ -10,7 +12,7 @@ use borrow.Author.Tests.{ltb-true, ltb-false, lt-ltb, le-ltb}
 use lib.ListN.{length, drop, length-drop, length-append}
 use lib.Dec.{ltb}
 use Rattle.field.specs.Le.{u16le, u32le}
-use Rattle.field.proofs.Laws.{u16le-append, u32le-append}
+use Rattle.field.proofs.Laws.{u16le-append, u32le-append, u16le-drop, u32le-drop}
 use Rattle.common.specs.Header.{header_of}
 use Rattle.common.specs.declared.ResChunkHeader.{ResChunkHeader}
 
@@ -25,6 +27,17 @@ header_of-short l h = rw (lt-ltb (length l) 8 h)
 pub header_of-whole : (l : List ℕ) → 8 ≤ length l → header_of l ≡ Some (header_here l)
 unfolding header_of
 header_of-whole l h = rw (le-ltb (length l) 8 h)
+
+-- what `header_at` looks at: where fewer than 8 bytes are left, and where they are there
+pub header_none_at : (s : List ℕ) (at : ℕ) → length s - at < 8 → header_of (drop at s) ≡ None
+header_none_at s at h = header_of-short (drop at s) (rw length-drop h)
+
+pub header_some_at
+    : (s : List ℕ) (at : ℕ)
+    → 8 ≤ length s - at
+    → header_of (drop at s) ≡ Some (record { kind = u16le s at; header_size = u16le s (at + 2); size = u32le s (at + 4) })
+unfolding header_of
+header_some_at s at h = simp (length-drop, le-ltb _ _ h, u16le-drop, u32le-drop, add-zero)
 
 -- a whole header has its 8 bytes
 pub header_of-long : (l : List ℕ) {h : ResChunkHeader} → header_of l ≡ Some h → 8 ≤ length l

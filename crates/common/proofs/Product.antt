@@ -4,17 +4,17 @@
 use mathlib.Core.Path.{◌≡◌, refl, sym, ap, ◌∙◌, subst}
 use mathlib.Core.Logic.{inl, inr}
 use mathlib.Core.Bool.{true, false, not}
-use Prim.Native.Nat.{ℕ, zero, suc, ◌+◌, ◌*◌, ◌^◌, ◌≤◌, ◌<◌}
+use Prim.Native.Nat.{ℕ, zero, suc, ◌*◌, ◌^◌, ◌≤◌, ◌<◌}
 use native.Mathlib.Nat.{mul_assoc, mul-one, mul_right_comm, mul-le-mul_left, lt_of_lt_of_le, eq-zero-or-pos, mul-pos, le_trans, le_of_eq}
 use native.Mathlib.Omega.{arith}
-use lib.Dec.{T, ltb, lit<, lit≤}
-use lib.Pow.{pow_pos, pow_mono, pow-add, shl_lt}
-use lib.IntN.{ℤ, pos, negsuc}
-use lib.Ieee.{Float, nan, inf, fin, is_nan, binary64, round, of_int, mul, up, down, le}
+use lib.Dec.{T, lit<, lit≤}
+use lib.Pow.{pow_pos, pow_mono, shl_lt}
+use lib.IntN.{pos, negsuc}
+use lib.Ieee.{Float, nan, inf, fin, is_nan, binary64, round, of_int, mul, le}
 use lib.Ieee.Exact.{HasValue, round_exact}
 use lib.Ieee.Back.{round_whole}
 use lib.Ieee.Order.{round_mono}
-use lib.Ieee.Positive.{num, den, positive, den_pos, own_value, positive_of_value, values_of_le, between, mul_at}
+use lib.Ieee.Positive.{num, den, positive, own_value, positive_of_value, values_of_le, between, mul_at}
 use Rattle.common.specs.Complex.{mantissa, radix, mult, places, Within, Complex}
 
 -- a value of at most 53 digits, moved up by at most 1082 places, is far below the largest

@@ -1,6 +1,6 @@
 -- The header at the front of a list of bytes: docs/FORMAT.md, C1, C2.
 --
---   header_of      the header that the list begins with: 2 bytes of type, 2 of header size, 4 of size; Short where fewer than 8 bytes are left
+--   header_of      the header that the list begins with: 2 bytes of type, 2 of header size, 4 of size; None where fewer than 8 bytes are left
 --   content_size   the bytes of content that a header promises behind its own 8; 0 where its size is below 8
 --
 -- A list is the bytes left, never the whole file. `◌-◌` stops at 0. Laws: proofs/Laws.antt.

@@ -8,7 +8,7 @@ ghost use Rattle.common.specs.ValueType.{value_type_of, value_type_number, is_re
 ghost use Rattle.common.specs.Complex.{Complex};
 
 // What a value is, by its type. `Unknown` keeps a number that has no name, also one over 255.
-#[derive(Clone, Copy)]
+#[derive(Clone, Copy, Debug, PartialEq, Eq)]
 pub enum ResourceValueType {
     Null,
     Reference,
@@ -29,28 +29,64 @@ pub enum ResourceValueType {
     Unknown(u32),
 }
 
+impl From<u32> for ResourceValueType {
+    ghost from_gives = { λ n t. t ≡ value_type_of n };
+
+    #[tactic(auto, unfolding(crate::specs::ValueType::value_type_of))]
+    fn from(n: u32) -> ResourceValueType {
+        match n {
+            0x00 => ResourceValueType::Null,
+            0x01 => ResourceValueType::Reference,
+            0x02 => ResourceValueType::Attribute,
+            0x03 => ResourceValueType::String,
+            0x04 => ResourceValueType::Float,
+            0x05 => ResourceValueType::Dimension,
+            0x06 => ResourceValueType::Fraction,
+            0x07 => ResourceValueType::DynamicReference,
+            0x08 => ResourceValueType::DynamicAttribute,
+            0x10 => ResourceValueType::Dec,
+            0x11 => ResourceValueType::Hex,
+            0x12 => ResourceValueType::Boolean,
+            0x1c => ResourceValueType::ColorArgb8,
+            0x1d => ResourceValueType::ColorRgb8,
+            0x1e => ResourceValueType::ColorArgb4,
+            0x1f => ResourceValueType::ColorRgb4,
+            _ => ResourceValueType::Unknown(n),
+        }
+    }
+}
+
 // The type of a number. Ruled out: Reference for 257 (the low byte alone), and Dec for 9 (the place among the names).
 pub fn value_type_of(n: u32) -> ResourceValueType
     ensures { result ≡ value_type_of n }
 {
-    match n {
-        0x00 => ResourceValueType::Null,
-        0x01 => ResourceValueType::Reference,
-        0x02 => ResourceValueType::Attribute,
-        0x03 => ResourceValueType::String,
-        0x04 => ResourceValueType::Float,
-        0x05 => ResourceValueType::Dimension,
-        0x06 => ResourceValueType::Fraction,
-        0x07 => ResourceValueType::DynamicReference,
-        0x08 => ResourceValueType::DynamicAttribute,
-        0x10 => ResourceValueType::Dec,
-        0x11 => ResourceValueType::Hex,
-        0x12 => ResourceValueType::Boolean,
-        0x1c => ResourceValueType::ColorArgb8,
-        0x1d => ResourceValueType::ColorRgb8,
-        0x1e => ResourceValueType::ColorArgb4,
-        0x1f => ResourceValueType::ColorRgb4,
-        _ => ResourceValueType::Unknown(n),
+    ResourceValueType::from(n)
+}
+
+impl From<ResourceValueType> for u32 {
+    ghost from_gives = { λ t n. n ≡ value_type_number t };
+
+    #[tactic(auto, unfolding(crate::specs::ValueType::value_type_number))]
+    fn from(t: ResourceValueType) -> u32 {
+        match t {
+            ResourceValueType::Null => 0x00,
+            ResourceValueType::Reference => 0x01,
+            ResourceValueType::Attribute => 0x02,
+            ResourceValueType::String => 0x03,
+            ResourceValueType::Float => 0x04,
+            ResourceValueType::Dimension => 0x05,
+            ResourceValueType::Fraction => 0x06,
+            ResourceValueType::DynamicReference => 0x07,
+            ResourceValueType::DynamicAttribute => 0x08,
+            ResourceValueType::Dec => 0x10,
+            ResourceValueType::Hex => 0x11,
+            ResourceValueType::Boolean => 0x12,
+            ResourceValueType::ColorArgb8 => 0x1c,
+            ResourceValueType::ColorRgb8 => 0x1d,
+            ResourceValueType::ColorArgb4 => 0x1e,
+            ResourceValueType::ColorRgb4 => 0x1f,
+            ResourceValueType::Unknown(n) => n,
+        }
     }
 }
 
@@ -58,37 +94,17 @@ pub fn value_type_of(n: u32) -> ResourceValueType
 pub fn value_type_number(t: ResourceValueType) -> u32
     ensures { result ≡ value_type_number t }
 {
-    match t {
-        ResourceValueType::Null => 0x00,
-        ResourceValueType::Reference => 0x01,
-        ResourceValueType::Attribute => 0x02,
-        ResourceValueType::String => 0x03,
-        ResourceValueType::Float => 0x04,
-        ResourceValueType::Dimension => 0x05,
-        ResourceValueType::Fraction => 0x06,
-        ResourceValueType::DynamicReference => 0x07,
-        ResourceValueType::DynamicAttribute => 0x08,
-        ResourceValueType::Dec => 0x10,
-        ResourceValueType::Hex => 0x11,
-        ResourceValueType::Boolean => 0x12,
-        ResourceValueType::ColorArgb8 => 0x1c,
-        ResourceValueType::ColorRgb8 => 0x1d,
-        ResourceValueType::ColorArgb4 => 0x1e,
-        ResourceValueType::ColorRgb4 => 0x1f,
-        ResourceValueType::Unknown(n) => n,
-    }
+    u32::from(t)
 }
 
 // Whether a value refers to another resource: exactly the types 1 and 7.
 // Ruled out: yes for 2, an attribute's id, and yes for 257.
+#[tactic(auto, unfolding(crate::specs::ValueType::is_reference))]
 pub fn is_reference(t: ResourceValueType) -> bool
     ensures { result ≡ is_reference t }
 {
     let n = value_type_number(t);
-    if n == 1 {
-        return true;
-    }
-    n == 7
+    n == 1 || n == 7
 }
 
 // What one unit of a complex value's whole number is worth, by the radix: near 2 ^ -8, 2 ^ -15, 2 ^ -23 and 2 ^ -31.

@@ -12,7 +12,7 @@ use lib.Dec.{ltb}
 use lib.ListN.{length, get_or, length-append, get_or-append}
 use Rattle.digits.proofs.Back.{number_from}
 use Rattle.digits.specs.Digits.{digits, decimal}
-use Rattle.digits.proofs.Laws.{digits_lt, digits-suc, digits_step}
+use Rattle.digits.proofs.Laws.{digits_lt, digits-suc, digits_step, digits_le}
 
 -- a number below 10, or one with a digit before its last
 module _ (P : ℕ → ℕ → Type 0) (one : (k n : ℕ) → n < 10 → P k n) (more : (k n : ℕ) → 10 ≤ n → P k (n / 10) → P (suc k) n) where
@@ -64,6 +64,18 @@ digits-enough =
     digits-ind (λ j n. (k : ℕ) → j ≤ k → digits j n ≡ digits k n)
     (λ j n s k h. digits_lt j n s ∙ sym (digits_lt k n s))
     (λ j n s p k h. rw (digits-suc j n s, digits_step k n (omega arith) s, p (k - 1) (omega arith)))
+
+-- a number of 64 bits is a tenth of it, and its last digit
+pub decimal-step : (n : ℕ) → 10 ≤ n → n < 10 ^ 20 → decimal n ≡ decimal (n / 10) ++ ((48 + n % 10) ∷ [])
+decimal-step n h l =
+    let e : n / 10 < 10 ^ suc 18 = omega (arith, l) in
+    digits-suc 18 n h ∙ ap (λ (s : List ℕ). s ++ ((48 + n % 10) ∷ [])) (digits-enough 18 (n / 10) e 19 (omega arith))
+
+-- a number of 32 bits has ten digits at most
+pub decimal-word : (n : ℕ) → n < 4294967296 → length (decimal n) ≤ 10
+decimal-word n h =
+    let e : n < 10 ^ suc 9 = omega (arith, h) in
+    rw (← digits-enough 9 n e 19 (omega arith)) (digits_le 9 n)
 
 -- ---- read back
 

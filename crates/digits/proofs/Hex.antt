@@ -37,7 +37,12 @@ pub hex_digits-back : (k n : ℕ) → n < 16 ^ k → hex_from 0 (hex_digits k n)
 hex_digits-back zero n h = none-back n (let e : n < 1 = h in omega arith)
 hex_digits-back (suc k) n h =
     let e : n < 16 ^ k * 16 = rw (pow-suc 16 k) at h in
-    rw (hex_digits-suc k n, hex_from-append 0 (hex_digit (n % 16)) (hex_digits k (n / 16)), hex_digits-back k (n / 16) (omega arith), hex_value-back (n % 16) (omega arith))
+    rw (
+      hex_digits-suc k n,
+      hex_from-append 0 (hex_digit (n % 16)) (hex_digits k (n / 16)),
+      hex_digits-back k (n / 16) (omega arith),
+      hex_value-back (n % 16) (omega arith),
+    )
     (omega arith)
 
 pub hex_text-back : (n : ℕ) → n < 16 ^ 8 → hex_from 0 (hex_text n) ≡ n

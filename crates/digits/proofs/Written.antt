@@ -1,12 +1,12 @@
 -- Laws of specs/Written.antt: texts written one behind the other. Not here: what the buffer holds at the end (proofs/Fitted.antt).
-use Prim.Native.Nat.{ℕ, suc, ◌+◌, ◌≤◌, ◌<◌}
+use Prim.Native.Nat.{ℕ, suc, ◌+◌, ◌≤◌}
 use mathlib.Core.Path.{◌≡◌, refl}
 use mathlib.Core.List.{List, [], ◌∷◌, ◌++◌}
 use native.Mathlib.Omega.{arith}
 use native.Mathlib.Nat.{add-suc, suc-add}
-use native.Mathlib.Numerals.{add-one, unary_clauses}
-use lib.ListN.{length, set, drop, length-append, drop_of_length-le, get_or}
-use lib.Seq.{drop-cons, length-sets}
+use native.Mathlib.Numerals.{unary_clauses}
+use lib.ListN.{length, set, length-append}
+use lib.Seq.{length-sets}
 use Rattle.digits.specs.Written.{written, Wrote}
 
 -- ---- one text behind another
@@ -32,6 +32,10 @@ wrote-append {m} {n} {p} {q} {r} {s} {t} {l} {k} {j} a b =
 pub wrote-more : {m n p r : ℕ} {s t l j : List ℕ} → Wrote m p s l r j → s ≡ t → m ≤ n → Wrote n p t l r j
 wrote-more {m} {n} {p} {r} {s} {t} {l} {j} a e h =
     record { place = rw (← e) a.place; near = omega (arith, a.near); out = rw (← e) a.out }
+
+-- the same, and the text's own length as the bound, or a greater one
+pub wrote-within : {m n p r : ℕ} {s l j : List ℕ} → Wrote m p s l r j → length s ≤ n → Wrote n p s l r j
+wrote-within {m} {n} {p} {r} {s} {l} {j} a h = record { place = a.place; near = omega (arith, a.place); out = a.out }
 
 pub wrote_none : (m p : ℕ) (l : List ℕ) → Wrote m p [] l p l
 unfolding written
@@ -67,15 +71,3 @@ left-piece {s = s} {t = t} a e b = left_step s t (rw e at a) b
 -- nothing is left
 pub left-none : {p₀ p : ℕ} {whole l₀ l r : List ℕ} (m : ℕ) → Left p₀ whole l₀ p r l → r ≡ [] → p ≤ p₀ + m → Wrote m p₀ whole l₀ p l
 left-none m a e h = left-done m (rw e at a) h
-
--- one byte of a list more
-pub left-byte :
-    {m p₀ p q : ℕ} {whole l₀ l k : List ℕ} (t : List ℕ) (i : ℕ) → i < length t → Left p₀ whole l₀ p (drop i t) l →
-    Wrote m p (get_or t i 0 ∷ []) l q k → Left p₀ whole l₀ q (drop (i + 1) t) k
-left-byte t i h a b = rw add-one (left_step (get_or t i 0 ∷ []) (drop (suc i) t) (rw (drop-cons t i 0 h) at a) b)
-
--- nothing of a list is left
-pub left_end :
-    {p₀ p : ℕ} {whole l₀ l : List ℕ} (m : ℕ) (t : List ℕ) (i : ℕ) → length t ≤ i → Left p₀ whole l₀ p (drop i t) l → p ≤ p₀ + m →
-    Wrote m p₀ whole l₀ p l
-left_end m t i h a n = left-done m (rw (drop_of_length-le t h) at a) n

@@ -6,7 +6,7 @@
 #![tactic(auto)]
 
 ghost use Rattle.std.specs.Prelude.{◌≡◌, [], ◌∷◌, ◌+◌, ◌≤◌, ◌<◌, length, replicate};
-ghost use Rattle.digits.specs.Digits.{digits, decimal, signed_text, hex_digit, hex_digits, hex_text};
+ghost use Rattle.digits.specs.Digits.{decimal, signed_text, hex_digit, hex_text};
 ghost use Rattle.digits.specs.Written.{Wrote};
 
 // One byte at a place; past the end of the buffer nothing is written, and the place moves on all the same.
@@ -16,10 +16,8 @@ pub fn put_byte(out: &mut [u8], p: usize, b: u8) -> usize
 {
     if p < out.len() {
         out[p] = b;
-        p + 1
-    } else {
-        p + 1
     }
+    p + 1
 }
 
 // Bytes as they stand.
@@ -28,38 +26,25 @@ pub fn put_bytes(out: &mut [u8], p: usize, text: &[u8]) -> usize
     ensures { Wrote (length text.now) p text.now out.old result out.new }
 {
     let mut at = p;
-    let mut i = 0;
-    while i < text.len() {
-        at = put_byte(out, at, text[i]);
-        i += 1;
+    for b in text {
+        at = put_byte(out, at, *b);
     }
     at
 }
 
 // ---- decimal
 
-// The decimal digits of a number, the last k + 1 of them at most.
-fn put_digits(out: &mut [u8], p: usize, k: u32, n: u64) -> usize
-    requires { (p < 9223372036854775808) × (k < 20) }
-    ensures { Wrote (k + 1) p (digits k n) out.old result out.new }
-{
-    let last = 48 + (n % 10) as u8;
-    if k == 0 {
-        return put_byte(out, p, last);
-    }
-    if n < 10 {
-        return put_byte(out, p, last);
-    }
-    let at = put_digits(out, p, k - 1, n / 10);
-    put_byte(out, at, last)
-}
-
-// A number without leading zeros.
+// A number without leading zeros: the digits of a tenth of it, and then the last.
 pub fn put_decimal(out: &mut [u8], p: usize, n: u64) -> usize
     requires { p < 9223372036854775808 }
     ensures { Wrote 20 p (decimal n) out.old result out.new }
 {
-    put_digits(out, p, 19, n)
+    let at = if n < 10 {
+        p
+    } else {
+        put_decimal(out, p, n / 10)
+    };
+    put_byte(out, at, b'0' + (n % 10) as u8)
 }
 
 // A number of 32 bits, which takes half the place.
@@ -67,7 +52,7 @@ pub fn put_word(out: &mut [u8], p: usize, n: u32) -> usize
     requires { p < 9223372036854775808 }
     ensures { Wrote 10 p (decimal n) out.old result out.new }
 {
-    put_digits(out, p, 9, n as u64)
+    put_decimal(out, p, u64::from(n))
 }
 
 // A word read as an i32: `-` and the number without its sign from 2^31 on.
@@ -75,11 +60,9 @@ pub fn put_signed(out: &mut [u8], p: usize, n: u32) -> usize
     requires { p < 4611686018427387904 }
     ensures { Wrote 11 p (signed_text n) out.old result out.new }
 {
-    if n < 2147483648 {
-        return put_word(out, p, n);
-    }
-    let at = put_byte(out, p, 45);
-    put_word(out, at, 4294967295 - n + 1)
+    let z = n.cast_signed();
+    let at = if z < 0 { put_byte(out, p, b'-') } else { p };
+    put_word(out, at, z.unsigned_abs())
 }
 
 // ---- hexadecimal
@@ -90,22 +73,10 @@ fn hex_digit(d: u32) -> u8
     ensures { result ≡ hex_digit d }
 {
     if d < 10 {
-        return 48 + d as u8;
+        b'0' + d as u8
+    } else {
+        b'a' + (d - 10) as u8
     }
-    87 + d as u8
-}
-
-// The last k digits.
-fn put_hex_digits(out: &mut [u8], p: usize, k: u32, n: u32) -> usize
-    requires { (p < 9223372036854775808) × (k < 9) }
-    ensures { Wrote k p (hex_digits k n) out.old result out.new }
-{
-    if k == 0 {
-        return p;
-    }
-    let last = hex_digit(n & 15);
-    let at = put_hex_digits(out, p, k - 1, n >> 4);
-    put_byte(out, at, last)
 }
 
 // All eight digits of a word, leading zeros among them.
@@ -113,7 +84,11 @@ pub fn put_hex(out: &mut [u8], p: usize, n: u32) -> usize
     requires { p < 9223372036854775808 }
     ensures { Wrote 8 p (hex_text n) out.old result out.new }
 {
-    put_hex_digits(out, p, 8, n)
+    let mut at = p;
+    for k in (0..8u32).rev() {
+        at = put_byte(out, at, hex_digit((n >> (4 * k)) & 15));
+    }
+    at
 }
 
 // ---- zeros
@@ -122,9 +97,5 @@ pub fn put_hex(out: &mut [u8], p: usize, n: u32) -> usize
 pub fn zero(out: &mut [u8])
     ensures { out.new ≡ replicate (length out.old) 0 }
 {
-    let mut i = 0;
-    while i < out.len() {
-        out[i] = 0;
-        i += 1;
-    }
+    out.fill(0);
 }

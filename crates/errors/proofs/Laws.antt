@@ -205,7 +205,7 @@ text_of n = cond (eqb n.refusal 0) (Ok (record { length = n.length; state = (sta
 
 text_of-back : (a : Result TextWritten Refusal) → text_of (text_numbers_of a) ≡ a
 unfolding text_of text_numbers_of
-text_of-back (Ok w) = ap (text_is.Text w.length) (state_by-back w.state)
+text_of-back (Ok w) = rw (state_by-back w.state)
 text_of-back (Err r) = rw (refusal_number-some r) (ap Err (refusal_of-back r))
 
 pub text_numbers_of-unique : (a b : Result TextWritten Refusal) → text_numbers_of a ≡ text_numbers_of b → a ≡ b
@@ -230,10 +230,13 @@ first_of : FirstNumbers → Result FirstValue Refusal
 first_of n =
     cond (eqb n.refusal 0) (Ok (record { kind = n.kind; «data» = n.«data»; reference = (eqb n.reference 1) })) (Err (refusal_of n.refusal n.value))
 
+flag-back : (b : Bool) → eqb (cond b 1 0) 1 ≡ b
+flag-back true = refl
+flag-back false = refl
+
 first_of-back : (a : Result FirstValue Refusal) → first_of (first_numbers_of a) ≡ a
 unfolding first_of first_numbers_of
-first_of-back (Ok w) = refl
-first_of-back (Ok w) = refl
+first_of-back (Ok w) = rw (flag-back w.reference)
 first_of-back (Err r) = rw (refusal_number-some r) (ap Err (refusal_of-back r))
 
 pub first_numbers_of-unique : (a b : Result FirstValue Refusal) → first_numbers_of a ≡ first_numbers_of b → a ≡ b
@@ -248,7 +251,7 @@ value_text_of n =
 
 value_text_of-back : (a : Result ValueWritten Refusal) → value_text_of (value_numbers_of a) ≡ a
 unfolding value_text_of value_numbers_of
-value_text_of-back (Ok w) = ap (value_is.Value w.length w.uncovered) (state_by-back w.state)
+value_text_of-back (Ok w) = rw (state_by-back w.state)
 value_text_of-back (Err r) = rw (refusal_number-some r) (ap Err (refusal_of-back r))
 
 pub value_numbers_of-unique : (a b : Result ValueWritten Refusal) → value_numbers_of a ≡ value_numbers_of b → a ≡ b

@@ -4,12 +4,14 @@
 // `MissingRoot`. Its `StringPoolError` is 41 to 45 here and its `ResourceMapError` 51 and 52, which say the part that is short and where it
 // should begin; 4 and 5 are no refusal's number. The others are those of a file that is too large, of lent names, tables and buffers, and
 // of a question without an answer. Definitions: specs/Refusal.antt.
-ghost use Rattle.std.specs.Prelude.{◌≡◌, cond};
+#![tactic(auto)]
+
+ghost use Rattle.std.specs.Prelude.{◌≡◌};
 ghost use Rattle.errors.specs.Refusal.{refusal_number, refusal_value, numbers_of, state_of, replaced_of, text_numbers_of};
 ghost use Rattle.errors.specs.Refusal.{first_numbers_of, value_numbers_of, many_numbers_of, pair_numbers_of};
 
 // One case for each number of a refusal.
-#[derive(Clone, Copy)]
+#[derive(Clone, Copy, Debug, PartialEq, Eq)]
 pub enum Refusal {
     TooSmallError(usize), // 1, with the length
     TooLargeError, // 2
@@ -44,7 +46,7 @@ pub enum Refusal {
 }
 
 // What a reading counted: the starts read whole, dropped ones too, and the records that it kept.
-#[derive(Clone, Copy)]
+#[derive(Clone, Copy, Debug, PartialEq, Eq)]
 pub struct ReadCounts {
     pub starts: u32,
     pub nodes: u32,
@@ -53,7 +55,7 @@ pub struct ReadCounts {
 }
 
 // What became of a text. Where it is not whole, the file does not have the characters that the text has.
-#[derive(Clone, Copy)]
+#[derive(Clone, Copy, Debug, PartialEq, Eq)]
 pub enum TextState {
     Whole, // 0
     Replaced(u32), // 1, with how many U+FFFD were put in
@@ -62,14 +64,14 @@ pub enum TextState {
 }
 
 // A text that was written: its length and its state.
-#[derive(Clone, Copy)]
+#[derive(Clone, Copy, Debug, PartialEq, Eq)]
 pub struct TextWritten {
     pub length: usize,
     pub state: TextState,
 }
 
 // The type and the data of a first value, and whether it is a reference.
-#[derive(Clone, Copy)]
+#[derive(Clone, Copy, Debug, PartialEq, Eq)]
 pub struct FirstValue {
     pub kind: u32,
     pub data: u32,
@@ -77,7 +79,7 @@ pub struct FirstValue {
 }
 
 // A value's text that was written: its length, how many set bits of a flag no name covers, and its state.
-#[derive(Clone, Copy)]
+#[derive(Clone, Copy, Debug, PartialEq, Eq)]
 pub struct ValueWritten {
     pub length: usize,
     pub uncovered: u32,
@@ -85,14 +87,14 @@ pub struct ValueWritten {
 }
 
 // Texts that were written at once: how many, and the bytes of all of them.
-#[derive(Clone, Copy)]
+#[derive(Clone, Copy, Debug, PartialEq, Eq)]
 pub struct TextsWritten {
     pub count: usize,
     pub length: usize,
 }
 
-// The numbers of a `ReadAnswer`, as a listing prints them.
-#[derive(Clone, Copy)]
+// The numbers of a reading's answer, as a listing prints them.
+#[derive(Clone, Copy, Debug, Default, PartialEq, Eq)]
 pub struct Numbers {
     pub refusal: u32,
     pub value: u64,
@@ -102,8 +104,8 @@ pub struct Numbers {
     pub notes: u32,
 }
 
-// The numbers of a `TextAnswer`.
-#[derive(Clone, Copy)]
+// The numbers of a text question's answer.
+#[derive(Clone, Copy, Debug, Default, PartialEq, Eq)]
 pub struct TextNumbers {
     pub refusal: u32,
     pub value: u64,
@@ -112,16 +114,16 @@ pub struct TextNumbers {
     pub replaced: u32,
 }
 
-// The numbers of a `LinesAnswer`.
-#[derive(Clone, Copy)]
+// The numbers of what was printed.
+#[derive(Clone, Copy, Debug, Default, PartialEq, Eq)]
 pub struct LinesNumbers {
     pub refusal: u32,
     pub value: u64,
     pub length: u64,
 }
 
-// The numbers of a `FirstAnswer`.
-#[derive(Clone, Copy)]
+// The numbers of a first-value question's answer.
+#[derive(Clone, Copy, Debug, Default, PartialEq, Eq)]
 pub struct FirstNumbers {
     pub refusal: u32,
     pub value: u64,
@@ -130,8 +132,8 @@ pub struct FirstNumbers {
     pub reference: u32,
 }
 
-// The numbers of a `ValueAnswer`.
-#[derive(Clone, Copy)]
+// The numbers of a value text's answer.
+#[derive(Clone, Copy, Debug, Default, PartialEq, Eq)]
 pub struct ValueNumbers {
     pub refusal: u32,
     pub value: u64,
@@ -141,8 +143,8 @@ pub struct ValueNumbers {
     pub replaced: u32,
 }
 
-// The numbers of a `ManyTexts`.
-#[derive(Clone, Copy)]
+// The numbers of many texts' answer.
+#[derive(Clone, Copy, Debug, Default, PartialEq, Eq)]
 pub struct ManyNumbers {
     pub refusal: u32,
     pub value: u64,
@@ -151,6 +153,7 @@ pub struct ManyNumbers {
 }
 
 // The number of a refusal. Ruled out: 0 for any refusal, and one number for two of them.
+#[tactic(auto, unfolding(crate::specs::Refusal::refusal_number))]
 pub fn refusal_number(r: Refusal) -> u32
     ensures { result ≡ refusal_number r }
 {
@@ -188,43 +191,45 @@ pub fn refusal_number(r: Refusal) -> u32
 }
 
 // The value of a refusal. Ruled out: 0 for a refusal that has a value, and the low half of a value alone.
+#[tactic(auto, unfolding(crate::specs::Refusal::refusal_value))]
 pub fn refusal_value(r: Refusal) -> u64
     ensures { result ≡ refusal_value r }
 {
     match r {
-        Refusal::TooSmallError(length) => length as u64,
-        Refusal::TooLargeError => 0,
-        Refusal::HeaderSizeError(size) => size as u64,
-        Refusal::MissingRoot => 0,
-        Refusal::SystemNamesError(entry) => entry as u64,
-        Refusal::NodesFull(places) => places as u64,
-        Refusal::AttributesFull(places) => places as u64,
-        Refusal::NotesFull(places) => places as u64,
-        Refusal::TextShort(needed) => needed as u64,
-        Refusal::NothingFound => 0,
-        Refusal::TablesError(node) => node as u64,
-        Refusal::ItemsError(item) => item as u64,
-        Refusal::NoPlainText(kind) => kind as u64,
-        Refusal::ModeError(mode) => mode as u64,
-        Refusal::PairsError(pair) => pair as u64,
-        Refusal::AnswersFull(places) => places as u64,
-        Refusal::ListingMalformed(line) => line as u64,
-        Refusal::ListingNumber(line) => line as u64,
-        Refusal::ListingOrder(line) => line as u64,
-        Refusal::NotesOff => 0,
-        Refusal::ListFull(places) => places as u64,
-        Refusal::RoundUpFull => 0,
-        Refusal::StringPoolGarbage(at) => at as u64,
-        Refusal::StringPoolHeader(at) => at as u64,
-        Refusal::StringPoolOffsets(at) => at as u64,
-        Refusal::StringPoolStyles(at) => at as u64,
-        Refusal::StringPoolData(at) => at as u64,
-        Refusal::ResourceMapHeader(at) => at as u64,
-        Refusal::ResourceMapIds(at) => at as u64,
+        Refusal::TooLargeError
+        | Refusal::MissingRoot
+        | Refusal::NothingFound
+        | Refusal::NotesOff
+        | Refusal::RoundUpFull => 0,
+        Refusal::HeaderSizeError(n)
+        | Refusal::TablesError(n)
+        | Refusal::NoPlainText(n)
+        | Refusal::ModeError(n) => u64::from(n),
+        Refusal::TooSmallError(n)
+        | Refusal::SystemNamesError(n)
+        | Refusal::NodesFull(n)
+        | Refusal::AttributesFull(n)
+        | Refusal::NotesFull(n)
+        | Refusal::TextShort(n)
+        | Refusal::ItemsError(n)
+        | Refusal::PairsError(n)
+        | Refusal::AnswersFull(n)
+        | Refusal::ListingMalformed(n)
+        | Refusal::ListingNumber(n)
+        | Refusal::ListingOrder(n)
+        | Refusal::ListFull(n)
+        | Refusal::StringPoolGarbage(n)
+        | Refusal::StringPoolHeader(n)
+        | Refusal::StringPoolOffsets(n)
+        | Refusal::StringPoolStyles(n)
+        | Refusal::StringPoolData(n)
+        | Refusal::ResourceMapHeader(n)
+        | Refusal::ResourceMapIds(n) => n as u64,
     }
 }
 
 // The numbers of a reading's answer. Ruled out: a count beside a refusal, and a refusal that is told by its value alone.
+#[tactic(auto, unfolding(crate::specs::Refusal::numbers_of))]
 pub fn read_numbers(a: Result<ReadCounts, Refusal>) -> Numbers
     ensures { result ≡ numbers_of a }
 {
@@ -240,10 +245,7 @@ pub fn read_numbers(a: Result<ReadCounts, Refusal>) -> Numbers
         Err(e) => Numbers {
             refusal: refusal_number(e),
             value: refusal_value(e),
-            starts: 0,
-            nodes: 0,
-            attributes: 0,
-            notes: 0,
+            ..Numbers::default()
         },
     }
 }
@@ -265,124 +267,99 @@ pub fn replaced_number(s: TextState) -> u32
     ensures { result ≡ replaced_of s }
 {
     match s {
-        TextState::Whole => 0,
         TextState::Replaced(n) => n,
-        TextState::Unpaired => 0,
-        TextState::Cut => 0,
+        TextState::Whole | TextState::Unpaired | TextState::Cut => 0,
     }
 }
 
 // The numbers of a text question's answer. Ruled out: the bytes needed as the length of a refused answer, and a state beside a refusal.
+#[tactic(auto, unfolding(crate::specs::Refusal::text_numbers_of))]
 pub fn text_numbers(a: Result<TextWritten, Refusal>) -> TextNumbers
     ensures { result ≡ text_numbers_of a }
 {
     match a {
-        Ok(TextWritten { length, state }) => TextNumbers {
+        Ok(w) => TextNumbers {
             refusal: 0,
             value: 0,
-            length: length as u64,
-            state: state_number(state),
-            replaced: replaced_number(state),
+            length: w.length as u64,
+            state: state_number(w.state),
+            replaced: replaced_number(w.state),
         },
         Err(e) => TextNumbers {
             refusal: refusal_number(e),
             value: refusal_value(e),
-            length: 0,
-            state: 0,
-            replaced: 0,
+            ..TextNumbers::default()
         },
     }
 }
 
-// A yes as a number: 1, and 0 for a no.
-fn flag(b: bool) -> u32
-    ensures { result ≡ cond b 1 0 }
-{
-    if b { 1 } else { 0 }
-}
-
 // The numbers of a first-value question's answer. Ruled out: a reference in a refused answer, and type and data in each other's place.
+#[tactic(auto, unfolding(crate::specs::Refusal::first_numbers_of))]
 pub fn first_numbers(a: Result<FirstValue, Refusal>) -> FirstNumbers
     ensures { result ≡ first_numbers_of a }
 {
     match a {
-        Ok(
-            FirstValue {
-                kind,
-                data,
-                reference,
-            },
-        ) => FirstNumbers {
+        Ok(v) => FirstNumbers {
             refusal: 0,
             value: 0,
-            kind: kind,
-            data: data,
-            reference: flag(reference),
+            kind: v.kind,
+            data: v.data,
+            reference: u32::from(v.reference),
         },
         Err(e) => FirstNumbers {
             refusal: refusal_number(e),
             value: refusal_value(e),
-            kind: 0,
-            data: 0,
-            reference: 0,
+            ..FirstNumbers::default()
         },
     }
 }
 
 // The numbers of a value text's answer. Ruled out: the bytes needed as the length of a refused answer, and bits or a state beside a refusal.
+#[tactic(auto, unfolding(crate::specs::Refusal::value_numbers_of))]
 pub fn value_numbers(a: Result<ValueWritten, Refusal>) -> ValueNumbers
     ensures { result ≡ value_numbers_of a }
 {
     match a {
-        Ok(
-            ValueWritten {
-                length,
-                uncovered,
-                state,
-            },
-        ) => ValueNumbers {
+        Ok(w) => ValueNumbers {
             refusal: 0,
             value: 0,
-            length: length as u64,
-            uncovered: uncovered,
-            state: state_number(state),
-            replaced: replaced_number(state),
+            length: w.length as u64,
+            uncovered: w.uncovered,
+            state: state_number(w.state),
+            replaced: replaced_number(w.state),
         },
         Err(e) => ValueNumbers {
             refusal: refusal_number(e),
             value: refusal_value(e),
-            length: 0,
-            uncovered: 0,
-            state: 0,
-            replaced: 0,
+            ..ValueNumbers::default()
         },
     }
 }
 
 // The numbers of many texts' answer. Ruled out: a count beside a refusal, and count and length in each other's place.
+#[tactic(auto, unfolding(crate::specs::Refusal::many_numbers_of))]
 pub fn many_numbers(a: Result<TextsWritten, Refusal>) -> ManyNumbers
     ensures { result ≡ many_numbers_of a }
 {
     match a {
-        Ok(TextsWritten { count, length }) => ManyNumbers {
+        Ok(w) => ManyNumbers {
             refusal: 0,
             value: 0,
-            count: count as u64,
-            length: length as u64,
+            count: w.count as u64,
+            length: w.length as u64,
         },
         Err(e) => ManyNumbers {
             refusal: refusal_number(e),
             value: refusal_value(e),
-            count: 0,
-            length: 0,
+            ..ManyNumbers::default()
         },
     }
 }
 
 // ---- many pairs
 
-// The numbers of a `ManyAnswer`.
-#[derive(Clone, Copy)]
+// The numbers of many pairs' answer.
+#[derive(Clone, Copy, Debug, Default, PartialEq, Eq)]
 pub struct PairNumbers {
     pub refusal: u32,
     pub value: u64,
@@ -390,6 +367,7 @@ pub struct PairNumbers {
 }
 
 // The numbers of many pairs' answer. Ruled out: a count beside a refusal, and the places as the count of a refused answer.
+#[tactic(auto, unfolding(crate::specs::Refusal::pair_numbers_of))]
 pub fn pair_numbers(a: Result<usize, Refusal>) -> PairNumbers
     ensures { result ≡ pair_numbers_of a }
 {
@@ -402,7 +380,7 @@ pub fn pair_numbers(a: Result<usize, Refusal>) -> PairNumbers
         Err(e) => PairNumbers {
             refusal: refusal_number(e),
             value: refusal_value(e),
-            count: 0,
+            ..PairNumbers::default()
         },
     }
 }

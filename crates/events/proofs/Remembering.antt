@@ -39,15 +39,6 @@ look-most d Valid l = omega (arith, l)
 pub look_of-most : (k : Content) → look_of k ≤ 8
 look_of-most k = look-most (state_number (damage_in k)) (state_in k) (state-most (damage_in k))
 
-pub look-le : (n : ℕ) (k : Content) → n ≡ look_of k → n ≤ 8
-look-le n k e = rw e (look_of-most k)
-
-pub state-le : (n : ℕ) (k : Content) → n ≡ state_number (damage_in k) → n ≤ 3
-state-le n k e = rw e (state-most (damage_in k))
-
-pub look-of : (d : ℕ) (s : NameState) (k : Content) → d ≡ state_number (damage_in k) → s ≡ state_in k → look_by d s ≡ look_of k
-look-of d s k e f = rw (e, f)
-
 -- the sort of name is told by the look
 pub look-state : (d : ℕ) (s : NameState) → d ≤ 3 → state_by (look_by d s) ≡ s
 look-state d NoText l = refl
@@ -60,24 +51,8 @@ look-state d Valid l =
     let b : eqb ((2 * d + 1) % 2) 1 ≡ true = eq-eqb ((2 * d + 1) % 2) 1 (omega arith) in
     rw (a, b)
 
-pub look_of-state : (k : Content) → state_by (look_of k) ≡ state_in k
-look_of-state k = look-state (state_number (damage_in k)) (state_in k) (state-most (damage_in k))
-
 -- the step at a name, by the case of the look, and as the look tells it
 module _ (c : Cursor) where
-  pub step-open : (n : ℕ) → n ≡ 1 → open_step c 0 ≡ look_step c n
-  step-open n e = rw (eq-eqb n 1 e)
-
-  pub step-none : (n : ℕ) → (n ≡ 1 → ⊥) → n ≡ 8 → to_step c (Note (InvalidElementName c.start.name 0)) AtOpen ≡ look_step c n
-  step-none n a e = rw (ne_eqb n 1 a, eq-eqb n 8 e)
-
-  pub step-invalid : (n : ℕ) → (n ≡ 1 → ⊥) → (n ≡ 8 → ⊥) → n < 2 → to_step c (Note (InvalidElementName c.start.name 1)) AtOpen ≡ look_step c n
-  step-invalid n a b l = rw (ne_eqb n 1 a, ne_eqb n 8 b, lt-ltb n 2 l)
-
-  pub step-damaged : (n : ℕ) → (n ≡ 1 → ⊥) → (n ≡ 8 → ⊥) → 2 ≤ n
-      → to_step c (Note (DamagedElementName c.start.name (n / 2))) AtNamed ≡ look_step c n
-  step-damaged n a b l = rw (ne_eqb n 1 a, ne_eqb n 8 b, le-ltb n 2 l)
-
   pub look-step : (k : Content) → look_step c (look_of k) ≡ name_step c (state_number (damage_in k)) (state_in k)
   look-step none = refl
   look-step cut = refl

@@ -101,11 +101,10 @@ pub struct Step {
 pub fn first_cursor() -> Cursor
     ensures { result ≡ first_cursor }
 {
-    let name = StringIndex(0);
     let start = XmlStartElement {
         size: 0,
         line: 0,
-        name,
+        name: StringIndex(0),
         attribute_start: 0,
         attribute_size: 0,
         attribute_count: 0,
@@ -141,8 +140,7 @@ pub fn step_at(
         × Remembers o.head t.now (lends names.now area.now) memory.new }
 {
     let h = o.head;
-    let phase = c.phase;
-    match phase {
+    match c.phase {
         Phase::AtGarbage => garbage_step(o, c),
         Phase::AtCount => count_step(o, c),
         Phase::AtOffsets => offsets_step(t, o, c),

@@ -32,10 +32,7 @@ pub const MEMORY: usize = 2048;
 fn near_of(n: usize) -> usize
     ensures { result ≤ strings }
 {
-    if 32768 <= n {
-        return STRINGS;
-    }
-    n / 64
+    STRINGS.min(n / 64)
 }
 
 // Of two places that at which the shorter string is kept.
@@ -58,18 +55,13 @@ fn place_of(memory: &[u32], at: u32, near: usize) -> usize
 {
     let home = at as usize / LONG;
     let mut least = home % STRINGS;
-    let mut k = 0;
-    while k < near {
+    for k in 0..near {
         let p = (home + k) % STRINGS;
         let seen = memory[INDICES + p];
-        if seen == 0 {
-            return p;
-        }
-        if seen / 16 == at {
+        if seen == 0 || seen / 16 == at {
             return p;
         }
         least = shorter(memory, p, least);
-        k += 1;
     }
     least
 }
@@ -132,10 +124,8 @@ fn look_pool(
     let place = place_of(memory, begin, near_of(n));
     let seen = memory[INDICES + place];
     let kept = memory[LENGTHS + place];
-    if seen / 16 == begin {
-        if kept == size {
-            return seen % 16;
-        }
+    if seen / 16 == begin && kept == size {
+        return seen % 16;
     }
     let look = look_found(t, area, h.utf16, Found::Pool(at, n));
     if size < kept {
@@ -164,12 +154,7 @@ fn look_long(t: &[u8], names: &[u32], area: &[u8], h: Head, f: Found, memory: &m
 // Whether what was found may be a long string of the pool. It decides where a look is sought and not what it tells, so that nothing is promised of it:
 // most strings are short, and for these no more is done than a look.
 fn is_long(f: Found) -> bool {
-    match f {
-        Found::Nothing => false,
-        Found::Cut => false,
-        Found::System(_, _) => false,
-        Found::Pool(_, n) => LONG <= n,
-    }
+    matches!(f, Found::Pool(_, n) if LONG <= n)
 }
 
 // The look at the text of an index that is not kept.

@@ -12,17 +12,7 @@ use xml_elements::{XmlStartElement, attributes_at, stride_of, trailing_of};
 pub fn to_phase(c: Cursor, phase: Phase) -> Cursor
     ensures { result ≡ to_phase c phase }
 {
-    let start = c.start;
-    Cursor {
-        at: c.at,
-        run: c.run,
-        depth: c.depth,
-        starts: c.starts,
-        phase,
-        start,
-        reach: c.reach,
-        left: c.left,
-    }
+    Cursor { phase, ..c }
 }
 
 // At a start of which `reach` parts are there.
@@ -30,14 +20,10 @@ pub fn begun_by(c: Cursor, start: XmlStartElement, reach: u32, phase: Phase) -> 
     ensures { result ≡ begun_by c start reach phase }
 {
     Cursor {
-        at: c.at,
-        run: c.run,
-        depth: c.depth,
-        starts: c.starts,
         phase,
         start,
         reach,
-        left: c.left,
+        ..c
     }
 }
 
@@ -45,39 +31,24 @@ pub fn begun_by(c: Cursor, start: XmlStartElement, reach: u32, phase: Phase) -> 
 pub fn passed_to(c: Cursor, at: usize, run: u32) -> Cursor
     ensures { result ≡ passed_to c at run }
 {
-    let start = c.start;
     Cursor {
         at,
         run,
-        depth: c.depth,
-        starts: c.starts,
         phase: Phase::AtChunk,
-        start,
-        reach: c.reach,
-        left: c.left,
+        ..c
     }
-}
-
-fn fall(d: u32) -> u32
-    ensures { result ≡ d - 1 }
-{
-    if d == 0 { 0 } else { d - 1 }
 }
 
 // To the place `at`, behind an end: the depth falls by one, not below 0.
 pub fn closed_to(c: Cursor, at: usize) -> Cursor
     ensures { result ≡ closed_to c at }
 {
-    let start = c.start;
     Cursor {
         at,
         run: 2,
-        depth: fall(c.depth),
-        starts: c.starts,
+        depth: c.depth.saturating_sub(1),
         phase: Phase::AtChunk,
-        start,
-        reach: c.reach,
-        left: c.left,
+        ..c
     }
 }
 
@@ -85,9 +56,10 @@ fn left_next(left: u32) -> Phase
     ensures { result ≡ left_next left }
 {
     if left == 0 {
-        return Phase::AtChunk;
+        Phase::AtChunk
+    } else {
+        Phase::AtAttribute
     }
-    Phase::AtAttribute
 }
 
 // What lies behind the attributes, once none is left.
@@ -95,9 +67,10 @@ fn behind_of(s: XmlStartElement, left: u32) -> usize
     ensures { (result ≡ behind_of s left) × (result < 4294967296) }
 {
     if left == 0 {
-        return trailing_of(s) as usize;
+        trailing_of(s) as usize
+    } else {
+        0
     }
-    0
 }
 
 // Past the start's own bytes, at its attributes.
@@ -106,16 +79,15 @@ pub fn opened_by(c: Cursor) -> Cursor
     ensures { result ≡ opened_by c }
 {
     let start = c.start;
-    let count = start.attribute_count as u32;
+    let left = u32::from(start.attribute_count);
     Cursor {
-        at: c.at + attributes_at(start) + behind_of(start, count),
+        at: c.at + attributes_at(start) + behind_of(start, left),
         run: 2,
         depth: c.depth + 1,
         starts: c.starts + 1,
-        phase: left_next(count),
-        start,
-        reach: c.reach,
-        left: count,
+        phase: left_next(left),
+        left,
+        ..c
     }
 }
 
@@ -128,13 +100,9 @@ pub fn moved_by(c: Cursor) -> Cursor
     let left = c.left - 1;
     Cursor {
         at: c.at + stride_of(start) + behind_of(start, left),
-        run: c.run,
-        depth: c.depth,
-        starts: c.starts,
         phase: left_next(left),
-        start,
-        reach: c.reach,
         left,
+        ..c
     }
 }
 
@@ -144,9 +112,10 @@ pub fn after_open(c: Cursor) -> Cursor
     ensures { result ≡ after_open c }
 {
     if c.starts == 0 {
-        return to_phase(c, Phase::AtLead);
+        to_phase(c, Phase::AtLead)
+    } else {
+        opened_by(c)
     }
-    opened_by(c)
 }
 
 // ---- steps

@@ -31,10 +31,8 @@ pub fn open_step(c: Cursor, fixed: u32) -> Step
     ensures { result ≡ open_step c fixed }
 {
     let s = c.start;
-    let name = s.name;
-    let event = Event::Open(name, fixed, s.line);
     Step {
-        event,
+        event: Event::Open(s.name, fixed, s.line),
         cur: after_open(c),
     }
 }
@@ -43,26 +41,16 @@ pub fn open_step(c: Cursor, fixed: u32) -> Step
 fn invalid_step(c: Cursor, text: u32) -> Step
     ensures { result ≡ to_step c (Note (InvalidElementName c.start.name text)) AtOpen }
 {
-    let s = c.start;
-    let name = s.name;
-    to_step(
-        c,
-        Event::Note(ResAnomaly::InvalidElementName(name, text)),
-        Phase::AtOpen,
-    )
+    let note = ResAnomaly::InvalidElementName(c.start.name, text);
+    to_step(c, Event::Note(note), Phase::AtOpen)
 }
 
 // Note 32 comes before all that is said of the name: `state` is that of its text.
 fn damaged_step(c: Cursor, state: u32) -> Step
     ensures { result ≡ to_step c (Note (DamagedElementName c.start.name state)) AtNamed }
 {
-    let s = c.start;
-    let name = s.name;
-    to_step(
-        c,
-        Event::Note(ResAnomaly::DamagedElementName(name, state)),
-        Phase::AtNamed,
-    )
+    let note = ResAnomaly::DamagedElementName(c.start.name, state);
+    to_step(c, Event::Note(note), Phase::AtNamed)
 }
 
 // The step at a name, by what a look at it tells (specs/Inner/Remembered.antt, `look_by`): most are valid and whole.
@@ -97,9 +85,7 @@ pub fn name_step(
         (state_in (content_of h t.now (lends names.now area.now) c.start.name.0)))
         × Remembers h t.now (lends names.now area.now) memory.new }
 {
-    let s = c.start;
-    let name = s.name;
-    let look = known_look(t, names, area, h, name, memory);
+    let look = known_look(t, names, area, h, c.start.name, memory);
     look_step(c, look)
 }
 
@@ -117,10 +103,7 @@ pub fn named_step(
     ensures { (result ≡ named_step c (state_in (content_of h t.now (lends names.now area.now) c.start.name.0)))
         × Remembers h t.now (lends names.now area.now) memory.new }
 {
-    let s = c.start;
-    let name = s.name;
-    let state = known_state(t, names, area, h, name, memory);
-    match state {
+    match known_state(t, names, area, h, c.start.name, memory) {
         NameState::NoText => invalid_step(c, 0),
         NameState::Invalid => invalid_step(c, 1),
         NameState::Valid => open_step(c, 0),
@@ -135,16 +118,14 @@ pub fn lead_step(c: Cursor) -> Step
     ensures { result ≡ record { event = leading; cur = opened_by c } }
 {
     let namespace_uri = StringIndex(0);
-    let name = StringIndex(0);
     let a = XmlAttributeElement {
         namespace_uri,
-        name,
+        name: StringIndex(0),
         data_type: 3,
         data: 0,
     };
-    let event = Event::Attribute(2, a);
     Step {
-        event,
+        event: Event::Attribute(2, a),
         cur: opened_by(c),
     }
 }
@@ -185,15 +166,8 @@ fn valid_attribute(
     requires { Asks t.now (lends names.now area.now) h }
     ensures { result ≡ Attribute ((names_in mode h t.now (lends names.now area.now)).prefix_of a.namespace_uri.0) a }
 {
-    let index = a.namespace_uri;
-    let prefix = prefix_of(t, names, area, h, mode, index);
+    let prefix = prefix_of(t, names, area, h, mode, a.namespace_uri);
     Event::Attribute(prefix, a)
-}
-
-fn invalid_attribute(name: StringIndex) -> Event
-    ensures { result ≡ Note (InvalidAttributeName name) }
-{
-    Event::Note(ResAnomaly::InvalidAttributeName(name))
 }
 
 // What an attribute makes: its name is looked up once.
@@ -212,10 +186,9 @@ fn attribute_event(
         × Remembers h t.now (lends names.now area.now) memory.new }
 {
     let name = a.name;
-    let state = known_state(t, names, area, h, name, memory);
-    match state {
+    match known_state(t, names, area, h, name, memory) {
         NameState::NoText => Event::LeftOut(name),
-        NameState::Invalid => invalid_attribute(name),
+        NameState::Invalid => Event::Note(ResAnomaly::InvalidAttributeName(name)),
         NameState::Valid => valid_attribute(t, names, area, h, mode, a),
     }
 }
@@ -237,9 +210,7 @@ pub fn attribute_step(
       cur = moved_by c;
     }) × Remembers h t.now (lends names.now area.now) memory.new }
 {
-    let at = c.at;
-    let l = &b[at..];
-    let a = attribute_at(l);
+    let a = attribute_at(&b[c.at..]);
     Step {
         event: attribute_event(t, names, area, h, mode, a, memory),
         cur: moved_by(c),

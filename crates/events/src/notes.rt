@@ -1,5 +1,5 @@
 // Steps that make a note or a refusal where a test says so: of the head, of a start's numbers, and behind the walk.
-// Each `.._note` gives the event, each `.._next` the phase that follows; specs/Inner/Steps.antt has the steps by the same names.
+// Each `.._next` gives the phase that follows; specs/Inner/Steps.antt has the steps by the same names.
 ghost use Rattle.std.specs.Prelude.{◌≡◌, cond, ◌&&◌, not, ltb, eqb};
 ghost use Rattle.text.specs.Inner.Found.{Fits};
 ghost use Rattle.head.specs.Head.{refusal_of};
@@ -12,69 +12,49 @@ ghost use Rattle.anomaly.specs.declared.ResAnomaly.TheVariants.{AttributeStartSh
 ghost use Rattle.anomaly.specs.declared.ResAnomaly.TheVariants.{TruncatedXml, UnclosedElements};
 ghost use Rattle.errors.specs.declared.Refusal.TheVariants.{MissingRoot};
 
-use crate::moves::to_step;
+use crate::moves::{quiet_step, to_step};
 use crate::{Cursor, Event, Phase, Step};
 use anomaly::ResAnomaly;
 use errors::Refusal;
 use head::{HeadEnd, Opened, outside_in, refusal_of};
-use res_string_pool::Garbage;
-use resource_map::MapShort;
 use xml_elements::trailing_of;
 
-// ---- the head
-
-fn garbage_note(g: Garbage) -> Event
-    ensures { result ≡ note_if g.found (Note (StringPoolGarbageChunk g.kind g.skipped)) }
+// A note where a test says so.
+fn note_if(test: bool, note: ResAnomaly) -> Event
+    ensures { result ≡ note_if test (Note note) }
 {
-    if g.found {
-        return Event::Note(ResAnomaly::StringPoolGarbageChunk(g.kind, g.skipped));
+    if test {
+        Event::Note(note)
+    } else {
+        Event::Nothing
     }
-    Event::Nothing
 }
+
+// ---- the head
 
 pub fn garbage_step(o: Opened, c: Cursor) -> Step
     ensures { result ≡ garbage_step o c }
 {
     let g = o.garbage;
-    to_step(c, garbage_note(g), Phase::AtCount)
-}
-
-fn count_note(declared: u32, count: u32) -> Event
-    ensures { result ≡ note_if (not (eqb declared count)) (Note (StringCountMismatch declared count)) }
-{
-    if declared == count {
-        return Event::Nothing;
-    }
-    Event::Note(ResAnomaly::StringCountMismatch(declared, count))
+    let note = ResAnomaly::StringPoolGarbageChunk(g.kind, g.skipped);
+    to_step(c, note_if(g.found, note), Phase::AtCount)
 }
 
 fn pool_next(e: HeadEnd) -> Phase
     ensures { result ≡ pool_next e }
 {
     match e {
-        HeadEnd::Whole => Phase::AtOffsets,
-        HeadEnd::TooSmall(_) => Phase::AtRefuse,
-        HeadEnd::HeaderSize(_) => Phase::AtRefuse,
-        HeadEnd::PoolShort(_) => Phase::AtRefuse,
-        HeadEnd::MapShort(_) => Phase::AtOffsets,
+        HeadEnd::Whole | HeadEnd::MapShort(_) => Phase::AtOffsets,
+        HeadEnd::TooSmall(_) | HeadEnd::HeaderSize(_) | HeadEnd::PoolShort(_) => Phase::AtRefuse,
     }
 }
 
 pub fn count_step(o: Opened, c: Cursor) -> Step
     ensures { result ≡ count_step o c }
 {
-    let h = o.head;
-    let e = o.end;
-    to_step(c, count_note(o.declared, h.count), pool_next(e))
-}
-
-fn offsets_note(outside: u32) -> Event
-    ensures { result ≡ note_if (not (eqb outside 0)) (Note (StringOffsetsOutOfBounds outside)) }
-{
-    if outside == 0 {
-        return Event::Nothing;
-    }
-    Event::Note(ResAnomaly::StringOffsetsOutOfBounds(outside))
+    let count = o.head.count;
+    let note = ResAnomaly::StringCountMismatch(o.declared, count);
+    to_step(c, note_if(o.declared != count, note), pool_next(o.end))
 }
 
 fn map_next(e: HeadEnd) -> Phase
@@ -82,10 +62,10 @@ fn map_next(e: HeadEnd) -> Phase
 {
     match e {
         HeadEnd::Whole => Phase::AtChunk,
-        HeadEnd::TooSmall(_) => Phase::AtRefuse,
-        HeadEnd::HeaderSize(_) => Phase::AtRefuse,
-        HeadEnd::PoolShort(_) => Phase::AtRefuse,
-        HeadEnd::MapShort(_) => Phase::AtRefuse,
+        HeadEnd::TooSmall(_)
+        | HeadEnd::HeaderSize(_)
+        | HeadEnd::PoolShort(_)
+        | HeadEnd::MapShort(_) => Phase::AtRefuse,
     }
 }
 
@@ -93,102 +73,72 @@ pub fn offsets_step(t: &[u8], o: Opened, c: Cursor) -> Step
     requires { Fits t.now o.head }
     ensures { result ≡ offsets_step t.now o c }
 {
-    let h = o.head;
-    let e = o.end;
-    let outside = outside_in(t, h);
-    to_step(c, offsets_note(outside), map_next(e))
+    let outside = outside_in(t, o.head);
+    let note = ResAnomaly::StringOffsetsOutOfBounds(outside);
+    to_step(c, note_if(outside != 0, note), map_next(o.end))
 }
 
 pub fn refuse_step(o: Opened, c: Cursor) -> Step
     ensures { result ≡ to_step c (Refuse (refusal_of o.end)) Over }
 {
-    let e = o.end;
-    let refusal = refusal_of(e);
-    to_step(c, Event::Refuse(refusal), Phase::Over)
+    to_step(c, Event::Refuse(refusal_of(o.end)), Phase::Over)
 }
 
 // ---- a start's numbers
-
-fn gap_note(start: u16) -> Event
-    ensures { result ≡ note_if (ltb 20 start) (Note (AttributeStartShifted start)) }
-{
-    if 20 < start {
-        return Event::Note(ResAnomaly::AttributeStartShifted(start as u32));
-    }
-    Event::Nothing
-}
 
 fn gap_next(reach: u32) -> Phase
     ensures { result ≡ cond (eqb reach 0) AtShort AtSize }
 {
     if reach == 0 {
-        return Phase::AtShort;
+        Phase::AtShort
+    } else {
+        Phase::AtSize
     }
-    Phase::AtSize
 }
 
 pub fn gap_step(c: Cursor) -> Step
     ensures { result ≡ gap_step c }
 {
-    let s = c.start;
-    to_step(c, gap_note(s.attribute_start), gap_next(c.reach))
-}
-
-fn size_note(count: u16, size: u16) -> Event
-    ensures { result ≡ note_if (not (eqb count 0) && ltb 20 size) (Note (AttributeSizeMismatch size)) }
-{
-    if count == 0 {
-        return Event::Nothing;
-    }
-    if 20 < size {
-        return Event::Note(ResAnomaly::AttributeSizeMismatch(size as u32));
-    }
-    Event::Nothing
+    let start = c.start.attribute_start;
+    let note = ResAnomaly::AttributeStartShifted(u32::from(start));
+    to_step(c, note_if(20 < start, note), gap_next(c.reach))
 }
 
 fn size_next(reach: u32) -> Phase
     ensures { result ≡ cond (ltb reach 2) AtShort AtTrailing }
 {
     if reach < 2 {
-        return Phase::AtShort;
+        Phase::AtShort
+    } else {
+        Phase::AtTrailing
     }
-    Phase::AtTrailing
 }
 
 pub fn size_step(c: Cursor) -> Step
     ensures { result ≡ size_step c }
 {
-    let s = c.start;
-    to_step(
-        c,
-        size_note(s.attribute_count, s.attribute_size),
-        size_next(c.reach),
-    )
-}
-
-fn trailing_note(trailing: u32) -> Event
-    ensures { result ≡ note_if (not (eqb trailing 0)) (Note (ElementTrailingBytes trailing)) }
-{
-    if trailing == 0 {
-        return Event::Nothing;
-    }
-    Event::Note(ResAnomaly::ElementTrailingBytes(trailing))
+    let size = c.start.attribute_size;
+    let note = ResAnomaly::AttributeSizeMismatch(u32::from(size));
+    let test = (c.start.attribute_count != 0) & (20 < size);
+    to_step(c, note_if(test, note), size_next(c.reach))
 }
 
 fn trailing_next(reach: u32) -> Phase
     ensures { result ≡ cond (eqb reach 3) AtName AtShort }
 {
     if reach == 3 {
-        return Phase::AtName;
+        Phase::AtName
+    } else {
+        Phase::AtShort
     }
-    Phase::AtShort
 }
 
 pub fn trailing_step(c: Cursor) -> Step
     ensures { result ≡ trailing_step c }
 {
-    let s = c.start;
-    to_step(c, trailing_note(trailing_of(s)), trailing_next(c.reach))
+    let trailing = trailing_of(c.start);
+    let note = ResAnomaly::ElementTrailingBytes(trailing);
+    to_step(c, note_if(trailing != 0, note), trailing_next(c.reach))
 }
 
 pub fn short_step(c: Cursor) -> Step
@@ -199,32 +149,19 @@ pub fn short_step(c: Cursor) -> Step
 
 // ---- behind the walk
 
-fn last_note(depth: u32) -> Event
-    ensures { result ≡ note_if (not (eqb depth 0)) (Note (UnclosedElements depth)) }
-{
-    if depth == 0 {
-        return Event::Nothing;
-    }
-    Event::Note(ResAnomaly::UnclosedElements(depth))
-}
-
 pub fn last_step(c: Cursor) -> Step
     ensures { result ≡ last_step c }
 {
-    to_step(c, last_note(c.depth), Phase::AtRoot)
-}
-
-fn root_note(starts: u32) -> Event
-    ensures { result ≡ note_if (eqb starts 0) (Refuse MissingRoot) }
-{
-    if starts == 0 {
-        return Event::Refuse(Refusal::MissingRoot);
-    }
-    Event::Nothing
+    let note = ResAnomaly::UnclosedElements(c.depth);
+    to_step(c, note_if(c.depth != 0, note), Phase::AtRoot)
 }
 
 pub fn root_step(c: Cursor) -> Step
     ensures { result ≡ root_step c }
 {
-    to_step(c, root_note(c.starts), Phase::Over)
+    if c.starts == 0 {
+        to_step(c, Event::Refuse(Refusal::MissingRoot), Phase::Over)
+    } else {
+        quiet_step(c, Phase::Over)
+    }
 }

@@ -116,8 +116,7 @@ fn cut_step(n: usize, c: Cursor, x: CutChunk) -> Step
     ensures { result ≡ cut_step n c x }
 {
     match x {
-        CutChunk::CutLine => quiet_step(c, Phase::AtShort),
-        CutChunk::CutHead => quiet_step(c, Phase::AtShort),
+        CutChunk::CutLine | CutChunk::CutHead => quiet_step(c, Phase::AtShort),
         CutChunk::CutGap(s) => begin_step(c, s, 0),
         CutChunk::CutAttributes(s) => begin_step(c, s, 1),
         CutChunk::CutTrailing(s) => begin_step(c, s, 2),
@@ -132,9 +131,10 @@ fn number_note(sort: u32, number: u32) -> ResAnomaly
     ensures { result ≡ foreign_note sort number }
 {
     if sort == 0 {
-        return ResAnomaly::NonXmlChunk(number);
+        ResAnomaly::NonXmlChunk(number)
+    } else {
+        ResAnomaly::XmlNodeHeaderSize(number)
     }
-    ResAnomaly::XmlNodeHeaderSize(number)
 }
 
 // One note for each stretch of one sort.
@@ -142,9 +142,10 @@ fn foreign_note(run: u32, sort: u32, number: u32) -> Event
     ensures { result ≡ cond (eqb sort run) Nothing (Note (foreign_note sort number)) }
 {
     if sort == run {
-        return Event::Nothing;
+        Event::Nothing
+    } else {
+        Event::Note(number_note(sort, number))
     }
-    Event::Note(number_note(sort, number))
 }
 
 fn foreign_step(b: &[u8], c: Cursor, sort: u32, number: u32, n: usize) -> Step
@@ -164,14 +165,10 @@ pub fn turn_step(b: &[u8], c: Cursor) -> Step
     requires { (c.at ≤ length b.now) × (length b.now ≤ file_limit) }
     ensures { result ≡ turn_step b.now c (turn_of (drop c.at b.now)) }
 {
-    let at = c.at;
-    let n = b.len();
-    let l = &b[at..];
-    let turn = look(l);
-    match turn {
+    match look(&b[c.at..]) {
         Turn::Stop => quiet_step(c, Phase::AtLast),
         Turn::Foreign(sort, number, used) => foreign_step(b, c, sort, number, used),
         Turn::Met(x) => chunk_step(c, x),
-        Turn::Cut(x) => cut_step(n, c, x),
+        Turn::Cut(x) => cut_step(b.len(), c, x),
     }
 }

@@ -1,7 +1,7 @@
 -- Laws of specs/Le.antt, for every reader above. No contract cites this file.
 -- In order: what stands in the rest of a list stands in the list (`-drop`); what stands in the front of a list stands there
 -- whatever follows (`-append`).
-use Prim.Native.Nat.{ℕ, ◌+◌, ◌≤◌, ◌<◌}
+use Prim.Native.Nat.{ℕ, ◌+◌, ◌≤◌}
 use native.Mathlib.Omega.{arith}
 use native.Mathlib.Nat.{add_assoc}
 use mathlib.Core.Path.{◌≡◌}

@@ -4,6 +4,7 @@
 -- (`first-open`, `first-closed`),
 -- and two answers that its promise allows are equal (`first-unique`).
 use Rattle.std.specs.Prelude.{Option, Some, None, Result, Ok, Err}
+use Rattle.std.proofs.lemmas.Option.{some_pair_parts}
 use Prim.Native.Nat.{ℕ, zero, suc, ◌+◌, ◌-◌, ◌*◌, ◌≤◌, ◌<◌}
 use native.Mathlib.Omega.{arith}
 use mathlib.Core.Path.{◌≡◌, refl, sym, ◌∙◌, ap}
@@ -141,8 +142,9 @@ run_inside h t lent tag attributes k (suc n) w {first} {number} f e =
         → first + number ≤ attributes
     go true p f' c e' ind = let z : ◌≡◌ {A = ℕ} 0 1 = cc in absurd (let y : ⊥ = omega arith in y)
     go false p f' true e' ind =
-        let a : get_or w node_first 0 ≡ first = cc in
-        let b : get_or w node_count 0 ≡ number = cc in
+        let parts = some_pair_parts (get_or w node_first 0) first (get_or w node_count 0) number e' in
+        let a = parts.0 in
+        let b = parts.1 in
         let q = ltb-false attributes (get_or w node_first 0 + get_or w node_count 0) p in
         omega arith
     go false p f' false e' ind = ind f' e'

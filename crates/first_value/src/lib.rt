@@ -1,6 +1,6 @@
 // The first value of a tag and a name: a question to tables that a reading, or anyone, has filled.
 //
-// Mirrors axml.rs (apk-info 13770539b8), `get_attribute_value`, without resolving references. Answers: `FirstAnswer`.
+// Mirrors axml.rs (apk-info 13770539b8), `get_attribute_value`, without resolving references. Answers: a `FirstValue`, or a refusal.
 // Definitions: specs/Question.antt. Differs from the Rust: the tree is two lent tables, which may hold any words, so they are looked at
 // before they are searched; head and names are checked again at each call.
 #![tactic(auto)]
@@ -45,8 +45,7 @@ pub fn find_node(
     ensures { result ≡ find_node h t.now (lends names.now area.now) tag.now count nodes.now }
 {
     let mut others = [0u64; OTHERS];
-    let mut k = 0;
-    while k < count {
+    for k in 0..count {
         let at = node_place(k);
         if is_tagged_once(
             t,
@@ -60,7 +59,6 @@ pub fn find_node(
         ) {
             return Some((nodes[at + NODE_FIRST], nodes[at + NODE_COUNT]));
         }
-        k += 1;
     }
     None
 }
@@ -89,8 +87,7 @@ fn find_value(
     requires { Asks t.now (lends names.now area.now) h × (attribute_width * count ≤ length attributes.now) }
     ensures { result ≡ find_value h t.now (lends names.now area.now) name.now count attributes.now }
 {
-    let mut k = 0;
-    while k < count {
+    for k in 0..count {
         let at = attribute_place(k);
         if is_named(
             t,
@@ -106,7 +103,6 @@ fn find_value(
                 attributes[at + ATTRIBUTE_DATA],
             );
         }
-        k += 1;
     }
     Err(Refusal::NothingFound)
 }
@@ -124,18 +120,18 @@ pub fn value_of(
     requires { Asks t.now (lends names.now area.now) h × RunFits attributes.now node }
     ensures { result ≡ value_by h t.now (lends names.now area.now) name.now attributes.now node }
 {
-    match node {
-        Some((first, number)) => find_value(
-            t,
-            names,
-            area,
-            h,
-            name,
-            &attributes[attribute_place(first)..],
-            number,
-        ),
-        None => Err(Refusal::NothingFound),
-    }
+    let Some((first, number)) = node else {
+        return Err(Refusal::NothingFound);
+    };
+    find_value(
+        t,
+        names,
+        area,
+        h,
+        name,
+        &attributes[attribute_place(first)..],
+        number,
+    )
 }
 
 // In tables that fit, a node's attributes lie inside.
@@ -165,10 +161,7 @@ fn value_in(
 pub fn fitted(h: Head, fit: Result<(), u32>) -> Result<Head, Refusal>
     ensures { result ≡ fitted_by h fit }
 {
-    match fit {
-        Ok(()) => Ok(h),
-        Err(k) => Err(Refusal::TablesError(k)),
-    }
+    fit.map(|()| h).map_err(|k| Refusal::TablesError(k))
 }
 
 // The head of a file whose lent tables fit their counts, or the first refusal: the names and the head first, then the tables.
@@ -185,11 +178,8 @@ pub fn open_tables(
     ensures { result ≡ shared_of file.now (lends names.now area.now) nodes.now attributes.now
         node_count attribute_count }
 {
-    let opened = open_file(file, names, area);
-    match opened {
-        Ok(h) => fitted(h, fit_of(nodes, attributes, node_count, attribute_count)),
-        Err(why) => Err(why),
-    }
+    let h = open_file(file, names, area)?;
+    fitted(h, fit_of(nodes, attributes, node_count, attribute_count))
 }
 
 // ---- the question
@@ -212,7 +202,7 @@ pub fn first_value(
     ensures { FirstReads file.now (lends names.now area.now) nodes.now attributes.now
         tag.now name.now node_count attribute_count result }
 {
-    let opened = open_tables(
+    let h = open_tables(
         file,
         names,
         area,
@@ -220,20 +210,17 @@ pub fn first_value(
         attributes,
         node_count,
         attribute_count,
-    );
-    match opened {
-        Ok(h) => value_in(
-            tables_of(file, h),
-            names,
-            area,
-            h,
-            nodes,
-            attributes,
-            tag,
-            name,
-            node_count,
-            attribute_count,
-        ),
-        Err(why) => Err(why),
-    }
+    )?;
+    value_in(
+        tables_of(file, h),
+        names,
+        area,
+        h,
+        nodes,
+        attributes,
+        tag,
+        name,
+        node_count,
+        attribute_count,
+    )
 }

@@ -1,6 +1,7 @@
 // Whether lent tables fit the counts that come with them: before a record is read, it is there.
 //
-// Mirrors nothing of the Rust's, whose tree is its own. Answers: `Fit`. Definitions: specs/Question.antt, docs/FORMAT.md, Q6.
+// Mirrors nothing of the Rust's, whose tree is its own. Answers: nothing, or the number of the first node that does not fit.
+// Definitions: specs/Question.antt, docs/FORMAT.md, Q6.
 ghost use Rattle.std.specs.Prelude.{◌≡◌, ◌+◌, ◌*◌, ◌≤◌, ltb, length};
 ghost use Rattle.records.specs.Words.{node_width};
 ghost use Rattle.first_value.specs.Question.{runs_from, fit_of};
@@ -19,8 +20,7 @@ fn runs_fit(nodes: &[u32], node_count: u32, attribute_count: u32) -> Result<(), 
     requires { node_width * node_count ≤ length nodes.now }
     ensures { result ≡ runs_from attribute_count 0 node_count nodes.now }
 {
-    let mut k = 0;
-    while k < node_count {
+    for k in 0..node_count {
         let at = node_place(k);
         if passes(
             attribute_count,
@@ -29,13 +29,13 @@ fn runs_fit(nodes: &[u32], node_count: u32, attribute_count: u32) -> Result<(), 
         ) {
             return Err(k);
         }
-        k += 1;
     }
     Ok(())
 }
 
 // The counts first, by the words of both tables, and then each node.
 // Ruled out: the first bad node where a count is past the words, and a fit where a node without attributes begins past the count.
+#[tactic(auto, unfolding(crate::specs::Question::fit_of))]
 pub fn fit_of(
     nodes: &[u32],
     attributes: &[u32],

@@ -194,17 +194,17 @@ answers_from-same f g e area (suc n) w = rw (e (tag_in area w) (name_in area w),
 -- ---- the node of a pair
 
 -- nothing is known before the first
-pub node-none : (find : List ℕ → Option (ℕ × ℕ)) (pairs area : List ℕ) (node : Option (ℕ × ℕ)) → NodeOf find pairs area 0 node
-node-none find pairs area node = record { known = λ j e. absurd (let z : ⊥ = omega (arith, e) in z) }
+pub node-none : (find : List ℕ → Option (ℕ × ℕ)) (pairs area : List ℕ) (run : Option (ℕ × ℕ)) → NodeOf find pairs area 0 run
+node-none find pairs area run = record { known = λ j e. absurd (let z : ⊥ = omega (arith, e) in z) }
 
-pub node-next : (find : List ℕ → Option (ℕ × ℕ)) (pairs area : List ℕ) (k : ℕ) (node : Option (ℕ × ℕ)) → node ≡ find (tag_at pairs area k)
-    → NodeOf find pairs area (k + 1) node
-node-next find pairs area k node e =
+pub node-next : (find : List ℕ → Option (ℕ × ℕ)) (pairs area : List ℕ) (k : ℕ) (run : Option (ℕ × ℕ)) → run ≡ find (tag_at pairs area k)
+    → NodeOf find pairs area (k + 1) run
+node-next find pairs area k run e =
     record { known = λ j q. e ∙ ap (λ (x : ℕ). find (tag_at pairs area x)) (let z : k ≡ j = omega (arith, q) in z) }
 
-pub node-repeats : (find : List ℕ → Option (ℕ × ℕ)) (pairs area : List ℕ) (k : ℕ) (node : Option (ℕ × ℕ)) → NodeOf find pairs area k node
-    → Repeats pairs area k → node ≡ find (tag_at pairs area k)
-node-repeats find pairs area k node o r = o.known r.before r.next ∙ ap find (sym r.same)
+pub node-repeats : (find : List ℕ → Option (ℕ × ℕ)) (pairs area : List ℕ) (k : ℕ) (run : Option (ℕ × ℕ)) → NodeOf find pairs area k run
+    → Repeats pairs area k → run ≡ find (tag_at pairs area k)
+node-repeats find pairs area k run o r = o.known r.before r.next ∙ ap find (sym r.same)
 
 -- ---- what is left behind
 

@@ -1,8 +1,8 @@
 // Many pairs of tag and name, asked of one file and its tables at once: the names are checked, the head is opened and the tables are looked at
 // once, whatever the number of pairs.
 //
-// Mirrors axml.rs (apk-info 13770539b8), `get_attribute_value`, called once for each pair. Answers: `ManyAnswer`, and a lent list of words.
-// Definitions: specs/Pairs.antt, over those of the single question (crate first_value), which answers each pair.
+// Mirrors axml.rs (apk-info 13770539b8), `get_attribute_value`, called once for each pair. Answers: how many, or a refusal, and a lent list
+// of words. Definitions: specs/Pairs.antt, over those of the single question (crate first_value), which answers each pair.
 #![tactic(auto)]
 
 pub mod pairs;
@@ -94,9 +94,8 @@ fn answer_each(
         ≡ answers_from (asks_in h t.now (lends names.now area.now) nodes.now node_count attributes.now)
         pair_area.now n pairs.now ++ drop (answer_width * n) answers.old }
 {
-    let mut k: usize = 0;
     let mut node = None;
-    while k < n {
+    for k in 0..n {
         node = node_for(
             t, names, area, h, nodes, pairs, pair_area, node_count, k, node,
         );
@@ -110,7 +109,6 @@ fn answer_each(
             node,
         );
         put_answer(answers, k, first_numbers(value));
-        k += 1;
     }
 }
 

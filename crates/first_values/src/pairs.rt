@@ -1,6 +1,7 @@
 // The lent pairs: whether all lie in their area, and the tag and the name of each.
 //
-// Mirrors nothing of the Rust's, which is asked pair by pair. Answers: `PairsRead`. Definitions: specs/Pairs.antt, docs/FORMAT.md, M1 and M3.
+// Mirrors nothing of the Rust's, which is asked pair by pair. Answers: how many, or the first that is amiss.
+// Definitions: specs/Pairs.antt, docs/FORMAT.md, M1 and M3.
 ghost use Rattle.std.specs.Prelude.{◌≡◌, true, ◌+◌, ◌*◌, ◌≤◌, length, drop};
 ghost use Rattle.records.specs.Words.{pair_width};
 ghost use Rattle.first_values.specs.Pairs.{is_inside, pair_inside, tag_at, name_at, pairs_of};
@@ -35,12 +36,10 @@ pub fn read_pairs(pairs: &[u32], area: &[u8]) -> Result<usize, usize>
     ensures { result ≡ pairs_of pairs.now area.now }
 {
     let n = pairs.len() / PAIR_WORDS;
-    let mut k: usize = 0;
-    while k < n {
+    for k in 0..n {
         if !is_pair_inside(pairs, area, k) {
             return Err(k);
         }
-        k += 1;
     }
     if pairs.len() % PAIR_WORDS != 0 {
         return Err(n);

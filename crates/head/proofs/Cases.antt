@@ -112,15 +112,12 @@ module _ (f : List ℕ) (h : Head) where
   pub body_in-small : length f < 8 → [] ≡ body_in f h
   body_in-small p = rw (drop_of_length-le f {i = 8 + head_len h} (omega arith))
 
-  pub tables_in-by : (n : ℕ) → n ≡ min (head_len h) (length f - 8) → take (8 + n - 8) (drop 8 f) ≡ tables_in f h
-  tables_in-by n e =
-      let k : 8 + n - 8 ≡ min (head_len h) (length (drop 8 f)) = rw length-drop (omega arith) in
-      rw k (take_min (head_len h) (drop 8 f))
+  -- t is what is behind the file's header
+  pub tables_in-by : {t : List ℕ} (n : ℕ) → t ≡ drop 8 f → n ≡ min (head_len h) (length t) → take n t ≡ tables_in f h
+  tables_in-by n q e = rw (e, q) (take_min (head_len h) (drop 8 f))
 
-  pub body_in-by : (n : ℕ) → n ≡ min (head_len h) (length f - 8) → take (length f - (8 + n)) (drop (8 + n) f) ≡ body_in f h
-  body_in-by n e =
-      let k : n ≡ min (head_len h) (length (drop 8 f)) = rw length-drop e in
-      rest_all (8 + n) f ∙ sym (drop-drop n 8 f) ∙ ap (λ (j : ℕ). drop j (drop 8 f)) k ∙ drop_min (head_len h) (drop 8 f) ∙ drop-drop (head_len h) 8 f
+  pub body_in-by : {t : List ℕ} (n : ℕ) → t ≡ drop 8 f → n ≡ min (head_len h) (length t) → drop n t ≡ body_in f h
+  body_in-by n q e = rw (e, q) (drop_min (head_len h) (drop 8 f) ∙ drop-drop (head_len h) 8 f)
 
 -- ---- the offsets
 

@@ -108,13 +108,13 @@ module _ (f : List ℕ) (lent : Lent) (t : Terms) where
       → Err (SystemNamesError k) ≡ entered_of f lent t
   entered-names h z {k} e = entered_by_lem (fails (SystemNamesError k)) (rw (length_check-short f h, z, e))
 
-  pub entered-good : length f ≤ file_limit → keeps_none t.asker ≡ false → names_of lent ≡ (Ok tt) → items_check t.items ≡ passes
-      → cond (is_mode (mode_of t.asker)) (Ok (opened_of f)) (Err (ModeError (mode_of t.asker))) ≡ entered_of f lent t
-  entered-good h z e i = go (is_mode (mode_of t.asker)) refl
-    where
-      go : (b : Bool) → is_mode (mode_of t.asker) ≡ b → cond b (Ok (opened_of f)) (Err (ModeError (mode_of t.asker))) ≡ entered_of f lent t
-      go true m = entered_by_lem passes (passes-all h (rw z) e (rw m) i)
-      go false m = entered_by_lem (fails (ModeError (mode_of t.asker))) (rw (length_check-short f h, z, e, m))
+  pub entered-mode : length f ≤ file_limit → keeps_none t.asker ≡ false → names_of lent ≡ (Ok tt) → is_mode (mode_of t.asker) ≡ false
+      → Err (ModeError (mode_of t.asker)) ≡ entered_of f lent t
+  entered-mode h z e m = entered_by_lem (fails (ModeError (mode_of t.asker))) (rw (length_check-short f h, z, e, m))
+
+  pub entered-good : length f ≤ file_limit → keeps_none t.asker ≡ false → names_of lent ≡ (Ok tt) → is_mode (mode_of t.asker) ≡ true
+      → items_check t.items ≡ passes → Ok (opened_of f) ≡ entered_of f lent t
+  entered-good h z e m i = entered_by_lem passes (passes-all h (rw z) e (rw m) i)
 
   pub entered-in : {o : Opened} → entered_of f lent t ≡ Ok o → (first_of (entry_checks f lent t) ≡ passes) × (o ≡ opened_of f)
   unfolding entered_of

@@ -128,12 +128,11 @@ module _ (text before after out : List ℕ) (n : ℕ) (w : Wrote text before out
   pub gives-short
       : (state : TextState)
       → length out < n
-      → after ≡ replicate (length out - 0) 0
+      → after ≡ replicate (length out) 0
       → Gives (length before) text (fitted (length before) text state) (Err (TextShort n)) after
   gives-short state p z =
-      let m : length out - 0 ≡ length before = omega (arith, as_long) in
       let q : leb (length text) (length before) ≡ false = lt-leb (length text) (length before) (omega (arith, as_long, w.count)) in
-      rw (q, w.count) (record { same = refl; out = z ∙ ap (λ (k : ℕ). replicate k 0) m })
+      rw (q, w.count) (record { same = refl; out = z ∙ ap (λ (k : ℕ). replicate k 0) as_long })
 
   pub gives-text
       : (state : TextState) {told : TextState}

@@ -32,6 +32,7 @@ use Rattle.head.specs.declared.HeadEnd.TheVariants.{Whole, TooSmall, HeaderSize,
 use Rattle.head.specs.declared.PoolPart.TheVariants.{Skipped, Header, Offsets, Styles, Data}
 use Rattle.head.specs.declared.MapPart.TheVariants.{MapHeader, MapIds}
 use Rattle.head.proofs.Cases.{opened_of-small, opened_of-size, opened_of-tables}
+use Rattle.resource_map.specs.declared.MapShort.{MapShort as MapMissing}
 use Rattle.resource_map.specs.declared.MapShort.TheVariants as map_short
 
 append-nil : (l : List ℕ) → l ++ [] ≡ l
@@ -105,7 +106,7 @@ pool-cut t short =
 -- ---- the map
 
 mapped_by-none
-    : (c t : List ℕ) (g : Garbage) (p : Pool) (r : Result ℕ MapShort)
+    : (c t : List ℕ) (g : Garbage) (p : Pool) (r : Result ℕ MapMissing)
     → MapIsShort r
     → 8 + length c - 0 ≡ 8 + length t - map_left r
     → mapped_by c g p (map_none r) ≡ mapped_by t g p r
@@ -114,13 +115,13 @@ mapped_by-none c t g p (Err (map_short.Header k)) s q = ap (λ (v : ℕ). cut_ma
 mapped_by-none c t g p (Err (map_short.Ids k)) s q = ap (λ (v : ℕ). cut_map g p (p.strings + p.size) (MapIds v)) q
 
 -- a short map leaves the pool to read from
-mapped_by-bare : (t : List ℕ) (g : Garbage) (p : Pool) (r : Result ℕ MapShort) → MapIsShort r → head_len (mapped_by t g p r).head ≡ p.strings + p.size
+mapped_by-bare : (t : List ℕ) (g : Garbage) (p : Pool) (r : Result ℕ MapMissing) → MapIsShort r → head_len (mapped_by t g p r).head ≡ p.strings + p.size
 mapped_by-bare t g p (Ok n) s = absurd s
 mapped_by-bare t g p (Err (map_short.Header k)) s = omega arith
 mapped_by-bare t g p (Err (map_short.Ids k)) s = omega arith
 
 -- the map behind a pool that is complete
-abbrev map_in : List ℕ → Result ℕ MapShort
+abbrev map_in : List ℕ → Result ℕ MapMissing
 map_in t = map_of (drop ((pool_of t).pool.strings + (pool_of t).pool.size) t)
 
 tables-map
@@ -178,7 +179,7 @@ value-by t v r e c = rw e c
 
 mapped-short
     : (t : List ℕ) (r : Refusal) (all : (pool_of t).end ≡ Complete)
-    → (x : Result ℕ MapShort) → map_in t ≡ x
+    → (x : Result ℕ MapMissing) → map_in t ≡ x
     → ShortBy (mapped_by t (pool_of t).garbage (pool_of t).pool x).end r
     → TablesCut t (refusal_value r)
 unfolding refusal_value

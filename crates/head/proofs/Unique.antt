@@ -37,7 +37,10 @@ fitted_short : (n : ℕ) (text : List ℕ) (state : TextState) (why : Refusal) �
 unfolding refusal_number
 fitted_short n text state why e = go (leb (length text) n) e
   where
-    go : (b : Bool) → cond b (Ok (record { length = (length text); state = state })) (Err (TextShort (length text))) ≡ Err why → refusal_number why ≡ 11
+    go :
+        (b : Bool) →
+        cond {A = Result TextWritten Refusal} b (Ok (record { length = length text; state = state })) (Err (TextShort (length text))) ≡ Err why →
+        refusal_number why ≡ 11
     go true q = let z : ◌≡◌ {A = ℕ} 0 1 = cc in absurd (let y : ⊥ = omega arith in y)
     go false q = let w : why ≡ TextShort (length text) = cc in rw w
 

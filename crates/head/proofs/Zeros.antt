@@ -1,20 +1,13 @@
 -- Zeros in a lent buffer, and the text before them. No contract cites this file.
--- In order: one more zero and all of them (`fill-next`, `fill_end`), from a place on (`zero-tail`), behind a text (`zero-behind`).
-use Prim.Native.Nat.{ℕ, ◌+◌, ◌-◌, ◌≤◌, ◌<◌}
+-- In order: from a place on (`zero-tail`), behind a text (`zero-behind`).
+use Prim.Native.Nat.{ℕ, ◌+◌, ◌-◌, ◌≤◌}
 use native.Mathlib.Omega.{arith}
 use native.Mathlib.Nat.{le_of_eq}
 use mathlib.Core.Path.{◌≡◌, ap, sym, ◌∙◌}
 use mathlib.Core.List.{List, ◌++◌, append-nil}
-use borrow.Author.Fill.{fill_more}
 use borrow.Rule.Slice.PartMut.{put_mid, mid_of}
-use lib.ListN.{length, take, drop, set, replicate, length-append, length-drop, drop_of_length-le}
-use lib.Seq.{drop-length, take_all, take_at}
-
-pub fill-next : (l d : List ℕ) (i : ℕ) → i < length d → l ≡ replicate i 0 ++ drop i d → set l i 0 ≡ replicate (i + 1) 0 ++ drop (i + 1) d
-fill-next l d i h e = rw e (fill_more i 0 d h)
-
-pub fill_end : (l d : List ℕ) (i : ℕ) → i ≡ length d → l ≡ replicate i 0 ++ drop i d → l ≡ replicate (length d) 0
-fill_end l d i h e = e ∙ rw (h, drop-length, append-nil)
+use lib.ListN.{length, take, drop, replicate, length-append, length-drop, drop_of_length-le}
+use lib.Seq.{take_all, take_at}
 
 pub zero-tail
     : (l ys : List ℕ) (f : ℕ)

@@ -30,6 +30,7 @@ use Rattle.head.specs.declared.PoolPart.TheVariants.{Skipped, Header, Offsets, S
 use Rattle.head.specs.declared.MapPart.{MapPart}
 use Rattle.head.specs.declared.MapPart.TheVariants.{MapHeader, MapIds}
 use Rattle.head.specs.declared.Opened.{Opened}
+use Rattle.resource_map.specs.declared.MapShort.{MapShort as MapMissing}
 use Rattle.resource_map.specs.declared.MapShort.TheVariants as map_short
 
 -- ---- what the head says
@@ -60,7 +61,7 @@ abbrev pub begins_at : List ℕ → ℕ → ℕ
 begins_at t left = 8 + length t - left
 
 -- behind a whole pool the map
-abbrev pub mapped_by : List ℕ → Garbage → Pool → Result ℕ MapShort → Opened
+abbrev pub mapped_by : List ℕ → Garbage → Pool → Result ℕ MapMissing → Opened
 mapped_by t g p (Ok n) = whole_head g p (p.strings + p.size + 8) n
 mapped_by t g p (Err (map_short.Header left)) = cut_map g p (p.strings + p.size) (MapHeader (begins_at t left))
 mapped_by t g p (Err (map_short.Ids left)) = cut_map g p (p.strings + p.size) (MapIds (begins_at t left))

@@ -1,8 +1,8 @@
 // The text question and the content question: head and lent names are checked again at each call.
 //
 // Mirrors structs/res_string_pool.rs (apk-info 13770539b8), `get_with_resources`, for a caller who holds the file alone.
-// Answers: `TextAnswer`, the length and the state of the text or a refusal. Definitions: specs/Ask.antt.
-ghost use Rattle.std.specs.Prelude.{◌≡◌, ◌++◌, List, ◌-◌, ◌≤◌, length, take, replicate, Err};
+// Answers: the length and the state of the text (`TextWritten`) or a refusal. Definitions: specs/Ask.antt.
+ghost use Rattle.std.specs.Prelude.{◌≡◌, List, ◌≤◌, length, replicate, Err};
 ghost use Rattle.records.specs.Limits.{file_limit};
 ghost use Rattle.system_types.specs.Names.{lends};
 ghost use Rattle.text.specs.Content.{content_of, raw_of, text_in, damage_in};
@@ -21,12 +21,11 @@ use text::{
 fn head_read(opened: Opened) -> Result<Head, Refusal>
     ensures { result ≡ head_read opened }
 {
-    let end = opened.end;
-    let head = opened.head;
-    if is_whole(end) {
-        return Ok(head);
+    if is_whole(opened.end) {
+        Ok(opened.head)
+    } else {
+        Err(refusal_of(opened.end))
     }
-    Err(refusal_of(end))
 }
 
 // The head of a file, or the first refusal: what every entry point checks, then the head.
@@ -34,36 +33,21 @@ fn head_read(opened: Opened) -> Result<Head, Refusal>
 pub fn open_file(file: &[u8], names: &[u32], area: &[u8]) -> Result<Head, Refusal>
     ensures { result ≡ open_of file.now (lends names.now area.now) }
 {
-    let entered = enter(file, names, area, Asker::Question);
-    match entered {
-        Ok(opened) => head_read(opened),
-        Err(why) => Err(why),
-    }
+    head_read(enter(file, names, area, Asker::Question)?)
 }
 
 // ---- the text question
 
-fn zero_all(out: &mut [u8])
+fn zero(out: &mut [u8])
     ensures { out.new ≡ replicate (length out.old) 0 }
 {
-    let mut i = 0;
-    while i < out.len() {
-        out[i] = 0;
-        i += 1;
-    }
-}
-
-fn zero_from(out: &mut [u8], from: usize)
-    requires { from ≤ length out.old }
-    ensures { out.new ≡ take from out.old ++ replicate (length out.old - from) 0 }
-{
-    zero_all(&mut out[from..]);
+    out.fill(0);
 }
 
 fn refuse(out: &mut [u8], why: Refusal) -> Result<TextWritten, Refusal>
     ensures { (text : List _) → Gives (length out.old) text (Err why) result out.new }
 {
-    zero_all(out);
+    zero(out);
     Err(why)
 }
 
@@ -101,10 +85,10 @@ fn write_found(
 {
     let n = found_into(t, area, utf16, f, out);
     if out.len() < n {
-        zero_from(out, 0);
+        zero(out);
         return Err(Refusal::TextShort(n));
     }
-    zero_from(out, n);
+    zero(&mut out[n..]);
     let state = found_told(t, area, utf16, f);
     Ok(TextWritten { length: n, state })
 }
@@ -140,8 +124,7 @@ pub fn text(
 ) -> Result<TextWritten, Refusal>
     ensures { TextReads file.now (lends names.now area.now) out.old index.0 result out.new }
 {
-    let opened = open_file(file, names, area);
-    match opened {
+    match open_file(file, names, area) {
         Ok(h) => text_in(tables_of(file, h), names, area, h, out, index),
         Err(why) => refuse(out, why),
     }
@@ -170,9 +153,8 @@ fn content_in<'a>(
 pub fn content<'a>(file: &'a [u8], names: &[u32], area: &'a [u8], index: StringIndex) -> &'a [u8]
     ensures { result.now ≡ content_answer file.now (lends names.now area.now) index.0 }
 {
-    let opened = open_file(file, names, area);
-    match opened {
-        Ok(h) => content_in(tables_of(file, h), names, area, h, index),
-        Err(_) => &file[0..0],
-    }
+    let Ok(h) = open_file(file, names, area) else {
+        return &[];
+    };
+    content_in(tables_of(file, h), names, area, h, index)
 }

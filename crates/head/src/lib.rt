@@ -1,13 +1,13 @@
 // The head of an AXML file, and the two questions that need nothing more: the text and the content of a string index.
 //
-// Mirrors axml.rs (apk-info 13770539b8), `AXML::new` up to the tree. Answers: `Opened`, what the head says and what is amiss with it;
-// `Entered`, that or the first check that fails; `OpenRead`, the head or the first refusal. Definitions: specs/Head.antt,
+// Mirrors axml.rs (apk-info 13770539b8), `AXML::new` up to the tree. Answers: `Opened`, what the head says and what is amiss with it
+// (`enter`, or the first check that fails); the head or the first refusal (`open_file`). Definitions: specs/Head.antt,
 // specs/Entry.antt, specs/Ask.antt.
 #![tactic(auto)]
 
 pub mod ask;
 
-ghost use Rattle.std.specs.Prelude.{◌≡◌, cond, ◌+◌, ◌-◌, ◌*◌, ◌≤◌, min, length, drop, Ok, Err};
+ghost use Rattle.std.specs.Prelude.{◌≡◌, ◌+◌, ◌-◌, ◌*◌, ◌≤◌, min, length, drop};
 ghost use Rattle.records.specs.Limits.{file_limit};
 ghost use Rattle.system_types.specs.Names.{lends};
 ghost use Rattle.resource_map.specs.Map.{map_of};
@@ -16,13 +16,12 @@ ghost use Rattle.head.specs.Head.{head_by, unopened, whole_head, cut_pool, cut_m
 ghost use Rattle.head.specs.Head.{head_len, tables_in, body_in, head_is_whole, pool_refusal, map_refusal, refusal_of, outside_in};
 ghost use Rattle.head.specs.Entry.{keeps_none, mode_of, is_mode};
 ghost use Rattle.head.specs.Inner.Entered.{terms_of, entered_of};
-ghost use Rattle.errors.specs.declared.Refusal.TheVariants.{ModeError};
 
 pub use ask::{content, found_told, open_file, text};
 use errors::Refusal;
 use field::u16_at;
 use records::{APART, FILE_LIMIT, MERGED};
-use res_string_pool::{Garbage, Pool, PoolEnd, outside_of, pool_of};
+use res_string_pool::{Garbage, Pool, PoolEnd, PoolRead, outside_of, pool_of};
 use resource_map::{MapShort, map_of};
 use system_types::check_names;
 use text::Head;
@@ -152,10 +151,7 @@ fn begins_at(n: usize, left: usize) -> usize
     requires { n ≤ file_limit }
     ensures { result ≡ 8 + n - left }
 {
-    if 8 + n <= left {
-        return 0;
-    }
-    8 + n - left
+    (8 + n).saturating_sub(left)
 }
 
 // Behind a whole pool the map.
@@ -187,10 +183,7 @@ fn tables_at(t: &[u8]) -> Opened
     requires { length t.now ≤ file_limit }
     ensures { result ≡ tables_of t.now }
 {
-    let read = pool_of(t);
-    let garbage = read.garbage;
-    let pool = read.pool;
-    let end = read.end;
+    let PoolRead { garbage, pool, end } = pool_of(t);
     match end {
         PoolEnd::Complete => mapped(t, garbage, pool),
         PoolEnd::GarbageShort(left) => pool_short(
@@ -264,21 +257,7 @@ fn mode_of(asker: Asker) -> u32
 fn is_mode(mode: u32) -> bool
     ensures { result ≡ is_mode mode }
 {
-    if mode == MERGED {
-        return true;
-    }
-    mode == APART
-}
-
-// The file behind its length, the cap and the names: the mode, and then the head opened.
-fn enter_in(file: &[u8], mode: u32) -> Result<Opened, Refusal>
-    requires { length file.now ≤ file_limit }
-    ensures { result ≡ cond (is_mode mode) (Ok (opened_of file.now)) (Err (ModeError mode)) }
-{
-    if is_mode(mode) {
-        return Ok(open_head(file));
-    }
-    Err(Refusal::ModeError(mode))
+    mode == MERGED || mode == APART
 }
 
 // The way into a file, for every entry point: its length, the cap, the lent names, the mode, then the head opened. What is amiss with the head is
@@ -293,34 +272,24 @@ pub fn enter(file: &[u8], names: &[u32], area: &[u8], asker: Asker) -> Result<Op
     if keeps_none(asker) {
         return Err(Refusal::NotesOff);
     }
-    let read = check_names(names, area);
-    match read {
-        Ok(()) => enter_in(file, mode_of(asker)),
-        Err(k) => Err(Refusal::SystemNamesError(k)),
+    if let Err(k) = check_names(names, area) {
+        return Err(Refusal::SystemNamesError(k));
     }
+    let mode = mode_of(asker);
+    if !is_mode(mode) {
+        return Err(Refusal::ModeError(mode));
+    }
+    Ok(open_head(file))
 }
 
 // ---- its parts
-
-fn to_usize(x: u32) -> usize
-    ensures { result ≡ x }
-{
-    x as usize
-}
 
 // How many of the n bytes behind the file's header the pool and the map take. A head that belongs to another file may say more than there is:
 // then all n.
 fn head_len(h: Head, n: usize) -> usize
     ensures { result ≡ min (head_len h) n }
 {
-    let ids = 4 * to_usize(h.ids);
-    if n <= ids {
-        return n;
-    }
-    if n - ids <= h.map {
-        return n;
-    }
-    h.map + ids
+    h.map.saturating_add(4 * h.ids as usize).min(n)
 }
 
 // The bytes that texts are read from: pool and map. Of a head that is not the file's, as much of them as is there.
@@ -328,11 +297,10 @@ fn head_len(h: Head, n: usize) -> usize
 pub fn tables_of<'a>(file: &'a [u8], h: Head) -> &'a [u8]
     ensures { result.now ≡ tables_in file.now h }
 {
-    if file.len() < 8 {
-        return &file[0..0];
-    }
-    let n = head_len(h, file.len() - 8);
-    &file[8..8 + n]
+    let Some(t) = file.get(8..) else {
+        return &[];
+    };
+    &t[..head_len(h, t.len())]
 }
 
 // The bytes behind them, which are walked.
@@ -340,11 +308,10 @@ pub fn tables_of<'a>(file: &'a [u8], h: Head) -> &'a [u8]
 pub fn body_of<'a>(file: &'a [u8], h: Head) -> &'a [u8]
     ensures { result.now ≡ body_in file.now h }
 {
-    if file.len() < 8 {
-        return &file[0..0];
-    }
-    let n = head_len(h, file.len() - 8);
-    &file[8 + n..]
+    let Some(t) = file.get(8..) else {
+        return &[];
+    };
+    &t[head_len(h, t.len())..]
 }
 
 // ---- what it says
@@ -352,13 +319,7 @@ pub fn body_of<'a>(file: &'a [u8], h: Head) -> &'a [u8]
 pub fn is_whole(e: HeadEnd) -> bool
     ensures { result ≡ head_is_whole e }
 {
-    match e {
-        HeadEnd::Whole => true,
-        HeadEnd::TooSmall(_) => false,
-        HeadEnd::HeaderSize(_) => false,
-        HeadEnd::PoolShort(_) => false,
-        HeadEnd::MapShort(_) => false,
-    }
+    matches!(e, HeadEnd::Whole)
 }
 
 fn pool_refusal(e: PoolPart) -> Refusal
@@ -403,6 +364,6 @@ pub fn outside_in(t: &[u8], h: Head) -> u32
     ensures { result ≡ outside_in t.now h }
 {
     let from = h.offsets;
-    let n = 4 * to_usize(h.count);
+    let n = 4 * h.count as usize;
     outside_of(&t[from..from + n], h.size)
 }

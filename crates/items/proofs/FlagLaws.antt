@@ -8,7 +8,7 @@ use mathlib.Core.List.{List, [], ◌∷◌}
 use mathlib.Core.Bool.{Bool, true, false, not}
 use native.Mathlib.Omega.{arith}
 use native.Mathlib.Nat.{pow-suc}
-use borrow.Author.Tests.{eqb-true, eqb-false, not-true, eq-eqb, ne_eqb}
+use borrow.Author.Tests.{eqb-true, eqb-false, not-true}
 use lib.Dec.{eqb}
 use lib.Count.{ones, ones_in, ones_step}
 use lib.Bits.{bit_and, bit_xor, and_step, and_comm, and_le_r, xor_add_and}
@@ -88,12 +88,6 @@ takes-true left v e =
       less = xor-less left v p;
       fits = omega (arith, and_le_r v left, p);
     }
-
-pub takes-zero : (left v : ℕ) → v ≡ 0 → takes left v ≡ false
-takes-zero left v e = rw (eq-eqb v 0 e)
-
-pub takes-by : (left v : ℕ) → (v ≡ 0 → ⊥) → takes left v ≡ eqb (bit_and v left) v
-takes-by left v p = rw (ne_eqb v 0 p)
 
 -- ---- the items in turn
 

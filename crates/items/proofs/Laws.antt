@@ -7,38 +7,17 @@ use native.Mathlib.Omega.{arith}
 use native.Mathlib.Nat.{sub-zero}
 use native.Mathlib.Numerals.{add-one, sub-one}
 use mathlib.Core.Path.{◌≡◌, refl, sym, ◌∙◌}
-use mathlib.Core.List.{List, []}
+use mathlib.Core.List.{List}
 use mathlib.Core.Bool.{Bool, true, false, cond, not, ◌&&◌}
 use borrow.Author.Tests.{lt-leb, le-leb, eq-eqb, ne_eqb}
-use lib.ListN.{length, take, drop, length-drop, drop_of_length-le}
-use lib.Seq.{take_all}
+use lib.ListN.{length, take, drop}
 use lib.Dec.{eqb}
 use Rattle.records.specs.Words.{item_width}
 use Rattle.utf.specs.Plain.{is_ascii}
 use Rattle.utf.proofs.Ascii.{is_ascii-drop, is_ascii-take}
-use Rattle.items.specs.Items.{item_at, items_from, part_in, same_attribute, is_name, is_new, stands, is_good, rule_from, end_of, table_of}
+use Rattle.items.specs.Items.{item_at, items_from, same_attribute, is_name, is_new, stands, is_good, rule_from, end_of, table_of}
 use Rattle.items.specs.Inner.Back.{back_to}
 use Rattle.items.specs.declared.Item.{Item}
-
--- ---- a part of the area
-
-module _ (area : List ℕ) (start n : ℕ) where
-  pub part-outside : length area < start → part_in area start n ≡ []
-  part-outside p = go (drop start area) (drop_of_length-le area {i = start} (omega arith))
-    where
-      go : (l : List ℕ) → l ≡ [] → take n l ≡ []
-      go l e = rw e (take_none n)
-        where
-          take_none : (m : ℕ) → take {A = ℕ} m [] ≡ []
-          take_none zero = refl
-          take_none (suc m) = refl
-
-  pub part-tail : length area < start + n → take (length area - start) (drop start area) ≡ part_in area start n
-  part-tail p =
-      take_all (length area - start) (drop start area) (rw length-drop (omega arith)) ∙ sym (take_all n (drop start area) (rw length-drop (omega arith)))
-
-  pub part-inside : take (start + n - start) (drop start area) ≡ part_in area start n
-  part-inside = let e : start + n - start ≡ n = omega arith in rw e
 
 -- ---- the items before one
 

@@ -9,7 +9,7 @@ use mathlib.Core.Bool.{Bool, true, false, cond, ◌&&◌, true≢false}
 use native.Mathlib.Omega.{arith}
 use native.Mathlib.Nat.{sub-zero}
 use native.Mathlib.Numerals.{add-one}
-use borrow.Author.Tests.{lt-ltb, le-ltb, eqb-true, eqb-false}
+use borrow.Author.Tests.{lt-ltb, le-ltb, ltb-true, ltb-false, eqb-true, eqb-false}
 use lib.ListN.{length, get_or, set, length-set}
 use lib.Seq.{get_or-set_same, get_or-set_other}
 use lib.Dec.{eqb, ltb}
@@ -193,6 +193,23 @@ module _ (area w firsts : List ℕ) (f : Firsts area w firsts) where
       named_in area name (items_of w) ≡ rest_from area name w k
   named-told name k q p r = let e : name ≡ name = refl in named-from name k p (rw (place_same e q) at r)
 
+  -- the same of what is kept at the name's place, which may be past all items
+  pub named_kept : (name : List ℕ) {place : ℕ} → place ≡ place_of name → named_in area name (items_of w) ≡ rest_from area name w (get_or firsts place 0)
+  named_kept name {place} q = go (ltb (length w / item_width) (get_or firsts place 0)) refl
+    where
+      go :
+          (b : Bool) →
+          ltb (length w / item_width) (get_or firsts place 0) ≡ b →
+          named_in area name (items_of w) ≡ rest_from area name w (get_or firsts place 0)
+      go true e =
+          let past = ltb-true (length w / item_width) (get_or firsts place 0) e in
+          named-told name (length w / item_width) q (omega arith) (omega (arith, past))
+          ∙ rest_end area name w (length w / item_width) (omega arith)
+          ∙ sym (rest_end area name w (get_or firsts place 0) (omega (arith, past)))
+      go false e =
+          let within = ltb-false (length w / item_width) (get_or firsts place 0) e in
+          named-told name (get_or firsts place 0) q within (omega arith)
+
 -- ---- the first item of a name
 
 -- no item before k is of the name
@@ -219,8 +236,13 @@ module _ (area name w : List ℕ) (k : ℕ) where
       named_from area name w (k + 1)
   first_next p e t s = s ∙ rest-skip area name w k p (sym e ∙ t)
 
-  pub first-end : k ≤ length w / item_width → length w / item_width ≤ k → named_from area name w k → FirstNamed area name w k
-  first-end p q s = record { fits = p; here = λ r. absurd (let y : ⊥ = omega arith in y); all = s }
+  pub first-end : length w / item_width ≤ k → named_from area name w k → FirstNamed area name w (length w / item_width)
+  first-end q s =
+      record {
+        fits = omega arith;
+        here = λ r. absurd (let y : ⊥ = omega arith in y);
+        all = s ∙ rest_end area name w k q ∙ sym (rest_end area name w (length w / item_width) (omega arith));
+      }
 
 -- ---- where its items end
 
@@ -271,8 +293,16 @@ module _ (area w : List ℕ) (first : ℕ) where
         other = λ r z. m (ap (attribute_of area) e ∙ z ∙ ap (attribute_of area) (sym h));
       }
 
-  pub end-last : (k : ℕ) → first < k → k ≤ length w / item_width → length w / item_width ≤ k → same_to area w first k → EndOf area w first k
-  end-last k p l q s = record { fits = l; behind = p; same = s; other = λ r. absurd (let y : ⊥ = omega arith in y) }
+  pub end-last :
+      (k : ℕ) →
+      first < k →
+      k ≤ length w / item_width →
+      length w / item_width ≤ k →
+      same_to area w first k →
+      EndOf area w first (length w / item_width)
+  end-last k p l q s =
+      let e : length w / item_width ≡ k = omega arith in
+      rw e (record { fits = l; behind = p; same = s; other = λ r. absurd (let y : ⊥ = omega arith in y) })
 
 -- ---- all items of a name
 

@@ -2,14 +2,14 @@
 --
 --   item_at       item k: attribute name (start, length), kind (0 enum, 1 flag), item name (start, length), value
 --   items_of      the whole items in table order; words that make no whole item are left out
---   table_of      Good where every item keeps the rule; else the first that breaks it, or the number of whole items where words remain
+--   table_of      `Ok` where every item keeps the rule; else the first that breaks it, or the number of whole items where words remain
 --   named_in      the items of an attribute, by the bytes of its name, in table order
 --   enum_of       the first of some items with a value
 --
 -- The rule: both names have at least one byte, lie in the area and are ASCII (`is_ascii` of utf), the kind is 0 or 1, and items of one
 -- attribute stand together and have one kind: behind an item of the same attribute comes the same kind, behind one of another
 -- attribute an attribute that no earlier item has. Names are compared by their bytes, not by where they stand. No words at all are
--- Good. Laws: proofs/Laws.antt, proofs/Together.antt.
+-- `Ok`. Laws: proofs/Laws.antt, proofs/Together.antt.
 use Rattle.std.specs.Prelude.{ℕ, zero, suc, ◌+◌, ◌*◌, ◌/◌, ◌%◌, List, [], ◌∷◌, Bool, true, false, cond, not, ◌&&◌, length, take, drop, get_or, leb, eqb, Option, Some, None, Result, Ok, Err}
 use Rattle.records.specs.Words.{item_width, item_attribute, item_attribute_length, item_kind, item_name, item_name_length, item_value}
 use Rattle.utf.specs.Text.{eq_bytes}

@@ -1,6 +1,7 @@
 // The names of attributes' values: a table that the caller lends, its rule, and what it says of a value.
 //
-// Mirrors structs/attrs_manifest.rs (apk-info 13770539b8): `get_attr_value`. Answers: `ItemsRead`, `EnumFound`.
+// Mirrors structs/attrs_manifest.rs (apk-info 13770539b8): `get_attr_value`. Answers: nothing or the number of the first item that breaks the
+// rule (`check_items`); what an attribute's items say of a value (`Said`).
 // Definitions: specs/Items.antt, specs/Flags.antt, specs/Values.antt. Differs from the Rust: there the table is compiled in, here it is six words an item
 // over an area of bytes.
 #![tactic(auto)]
@@ -68,19 +69,13 @@ pub struct Said {
 pub fn part_of<'a>(area: &'a [u8], start: u32, n: u32) -> &'a [u8]
     ensures { result.now ≡ part_in area.now start n }
 {
-    let from = start as usize;
-    if area.len() < from {
-        return &area[0..0];
-    }
-    let to = from + (n as usize);
-    if area.len() < to {
-        return &area[from..];
-    }
-    &area[from..to]
+    let rest = area.get(start as usize..).unwrap_or(&[]);
+    &rest[..rest.len().min(n as usize)]
 }
 
 // The item with the number k, of a table that has it.
 // Ruled out: the words of a neighbour.
+#[tactic(auto, unfolding(crate::specs::Items::item_at))]
 pub fn item_at(items: &[u32], k: usize) -> Item
     requires { item_width * k + item_width ≤ length items.now }
     ensures { result ≡ item_at items.now k }
@@ -148,14 +143,11 @@ fn is_new(items: &[u32], area: &[u8], firsts: &[usize], k: usize, i: Item) -> bo
     ensures { result ≡ is_new area.now (back_to items.now k) i }
 {
     let from = firsts[place_of(part_of(area, i.attribute, i.attribute_len))];
-    let mut j = k;
-    while from < j {
-        let before = j - 1;
-        let p = item_at(items, before);
+    for j in (from..k).rev() {
+        let p = item_at(items, j);
         if same_attribute(area, p, i) {
             return false;
         }
-        j = before;
     }
     true
 }
@@ -198,22 +190,20 @@ fn check_each(items: &[u32], area: &[u8], plain: bool, firsts: &[usize]) -> Resu
     ensures { result ≡ table_of area.now items.now }
 {
     let whole = items.len() / ITEM_WORDS;
-    let mut k = 0;
-    while k < whole {
+    for k in 0..whole {
         if !is_good(items, area, plain, firsts, k, item_at(items, k)) {
             return Err(k);
         }
-        k += 1;
     }
     if items.len() % ITEM_WORDS != 0 {
-        return Err(k);
+        return Err(whole);
     }
     Ok(())
 }
 
 // Whether the lent items keep their rule, where the first item at each place of a name is known. All of them are looked at, each time; the first
 // item of an attribute is compared with those before it only from the first on that stands at the same place by its name (looking.rt).
-// Ruled out: Good for items of one attribute apart, and the earlier of two items whose kinds differ.
+// Ruled out: `Ok` for items of one attribute apart, and the earlier of two items whose kinds differ.
 pub fn check_known(items: &[u32], area: &[u8], firsts: &[usize]) -> Result<(), usize>
     requires { Firsts area.now items.now firsts.now }
     ensures { result ≡ table_of area.now items.now }

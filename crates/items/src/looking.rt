@@ -18,7 +18,7 @@ use utf::same::same_bytes;
 pub const PLACES: usize = 256;
 
 // Kept for a place where no name is.
-pub const NO_ITEM: usize = 18446744073709551615;
+pub const NO_ITEM: usize = usize::MAX;
 
 // The place of a name.
 pub fn place_of(name: &[u8]) -> usize
@@ -37,13 +37,10 @@ pub fn put_firsts(items: &[u32], area: &[u8], firsts: &mut [usize])
     requires { length firsts.old ≡ place_count }
     ensures { Firsts area.now items.now firsts.new }
 {
-    let mut k = items.len() / ITEM_WORDS;
-    while 0 < k {
-        let before = k - 1;
-        let i = item_at(items, before);
+    for k in (0..items.len() / ITEM_WORDS).rev() {
+        let i = item_at(items, k);
         let place = place_of(part_of(area, i.attribute, i.attribute_len));
-        firsts[place] = before;
-        k = before;
+        firsts[place] = k;
     }
 }
 
@@ -63,18 +60,12 @@ pub fn find_first(items: &[u32], area: &[u8], firsts: &[usize], name: &[u8]) -> 
     ensures { FirstNamed area.now name.now items.now result }
 {
     let whole = items.len() / ITEM_WORDS;
-    let from = firsts[place_of(name)];
-    if whole <= from {
-        return whole;
-    }
-    let mut k = from;
-    while k < whole {
+    for k in firsts[place_of(name)]..whole {
         if is_named(items, area, name, k) {
             return k;
         }
-        k += 1;
     }
-    k
+    whole
 }
 
 // The number behind the items that stand together with item `first` and have its attribute.
@@ -84,15 +75,13 @@ fn end_of(items: &[u32], area: &[u8], first: usize) -> usize
 {
     let whole = items.len() / ITEM_WORDS;
     let head = item_at(items, first);
-    let mut k = first + 1;
-    while k < whole {
+    for k in first + 1..whole {
         let i = item_at(items, k);
         if !same_attribute(area, i, head) {
             return k;
         }
-        k += 1;
     }
-    k
+    whole
 }
 
 // All items of an attribute, by the first of them or the number of items: they stand together.

@@ -15,10 +15,7 @@ use digits::{put_byte, put_bytes};
 fn is_taken(left: u32, v: u32) -> bool
     ensures { result ≡ takes left v }
 {
-    if v == 0 {
-        return false;
-    }
-    v & left == v
+    v != 0 && v & left == v
 }
 
 fn put_bar(out: &mut [u8], p: usize, some: bool) -> usize
@@ -75,11 +72,9 @@ pub fn put_flags(
         left: flags,
         some: false,
     };
-    let mut k = first;
-    while k < end {
+    for k in first..end {
         let i = item_at(items, k);
         st = put_turn(out, area, i, st);
-        k += 1;
     }
     st
 }

@@ -19,13 +19,11 @@ fn find_value(items: &[u32], first: usize, end: usize, value: u32) -> Option<Ite
     requires { item_width * end ≤ length items.now }
     ensures { result ≡ enum_of value (items_from items.now first (end - first)) }
 {
-    let mut k = first;
-    while k < end {
+    for k in first..end {
         let i = item_at(items, k);
         if i.value == value {
             return Some(i);
         }
-        k += 1;
     }
     None
 }

@@ -13,32 +13,17 @@ use common::complex_to_float;
 use std::io;
 use stored::read_in;
 
-// 1 for a yes, 0 for a no.
-pub(crate) fn one(b: bool) -> u32
-    ensures { result ≤ 1 }
-{
-    if b { 1 } else { 0 }
-}
-
 // ---- stored answers
 
 // A hexadecimal digit in lower case; 0 for any other byte.
 fn digit(b: u8) -> u32
     ensures { result < 16 }
 {
-    if b < 48 {
-        return 0;
+    match b {
+        b'0'..=b'9' => u32::from(b - b'0'),
+        b'a'..=b'f' => u32::from(b - b'a') + 10,
+        _ => 0,
     }
-    if b <= 57 {
-        return (b - 48) as u32;
-    }
-    if b < 97 {
-        return 0;
-    }
-    if b <= 102 {
-        return (b - 87) as u32;
-    }
-    0
 }
 
 fn two_digits(s: &[u8], at: usize) -> u32
@@ -66,18 +51,14 @@ fn complex_bits(data: u32) -> u64 {
     f64::to_bits(complex_to_float(data))
 }
 
-// 1 where the line at `at` holds the bits that are computed from its number, else 0.
-fn agrees(s: &[u8], at: usize) -> u32
-    requires { at + 26 ≤ length s.now }
-    ensures { result ≤ 1 }
+// Whether a line holds the bits that are computed from its number.
+fn agrees(line: &[u8]) -> bool
+    requires { 26 ≤ length line.now }
 {
-    let bits = complex_bits(eight_digits(s, at));
-    let high = eight_digits(s, at + 9) as u64;
-    let low = eight_digits(s, at + 17) as u64;
-    if bits / 4294967296 != high {
-        return 0;
-    }
-    one(bits % 4294967296 == low)
+    let bits = complex_bits(eight_digits(line, 0));
+    let high = u64::from(eight_digits(line, 9));
+    let low = u64::from(eight_digits(line, 17));
+    bits / 4294967296 == high && bits % 4294967296 == low
 }
 
 #[derive(Clone, Copy)]
@@ -90,13 +71,13 @@ struct Tally {
 fn complex_tally(s: &[u8]) -> Tally
     requires { length s.now ≤ 65536 }
 {
-    let mut right: u32 = 0;
-    let mut all: u32 = 0;
-    let mut at = 0;
-    while s.len() - at >= 26 {
-        right += agrees(s, at);
+    let mut right = 0;
+    let mut all = 0;
+    for line in s.chunks_exact(26) {
         all += 1;
-        at += 26;
+        if agrees(line) {
+            right += 1;
+        }
     }
     Tally { right, all }
 }

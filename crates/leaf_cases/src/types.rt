@@ -1,7 +1,6 @@
 // The types of chunks and of values over all numbers below 65,536: what comes back, what has a name, what is picked out.
 ghost use Rattle.std.specs.Prelude.{◌≤◌};
 
-use crate::one;
 use chunk::is_xml_node;
 use common::{
     ResChunkHeader, ResourceHeaderType, ResourceValueType, header_type_number, header_type_of,
@@ -10,29 +9,23 @@ use common::{
 use std::io;
 
 fn is_named_header(t: ResourceHeaderType) -> bool {
-    match t {
-        ResourceHeaderType::Unknown(_) => false,
-        _ => true,
-    }
+    !matches!(t, ResourceHeaderType::Unknown(_))
 }
 
 fn is_named_value(t: ResourceValueType) -> bool {
-    match t {
-        ResourceValueType::Unknown(_) => false,
-        _ => true,
-    }
+    !matches!(t, ResourceValueType::Unknown(_))
 }
 
 fn header_back(n: u32) -> u32
     ensures { result ≤ 1 }
 {
-    one(header_type_number(header_type_of(n)) == n)
+    u32::from(header_type_number(header_type_of(n)) == n)
 }
 
 fn header_named(n: u32) -> u32
     ensures { result ≤ 1 }
 {
-    one(is_named_header(header_type_of(n)))
+    u32::from(is_named_header(header_type_of(n)))
 }
 
 fn header_xml(n: u32) -> u32
@@ -43,25 +36,25 @@ fn header_xml(n: u32) -> u32
         header_size: 16,
         size: 24,
     };
-    one(is_xml_node(h))
+    u32::from(is_xml_node(h))
 }
 
 fn value_back(n: u32) -> u32
     ensures { result ≤ 1 }
 {
-    one(value_type_number(value_type_of(n)) == n)
+    u32::from(value_type_number(value_type_of(n)) == n)
 }
 
 fn value_named(n: u32) -> u32
     ensures { result ≤ 1 }
 {
-    one(is_named_value(value_type_of(n)))
+    u32::from(is_named_value(value_type_of(n)))
 }
 
 fn value_reference(n: u32) -> u32
     ensures { result ≤ 1 }
 {
-    one(is_reference(value_type_of(n)))
+    u32::from(is_reference(value_type_of(n)))
 }
 
 // Of the numbers below 65,536: how many come back, how many have a name, and how many are picked out.
@@ -77,12 +70,10 @@ fn header_types() -> Types {
     let mut back: u32 = 0;
     let mut named: u32 = 0;
     let mut picked: u32 = 0;
-    let mut n: u32 = 0;
-    while n < 65536 {
+    for n in 0..65536 {
         back += header_back(n);
         named += header_named(n);
         picked += header_xml(n);
-        n += 1;
     }
     Types {
         back,
@@ -96,12 +87,10 @@ fn value_types() -> Types {
     let mut back: u32 = 0;
     let mut named: u32 = 0;
     let mut picked: u32 = 0;
-    let mut n: u32 = 0;
-    while n < 65536 {
+    for n in 0..65536 {
         back += value_back(n);
         named += value_named(n);
         picked += value_reference(n);
-        n += 1;
     }
     Types {
         back,

@@ -1,4 +1,4 @@
--- Laws of specs/Lists.antt for `list_into`: the listing of what was read, and of refusal 2. No contract cites this file.
+-- Laws of specs/Lists.antt: refusal 2, what was read, and the listing of it. No contract cites this file.
 use Rattle.std.specs.Prelude.{Result, Err}
 use Prim.Native.Nat.{ℕ, ◌≤◌, ◌<◌}
 use native.Mathlib.Omega.{arith}
@@ -14,38 +14,34 @@ use Rattle.records.specs.Limits.{listed_file, listed_notes, listed_cap}
 use Rattle.records.specs.Words.{merged}
 use Rattle.system_types.specs.Names.{lends}
 use Rattle.walk.specs.Reading.{Reads, zero_note, refuses}
-use Rattle.listing_text.specs.Listing.{record_lines, note_lines, listing, listing_text}
+use Rattle.listing_text.specs.Listing.{listing_text}
 use Rattle.listing_text.specs.Printed.{Printed}
-use Rattle.listed.specs.Lists.{listed_room, listed, listed_text, Lists}
+use Rattle.listed.specs.Lists.{listed_room, listed, ReadsToList, Lists}
 use Rattle.errors.specs.declared.ReadCounts.{ReadCounts}
 use Rattle.errors.specs.declared.Refusal.{Refusal}
 
--- a refusal's listing has no line of a table
-refused-same :
-    (n : Numbers) (ns ats ns' ats' : List ℕ) (os os' : List Note) → n ≡ numbers_of (Err TooLargeError) →
-    listing_text listed_cap n ns ats os ≡ listing_text listed_cap (numbers_of (Err TooLargeError)) ns' ats' os'
-unfolding numbers_of listing_text listing record_lines note_lines
-refused-same n ns ats ns' ats' os os' e = rw e
-
-module _ (f ns ats before after ns' ats' : List ℕ) (n : Numbers) (r : Result ℕ Refusal) where
-  pub lists-large :
-      (os : List Note) → listed_file < length f → ns' ≡ replicate (length ns) 0 → ats' ≡ replicate (length ats) 0 →
-      n ≡ numbers_of (Err TooLargeError) → Printed (listing_text listed_cap n ns' ats' os) before r after → Lists f ns ats before r ns' ats' after
+module _ (f ns ats ns' ats' : List ℕ) (r : Result ReadCounts Refusal) (os : List Note) where
+  pub refused-unread : listed_file < length f → ns' ≡ replicate (length ns) 0 → ats' ≡ replicate (length ats) 0 → r ≡ Err TooLargeError
+      → os ≡ replicate listed_notes zero_note → ReadsToList f ns ats r ns' ats' os
   unfolding listed
-  lists-large os h e g k p =
-      let q : listed_text f (length ns) (length ats) ≡ listing_text listed_cap n ns' ats' os =
-      rw (lt-ltb listed_file (length f) h)
-      (sym (refused-same n ns' ats' (replicate (length ns) 0) (replicate (length ats) 0) os (replicate listed_notes zero_note) k)) in
-      record { printed = rw q p; nodes = rw (lt-ltb listed_file (length f) h) e; attributes = rw (lt-ltb listed_file (length f) h) g }
+  refused-unread h e g x k =
+      let q = lt-ltb listed_file (length f) h in
+      record { answer = rw (q, x); nodes = rw q e; attributes = rw q g; notes = rw q k }
 
-  pub lists-read :
-      (x : Result ReadCounts Refusal) (os' : List Note) → length f ≤ listed_file → Reads f (lends [] []) ns ats (replicate listed_notes zero_note) listed_cap merged x ns' ats' os' →
-      n ≡ numbers_of x → Printed (listing_text listed_cap n ns' ats' os') before r after → Lists f ns ats before r ns' ats' after
+  pub read-whole : length f ≤ listed_file → Reads f (lends [] []) ns ats (replicate listed_notes zero_note) listed_cap merged r ns' ats' os
+      → ReadsToList f ns ats r ns' ats' os
   unfolding listed
-  lists-read x os' h g e p =
-      let q : listed_text f (length ns) (length ats) ≡ listing_text listed_cap n ns' ats' os' =
-      rw (le-ltb listed_file (length f) h, e, g.answer, g.nodes, g.attributes, g.notes) in
-      record { printed = rw q p; nodes = rw (le-ltb listed_file (length f) h) g.nodes; attributes = rw (le-ltb listed_file (length f) h) g.attributes }
+  read-whole h g =
+      let q = le-ltb listed_file (length f) h in
+      record { answer = rw q g.answer; nodes = rw q g.nodes; attributes = rw q g.attributes; notes = rw q g.notes }
+
+  pub lists-read : (n : Numbers) (before after : List ℕ) (p : Result ℕ Refusal) → ReadsToList f ns ats r ns' ats' os → n ≡ numbers_of r
+      → Printed (listing_text listed_cap n ns' ats' os) before p after → Lists f ns ats before p ns' ats' after
+  lists-read n before after p g e w = record {
+    printed = rw (← g.answer, ← g.nodes, ← g.attributes, ← g.notes, ← e) w;
+    nodes = g.nodes;
+    attributes = g.attributes;
+  }
 
 -- ---- what is above the limit, and whatever follows it
 

@@ -4,11 +4,30 @@
 // `axml::read_listed` reads and `listing_text::listing_into` prints; the limit, the cap and the rooms are those of crate `records`.
 #![tactic(auto)]
 
-ghost use Rattle.listed.specs.Lists.{Lists};
+ghost use Rattle.listed.specs.Lists.{ReadsToList, Lists};
 
-use anomaly::Note;
+use axml::Listed;
 use errors::Refusal;
 use records::{LISTED_CAP, LISTED_FILE, LISTED_NOTES};
+use tables::zero_all;
+use walk::NO_NOTE;
+
+// The reading that is listed: more bytes than the limit are refused unread.
+fn read_to_list(file: &[u8], nodes: &mut [u32], attributes: &mut [u32]) -> Listed
+    ensures { ReadsToList file.now nodes.old attributes.old result.answer
+        nodes.new attributes.new result.notes }
+{
+    let too_long = LISTED_FILE < file.len();
+    if too_long {
+        zero_all(nodes);
+        zero_all(attributes);
+        return Listed {
+            answer: Err(Refusal::TooLargeError),
+            notes: [NO_NOTE; LISTED_NOTES],
+        };
+    }
+    axml::read_listed(file, nodes, attributes)
+}
 
 // The listing of `file`, with the reading that it lists in the two tables: more bytes than the limit are refused with 2, unread. Every length
 // of every table and buffer will do; where a record has no place that is listed (8, 9), and where the text has none the answer is 11.
@@ -22,20 +41,13 @@ pub fn list_into(
     ensures { Lists file.now nodes.old attributes.old out.old result
         nodes.new attributes.new out.new }
 {
-    if LISTED_FILE < file.len() {
-        tables::zero_all(nodes);
-        tables::zero_all(attributes);
-        let notes = [Note {
-            kind: 0,
-            a: 0,
-            b: 0,
-        }; LISTED_NOTES];
-        let n = errors::read_numbers(Err(Refusal::TooLargeError));
-        return listing_text::listing_into(LISTED_CAP, n, nodes, attributes, notes, out);
-    }
-    let l = axml::read_listed(file, nodes, attributes);
-    let answer = l.answer;
-    let notes = l.notes;
-    let n = errors::read_numbers(answer);
-    listing_text::listing_into(LISTED_CAP, n, nodes, attributes, notes, out)
+    let read = read_to_list(file, nodes, attributes);
+    listing_text::listing_into(
+        LISTED_CAP,
+        errors::read_numbers(read.answer),
+        nodes,
+        attributes,
+        read.notes,
+        out,
+    )
 }

@@ -1,3 +1,2 @@
 -- The root of the crate's laws.
 pub mod Laws
-pub mod Reading

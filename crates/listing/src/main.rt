@@ -6,44 +6,18 @@
 // so does a write that fails, for what was written then is a part of the listing.
 #![tactic(auto)]
 
-ghost use Rattle.std.specs.Prelude.{◌≡◌, ◌≤◌, ◌<◌, length, OnOk, Ok};
+ghost use Rattle.std.specs.Prelude.{◌≤◌, ◌<◌, length, OnOk, Ok};
 ghost use Rattle.records.specs.Limits.{listed_file};
 ghost use Rattle.listed.specs.Lists.{Lists};
 ghost use Rattle.listed.specs.Roomy.{Roomy};
-ghost use Rattle.listing.specs.Inner.Input.{Within, Came, Runs, Listed};
+ghost use Rattle.listing.specs.Streams.{Listed};
+ghost use Rattle.listing.specs.Inner.Input.{Runs};
 
 use listing_text::LISTED_BYTES;
 use records::{ATTRIBUTE_WORDS, LISTED_ATTRIBUTES, LISTED_FILE, LISTED_NODES, NODE_WORDS};
 use std::io;
 use std::io::{Read, Write};
-
-// What came in on standard input.
-#[derive(Clone, Copy)]
-pub enum Input {
-    Whole(usize), // so many bytes, and then its end
-    Full, // at least as many bytes as there is room
-    Failed, // a read failed
-}
-
-// Reads until the room is full, the input ends or a read fails.
-// Ruled out: an end that is told before there is one, and bytes that came and are not in the room.
-fn take_in<R: Read>(reader: &mut R, room: &mut [u8]) -> Input
-    ensures within { Within result (length room.new) }
-    ensures came { Came (R.remaining reader.old) (R.remaining reader.new) result room.new }
-{
-    let mut n: usize = 0;
-    while n < room.len() {
-        let more = match reader.read(&mut room[n..]) {
-            Ok(more) => more,
-            Err(_) => return Input::Failed,
-        };
-        if more == 0 {
-            return Input::Whole(n);
-        }
-        n += more;
-    }
-    Input::Full
-}
+use stored::read_in;
 
 // The listing of `file` in the room of a listing, which always suffices: the answer is a text, and the number its length.
 // Ruled out: a listing that does not fit the buffer, and one of other tables.
@@ -52,31 +26,24 @@ fn list_whole(file: &[u8], nodes: &mut [u32], attributes: &mut [u32], out: &mut 
     ensures { Lists file.now nodes.old attributes.old out.old (Ok result)
         nodes.new attributes.new out.new }
 {
-    let answer = listed::list_into(file, nodes, attributes, out);
-    match answer {
-        Ok(length) => length,
-        Err(_) => 0, // never: the buffer takes every listing
-    }
+    // never 0: the buffer takes every listing
+    listed::list_into(file, nodes, attributes, out).unwrap_or(0)
 }
 
-// The listing of what came in, and its length. The room for the file has more bytes than a file may have, so that a full room is refused
-// whatever follows it. Ruled out: the listing of a part of the input.
+// The listing of what came in, the first n bytes of the room, and its length. The room for the file has more bytes than a file may have, so that a
+// full room is refused whatever follows it. Ruled out: the listing of a part of the input.
 fn list_input(
-    input: Input,
+    n: usize,
     file: &[u8],
     nodes: &mut [u32],
     attributes: &mut [u32],
     out: &mut [u8],
 ) -> usize
-    requires { Within input (length file.now) × (listed_file < length file.now) × Roomy (length nodes.old) (length attributes.old) (length out.old) }
-    ensures { Runs input file.now nodes.old attributes.old out.old result
-        nodes.new attributes.new out.new × (result ≤ length out.old) }
+    requires { (n ≤ length file.now) × (listed_file < length file.now) × Roomy (length nodes.old) (length attributes.old) (length out.old) }
+    ensures listed { Runs n file.now nodes.old attributes.old out.old result nodes.new attributes.new out.new }
+    ensures within { result ≤ length out.old }
 {
-    match input {
-        Input::Whole(n) => list_whole(&file[..n], nodes, attributes, out),
-        Input::Full => list_whole(file, nodes, attributes, out),
-        Input::Failed => 0,
-    }
+    list_whole(&file[..n], nodes, attributes, out)
 }
 
 // Reads, lists and writes: of known bytes the listing, in the room of a listing. Nothing is written where a read failed.
@@ -92,12 +59,11 @@ fn run<R: Read, W: Write>(
     requires { (listed_file < length file.old) × Roomy (length nodes.old) (length attributes.old) (length out.old) }
     ensures { OnOk result (Listed (R.remaining reader.old) (W.contents writer.old) (W.contents writer.new) (length nodes.old) (length attributes.old)) }
 {
-    let input = take_in(reader, file);
-    if let Input::Failed = input {
+    let Ok(n) = read_in(reader, file) else {
         let message = "standard input cannot be read";
         return Err(io::Error::new(io::ErrorKind::Other, message));
-    }
-    let length = list_input(input, file, nodes, attributes, out);
+    };
+    let length = list_input(n, file, nodes, attributes, out);
     writer.write_all(&out[..length])
 }
 

@@ -25,6 +25,8 @@ use Rattle.listing_back.specs.Back.{in_attributes, in_nodes, in_head, relisting,
 use Rattle.listing_back.specs.Inner.Stands.{form_at}
 use Rattle.listing_back.specs.Inner.Steps.{test_by, step_of, CountsOn, table_of, RecordsOn, EndsOn}
 use Rattle.listing_back.specs.Inner.Whole.{heading_list, heading_numbers, spot_of, ReadsHead, TestedHeading, is_own, Sayable, Says, relisting_of, ReadsAll}
+use Rattle.listing_back.specs.declared.stepping.Kind.{Kind}
+use Rattle.listing_back.specs.declared.stepping.Kind.TheVariants.{Any, Code}
 use Rattle.listing_back.specs.declared.stepping.Spot.{Spot}
 use Rattle.listing_back.specs.declared.opening.Heading.{Heading}
 use Rattle.listing_back.specs.declared.Relisted.{Relisted}
@@ -42,8 +44,8 @@ pub start-inside : (text : List ℕ) (s : Spot) → s ≡ record { fault = 0; va
 start-inside text s q = rw q (omega arith)
 
 head-steps :
-    (text : List ℕ) (s a b c d e f g : Spot) (kv kc kn : ℕ) → s ≡ record { fault = 0; value = 0; at = 0; number = 0 } → CountsOn text s 0 1 2 a → CountsOn text a 1 2 kv b →
-    ((v : ℕ) → zero_where (is_plain a.number) v ≡ test_by kv v) → CountsOn text b 2 3 0 c → ((v : ℕ) → zero_where (not (eqb a.number 0)) v ≡ test_by kc v) →
+    (text : List ℕ) (s a b c d e f g : Spot) (kv kc kn : Kind) → s ≡ record { fault = 0; value = 0; at = 0; number = 0 } → CountsOn text s 0 1 Code a → CountsOn text a 1 2 kv b →
+    ((v : ℕ) → zero_where (is_plain a.number) v ≡ test_by kv v) → CountsOn text b 2 3 Any c → ((v : ℕ) → zero_where (not (eqb a.number 0)) v ≡ test_by kc v) →
     CountsOn text c 3 4 kc d → CountsOn text d 4 5 kc e → CountsOn text e 5 6 kc f →
     ((v : ℕ) → (zero_where (not (eqb a.number 0)) v && zero_where (eqb c.number 0) v) ≡ test_by kn v) → CountsOn text f 6 7 kn g →
     step_of text (a.number ∷ b.number ∷ c.number ∷ d.number ∷ e.number ∷ f.number ∷ g.number ∷ []) g ≡ head_of text
@@ -66,8 +68,8 @@ head-steps text s a b c d e f g kv kc kn q h1 h2 t2 h3 tc h4 h5 h6 t7 h7 =
     h7.step l6 notes_test t7 ∙ (ap (head_line (head_form notes_key) 7 notes_test) s6 ∙ sym (head_of-lines text))
 
 pub head_read :
-    (text : List ℕ) (s a b c d e f g : Spot) (kv kc kn : ℕ) (r : Heading) → s ≡ record { fault = 0; value = 0; at = 0; number = 0 } → CountsOn text s 0 1 2 a →
-    CountsOn text a 1 2 kv b → ((v : ℕ) → zero_where (is_plain a.number) v ≡ test_by kv v) → CountsOn text b 2 3 0 c →
+    (text : List ℕ) (s a b c d e f g : Spot) (kv kc kn : Kind) (r : Heading) → s ≡ record { fault = 0; value = 0; at = 0; number = 0 } → CountsOn text s 0 1 Code a →
+    CountsOn text a 1 2 kv b → ((v : ℕ) → zero_where (is_plain a.number) v ≡ test_by kv v) → CountsOn text b 2 3 Any c →
     ((v : ℕ) → zero_where (not (eqb a.number 0)) v ≡ test_by kc v) → CountsOn text c 3 4 kc d → CountsOn text d 4 5 kc e → CountsOn text e 5 6 kc f →
     ((v : ℕ) → (zero_where (not (eqb a.number 0)) v && zero_where (eqb c.number 0) v) ≡ test_by kn v) → CountsOn text f 6 7 kn g →
     r ≡ record {

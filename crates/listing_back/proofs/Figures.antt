@@ -1,4 +1,5 @@
 -- A number at a place of a text, digit by digit, as the code takes it. No contract cites this file.
+use Rattle.std.specs.Prelude.{Option, Some, None}
 use Prim.Native.Nat.{ℕ, ◌+◌, ◌-◌, ◌*◌, ◌≤◌, ◌<◌, min}
 use mathlib.Core.Path.{◌≡◌, refl, sym, ap, subst, ◌∙◌}
 use mathlib.Core.Bool.{true, false, cond}
@@ -14,9 +15,8 @@ use Rattle.listing_back.specs.Inner.Stands.{FigureAt, IsFigure}
 use Rattle.listing_back.specs.declared.taking.Figure.{Figure}
 
 figure-made :
-    (text : List ℕ) (v p whole : ℕ) (r : Figure) → r ≡ record { found = true; value = v; end = p } → v ≡ min whole 4294967296 → p ≤ length text →
-    FigureAt text r whole (drop p text)
-figure-made text v p whole r q e h = rw q (record { found = refl; value = e; rest = refl; inside = h })
+    (text : List ℕ) (v p whole : ℕ) → v ≡ min whole 4294967296 → p ≤ length text → FigureAt text (record { value = v; end = p }) whole (drop p text)
+figure-made text v p whole e h = record { value = e; rest = refl; inside = h }
 
 -- ---- digits
 
@@ -54,12 +54,14 @@ digits_more text {from} {v} {p} {r} s h e q =
       inside = omega arith;
     }
 
-module _ (text : List ℕ) {from v p : ℕ} (s : DigitsSoFar text from v p) (r : Figure) (q : r ≡ record { found = true; value = v; end = p }) where
-  pub digits-stop : p < length text → is_digit (get_or text p 0) ≡ false → IsFigure text r (digits_from 0 (drop from text))
-  digits-stop h e = subst (IsFigure text r) (sym (s.same ∙ digits_from-here s.whole text p h e)) (figure-made text v p s.whole r q s.value s.inside)
+module _ (text : List ℕ) {from v p : ℕ} (s : DigitsSoFar text from v p) where
+  pub digits-stop : p < length text → is_digit (get_or text p 0) ≡ false → IsFigure text (Some (record { value = v; end = p })) (digits_from 0 (drop from text))
+  digits-stop h e =
+      subst (IsFigure text (Some (record { value = v; end = p }))) (sym (s.same ∙ digits_from-here s.whole text p h e)) (figure-made text v p s.whole s.value s.inside)
 
-  pub digits-end : length text ≤ p → IsFigure text r (digits_from 0 (drop from text))
-  digits-end h = subst (IsFigure text r) (sym (s.same ∙ digits_from-end s.whole text p h)) (figure-made text v p s.whole r q s.value s.inside)
+  pub digits-end : length text ≤ p → IsFigure text (Some (record { value = v; end = p })) (digits_from 0 (drop from text))
+  digits-end h =
+      subst (IsFigure text (Some (record { value = v; end = p }))) (sym (s.same ∙ digits_from-end s.whole text p h)) (figure-made text v p s.whole s.value s.inside)
 
 -- ---- a number
 
@@ -85,16 +87,16 @@ module _ (text : List ℕ) (p : ℕ) where
 
 -- a 0 first, as `number_at` hands it on
 pub zero_first :
-    (text : List ℕ) (p : ℕ) (r : Figure) → get_or text p 0 ≡ 48 →
+    (text : List ℕ) (p : ℕ) (r : Option Figure) → get_or text p 0 ≡ 48 →
     IsFigure text r (cond (is_digit (get_or text (p + 1) 0)) nothing (number 0 (drop (p + 1) text))) → IsFigure text r (number_at_front (drop p text))
 zero_first text p r e h = rw (number-zero-at text p e) h
 
 pub zero-alone :
-    (text : List ℕ) (p : ℕ) (r : Figure) → r ≡ record { found = true; value = 0; end = p + 1 } → p < length text → is_digit (get_or text (p + 1) 0) ≡ false →
-    IsFigure text r (cond (is_digit (get_or text (p + 1) 0)) nothing (number 0 (drop (p + 1) text)))
-zero-alone text p r q h e = rw e (figure-made text 0 (p + 1) 0 r q refl (omega arith))
+    (text : List ℕ) (p : ℕ) → p < length text → is_digit (get_or text (p + 1) 0) ≡ false →
+    IsFigure text (Some (record { value = 0; end = p + 1 })) (cond (is_digit (get_or text (p + 1) 0)) nothing (number 0 (drop (p + 1) text)))
+zero-alone text p h e = rw e (figure-made text 0 (p + 1) 0 refl (omega arith))
 
 pub zero-padded :
-    (text : List ℕ) (p : ℕ) (r : Figure) → r.found ≡ false → is_digit (get_or text (p + 1) 0) ≡ true →
-    IsFigure text r (cond (is_digit (get_or text (p + 1) 0)) nothing (number 0 (drop (p + 1) text)))
-zero-padded text p r q e = rw e q
+    (text : List ℕ) (p : ℕ) → is_digit (get_or text (p + 1) 0) ≡ true →
+    IsFigure text None (cond (is_digit (get_or text (p + 1) 0)) nothing (number 0 (drop (p + 1) text)))
+zero-padded text p e = rw e tt

@@ -1,4 +1,5 @@
 -- A form held against a text byte by byte, as the code does it. No contract cites this file.
+use Rattle.std.specs.Prelude.{Some, None}
 use Prim.Native.Nat.{ℕ, ◌+◌, ◌-◌, ◌≤◌, ◌<◌, min}
 use mathlib.Core.Path.{◌≡◌, refl, sym, ap, subst, ◌∙◌}
 use mathlib.Core.Bool.{Bool, true, false, cond, ◌||◌}
@@ -16,7 +17,7 @@ use Rattle.listing_back.specs.Due.{is_over, any_over}
 use Rattle.listing_back.specs.Inner.Stands.{IsFigure, HoldsFront, Holds, MovesOn}
 use Rattle.listing_back.specs.declared.taking.Figure.{Figure}
 use Rattle.listing_back.specs.declared.taking.Taking.{Taking}
-use Rattle.listing_back.proofs.Lines.{any_over-first, neither}
+use Rattle.listing_back.proofs.Lines.{any_over-first, neither, held-lost}
 use Rattle.listing_back.proofs.Steps.{any_over-append, no-over}
 
 pub contra : {A : Type 0} (b : Bool) → b ≡ true → b ≡ false → A
@@ -32,39 +33,32 @@ next-at c ns s text at e h = rw e (rw (drop-cons text at 0 h, add-one at))
 next-end : (c : ℕ) (ns s text : List ℕ) (at : ℕ) → s ≡ drop at text → length text ≤ at → next c (front ns s) ≡ lost
 next-end c ns s text at e h = rw e (rw (drop_of_length-le text h))
 
-module _ (text : List ℕ) (i c : ℕ) (now : List ℕ) (f r : Taking) where
-  pub moves-lost : f.good ≡ false → r ≡ f → MovesOn text i c now f r now
-  moves-lost e q = record { holds = λ before x h. rw q (on before x h); few = rw q (omega arith); same = refl } where
-    on : (before : List ℕ) (x : Front) → Holds text i before now f x → Holds text i before now f (next c x)
-    on before lost h = h
-    on before (front ns s) h = contra f.good h.good e
+module _ (text : List ℕ) (i c : ℕ) (now : List ℕ) (f : Taking) where
+  pub moves-end : length text ≤ f.at → MovesOn text i c now f None now
+  moves-end l = record { holds = on; few = tt; same = refl } where
+    on : (before ns s : List ℕ) → HoldsFront text i before now f ns s → Holds text i before now None (next c (front ns s))
+    on before ns s h = subst (Holds text i before now None) (sym (next-end c ns s text f.at h.rest l)) h.same
 
-  pub moves-end : length text ≤ f.at → (r.good ≡ false) × (r.count ≡ 0) → MovesOn text i c now f r now
-  moves-end l q = record { holds = on; few = let z = q.1 in omega arith; same = refl } where
-    on : (before : List ℕ) (x : Front) → Holds text i before now f x → Holds text i before now r (next c x)
-    on before lost h = record { lost = q.0; same = h.same }
-    on before (front ns s) h = subst (Holds text i before now r) (sym (next-end c ns s text f.at h.rest l)) (record { lost = q.0; same = h.same })
-
-  pub moves-other : f.at < length text → (get_or text f.at 0 ≡ c → ⊥) → (r.good ≡ false) × (r.count ≡ 0) → MovesOn text i c now f r now
-  moves-other l n q = record { holds = on; few = let z = q.1 in omega arith; same = refl } where
-    on : (before : List ℕ) (x : Front) → Holds text i before now f x → Holds text i before now r (next c x)
-    on before lost h = record { lost = q.0; same = h.same }
-    on before (front ns s) h =
+  pub moves-other : f.at < length text → (get_or text f.at 0 ≡ c → ⊥) → MovesOn text i c now f None now
+  moves-other l n = record { holds = on; few = tt; same = refl } where
+    on : (before ns s : List ℕ) → HoldsFront text i before now f ns s → Holds text i before now None (next c (front ns s))
+    on before ns s h =
         let e : next c (front ns s) ≡ lost = next-at c ns s text f.at h.rest l ∙ rw (ne_eqb (get_or text f.at 0) c n) in
-        subst (Holds text i before now r) (sym e) (record { lost = q.0; same = h.same })
+        subst (Holds text i before now None) (sym e) h.same
 
   pub moves-passed :
-      f.good ≡ true → f.at < length text → get_or text f.at 0 ≡ c → (c ≡ 61 → ⊥) →
-      r ≡ record { good = true; over = f.over; first = f.first; count = f.count; at = f.at + 1 } → MovesOn text i c now f r now
-  moves-passed g l e n q = record { holds = on; few = rw q (omega arith); same = refl } where
-    on : (before : List ℕ) (x : Front) → Holds text i before now f x → Holds text i before now r (next c x)
-    on before lost h = contra f.good g h.lost
-    on before (front ns s) h =
+      (r : Taking) → f.at < length text → get_or text f.at 0 ≡ c → (c ≡ 61 → ⊥) →
+      r ≡ record { over = f.over; first = f.first; count = f.count; at = f.at + 1 } → MovesOn text i c now f (Some r) now
+  moves-passed r l e n q = record { holds = on; few = few-of; same = refl } where
+    few-of : r.count ≤ f.count + 1
+    few-of = let z : r.count ≡ f.count = ap (λ (t : Taking). t.count) q in omega arith
+
+    on : (before ns s : List ℕ) → HoldsFront text i before now f ns s → Holds text i before now (Some r) (next c (front ns s))
+    on before ns s h =
         let z : next c (front ns s) ≡ front ns (drop (f.at + 1) text) =
         next-at c ns s text f.at h.rest l ∙ rw (eq-eqb (get_or text f.at 0) c e, ne_eqb c 61 n) in
-        subst (Holds text i before now r) (sym z)
+        subst (Holds text i before now (Some r)) (sym z)
         (rw q (record {
-          good = refl;
           over = h.over;
           first = h.first;
           count = h.count;
@@ -91,30 +85,26 @@ written-more : (i v n : ℕ) (vs before now now' : List ℕ) → now ≡ written
 written-more i v n vs before now now' e m q =
     q ∙ (rw (e, m) (sym (written-append vs (v ∷ []) before i ∙ written_one (i + length vs) v (written i vs before))))
 
-module _ (text : List ℕ) (i : ℕ) (now : List ℕ) (f r : Taking) (n : Figure) (g : f.good ≡ true) (l : f.at < length text) (e : get_or text f.at 0 ≡ 61)
-    (k : IsFigure text n (number_at_front (drop (f.at + 1) text))) where
+module _ (text : List ℕ) (i : ℕ) (now : List ℕ) (f : Taking) (l : f.at < length text) (e : get_or text f.at 0 ≡ 61) where
   next-number : (ns s : List ℕ) → s ≡ drop f.at text → next 61 (front ns s) ≡ numbered ns (number_at_front (drop (f.at + 1) text))
   next-number ns s q = next-at 61 ns s text f.at q l ∙ rw e
 
-  none_of : (ns : List ℕ) (x : Number) → IsFigure text n x → n.found ≡ false → numbered ns x ≡ lost
-  none_of ns nothing h z = refl
-  none_of ns (number v s) h z = contra n.found h.found z
+  none_of : (ns : List ℕ) (x : Number) → IsFigure text None x → numbered ns x ≡ lost
+  none_of ns nothing h = refl
+  none_of ns (number v s) h = absurd h
 
-  pub moves-none : n.found ≡ false → (r.good ≡ false) × (r.count ≡ 0) → MovesOn text i 61 now f r now
-  moves-none z q = record { holds = on; few = let y = q.1 in omega arith; same = refl } where
-    on : (before : List ℕ) (x : Front) → Holds text i before now f x → Holds text i before now r (next 61 x)
-    on before lost h = contra f.good g h.lost
-    on before (front ns s) h =
-        subst (Holds text i before now r) (sym (next-number ns s h.rest ∙ none_of ns (number_at_front (drop (f.at + 1) text)) k z))
-        (record { lost = q.0; same = h.same })
+  pub moves-none : IsFigure text None (number_at_front (drop (f.at + 1) text)) → MovesOn text i 61 now f None now
+  moves-none k = record { holds = on; few = tt; same = refl } where
+    on : (before ns s : List ℕ) → HoldsFront text i before now f ns s → Holds text i before now None (next 61 (front ns s))
+    on before ns s h =
+        subst (Holds text i before now None) (sym (next-number ns s h.rest ∙ none_of ns (number_at_front (drop (f.at + 1) text)) k)) h.same
 
   first_of :
-      (x : Number) (before : List ℕ) → IsFigure text n x → n.found ≡ true → now ≡ written i [] before → length now ≡ length before →
-      r ≡ record { good = true; over = is_over n.value; first = n.value; count = 1; at = n.end } → Holds text i before now r (numbered [] x)
-  first_of nothing before h z w m q = contra n.found z h
-  first_of (number v s) before h z w m q =
+      (n : Figure) (r : Taking) (x : Number) (before : List ℕ) → IsFigure text (Some n) x → now ≡ written i [] before → length now ≡ length before →
+      r ≡ record { over = is_over n.value; first = n.value; count = 1; at = n.end } → Holds text i before now (Some r) (numbered [] x)
+  first_of n r nothing before h w m q = absurd h
+  first_of n r (number v s) before h w m q =
       rw q (record {
-        good = refl;
         over = over-one v n.value h.value;
         first = h.value;
         count = refl;
@@ -125,17 +115,19 @@ module _ (text : List ℕ) (i : ℕ) (now : List ℕ) (f r : Taking) (n : Figure
       })
 
   pub moves-first :
-      n.found ≡ true → f.count ≡ 0 → r ≡ record { good = true; over = is_over n.value; first = n.value; count = 1; at = n.end } →
-      MovesOn text i 61 now f r now
-  moves-first z o q = record { holds = on; few = rw q (omega arith); same = refl } where
-    on : (before : List ℕ) (x : Front) → Holds text i before now f x → Holds text i before now r (next 61 x)
-    on before lost h = contra f.good g h.lost
-    on before (front [] s) h =
-        subst (Holds text i before now r) (sym (next-number [] s h.rest))
-        (first_of (number_at_front (drop (f.at + 1) text)) before k z (h.words no-over) h.same q)
-    on before (front (m ∷ ns) s) h = absurd (let y = h.count in let x : ⊥ = omega arith in x)
+      (n : Figure) (r : Taking) → IsFigure text (Some n) (number_at_front (drop (f.at + 1) text)) → f.count ≡ 0 →
+      r ≡ record { over = is_over n.value; first = n.value; count = 1; at = n.end } → MovesOn text i 61 now f (Some r) now
+  moves-first n r k o q = record { holds = on; few = few-of; same = refl } where
+    few-of : r.count ≤ f.count + 1
+    few-of = let z : r.count ≡ 1 = ap (λ (t : Taking). t.count) q in omega arith
 
-  module _ (now' : List ℕ) (st : n.value < 4294967296 → now' ≡ set now (i + (f.count - 1)) n.value) (sm : length now' ≡ length now) where
+    on : (before ns s : List ℕ) → HoldsFront text i before now f ns s → Holds text i before now (Some r) (next 61 (front ns s))
+    on before [] s h =
+        subst (Holds text i before now (Some r)) (sym (next-number [] s h.rest))
+        (first_of n r (number_at_front (drop (f.at + 1) text)) before k (h.words no-over) h.same q)
+    on before (m ∷ ns) s h = absurd (let y = h.count in let x : ⊥ = omega arith in x)
+
+  module _ (n : Figure) (r : Taking) (k : IsFigure text (Some n) (number_at_front (drop (f.at + 1) text))) (now' : List ℕ) (st : n.value < 4294967296 → now' ≡ set now (i + (f.count - 1)) n.value) (sm : length now' ≡ length now) where
     more-words :
         (m v : ℕ) (ns before : List ℕ) → n.value ≡ min v 4294967296 → f.count ≡ length (m ∷ ns) →
         (any_over (m ∷ ns) ≡ false → now ≡ written i ns before) → any_over ((m ∷ ns) ++ (v ∷ [])) ≡ false → now' ≡ written i (ns ++ (v ∷ [])) before
@@ -148,13 +140,12 @@ module _ (text : List ℕ) (i : ℕ) (now : List ℕ) (f r : Taking) (n : Figure
         written-more i v (f.count - 1) ns before now now' (w p.0) d3 (st d2 ∙ ap (λ (x : ℕ). set now (i + (f.count - 1)) x) d)
 
     more_of :
-        (x : Number) (m : ℕ) (ns s before : List ℕ) → IsFigure text n x → n.found ≡ true → HoldsFront text i before now f (m ∷ ns) s →
-        r ≡ record { good = true; over = (f.over || is_over n.value); first = f.first; count = f.count + 1; at = n.end } →
-        Holds text i before now' r (numbered (m ∷ ns) x)
-    more_of nothing m ns s before h z b q = contra n.found z h
-    more_of (number v u) m ns s before h z b q =
+        (x : Number) (m : ℕ) (ns s before : List ℕ) → IsFigure text (Some n) x → HoldsFront text i before now f (m ∷ ns) s →
+        r ≡ record { over = (f.over || is_over n.value); first = f.first; count = f.count + 1; at = n.end } →
+        Holds text i before now' (Some r) (numbered (m ∷ ns) x)
+    more_of nothing m ns s before h b q = absurd h
+    more_of (number v u) m ns s before h b q =
         rw q (record {
-          good = refl;
           over = ap (λ (x : Bool). x || is_over n.value) b.over ∙ (ap (λ (x : Bool). any_over (m ∷ ns) || x) (over-one v n.value h.value) ∙
               sym (any_over-append (m ∷ ns) (v ∷ [])));
           first = b.first;
@@ -166,36 +157,37 @@ module _ (text : List ℕ) (i : ℕ) (now : List ℕ) (f r : Taking) (n : Figure
         })
 
     pub moves_more :
-        n.found ≡ true → (f.count ≡ 0 → ⊥) → r ≡ record { good = true; over = (f.over || is_over n.value); first = f.first; count = f.count + 1; at = n.end } →
-        MovesOn text i 61 now f r now'
-    moves_more z o q = record { holds = on; few = rw q (omega arith); same = sm } where
-      on : (before : List ℕ) (x : Front) → Holds text i before now f x → Holds text i before now' r (next 61 x)
-      on before lost h = contra f.good g h.lost
-      on before (front [] s) h = absurd (o h.count)
-      on before (front (m ∷ ns) s) h =
-          subst (Holds text i before now' r) (sym (next-number (m ∷ ns) s h.rest)) (more_of (number_at_front (drop (f.at + 1) text)) m ns s before k z h q)
+        (f.count ≡ 0 → ⊥) → r ≡ record { over = (f.over || is_over n.value); first = f.first; count = f.count + 1; at = n.end } → MovesOn text i 61 now f (Some r) now'
+    moves_more o q = record { holds = on; few = few-of; same = sm } where
+      few-of : r.count ≤ f.count + 1
+      few-of = let z : r.count ≡ f.count + 1 = ap (λ (t : Taking). t.count) q in omega arith
+
+      on : (before ns s : List ℕ) → HoldsFront text i before now f ns s → Holds text i before now' (Some r) (next 61 (front ns s))
+      on before [] s h = absurd (o h.count)
+      on before (m ∷ ns) s h =
+          subst (Holds text i before now' (Some r)) (sym (next-number (m ∷ ns) s h.rest)) (more_of (number_at_front (drop (f.at + 1) text)) m ns s before k h q)
 
 -- ---- all bytes of a form
 
 pub record TakenSoFar (text : List ℕ) (i : ℕ) (form : List ℕ) (at : ℕ) (before now : List ℕ) (f : Taking) (j : ℕ) : Type 0 where
-  pub so : Front
-  pub holds : Holds text i before now f so
-  pub on : taken form (drop at text) ≡ held (drop j form) so
+  pub numbers : List ℕ
+  pub behind : List ℕ
+  pub holds : HoldsFront text i before now f numbers behind
+  pub on : taken form (drop at text) ≡ held (drop j form) (front numbers behind)
   pub few : f.count ≤ j
-  pub within : j ≤ length form
   pub same : length now ≡ length before
 
 pub take-first :
-    (text : List ℕ) (i : ℕ) (form : List ℕ) (at : ℕ) (words : List ℕ) (f : Taking) → at ≤ length text →
-    f ≡ record { good = true; over = false; first = 0; count = 0; at = at } → TakenSoFar text i form at words words f 0
+    (text : List ℕ) (i : ℕ) (form : List ℕ) (at : ℕ) (words : List ℕ) → at ≤ length text →
+    TakenSoFar text i form at words words (record { over = false; first = 0; count = 0; at = at }) 0
 unfolding written
-take-first text i form at words f h q =
+take-first text i form at words h =
     record {
-      so = front [] (drop at text);
-      holds = rw q (record { good = refl; over = sym no-over; first = refl; count = refl; rest = refl; inside = h; words = λ o. refl; same = refl });
+      numbers = [];
+      behind = drop at text;
+      holds = record { over = sym no-over; first = refl; count = refl; rest = refl; inside = h; words = λ o. refl; same = refl };
       on = refl;
-      few = rw q (omega arith);
-      within = omega arith;
+      few = omega arith;
       same = refl;
     }
 
@@ -203,18 +195,33 @@ held-step : (form : List ℕ) (j : ℕ) (x : Front) → j < length form → held
 unfolding held
 held-step form j x h = rw (drop-cons form j 0 h, add-one j)
 
-pub take_more :
-    (text : List ℕ) (i : ℕ) (form : List ℕ) (at : ℕ) (before now now' : List ℕ) (f r : Taking) (j : ℕ) → j < length form →
-    TakenSoFar text i form at before now f j → MovesOn text i (get_or form j 0) now f r now' → TakenSoFar text i form at before now' r (j + 1)
-take_more text i form at before now now' f r j h t m =
-    record {
-      so = next (get_or form j 0) t.so;
-      holds = m.holds before t.so t.holds;
-      on = t.on ∙ held-step form j t.so h;
-      few = let a = m.few in let b = t.few in omega arith;
-      within = omega arith;
-      same = m.same ∙ t.same;
-    }
+module _ (text : List ℕ) (i : ℕ) (form : List ℕ) (at : ℕ) (before now now' : List ℕ) (f : Taking) (j : ℕ) (h : j < length form)
+    (t : TakenSoFar text i form at before now f j) where
+  pub take_more : (r : Taking) → MovesOn text i (get_or form j 0) now f (Some r) now' → TakenSoFar text i form at before now' r (j + 1)
+  take_more r m = go (next (get_or form j 0) (front t.numbers t.behind)) refl (m.holds before t.numbers t.behind t.holds)
+    where
+      go : (x : Front) → next (get_or form j 0) (front t.numbers t.behind) ≡ x → Holds text i before now' (Some r) x → TakenSoFar text i form at before now' r (j + 1)
+      go lost e k = absurd k
+      go (front ns s) e k =
+          record {
+            numbers = ns;
+            behind = s;
+            holds = k;
+            on = t.on ∙ (held-step form j (front t.numbers t.behind) h ∙ ap (held (drop (j + 1) form)) e);
+            few = let a : r.count ≤ f.count + 1 = m.few in let b = t.few in omega arith;
+            same = m.same ∙ t.same;
+          }
+
+  -- the first byte that is not as the form says
+  pub take-lost : MovesOn text i (get_or form j 0) now f None now' → Holds text i before now' None (taken form (drop at text))
+  take-lost m = go (next (get_or form j 0) (front t.numbers t.behind)) refl (m.holds before t.numbers t.behind t.holds)
+    where
+      go : (x : Front) → next (get_or form j 0) (front t.numbers t.behind) ≡ x → Holds text i before now' None x → Holds text i before now' None (taken form (drop at text))
+      go lost e k =
+          let z : taken form (drop at text) ≡ lost =
+          t.on ∙ (held-step form j (front t.numbers t.behind) h ∙ (ap (held (drop (j + 1) form)) e ∙ held-lost (drop (j + 1) form))) in
+          subst (Holds text i before now' None) (sym z) (m.same ∙ t.same)
+      go (front ns s) e k = absurd k
 
 held-end : (form : List ℕ) (j : ℕ) (x : Front) → length form ≤ j → held (drop j form) x ≡ x
 unfolding held
@@ -222,15 +229,15 @@ held-end form j x h = rw (drop_of_length-le form h)
 
 pub take-end :
     (text : List ℕ) (i : ℕ) (form : List ℕ) (at : ℕ) (before now : List ℕ) (f : Taking) (j : ℕ) → length form ≤ j →
-    TakenSoFar text i form at before now f j → Holds text i before now f (taken form (drop at text))
+    TakenSoFar text i form at before now f j → Holds text i before now (Some f) (taken form (drop at text))
 take-end text i form at before now f j h t =
-    subst (Holds text i before now f) (sym (t.on ∙ held-end form j t.so h)) t.holds
+    subst (Holds text i before now (Some f)) (sym (t.on ∙ held-end form j (front t.numbers t.behind) h)) t.holds
 
 -- ---- structs of the code
 
 pub taking-by :
     (o o' : Bool) (first count at : ℕ) → o ≡ o' →
-    ◌≡◌ {A = Taking} (record { good = true; over = o; first = first; count = count; at = at }) (record { good = true; over = o'; first = first; count = count; at = at })
+    ◌≡◌ {A = Taking} (record { over = o; first = first; count = count; at = at }) (record { over = o'; first = first; count = count; at = at })
 taking-by o o' first count at e = rw e
 
 pub is-two : (n : ℕ) → n < 3 → (n ≡ 0 → ⊥) → (n ≡ 1 → ⊥) → n ≡ 2

@@ -1,4 +1,5 @@
 -- Lines that are due, as the code reads them one behind the other. No contract cites this file.
+use Rattle.std.specs.Prelude.{Some, None}
 use Prim.Native.Nat.{ℕ, zero, suc, ◌+◌, ◌*◌, ◌/◌, ◌-◌, ◌≤◌, ◌<◌, min}
 use mathlib.Core.Path.{◌≡◌, refl, sym, ap, ◌∙◌}
 use mathlib.Core.Bool.{true, false, cond}
@@ -16,6 +17,7 @@ use Rattle.listing_back.specs.Due.{Step, stops, goes, any_over, stray, Test, hea
 use Rattle.listing_back.specs.Inner.Stands.{Holds, form_at}
 use Rattle.listing_back.specs.Inner.Steps.{equals_in, TakesAlone, test_by, step_of, CountsOn, table_of, RecordOn, RecordsOn, EndsOn}
 use Rattle.listing_back.specs.declared.taking.Taking.{Taking}
+use Rattle.listing_back.specs.declared.stepping.Kind.{Kind}
 use Rattle.listing_back.specs.declared.stepping.Spot.{Spot}
 use Rattle.listing_back.proofs.Lines.{any_over-first}
 use Rattle.listing_back.proofs.Steps.{records-stops}
@@ -43,7 +45,7 @@ gone-inside text r a b q h = rw q h
 
 -- ---- a line of the head
 
-module _ (text : List ℕ) (before : Spot) (n line kind : ℕ) where
+module _ (text : List ℕ) (before : Spot) (n line : ℕ) (kind : Kind) where
   pub counts-stopped : (before.fault ≡ 0 → ⊥) → before.at ≤ length text → CountsOn text before n line kind before
   counts-stopped h i =
       record {
@@ -51,23 +53,23 @@ module _ (text : List ℕ) (before : Spot) (n line kind : ℕ) where
         inside = i;
       }
 
-  module _ (g : before.fault ≡ 0) (t : Taking) (k : TakesAlone text t (taken (form_at n) (drop before.at text))) (r : Spot) where
+  module _ (g : before.fault ≡ 0) (r : Spot) where
     due-step :
         (ws : List ℕ) (ok : Test) → head_line (form_at n) line ok (step_of text ws before) ≡ head_by ok line ws (drop before.at text) (taken (form_at n) (drop before.at text))
     due-step ws ok = ap (head_line (form_at n) line ok) (step_of-goes text ws before g)
 
-    pub counts-lost : (s : ℕ) → t.good ≡ false → s ≡ stray (drop before.at text) → r ≡ record { fault = s; value = line; at = 0; number = 0 } → CountsOn text before n line kind r
-    counts-lost s e q p =
+    pub counts-lost : (s : ℕ) (k : TakesAlone text None (taken (form_at n) (drop before.at text))) → s ≡ stray (drop before.at text) → r ≡ record { fault = s; value = line; at = 0; number = 0 } → CountsOn text before n line kind r
+    counts-lost s k q p =
         record {
           step = λ ws ok f. stopped-step text (ws ++ (r.number ∷ [])) r s line p (let z = stray-ge (drop before.at text) in omega arith) ∙
               (ap (λ (y : ℕ). stops y line) q ∙
-              sym (due-step ws ok ∙ ap (head_by ok line ws (drop before.at text)) (lost-of text 1 k.before k.after t (taken (form_at n) (drop before.at text)) k.holds e)));
+              sym (due-step ws ok ∙ ap (head_by ok line ws (drop before.at text)) (lost-of text 1 k.before k.after (taken (form_at n) (drop before.at text)) k.holds)));
           inside = stopped-inside text r s line p;
         }
 
-    module _ (one : equals_in (form_at n) ≡ 1) (e : t.good ≡ true) where
+    module _ (t : Taking) (k : TakesAlone text (Some t) (taken (form_at n) (drop before.at text))) (one : equals_in (form_at n) ≡ 1) where
       f : FrontOf text 1 k.before k.after t (taken (form_at n) (drop before.at text))
-      f = front_of (taken (form_at n) (drop before.at text)) k.holds e
+      f = front_of (taken (form_at n) (drop before.at text)) k.holds
 
       single : (ns : List ℕ) → length ns ≡ 1 → ns ≡ get_or ns 0 0 ∷ []
       single [] h = absurd (let z : ⊥ = omega arith in z)
@@ -144,8 +146,7 @@ take-written i width vs words words' m h e =
 drop-one : (ns : List ℕ) (width : ℕ) → length ns ≡ suc width → length (drop 1 ns) ≡ width
 drop-one ns width h = length-drop 1 ns ∙ (let z : length ns - 1 ≡ width = omega arith in z)
 
-module _ (text : List ℕ) (before : Spot) (line n : ℕ) (words : List ℕ) (i k places full : ℕ) (g : before.fault ≡ 0) (t : Taking) (words' : List ℕ)
-    (h : Holds text i words words' t (taken (form_at n) (drop before.at text))) (r : Spot) where
+module _ (text : List ℕ) (before : Spot) (line n : ℕ) (words : List ℕ) (i k places full : ℕ) (g : before.fault ≡ 0) (words' : List ℕ) (r : Spot) where
   record-step :
       record_line (table_of n places full) line k (step_of text (take i words) before) ≡
       record_by (table_of n places full) line k (take i words) (drop before.at text) (taken (form_at n) (drop before.at text))
@@ -155,22 +156,22 @@ module _ (text : List ℕ) (before : Spot) (line n : ℕ) (words : List ℕ) (i 
   fault-room a b p l z = absurd (let y : a ≡ 0 = sym (ap (λ (s : Spot). s.fault) p) ∙ z in let x : ⊥ = omega arith in x)
 
   pub record-lost :
-      (s : ℕ) → t.good ≡ false → s ≡ stray (drop before.at text) → length words' ≡ length words → r ≡ record { fault = s; value = line; at = 0; number = 0 } →
+      (s : ℕ) → Holds text i words words' None (taken (form_at n) (drop before.at text)) → s ≡ stray (drop before.at text) → length words' ≡ length words → r ≡ record { fault = s; value = line; at = 0; number = 0 } →
       RecordOn text before line n words i k places full r words'
-  record-lost s e q m p =
+  record-lost s h q m p =
       let z : 0 < s = let y = stray-ge (drop before.at text) in omega arith in
       record {
         step = λ width one room never. stopped-step text (take (i + width) words') r s line p z ∙
             (ap (λ (y : ℕ). stops y line) q ∙
-            sym (record-step ∙ ap (record_by (table_of n places full) line k (take i words) (drop before.at text)) (lost-of text i words words' t (taken (form_at n) (drop before.at text)) h e)));
+            sym (record-step ∙ ap (record_by (table_of n places full) line k (take i words) (drop before.at text)) (lost-of text i words words' (taken (form_at n) (drop before.at text)) h)));
         room = λ y u. fault-room s line p z y;
         inside = stopped-inside text r s line p;
         same = m;
       }
 
-  module _ (e : t.good ≡ true) where
+  module _ (t : Taking) (h : Holds text i words words' (Some t) (taken (form_at n) (drop before.at text))) where
     held_by : FrontOf text i words words' t (taken (form_at n) (drop before.at text))
-    held_by = front_of (taken (form_at n) (drop before.at text)) h e
+    held_by = front_of (taken (form_at n) (drop before.at text)) h
 
     record-front :
         record_line (table_of n places full) line k (step_of text (take i words) before) ≡

@@ -1,4 +1,5 @@
 -- A line that is not due, and the tests of the head's numbers, as the code looks at them. No contract cites this file.
+use Rattle.std.specs.Prelude.{Some, None}
 use Prim.Native.Nat.{ℕ, suc, ◌+◌, ◌≤◌, ◌<◌, min}
 use mathlib.Core.Path.{◌≡◌, refl, sym, ap, ◌∙◌}
 use mathlib.Core.Bool.{Bool, true, false, cond}
@@ -15,15 +16,16 @@ use Rattle.listing_back.specs.Due.{any_over, stray_by, stray_in, stray}
 use Rattle.listing_back.specs.Back.{is_listed}
 use Rattle.listing_back.specs.Inner.Stands.{HoldsFront, Holds, form_at}
 use Rattle.listing_back.specs.Inner.Steps.{equals_in, TakesAlone, test_by}
+use Rattle.listing_back.specs.declared.stepping.Kind.{Kind}
+use Rattle.listing_back.specs.declared.stepping.Kind.TheVariants.{Any, Zero, Code}
 use Rattle.listing_back.specs.declared.taking.Taking.{Taking}
-use Rattle.listing_back.proofs.Holding.{contra}
 use Rattle.listing_back.proofs.Lines.{held-lost}
 
 -- ---- what was taken, by what the code tells
 
-pub lost-of : (text : List ℕ) (i : ℕ) (before now : List ℕ) (t : Taking) (x : Front) → Holds text i before now t x → t.good ≡ false → x ≡ lost
-lost-of text i before now t lost h e = refl
-lost-of text i before now t (front ns s) h e = contra t.good h.good e
+pub lost-of : (text : List ℕ) (i : ℕ) (before now : List ℕ) (x : Front) → Holds text i before now None x → x ≡ lost
+lost-of text i before now lost h = refl
+lost-of text i before now (front ns s) h = absurd h
 
 pub record FrontOf (text : List ℕ) (i : ℕ) (before now : List ℕ) (t : Taking) (x : Front) : Type 0 where
   pub numbers : List ℕ
@@ -31,9 +33,9 @@ pub record FrontOf (text : List ℕ) (i : ℕ) (before now : List ℕ) (t : Taki
   pub is : x ≡ front numbers rest
   pub holds : HoldsFront text i before now t numbers rest
 
-pub front_of : {text : List ℕ} {i : ℕ} {before now : List ℕ} {t : Taking} (x : Front) → Holds text i before now t x → t.good ≡ true → FrontOf text i before now t x
-front_of {t = t} lost h e = contra t.good e h.lost
-front_of (front ns s) h e = record { numbers = ns; rest = s; is = refl; holds = h }
+pub front_of : {text : List ℕ} {i : ℕ} {before now : List ℕ} {t : Taking} (x : Front) → Holds text i before now (Some t) x → FrontOf text i before now t x
+front_of lost h = absurd h
+front_of (front ns s) h = record { numbers = ns; rest = s; is = refl; holds = h }
 
 -- ---- how many numbers a form has
 
@@ -63,20 +65,20 @@ taken-many form s e = many-on form [] s e ∙ (let z : 0 + equals_in form ≡ eq
 
 -- ---- a line of any form
 
-module _ {text : List ℕ} {t : Taking} (x : Front) (k : TakesAlone text t x) where
-  pub stray-none : t.good ≡ false → 0 ≡ stray_by x 0
-  stray-none e = rw (lost-of text 1 k.before k.after t x k.holds e)
+pub stray-none : {text : List ℕ} (x : Front) → TakesAlone text None x → 0 ≡ stray_by x 0
+stray-none {text} x k = rw (lost-of text 1 k.before k.after x k.holds)
 
-  stray-found : (b : Bool) → t.good ≡ true → t.over ≡ b → stray_by x 0 ≡ cond b 25 26
-  stray-found b e o =
-      let f = front_of x k.holds e in
+module _ {text : List ℕ} {t : Taking} (x : Front) (k : TakesAlone text (Some t) x) where
+  stray-found : (b : Bool) → t.over ≡ b → stray_by x 0 ≡ cond b 25 26
+  stray-found b o =
+      let f = front_of x k.holds in
       ap (λ (y : Front). stray_by y 0) f.is ∙ ap (λ (y : Bool). cond y 25 26) (sym f.holds.over ∙ o)
 
-  pub stray-over : t.good ≡ true → t.over ≡ true → 25 ≡ stray_by x 0
-  stray-over e o = sym (stray-found true e o)
+  pub stray-over : t.over ≡ true → 25 ≡ stray_by x 0
+  stray-over o = sym (stray-found true o)
 
-  pub stray-fine : t.good ≡ true → t.over ≡ false → 26 ≡ stray_by x 0
-  stray-fine e o = sym (stray-found false e o)
+  pub stray-fine : t.over ≡ false → 26 ≡ stray_by x 0
+  stray-fine o = sym (stray-found false o)
 
 pub stray-start : (text : List ℕ) (at : ℕ) → at < length text → stray (drop at text) ≡ stray_in (drop 0 forms) (drop at text)
 unfolding stray
@@ -169,11 +171,13 @@ module _ (n : ℕ) where
       sym (listed-map a b c d e) ∙ lt-leb n 52 f
 
 -- a number over 32 bits is told as 2 ^ 32, which passes the same tests
-pub test-capped : (kind v w : ℕ) → w ≡ min v 4294967296 → test_by kind w ≡ test_by kind v
+pub test-capped : (kind : Kind) (v w : ℕ) → w ≡ min v 4294967296 → test_by kind w ≡ test_by kind v
 test-capped kind v w e = go (ltb v 4294967296) refl where
+  over : (kind : Kind) → 4294967296 ≤ v → 4294967296 ≤ w → test_by kind w ≡ test_by kind v
+  over Any h a = refl
+  over Zero h a = rw (ne_eqb w 0 (λ z. let y : ⊥ = omega arith in y), ne_eqb v 0 (λ z. let y : ⊥ = omega arith in y))
+  over Code h a = rw (listed-over w a, listed-over v h)
+
   go : (t : Bool) → ltb v 4294967296 ≡ t → test_by kind w ≡ test_by kind v
   go true q = let h = ltb-true v 4294967296 q in let z : w ≡ v = omega arith in ap (test_by kind) z
-  go false q =
-      let h = ltb-false v 4294967296 q in
-      let a : 4294967296 ≤ w = omega arith in
-      rw (listed-over w a, listed-over v h, ne_eqb w 0 (λ z. let y : ⊥ = omega arith in y), ne_eqb v 0 (λ z. let y : ⊥ = omega arith in y))
+  go false q = let h = ltb-false v 4294967296 q in over kind h (omega arith)

@@ -4,7 +4,7 @@ ghost use Rattle.listing_back.specs.Back.{is_plain, zero_where};
 ghost use Rattle.listing_back.specs.Inner.Steps.{test_by};
 ghost use Rattle.listing_back.specs.Inner.Whole.{spot_of, ReadsHead};
 
-use crate::stepping::{Spot, gone, number_due};
+use crate::stepping::{Kind, Spot, gone, number_due};
 
 // The fault of a line and its value, or the place behind the head; and the head's numbers, which mean something where there is no fault.
 #[derive(Clone, Copy)]
@@ -22,42 +22,42 @@ pub struct Heading {
 }
 
 // How the value beside this refusal is tested.
-fn value_kind(refusal: u32) -> u32
+fn value_kind(refusal: u32) -> Kind
     ensures { (v : ℕ) → zero_where (is_plain refusal) v ≡ test_by result v }
 {
     if refusal == 0 {
-        return 1;
+        return Kind::Zero;
     }
     if refusal == 2 {
-        return 1;
+        return Kind::Zero;
     }
     if refusal == 6 {
-        return 1;
+        return Kind::Zero;
     }
-    0
+    Kind::Any
 }
 
 // How a count beside this refusal is tested.
-fn count_kind(refusal: u32) -> u32
+fn count_kind(refusal: u32) -> Kind
     ensures { (v : ℕ) → zero_where (not (eqb refusal 0)) v ≡ test_by result v }
 {
     if refusal == 0 {
-        return 0;
+        return Kind::Any;
     }
-    1
+    Kind::Zero
 }
 
 // How many notes there are, beside this refusal and at this cap.
-fn note_kind(refusal: u32, cap: u32) -> u32
+fn note_kind(refusal: u32, cap: u32) -> Kind
     ensures { (v : ℕ) → (zero_where (not (eqb refusal 0)) v && zero_where (eqb cap 0) v) ≡ test_by result v }
 {
     if refusal != 0 {
-        return 1;
+        return Kind::Zero;
     }
     if cap == 0 {
-        return 1;
+        return Kind::Zero;
     }
-    0
+    Kind::Any
 }
 
 fn heading_of(a: Spot, b: Spot, c: Spot, d: Spot, e: Spot, f: Spot, g: Spot) -> Heading
@@ -91,9 +91,9 @@ fn heading_of(a: Spot, b: Spot, c: Spot, d: Spot, e: Spot, f: Spot, g: Spot) -> 
 pub fn read_head(text: &[u8]) -> Heading
     ensures { ReadsHead text.now result }
 {
-    let a = number_due(text, gone(0, 0), 0, 1, 2);
+    let a = number_due(text, gone(0, 0), 0, 1, Kind::Code);
     let b = number_due(text, a, 1, 2, value_kind(a.number));
-    let c = number_due(text, b, 2, 3, 0);
+    let c = number_due(text, b, 2, 3, Kind::Any);
     let counted = count_kind(a.number);
     let d = number_due(text, c, 3, 4, counted);
     let e = number_due(text, d, 4, 5, counted);

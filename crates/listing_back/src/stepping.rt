@@ -44,7 +44,7 @@ pub fn gone(at: usize, number: u32) -> Spot
 // ---- a line that is not due
 
 // A line of this form, of which no word is kept.
-fn take_alone(text: &[u8], at: usize, n: u32) -> Taking
+fn take_alone(text: &[u8], at: usize, n: u32) -> Option<Taking>
     requires { (at ≤ length text.now) × (n < 10) }
     ensures { TakesAlone text.now result (taken (form_at n) (drop at text.now)) }
 {
@@ -57,10 +57,9 @@ fn stray_as(text: &[u8], at: usize, n: u32) -> u32
     requires { (at ≤ length text.now) × (n < 10) }
     ensures { result ≡ stray_by (taken (form_at n) (drop at text.now)) 0 }
 {
-    let t = take_alone(text, at, n);
-    if !t.good {
+    let Some(t) = take_alone(text, at, n) else {
         return 0;
-    }
+    };
     if t.over {
         return 25;
     }
@@ -75,13 +74,11 @@ fn stray_at(text: &[u8], at: usize) -> u32
     if text.len() <= at {
         return 26;
     }
-    let mut n: u32 = 0;
-    while n < 10 {
+    for n in 0..10 {
         let x = stray_as(text, at, n);
         if x != 0 {
             return x;
         }
-        n += 1;
     }
     24
 }
@@ -110,21 +107,26 @@ fn is_listed(n: u64) -> bool
     n <= 52
 }
 
-// The tests of the head's numbers: 2 a refusal that can be listed, 1 zero, 0 any number.
-fn passes(kind: u32, n: u64) -> bool
+// How a number of the head is tested.
+#[derive(Clone, Copy)]
+pub enum Kind {
+    Any,
+    Zero,
+    Code, // the number of a refusal that can be listed
+}
+
+fn passes(kind: Kind, n: u64) -> bool
     ensures { result ≡ test_by kind n }
 {
-    if kind == 2 {
-        return is_listed(n);
+    match kind {
+        Kind::Any => true,
+        Kind::Zero => n == 0,
+        Kind::Code => is_listed(n),
     }
-    if kind == 1 {
-        return n == 0;
-    }
-    true
 }
 
 // The line of the head with this form and this number is due. Ruled out: 25 before 24, and 26 before 25.
-pub fn number_due(text: &[u8], before: Spot, n: u32, line: usize, kind: u32) -> Spot
+pub fn number_due(text: &[u8], before: Spot, n: u32, line: usize, kind: Kind) -> Spot
     requires { (before.at ≤ length text.now) × (n < 10) × (equals_in (form_at n) ≡ 1) }
     ensures { CountsOn text.now before n line kind result }
 {
@@ -132,10 +134,9 @@ pub fn number_due(text: &[u8], before: Spot, n: u32, line: usize, kind: u32) -> 
         return before;
     }
     let at = before.at;
-    let t = take_alone(text, at, n);
-    if !t.good {
+    let Some(t) = take_alone(text, at, n) else {
         return stopped(stray_at(text, at), line);
-    }
+    };
     if !passes(kind, t.first) {
         return stopped(24, line);
     }
@@ -166,10 +167,9 @@ fn record_due(
     ensures { RecordOn text.now before line n words.old i k places full result words.new }
 {
     let at = before.at;
-    let t = take_form(text, at, n, words, i);
-    if !t.good {
+    let Some(t) = take_form(text, at, n, words, i) else {
         return stopped(stray_at(text, at), line);
-    }
+    };
     if t.over {
         return stopped(25, line);
     }
@@ -198,15 +198,13 @@ pub fn read_records(
 {
     let places = words.len() / width;
     let mut spot = before;
-    let mut k: u32 = 0;
-    let mut i: usize = 0;
-    while k < count {
+    let mut i = 0;
+    for k in 0..count {
         if spot.fault != 0 {
             return spot;
         }
         spot = record_due(text, spot, line + k as usize, n, words, i, k, places, full);
         i += width;
-        k += 1;
     }
     spot
 }

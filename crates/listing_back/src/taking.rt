@@ -2,24 +2,21 @@
 //
 // A form is the text of a line with its numbers left out, so a number is taken behind each `=` of it. The first number of a line is told, and the
 // others are stored as words where the table has a place for them. The one place in code that has the ten forms: `take_form`.
-ghost use Rattle.std.specs.Prelude.{◌≡◌, true, false, cond, ◌||◌, [], ◌+◌, ◌-◌, ◌*◌, ◌≤◌, ◌<◌, min, length, drop, get_or, set};
+ghost use Rattle.std.specs.Prelude.{◌≡◌, cond, ◌||◌, Some, [], ◌+◌, ◌-◌, ◌*◌, ◌≤◌, ◌<◌, min, length, drop, get_or, set};
 ghost use Rattle.listing_back.specs.Forms.{is_digit, nothing, number, digits_from, number_at_front, taken};
 ghost use Rattle.listing_back.specs.Due.{is_over};
 ghost use Rattle.listing_back.specs.Inner.Stands.{IsFigure, Holds, MovesOn, form_at};
 
-// A number: whether there is one, the number or 2^32 where it is over 32 bits, and the place behind it.
+// A number, or 2^32 where it is over 32 bits, and the place behind it.
 #[derive(Clone, Copy)]
 pub struct Figure {
-    pub found: bool,
     pub value: u64,
     pub end: usize,
 }
 
-// What a form has taken so far: whether the text is as it says, whether a number was over 32 bits, the first number, how many there were,
-// and the place reached.
+// What a form has taken so far: whether a number was over 32 bits, the first number, how many there were, and the place reached.
 #[derive(Clone, Copy)]
 pub struct Taking {
-    pub good: bool,
     pub over: bool,
     pub first: u64,
     pub count: usize,
@@ -55,83 +52,63 @@ fn more(v: u64, b: u8) -> u64
     if n < 4294967296 { n } else { 4294967296 }
 }
 
-fn figure_of(value: u64, end: usize) -> Figure
-    ensures { result ≡ record { found = true; value = value; end = end } }
-{
-    Figure {
-        found: true,
-        value: value,
-        end: end,
-    }
-}
-
-fn no_figure() -> Figure
-    ensures { result.found ≡ false }
-{
-    Figure {
-        found: false,
-        value: 0,
-        end: 0,
-    }
-}
-
 // The digits from a place on.
 fn digits_from(text: &[u8], from: usize) -> Figure
     requires { from ≤ length text.now }
-    ensures { IsFigure text.now result (digits_from 0 (drop from text.now)) }
+    ensures { IsFigure text.now (Some result) (digits_from 0 (drop from text.now)) }
 {
     let mut v: u64 = 0;
     let mut p: usize = from;
     while p < text.len() {
         if !is_digit(text[p]) {
-            return figure_of(v, p);
+            return Figure { value: v, end: p };
         }
         v = more(v, text[p]);
         p += 1;
     }
-    figure_of(v, p)
+    Figure { value: v, end: p }
 }
 
 // A byte of the text, 0 behind its end.
 fn byte_at(text: &[u8], p: usize) -> u8
     ensures { result ≡ get_or text.now p 0 }
 {
-    if p < text.len() {
-        return text[p];
-    }
-    0
+    text.get(p).copied().unwrap_or(0)
 }
 
 // A 0 at this place: no number where another digit follows it.
-fn zero_at(text: &[u8], p: usize) -> Figure
+fn zero_at(text: &[u8], p: usize) -> Option<Figure>
     requires { p < length text.now }
     ensures { IsFigure text.now result
         (cond (is_digit (get_or text.now (p + 1) 0)) nothing (number 0 (drop (p + 1) text.now))) }
 {
     let b = byte_at(text, p + 1);
     if is_digit(b) {
-        return no_figure();
+        return None;
     }
-    figure_of(0, p + 1)
+    Some(Figure {
+        value: 0,
+        end: p + 1,
+    })
 }
 
 // The number at this place. Ruled out: a leading zero taken, `+1`, and a number over 32 bits that wraps.
 #[tactic(auto, using(crate::proofs::Figures::zero_first))]
-fn number_at(text: &[u8], p: usize) -> Figure
+fn number_at(text: &[u8], p: usize) -> Option<Figure>
     requires { p ≤ length text.now }
     ensures { IsFigure text.now result (number_at_front (drop p text.now)) }
 {
     if text.len() <= p {
-        return no_figure();
+        return None;
     }
     let b = text[p];
     if b == 48 {
         return zero_at(text, p);
     }
     if !is_digit(b) {
-        return no_figure();
+        return None;
     }
-    digits_from(text, p)
+    Some(digits_from(text, p))
 }
 
 // ---- a line
@@ -145,56 +122,22 @@ fn is_over(v: u64) -> bool
 fn either(a: bool, b: bool) -> bool
     ensures { result ≡ (a || b) }
 {
-    if a {
-        return true;
-    }
-    b
-}
-
-fn nowhere() -> Taking
-    ensures { (result.good ≡ false) × (result.count ≡ 0) }
-{
-    Taking {
-        good: false,
-        over: false,
-        first: 0,
-        count: 0,
-        at: 0,
-    }
-}
-
-fn begun(at: usize) -> Taking
-    ensures { result ≡ record { good = true; over = false; first = 0; count = 0; at = at } }
-{
-    Taking {
-        good: true,
-        over: false,
-        first: 0,
-        count: 0,
-        at: at,
-    }
+    a || b
 }
 
 // One byte further.
 fn passed(f: Taking) -> Taking
     requires { f.at < 18446744073709551615 }
-    ensures { result ≡ record { good = true; over = f.over; first = f.first; count = f.count; at = f.at + 1 } }
+    ensures { result ≡ record { over = f.over; first = f.first; count = f.count; at = f.at + 1 } }
 {
-    Taking {
-        good: true,
-        over: f.over,
-        first: f.first,
-        count: f.count,
-        at: f.at + 1,
-    }
+    Taking { at: f.at + 1, ..f }
 }
 
 // The first number of a line.
 fn first_taken(n: Figure) -> Taking
-    ensures { result ≡ record { good = true; over = is_over n.value; first = n.value; count = 1; at = n.end } }
+    ensures { result ≡ record { over = is_over n.value; first = n.value; count = 1; at = n.end } }
 {
     Taking {
-        good: true,
         over: is_over(n.value),
         first: n.value,
         count: 1,
@@ -205,10 +148,9 @@ fn first_taken(n: Figure) -> Taking
 // A number more.
 fn more_taken(f: Taking, n: Figure) -> Taking
     requires { f.count < 18446744073709551615 }
-    ensures { result ≡ record { good = true; over = (f.over || is_over n.value); first = f.first; count = f.count + 1; at = n.end } }
+    ensures { result ≡ record { over = (f.over || is_over n.value); first = f.first; count = f.count + 1; at = n.end } }
 {
     Taking {
-        good: true,
         over: either(f.over, is_over(n.value)),
         first: f.first,
         count: f.count + 1,
@@ -228,60 +170,57 @@ fn store(words: &mut [u32], place: usize, v: u64)
 }
 
 // Behind an `=` at the place reached: a number.
-fn number_next(text: &[u8], f: Taking, words: &mut [u32], i: usize) -> Taking
-    requires { (f.good ≡ true) × (f.at < length text.now) × (get_or text.now f.at 0 ≡ 61) × (i ≤ length words.old) × (f.count < 9223372036854775808) }
+fn number_next(text: &[u8], f: Taking, words: &mut [u32], i: usize) -> Option<Taking>
+    requires { (f.at < length text.now) × (get_or text.now f.at 0 ≡ 61) × (i ≤ length words.old) × (f.count < 9223372036854775808) }
     ensures { MovesOn text.now i 61 words.old f result words.new }
 {
-    let n = number_at(text, f.at + 1);
-    if !n.found {
-        return nowhere();
-    }
+    let n = number_at(text, f.at + 1)?;
     let count = f.count;
     if count == 0 {
-        return first_taken(n);
+        return Some(first_taken(n));
     }
     store(words, i + (count - 1), n.value);
-    more_taken(f, n)
+    Some(more_taken(f, n))
 }
 
 // A byte of the form at the place reached.
-fn hold_byte(text: &[u8], c: u8, f: Taking, words: &mut [u32], i: usize) -> Taking
+fn hold_byte(text: &[u8], c: u8, f: Taking, words: &mut [u32], i: usize) -> Option<Taking>
     requires { (i ≤ length words.old) × (f.count < 9223372036854775808) }
     ensures { MovesOn text.now i c words.old f result words.new }
 {
-    if !f.good {
-        return f;
-    }
     let at = f.at;
     if text.len() <= at {
-        return nowhere();
+        return None;
     }
     if text[at] != c {
-        return nowhere();
+        return None;
     }
     if c == 61 {
         return number_next(text, f, words, i);
     }
-    passed(f)
+    Some(passed(f))
 }
 
 // A line of this form at this place, its words from i on.
-fn take_line(text: &[u8], at: usize, form: &[u8], words: &mut [u32], i: usize) -> Taking
+fn take_line(text: &[u8], at: usize, form: &[u8], words: &mut [u32], i: usize) -> Option<Taking>
     requires { (at ≤ length text.now) × (i ≤ length words.old) }
     ensures { Holds text.now i words.old words.new result (taken form.now (drop at text.now)) }
 {
-    let mut f = begun(at);
-    let mut j: usize = 0;
-    while j < form.len() {
-        f = hold_byte(text, form[j], f, words, i);
-        j += 1;
+    let mut f = Taking {
+        over: false,
+        first: 0,
+        count: 0,
+        at,
+    };
+    for c in form {
+        f = hold_byte(text, *c, f, words, i)?;
     }
-    f
+    Some(f)
 }
 
 // ---- the ten forms
 
-fn take_first(text: &[u8], at: usize, n: u32, words: &mut [u32], i: usize) -> Taking
+fn take_first(text: &[u8], at: usize, n: u32, words: &mut [u32], i: usize) -> Option<Taking>
     requires { (at ≤ length text.now) × (i ≤ length words.old) × (n < 3) }
     ensures { Holds text.now i words.old words.new result (taken (form_at n) (drop at text.now)) }
 {
@@ -294,7 +233,7 @@ fn take_first(text: &[u8], at: usize, n: u32, words: &mut [u32], i: usize) -> Ta
     take_line(text, at, b"cap=\n", words, i)
 }
 
-fn take_count(text: &[u8], at: usize, n: u32, words: &mut [u32], i: usize) -> Taking
+fn take_count(text: &[u8], at: usize, n: u32, words: &mut [u32], i: usize) -> Option<Taking>
     requires { (at ≤ length text.now) × (i ≤ length words.old) × (2 < n) × (n < 7) }
     ensures { Holds text.now i words.old words.new result (taken (form_at n) (drop at text.now)) }
 {
@@ -310,7 +249,7 @@ fn take_count(text: &[u8], at: usize, n: u32, words: &mut [u32], i: usize) -> Ta
     take_line(text, at, b"notes=\n", words, i)
 }
 
-fn take_record(text: &[u8], at: usize, n: u32, words: &mut [u32], i: usize) -> Taking
+fn take_record(text: &[u8], at: usize, n: u32, words: &mut [u32], i: usize) -> Option<Taking>
     requires { (at ≤ length text.now) × (i ≤ length words.old) × (6 < n) × (n < 10) }
     ensures { Holds text.now i words.old words.new result (taken (form_at n) (drop at text.now)) }
 {
@@ -336,7 +275,7 @@ fn take_record(text: &[u8], at: usize, n: u32, words: &mut [u32], i: usize) -> T
 }
 
 // A line of the form with this number (`forms`) at this place, its words from i on.
-pub fn take_form(text: &[u8], at: usize, n: u32, words: &mut [u32], i: usize) -> Taking
+pub fn take_form(text: &[u8], at: usize, n: u32, words: &mut [u32], i: usize) -> Option<Taking>
     requires { (at ≤ length text.now) × (i ≤ length words.old) × (n < 10) }
     ensures { Holds text.now i words.old words.new result (taken (form_at n) (drop at text.now)) }
 {

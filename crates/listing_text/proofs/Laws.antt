@@ -4,8 +4,7 @@ use Rattle.std.specs.Prelude.{Err}
 use Prim.Native.Nat.{ℕ, ◌+◌}
 use mathlib.Core.Path.{◌≡◌, refl}
 use mathlib.Core.List.{List, [], ◌∷◌, ◌++◌, append_assoc}
-use lib.ListN.{get_or, drop}
-use lib.Seq.{get_or-drop}
+use lib.ListN.{get_or}
 use Rattle.anomaly.specs.declared.Note.{Note}
 use Rattle.errors.specs.declared.Refusal.{Refusal}
 use Rattle.errors.specs.Refusal.{numbers_of}
@@ -46,20 +45,14 @@ unfolding lines_text line_text
 lines_text-seven f g h i j k l = simp append_assoc
 
 -- the words of a record, read one by one
-pub node_line-drop :
-    (k i : ℕ) (w : List ℕ) {a b c d e f : ℕ} → a ≡ get_or w (i + node_name) 0 → b ≡ get_or w (i + node_fixed) 0 → c ≡ get_or w (i + node_parent) 0 → d ≡ get_or w (i + node_first) 0 →
-    e ≡ get_or w (i + node_count) 0 → f ≡ get_or w (i + line_word) 0 →
+pub node_line-words :
+    (k : ℕ) (w : List ℕ) {a b c d e f : ℕ} → a ≡ get_or w node_name 0 → b ≡ get_or w node_fixed 0 → c ≡ get_or w node_parent 0 → d ≡ get_or w node_first 0 →
+    e ≡ get_or w node_count 0 → f ≡ get_or w line_word 0 →
     three_text 32 32 (field node_key k) (field name_key a) (field fixed_key b) ++
     (three_text 32 32 (field parent_key c) (field first_key d) (field count_key e) ++ (field_text (field line_key f) ++ (10 ∷ []))) ≡
-    line_text (node_line k (drop i w))
-node_line-drop k i w {a} {b} {c} {d} {e} {f} pa pb pc pd pe pf =
+    line_text (node_line k w)
+node_line-words k w {a} {b} {c} {d} {e} {f} pa pb pc pd pe pf =
     rw (
-      get_or-drop i w node_name 0,
-      get_or-drop i w node_fixed 0,
-      get_or-drop i w node_parent 0,
-      get_or-drop i w node_first 0,
-      get_or-drop i w node_count 0,
-      get_or-drop i w line_word 0,
       ← pa,
       ← pb,
       ← pc,
@@ -69,21 +62,14 @@ node_line-drop k i w {a} {b} {c} {d} {e} {f} pa pb pc pd pe pf =
     )
     (line_text-seven (field node_key k) (field name_key a) (field fixed_key b) (field parent_key c) (field first_key d) (field count_key e) (field line_key f))
 
-pub attribute_line-drop :
-    (k i : ℕ) (w : List ℕ) {a b c d e f : ℕ} → a ≡ get_or w (i + attribute_owner) 0 → b ≡ get_or w (i + attribute_prefix) 0 → c ≡ get_or w (i + attribute_name) 0 → d ≡ get_or w (i + attribute_type) 0 →
-    e ≡ get_or w (i + attribute_data) 0 → f ≡ get_or w (i + attribute_namespace) 0 →
+pub attribute_line-words :
+    (k : ℕ) (w : List ℕ) {a b c d e f : ℕ} → a ≡ get_or w attribute_owner 0 → b ≡ get_or w attribute_prefix 0 → c ≡ get_or w attribute_name 0 → d ≡ get_or w attribute_type 0 →
+    e ≡ get_or w attribute_data 0 → f ≡ get_or w attribute_namespace 0 →
     three_text 32 32 (field attribute_key k) (field owner_key a) (field prefix_key b) ++
     (three_text 32 32 (field name_key c) (field type_key d) (field data_key e) ++ (field_text (field ns_key f) ++ (10 ∷ []))) ≡
-    line_text (attribute_line k (drop i w))
-attribute_line-drop k i w {a} {b} {c} {d} {e} {f} pa pb pc pd pe pf =
+    line_text (attribute_line k w)
+attribute_line-words k w {a} {b} {c} {d} {e} {f} pa pb pc pd pe pf =
     rw (
-      get_or-drop i w attribute_owner 0,
-      get_or-drop i w attribute_prefix 0,
-      get_or-drop i w attribute_name 0,
-      get_or-drop i w attribute_type 0,
-      get_or-drop i w
-          attribute_data 0,
-      get_or-drop i w attribute_namespace 0,
       ← pa,
       ← pb,
       ← pc,

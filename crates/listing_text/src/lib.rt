@@ -8,7 +8,7 @@
 
 mod fields;
 
-ghost use Rattle.std.specs.Prelude.{◌≡◌, ◌+◌, ◌*◌, ◌≤◌, ◌<◌, length, drop, get_or};
+ghost use Rattle.std.specs.Prelude.{◌≡◌, ◌+◌, ◌*◌, ◌≤◌, ◌<◌, length, get_or};
 ghost use Rattle.listing_text.specs.Listing.{line_text, lines_text, head_lines, node_line, attribute_line, note_line};
 ghost use Rattle.listing_text.specs.Listing.{node_lines, attribute_lines, note_lines, listing_text};
 ghost use Rattle.digits.specs.Written.{Wrote};
@@ -66,25 +66,25 @@ fn put_head(out: &mut [u8], cap: u32, n: Numbers) -> usize
     put_field(out, b, b"notes", n.notes as u64, 10)
 }
 
-// A word of the record that begins at i, by its place (crate `records`).
-fn word(words: &[u32], i: usize, place: usize) -> u64
-    requires { i + place < length words.now }
-    ensures { result ≡ get_or words.now (i + place) 0 }
+// A word of the record at the front, by its place (crate `records`).
+fn word(words: &[u32], place: usize) -> u64
+    requires { place < length words.now }
+    ensures { result ≡ get_or words.now place 0 }
 {
-    words[i + place] as u64
+    u64::from(words[place])
 }
 
-// The line of the node with the number k, whose words begin at i.
-fn put_node(out: &mut [u8], p: usize, k: u32, nodes: &[u32], i: usize) -> usize
-    requires { (p < 1152921504606846976) × (i + node_width ≤ length nodes.now) }
-    ensures { Wrote 224 p (line_text (node_line k (drop i nodes.now))) out.old result out.new }
+// The line of the node with the number k, whose words are at the front.
+fn put_node(out: &mut [u8], p: usize, k: u32, nodes: &[u32]) -> usize
+    requires { (p < 1152921504606846976) × (node_width ≤ length nodes.now) }
+    ensures { Wrote 224 p (line_text (node_line k nodes.now)) out.old result out.new }
 {
-    let name = word(nodes, i, NODE_NAME);
-    let fixed = word(nodes, i, NODE_FIXED);
-    let parent = word(nodes, i, NODE_PARENT);
-    let first = word(nodes, i, NODE_FIRST);
-    let count = word(nodes, i, NODE_COUNT);
-    let line = word(nodes, i, NODE_LINE);
+    let name = word(nodes, NODE_NAME);
+    let fixed = word(nodes, NODE_FIXED);
+    let parent = word(nodes, NODE_PARENT);
+    let first = word(nodes, NODE_FIRST);
+    let count = word(nodes, NODE_COUNT);
+    let line = word(nodes, NODE_LINE);
     let a = put_three(
         out, p, b"node", k as u64, b"name", name, b"fixed", fixed, 32, 32,
     );
@@ -94,17 +94,17 @@ fn put_node(out: &mut [u8], p: usize, k: u32, nodes: &[u32], i: usize) -> usize
     put_field(out, b, b"line", line, 10)
 }
 
-// The line of the attribute with the number k, whose words begin at i.
-fn put_attribute(out: &mut [u8], p: usize, k: u32, attributes: &[u32], i: usize) -> usize
-    requires { (p < 1152921504606846976) × (i + attribute_width ≤ length attributes.now) }
-    ensures { Wrote 224 p (line_text (attribute_line k (drop i attributes.now))) out.old result out.new }
+// The line of the attribute with the number k, whose words are at the front.
+fn put_attribute(out: &mut [u8], p: usize, k: u32, attributes: &[u32]) -> usize
+    requires { (p < 1152921504606846976) × (attribute_width ≤ length attributes.now) }
+    ensures { Wrote 224 p (line_text (attribute_line k attributes.now)) out.old result out.new }
 {
-    let owner = word(attributes, i, ATTRIBUTE_OWNER);
-    let prefix = word(attributes, i, ATTRIBUTE_PREFIX);
-    let name = word(attributes, i, ATTRIBUTE_NAME);
-    let kind = word(attributes, i, ATTRIBUTE_TYPE);
-    let data = word(attributes, i, ATTRIBUTE_DATA);
-    let ns = word(attributes, i, ATTRIBUTE_NAMESPACE);
+    let owner = word(attributes, ATTRIBUTE_OWNER);
+    let prefix = word(attributes, ATTRIBUTE_PREFIX);
+    let name = word(attributes, ATTRIBUTE_NAME);
+    let kind = word(attributes, ATTRIBUTE_TYPE);
+    let data = word(attributes, ATTRIBUTE_DATA);
+    let ns = word(attributes, ATTRIBUTE_NAMESPACE);
     let a = put_three(
         out,
         p,
@@ -147,15 +147,13 @@ fn put_nodes(out: &mut [u8], p: usize, count: u32, nodes: &[u32]) -> usize
     ensures { Wrote (224 * count) p (lines_text (node_lines 0 count nodes.now)) out.old result out.new }
 {
     let mut at = p;
-    let mut k: u32 = 0;
-    let mut i: usize = 0;
-    while k < count {
-        if nodes.len() - i < NODE_WORDS {
+    let mut rest = nodes;
+    for k in 0..count {
+        if rest.len() < NODE_WORDS {
             return at;
         }
-        at = put_node(out, at, k, nodes, i);
-        i += NODE_WORDS;
-        k += 1;
+        at = put_node(out, at, k, rest);
+        rest = &rest[NODE_WORDS..];
     }
     at
 }
@@ -166,15 +164,13 @@ fn put_attributes(out: &mut [u8], p: usize, count: u32, attributes: &[u32]) -> u
     ensures { Wrote (224 * count) p (lines_text (attribute_lines 0 count attributes.now)) out.old result out.new }
 {
     let mut at = p;
-    let mut k: u32 = 0;
-    let mut i: usize = 0;
-    while k < count {
-        if attributes.len() - i < ATTRIBUTE_WORDS {
+    let mut rest = attributes;
+    for k in 0..count {
+        if rest.len() < ATTRIBUTE_WORDS {
             return at;
         }
-        at = put_attribute(out, at, k, attributes, i);
-        i += ATTRIBUTE_WORDS;
-        k += 1;
+        at = put_attribute(out, at, k, rest);
+        rest = &rest[ATTRIBUTE_WORDS..];
     }
     at
 }
@@ -185,16 +181,12 @@ fn put_notes(out: &mut [u8], p: usize, count: u32, notes: [Note; LISTED_NOTES]) 
     ensures { Wrote (128 * listed_notes) p (lines_text (note_lines 0 count notes)) out.old result out.new }
 {
     let mut at = p;
-    let mut k: u32 = 0;
-    let mut i: usize = 0;
-    while k < count {
+    for k in 0..count {
+        let i = k as usize;
         if LISTED_NOTES <= i {
             return at;
         }
-        let o = notes[i];
-        at = put_note(out, at, k, o);
-        i += 1;
-        k += 1;
+        at = put_note(out, at, k, notes[i]);
     }
     at
 }

@@ -29,10 +29,10 @@ use Rattle.value_text.specs.declared.plain.Form.{Form}
 use Rattle.value_text.specs.declared.plain.Form.TheVariants.{Reference, Attribute as AttributeForm, Pool, Number, Word, Truth, Color, Other}
 use Rattle.value_text.specs.Value.{or_plain, plain_by, plain_state, named_value, value_by, attribute_value}
 use Rattle.value_text.specs.Inner.Leads.{Leads}
-use Rattle.value_text.specs.Inner.Forms.{form_of, form_text, is_other}
+use Rattle.value_text.specs.Inner.Forms.{form_of, form_text, is_other, is_pool}
 use Rattle.value_text.proofs.Front.{form-said, form-other, leads-wrote}
 use Rattle.main_activities.specs.Activities.{shown_as}
-use Rattle.main_activities.specs.Inner.Pass.{Fits, said_is, is_pool}
+use Rattle.main_activities.specs.Inner.Pass.{Fits, said_is}
 
 -- ---- a text in a buffer
 

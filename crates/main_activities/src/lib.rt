@@ -1,6 +1,6 @@
 // Which screens a launcher starts: the names of the activities and aliases with a main intent filter, as attribute numbers in a lent list.
 //
-// Mirrors axml.rs (apk-info 13770539b8), `get_main_activities`. Answers: `MainAnswer`, how many there are, or a refusal.
+// Mirrors axml.rs (apk-info 13770539b8), `get_main_activities`. Answers: how many there are, or a refusal.
 // Definitions: specs/Activities.antt. Differs from the Rust: the tree is two lent tables, which may hold any words, so a child is told by the
 // order of the records too (docs/FORMAT.md, S2), and one pass over the nodes answers, each function going on where the one that it called stopped.
 #![tactic(auto)]
@@ -25,7 +25,7 @@ use tests::{find_named, has_tag, is_enabled, is_launcher_child, is_main_child, p
 use text::Head;
 use value_text::open_value;
 
-// The numbers of a `MainAnswer`.
+// The numbers of an answer of `main_activities`.
 #[derive(Clone, Copy)]
 pub struct MainNumbers {
     pub refusal: u32,
@@ -33,7 +33,8 @@ pub struct MainNumbers {
     pub count: u64,
 }
 
-// The node to go on with, and whether what was looked for stands before it.
+// The node to go on with, and whether what was looked for stands before it. No Option: there is a node to go on with in both cases, and a loop
+// that goes on at it is no `for`.
 #[derive(Clone, Copy)]
 pub struct Scan {
     pub next: u32,
@@ -48,6 +49,7 @@ pub struct Going {
 }
 
 // The numbers of an answer. Ruled out: a count beside a refusal, and a refusal that is told by its value alone.
+#[tactic(auto, unfolding(crate::specs::Activities::main_numbers_of))]
 pub fn main_numbers(a: Result<usize, Refusal>) -> MainNumbers
     ensures { result ≡ main_numbers_of a }
 {
@@ -93,10 +95,9 @@ fn scan_filter(
         (children_of (tree_of h t.now (lends names.now area.now) items.now
         item_area.now nodes.now attributes.now count) f))) }
 {
-    let mut k = f + 1;
     let mut main = false;
     let mut launcher = false;
-    while k < count {
+    for k in f + 1..count {
         if parent_at(nodes, k) < f {
             return Scan {
                 next: k,
@@ -111,10 +112,9 @@ fn scan_filter(
         );
         main = main | m;
         launcher = launcher | l;
-        k += 1;
     }
     Scan {
-        next: k,
+        next: count,
         yes: main & launcher,
     }
 }
@@ -284,13 +284,12 @@ fn put_given(
     if !yes {
         return n;
     }
-    let name = find_named(
+    let Some(j) = find_named(
         t, names, area, h, items, item_area, nodes, attributes, b"name", count, k,
-    );
-    match name {
-        Some(j) => put_number(list, n, j),
-        None => n,
-    }
+    ) else {
+        return n;
+    };
+    put_number(list, n, j)
 }
 
 // ---- an application
@@ -470,11 +469,8 @@ fn open_main(
     ensures { result ≡ main_open file.now (lends names.now area.now) items.now item_area.now
         nodes.now attributes.now node_count attribute_count }
 {
-    let opened = open_value(file, names, area, items, item_area);
-    match opened {
-        Ok(h) => fitted(h, fit_of(nodes, attributes, node_count, attribute_count)),
-        Err(why) => Err(why),
-    }
+    let h = open_value(file, names, area, items, item_area)?;
+    fitted(h, fit_of(nodes, attributes, node_count, attribute_count))
 }
 
 // The attribute numbers of the names of the activities and aliases that a launcher starts, in `list`, in the order of the tree, zeros behind

@@ -14,13 +14,13 @@ ghost use Rattle.common.specs.ValueType.{value_type_of};
 ghost use Rattle.value_text.specs.Value.{plain_by, named_value, attribute_value};
 ghost use Rattle.value_text.specs.Inner.Leads.{Leads};
 ghost use Rattle.main_activities.specs.Activities.{shown_as};
-ghost use Rattle.main_activities.specs.Inner.Pass.{Fits, said_is, is_pool};
+ghost use Rattle.main_activities.specs.Inner.Pass.{Fits, said_is};
 
 use common::StringIndex;
 use items::{Run, attr_value, run_of};
 use text::{ANDROID_URI, Head, find, is_found, is_index_text};
 use utf::same::same_bytes;
-use value_text::plain::{Form, form_of, is_other, put_plain};
+use value_text::plain::{form_of, is_other, is_pool, put_plain};
 use value_text::{Attribute, find_item};
 
 // How many bytes of a text are written at most: no text that is compared with is longer.
@@ -43,22 +43,6 @@ fn is_string(t: &[u8], names: &[u32], area: &[u8], h: Head, v: u32, expected: &[
     ensures { result ≡ eq_bytes (text_in (string_of h t.now v)) expected.now }
 {
     is_index_text(t, &names[0..0], area, h, StringIndex(v), expected)
-}
-
-// Whether a value of the form is a string of the pool.
-fn is_pool(form: Form) -> bool
-    ensures { result ≡ is_pool form }
-{
-    match form {
-        Form::Reference => false,
-        Form::Attribute => false,
-        Form::Pool => true,
-        Form::Number => false,
-        Form::Word => false,
-        Form::Truth => false,
-        Form::Color => false,
-        Form::Other => false,
-    }
 }
 
 // By the type alone.

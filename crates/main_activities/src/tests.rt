@@ -75,8 +75,7 @@ fn find_from(
     ensures { result ≡ attribute_from (tree_of h t.now (lends names.now area.now) items.now
         item_area.now nodes.now attributes.now count) name.now first number }
 {
-    let mut i = 0;
-    while i < number {
+    for i in 0..number {
         let j = first + i;
         let at = attribute_place(j);
         if is_named(
@@ -90,7 +89,6 @@ fn find_from(
         ) {
             return Some(j);
         }
-        i += 1;
     }
     None
 }
@@ -152,22 +150,21 @@ fn has_value(
     ensures { result ≡ says (tree_of h t.now (lends names.now area.now) items.now
         item_area.now nodes.now attributes.now count) name.now expected.now k }
 {
-    let found = find_named(
+    let Some(j) = find_named(
         t, names, area, h, items, item_area, nodes, attributes, name, count, k,
-    );
-    match found {
-        Some(j) => value_is(
-            t,
-            names,
-            area,
-            h,
-            items,
-            item_area,
-            attribute_at(attributes, j as usize),
-            expected,
-        ),
-        None => false,
-    }
+    ) else {
+        return false;
+    };
+    value_is(
+        t,
+        names,
+        area,
+        h,
+        items,
+        item_area,
+        attribute_at(attributes, j as usize),
+        expected,
+    )
 }
 
 // Whether node k is a child of p and the main action.

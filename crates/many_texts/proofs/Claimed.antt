@@ -63,12 +63,14 @@ tells-many count one room places k b e = go (ltb places count) (leb (length (tex
   where
     go :
         (x y : Bool) →
-        cond x (Err (AnswersFull places))
-        (cond y (Ok (record { count = count; length = (length (texts_to one count)) })) (Err (TextShort (min (length (texts_to one count)) most_count)))) ≡ Ok (record { count = k; length = b }) →
+        cond {A = Result TextsWritten Refusal} x (Err (AnswersFull places))
+        (cond y (Ok (record { count = count; length = length (texts_to one count) })) (Err (TextShort (min (length (texts_to one count)) most_count)))) ≡ Ok (record { count = k; length = b }) →
         Tells count one k b
     go true y q = let z : ◌≡◌ {A = ℕ} 0 1 = cc in absurd (let w : ⊥ = omega arith in w)
     go false false q = let z : ◌≡◌ {A = ℕ} 0 1 = cc in absurd (let w : ⊥ = omega arith in w)
-    go false true q = let x : k ≡ count = cc in let y : b ≡ length (texts_to one count) = cc in record { all = x; long = y }
+    go false true q =
+        let both : ◌≡◌ {A = TextsWritten} (record { count = k; length = b }) (record { count = count; length = length (texts_to one count) }) = cc in
+        record { all = ap (λ (y : TextsWritten). y.count) both; long = ap (λ (y : TextsWritten). y.length) both }
 
 -- both outputs behind the last text and the last answer
 pub record ZerosBehind (n m k b : ℕ) (out table : List ℕ) : Type 0 where

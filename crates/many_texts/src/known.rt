@@ -68,13 +68,8 @@ pub fn look_up(
             end: ends[place] - 1,
         });
     }
-    let looked = look(t, names, area, h, items, item_area, firsts, index);
-    match looked {
-        None => None,
-        Some(run) => {
-            starts[place] = run.first;
-            ends[place] = run.end + 1;
-            Some(run)
-        }
-    }
+    let run = look(t, names, area, h, items, item_area, firsts, index)?;
+    starts[place] = run.first;
+    ends[place] = run.end + 1;
+    Some(run)
 }

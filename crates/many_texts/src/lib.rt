@@ -1,6 +1,6 @@
 // Many texts at once: the values of a table's records, or the strings of a list of indices.
 //
-// Mirrors nothing of the Rust's, which makes a string of its own for each value. Answers: `ManyTexts`, how many there are and the bytes of
+// Mirrors nothing of the Rust's, which makes a string of its own for each value. Answers: `TextsWritten`, how many there are and the bytes of
 // all their texts, or why there are none; the answer to each question is six words. Names, items and head are checked once for all of
 // them. Definitions: specs/Many.antt.
 #![tactic(auto)]
@@ -74,16 +74,6 @@ fn put_answer(
     words[i + ANSWER_REPLACED] = replaced;
 }
 
-// The place behind a text of n bytes, as far as it can be counted.
-fn behind(at: usize, n: usize) -> usize
-    ensures { result ≡ min (at + n) most_count }
-{
-    if 18446744073709551615 - at < n {
-        return 18446744073709551615;
-    }
-    at + n
-}
-
 // Whether the place behind a text of n bytes is a word.
 fn is_word(at: usize, n: usize) -> bool
     ensures { result ≡ leb (at + n) most_bytes }
@@ -106,7 +96,7 @@ fn put_shown(
     requires { answer_width * k + answer_width ≤ length answers.old }
     ensures { (s : List _) → n ≡ length s → Puts k at (shows s uncovered state) answers.old result answers.new }
 {
-    let next = behind(at, n);
+    let next = at.saturating_add(n);
     if is_word(at, n) {
         put_answer(
             answers,
@@ -118,7 +108,6 @@ fn put_shown(
             state_number(state),
             replaced_number(state),
         );
-        return next;
     }
     next
 }
@@ -146,17 +135,8 @@ fn put_told(answers: &mut [u32], k: usize, at: usize, told: Told) -> usize
 
 // ---- a text behind others
 
-// The place, or the end of the buffer where it lies behind that.
-fn within(at: usize, n: usize) -> usize
-    ensures { result ≡ min at n }
-{
-    if n < at {
-        return n;
-    }
-    at
-}
-
 // The attribute of record k, of a table that has it.
+#[tactic(auto, unfolding(crate::specs::Many::attribute_at))]
 pub fn attribute_at(attributes: &[u32], k: usize) -> Attribute
     requires { attribute_width * k + attribute_width ≤ length attributes.now }
     ensures { result ≡ attribute_at attributes.now k }
@@ -196,15 +176,14 @@ fn value_by(
     if a.prefix == 2 {
         return uri_into(out);
     }
-    let looked = look_up(
+    let Some(run) = look_up(
         t, names, area, h, items, item_area, firsts, starts, ends, a.name,
-    );
-    match looked {
-        None => Told::NoName,
-        Some(run) => named_into(
-            t, names, area, h, items, item_area, out, run, a.kind, a.data,
-        ),
-    }
+    ) else {
+        return Told::NoName;
+    };
+    named_into(
+        t, names, area, h, items, item_area, out, run, a.kind, a.data,
+    )
 }
 
 fn value_at(
@@ -227,7 +206,7 @@ fn value_at(
         out.old result out.new
         × Knows h t.now (lends names.now area.now) items.now item_area.now starts.new ends.new }
 {
-    let from = within(at, out.len());
+    let from = at.min(out.len());
     value_by(
         t,
         names,
@@ -280,7 +259,7 @@ fn index_at(
     requires { Asks t.now (lends names.now area.now) h }
     ensures { TellsAt at (value_in (content_of h t.now (lends names.now area.now) index.0)) out.old result out.new }
 {
-    let from = within(at, out.len());
+    let from = at.min(out.len());
     index_into(t, names, area, h, &mut out[from..], index)
 }
 
@@ -307,8 +286,7 @@ fn put_values(
     let mut starts = [0usize; KNOWN];
     let mut ends = [0usize; KNOWN];
     let mut at: usize = 0;
-    let mut k: usize = 0;
-    while k < count {
+    for k in 0..count {
         let told = value_at(
             t,
             names,
@@ -324,7 +302,6 @@ fn put_values(
             attribute_at(attributes, k),
         );
         at = put_told(answers, k, at, told);
-        k += 1;
     }
     at
 }
@@ -343,11 +320,9 @@ fn put_texts(
         (length out.old) (length answers.old) (length indices.now) result out.new answers.new }
 {
     let mut at: usize = 0;
-    let mut k: usize = 0;
-    while k < indices.len() {
-        let told = index_at(t, names, area, h, out, at, StringIndex(indices[k]));
+    for (k, index) in indices.iter().enumerate() {
+        let told = index_at(t, names, area, h, out, at, StringIndex(*index));
         at = put_told(answers, k, at, told);
-        k += 1;
     }
     at
 }
@@ -381,7 +356,7 @@ fn settle(
         → Gives (length out.old) (length answers.old) count one
         (many_by count one (length out.old) (length answers.old / answer_width)) result out.new answers.new }
 {
-    if within(4294967295, out.len()) < at {
+    if out.len().min(4294967295) < at {
         return refuse(out, answers, Refusal::TextShort(at));
     }
     zero_behind(out, at);

@@ -1,6 +1,7 @@
 -- What is told of a text, from the promises of `read_listing` and of the printer. No contract cites this file.
 -- In order: the reader's own refusals; notes as the printer takes them; tables with zeros behind their records print the same; a fault, a listing.
 use Rattle.std.specs.Prelude.{Result, Ok}
+use Rattle.std.specs.Result.{result_unwrap_or}
 use Prim.Native.Nat.{ℕ, zero, suc, ◌+◌, ◌-◌, ◌*◌, ◌/◌, ◌≤◌, ◌<◌}
 use mathlib.Core.Path.{◌≡◌, refl, sym, ap, ◌∙◌}
 use mathlib.Core.Bool.{true, false}
@@ -27,9 +28,8 @@ use Rattle.listing_back.specs.Inner.Whole.{is_own}
 use Rattle.listing_back.specs.declared.Relisted.{Relisted}
 use Rattle.listing_back.proofs.Holding.{contra}
 use Rattle.listing_back.proofs.Whole.{Filled, filled-le, Leading, trimmed, relisting-trimmed, relisting-said, relisting-back}
-use Rattle.listing_back.proofs.Endings.{relisting-own, own-never, listed-own}
-use Rattle.relist.specs.Inner.Judged.{note_in, notes_from, verdict_of, Judges}
-use Rattle.relist.specs.declared.Verdict.{Verdict}
+use Rattle.listing_back.proofs.Endings.{relisting-own, listed-own}
+use Rattle.relist.specs.Inner.Judged.{note_in, notes_from, Judges}
 use Rattle.errors.specs.declared.Refusal.{Refusal}
 
 module _ (n : ℕ) where
@@ -176,13 +176,10 @@ module _ (w : Words) (text : List ℕ) (x : Relisting) (e : relisting w text ≡
 
 -- by what the text says
 judged-own :
-    (w : Words) (text : List ℕ) (x : Found) (n : Numbers) (v : Verdict) (out : List ℕ) → relisting w text ≡ x → n ≡ (told x).numbers → is_own n.refusal ≡ true →
-    v ≡ record { fault = n.refusal; value = n.value; printed = 0 } → Judges text w.nodes w.attributes w.notes v out
-judged-own w text (fault a c) n v out e q o p =
-    let f : v ≡ record { fault = a; value = c; printed = 0 } = p ∙ rw q in
-    let own = relisting-own w text a c e in
-    rw f (record { listing = λ z. absurd (own-never a own z); faulty = λ z. e; within = omega arith })
-judged-own w text (found x) n v out e q o p =
+    (w : Words) (text : List ℕ) (x : Found) (n : Numbers) → relisting w text ≡ x → n ≡ (told x).numbers → is_own n.refusal ≡ true →
+    relisting w text ≡ fault n.refusal n.value
+judged-own w text (fault a c) n e q o = e ∙ sym (ap (λ (m : Numbers). fault m.refusal m.value) q)
+judged-own w text (found x) n e q o =
     absurd (listed-own x.numbers.refusal (relisting-said w text x e).tested.listed (sym (ap (λ (m : Numbers). is_own m.refusal) q) ∙ o))
 
 -- ---- a listing
@@ -199,20 +196,19 @@ printed-whole text t before after a e p h =
           omega (arith, l, h),
     )
 
-module _ {text ns ats os : List ℕ} {r : Relisted} {ns' ats' os' : List ℕ} (h : Relists text ns ats os r ns' ats' os') (n : Numbers) (q : n ≡ numbers_of r.answer) (v : Verdict) where
+module _ {text ns ats os : List ℕ} {r : Relisted} {ns' ats' os' : List ℕ} (h : Relists text ns ats os r ns' ats' os') (n : Numbers) (q : n ≡ numbers_of r.answer) where
   abbrev w : Words
   w = record { nodes = length ns; attributes = length ats; notes = length os }
 
-  pub judges-own : (out : List ℕ) → is_own n.refusal ≡ true → v ≡ record { fault = n.refusal; value = n.value; printed = 0 } →
-      Judges text (length ns) (length ats) (length os) v out
-  judges-own out o p = judged-own w text _ n v out refl (q ∙ h.answer) o p
+  pub judges-own : is_own n.refusal ≡ true → relisting w text ≡ fault n.refusal n.value
+  judges-own o = judged-own w text _ n refl (q ∙ h.answer) o
 
   module _
       (before after : List ℕ) (a : Result ℕ Refusal) (notes : List Note) (places : length os ≡ note_width * listed_notes) (room : length text ≤ length before)
-      (records : notes ≡ notes_from listed_notes os') (p : Printed (listing_text r.cap n ns' ats' notes) before a after) (is : v ≡ verdict_of a)
+      (records : notes ≡ notes_from listed_notes os') (p : Printed (listing_text r.cap n ns' ats' notes) before a after)
       (o : is_own n.refusal ≡ false) where
     by-found : (x : Found) → relisting w text ≡ x → n ≡ (told x).numbers → r.cap ≡ (told x).cap → ns' ≡ fitted (told x).nodes (length ns) →
-        ats' ≡ fitted (told x).attributes (length ats) → os' ≡ fitted (told x).notes (length os) → Judges text (length ns) (length ats) (length os) v after
+        ats' ≡ fitted (told x).attributes (length ats) → os' ≡ fitted (told x).notes (length os) → Judges text (length ns) (length ats) (length os) (Ok (result_unwrap_or a 0)) after
     by-found (fault b c) e m k f g i = contra (is_own b) (relisting-own w text b c e) (sym (ap (λ (m : Numbers). is_own m.refusal) m) ∙ o)
     by-found (found x) e m k f g i =
         let s = relisting-said w text x e in
@@ -220,12 +216,7 @@ module _ {text ns ats os : List ℕ} {r : Relisted} {ns' ats' os' : List ℕ} (h
         let same : listing_text r.cap n ns' ats' notes ≡ text =
         ap (listing_text r.cap n ns' ats') records ∙ (text_of r.cap n ns' ats' os' listed_notes long ∙ (rw (m, k, f, g, i) refl ∙ there-text w text x e)) in
         let d = printed-whole text (listing_text r.cap n ns' ats' notes) before after a same p room in
-        let u : v ≡ record { fault = 0; value = 0; printed = length text } = is ∙ ap verdict_of d.0 in
-        rw u (record {
-          listing = λ z. record { said = x; says = e; prints = d.1 ∙ s.printed; same = d.1 };
-          faulty = λ z. absurd (z refl);
-          within = d.2;
-        })
+        rw d.0 (record { said = x; says = e; prints = d.1 ∙ s.printed; same = d.1 }, d.2)
 
-    pub judges-listing : Judges text (length ns) (length ats) (length os) v after
+    pub judges-listing : Judges text (length ns) (length ats) (length os) (Ok (result_unwrap_or a 0)) after
     judges-listing = by-found _ refl (q ∙ h.answer) h.capped h.nodes h.attributes h.notes

@@ -20,10 +20,8 @@ pub const SETS: usize = 266;
 
 // The same of the group of a refusal, among those from `groups` on. A number that no refusal has belongs to none.
 pub(crate) fn tally_refusal(counts: &mut [u32], groups: usize, refusal: u32, right: bool) {
-    if groups <= FIRST {
-        if refusal < 64 {
-            tally(counts, groups + refusal as usize, right);
-        }
+    if groups <= FIRST && refusal < 64 {
+        tally(counts, groups + refusal as usize, right);
     }
 }
 

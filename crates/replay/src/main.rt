@@ -31,21 +31,12 @@ fn judge(
     notes: &mut [u32],
     counts: &mut [u32],
 ) {
-    let kind = word(row, 0);
-    if kind == 2 {
-        judge_reading(data, row, names, area, nodes, attributes, notes, counts);
-        return;
-    }
-    if kind == 4 {
-        judge_first(data, row, names, area, nodes, attributes, counts);
-        return;
-    }
-    if kind == 5 {
-        judge_name(data, row, counts);
-        return;
-    }
-    if kind == 6 {
-        judge_complex(row, counts);
+    match word(row, 0) {
+        2 => judge_reading(data, row, names, area, nodes, attributes, notes, counts),
+        4 => judge_first(data, row, names, area, nodes, attributes, counts),
+        5 => judge_name(data, row, counts),
+        6 => judge_complex(row, counts),
+        _ => {}
     }
 }
 
@@ -60,19 +51,8 @@ fn replay_rows(
     notes: &mut [u32],
     counts: &mut [u32],
 ) {
-    let mut at = 0;
-    while rows.len() - at >= 84 {
-        judge(
-            data,
-            &rows[at..at + 84],
-            names,
-            area,
-            nodes,
-            attributes,
-            notes,
-            counts,
-        );
-        at += 84;
+    for row in rows.chunks_exact(84) {
+        judge(data, row, names, area, nodes, attributes, notes, counts);
     }
 }
 
@@ -112,19 +92,9 @@ fn replay_sets(
     notes: &mut [u32],
     counts: &mut [u32],
 ) {
-    let mut at = 0;
-    while sets.len() - at >= 24 {
-        replay_set(
-            data,
-            &sets[at..at + 24],
-            names,
-            nodes,
-            attributes,
-            notes,
-            counts,
-        );
+    for set in sets.chunks_exact(24) {
+        replay_set(data, set, names, nodes, attributes, notes, counts);
         bump(counts, count::SETS);
-        at += 24;
     }
 }
 

@@ -7,19 +7,11 @@ use stored::{load, part, tally, word};
 
 // Whether the numbers of an answer are those of the row.
 fn is_first(row: &[u8], a: FirstNumbers) -> bool {
-    if a.refusal != word(row, 3) {
-        return false;
-    }
-    if a.value != word(row, 4) as u64 {
-        return false;
-    }
-    if a.kind != word(row, 5) {
-        return false;
-    }
-    if a.data != word(row, 6) {
-        return false;
-    }
-    a.reference == word(row, 7)
+    a.refusal == word(row, 3)
+        && a.value == u64::from(word(row, 4))
+        && a.kind == word(row, 5)
+        && a.data == word(row, 6)
+        && a.reference == word(row, 7)
 }
 
 // Whether the question to these tables is answered so.
@@ -66,10 +58,7 @@ pub(crate) fn judge_first(
 
 // Its row: 1 if it is a valid name, else 0; the place of the text.
 pub(crate) fn judge_name(data: &[u8], row: &[u8], counts: &mut [u32]) {
-    let mut answer = 0;
-    if is_valid_name(part(data, row, 2)) {
-        answer = 1;
-    }
+    let answer = u32::from(is_valid_name(part(data, row, 2)));
     tally(counts, count::NAMES, answer == word(row, 1));
 }
 
@@ -82,10 +71,7 @@ fn complex_bits(data: u32) -> u64 {
 
 // Whether a number is made of these two halves.
 fn is_made(n: u64, low: u32, high: u32) -> bool {
-    if n / 4294967296 != high as u64 {
-        return false;
-    }
-    n % 4294967296 == low as u64
+    n / 4294967296 == u64::from(high) && n % 4294967296 == u64::from(low)
 }
 
 // Its row: the data, the low and the high half of the bits.

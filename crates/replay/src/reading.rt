@@ -10,33 +10,17 @@ use stored::{part, tally, word};
 
 // Whether the numbers of an answer are those of the row.
 fn tells(row: &[u8], n: Numbers) -> bool {
-    if n.refusal != word(row, 6) {
-        return false;
-    }
-    if n.value != word(row, 7) as u64 {
-        return false;
-    }
-    if n.starts != word(row, 8) {
-        return false;
-    }
-    if n.nodes != word(row, 9) {
-        return false;
-    }
-    if n.attributes != word(row, 10) {
-        return false;
-    }
-    n.notes == word(row, 11)
+    n.refusal == word(row, 6)
+        && n.value == u64::from(word(row, 7))
+        && n.starts == word(row, 8)
+        && n.nodes == word(row, 9)
+        && n.attributes == word(row, 10)
+        && n.notes == word(row, 11)
 }
 
 // Whether numbers, nodes and attributes are the row's: every word of the two tables.
 fn is_right(data: &[u8], row: &[u8], n: Numbers, nodes: &[u32], attributes: &[u32]) -> bool {
-    if !tells(row, n) {
-        return false;
-    }
-    if !holds(nodes, part(data, row, 14)) {
-        return false;
-    }
-    holds(attributes, part(data, row, 16))
+    tells(row, n) && holds(nodes, part(data, row, 14)) && holds(attributes, part(data, row, 16))
 }
 
 // And the notes, as words.
@@ -48,10 +32,7 @@ fn is_right_whole(
     attributes: &[u32],
     notes: &[u32],
 ) -> bool {
-    if !is_right(data, row, n, nodes, attributes) {
-        return false;
-    }
-    holds(notes, part(data, row, 18))
+    is_right(data, row, n, nodes, attributes) && holds(notes, part(data, row, 18))
 }
 
 // And the notes, by value.
@@ -63,10 +44,7 @@ fn is_right_listed(
     attributes: &[u32],
     notes: [Note; LISTED_NOTES],
 ) -> bool {
-    if !is_right(data, row, n, nodes, attributes) {
-        return false;
-    }
-    notes_hold(notes, part(data, row, 18))
+    is_right(data, row, n, nodes, attributes) && notes_hold(notes, part(data, row, 18))
 }
 
 // ---- a reading
@@ -142,13 +120,7 @@ fn is_read_in(
     let a = word(row, 3) as usize;
     let places = word(row, 4) as usize;
     let m = NOTE_WORDS * places + places % NOTE_WORDS;
-    if nodes.len() < n {
-        return false;
-    }
-    if attributes.len() < a {
-        return false;
-    }
-    if notes.len() < m {
+    if nodes.len() < n || attributes.len() < a || notes.len() < m {
         return false;
     }
     is_read(
@@ -176,10 +148,7 @@ fn is_listed(data: &[u8], row: &[u8], nodes: &mut [u32], attributes: &mut [u32])
 fn is_listed_in(data: &[u8], row: &[u8], nodes: &mut [u32], attributes: &mut [u32]) -> bool {
     let n = word(row, 2) as usize;
     let a = word(row, 3) as usize;
-    if nodes.len() < n {
-        return false;
-    }
-    if attributes.len() < a {
+    if nodes.len() < n || attributes.len() < a {
         return false;
     }
     is_listed(data, row, &mut nodes[0..n], &mut attributes[0..a])

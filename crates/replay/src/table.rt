@@ -9,53 +9,34 @@ use stored::word;
 
 // What a table holds before a question: no word of it is 0, nor any that is stored.
 pub(crate) fn soil(table: &mut [u32]) {
-    let mut i = 0;
-    while i < table.len() {
-        table[i] = 2863311530;
-        i += 1;
-    }
+    table.fill(2863311530);
 }
 
 // Whether a table begins with the words of `want`, all of them, and the rest of it is 0.
 pub(crate) fn holds(table: &[u32], want: &[u8]) -> bool {
-    let mut i = 0;
-    while i < table.len() {
-        if table[i] != word(want, i) {
+    for (i, held) in table.iter().enumerate() {
+        if *held != word(want, i) {
             return false;
         }
-        i += 1;
     }
-    if want.len() % 4 != 0 {
-        return false;
-    }
-    want.len() / 4 <= table.len()
+    want.len() % 4 == 0 && want.len() / 4 <= table.len()
 }
 
 // The same of the words of a note, from word i on.
 fn is_note(note: Note, want: &[u8], i: usize) -> bool
     requires { i ≤ note_width * listed_notes }
 {
-    if note.kind != word(want, i + NOTE_KIND) {
-        return false;
-    }
-    if note.a != word(want, i + NOTE_A) {
-        return false;
-    }
-    note.b == word(want, i + NOTE_B)
+    note.kind == word(want, i + NOTE_KIND)
+        && note.a == word(want, i + NOTE_A)
+        && note.b == word(want, i + NOTE_B)
 }
 
 // The same of notes by value.
 pub(crate) fn notes_hold(notes: [Note; LISTED_NOTES], want: &[u8]) -> bool {
-    let mut i: usize = 0;
-    while i < LISTED_NOTES {
-        let note = notes[i];
-        if !is_note(note, want, NOTE_WORDS * i) {
+    for (i, note) in notes.iter().enumerate() {
+        if !is_note(*note, want, NOTE_WORDS * i) {
             return false;
         }
-        i += 1;
     }
-    if want.len() % 4 != 0 {
-        return false;
-    }
-    want.len() <= 1248
+    want.len() % 4 == 0 && want.len() <= 4 * NOTE_WORDS * LISTED_NOTES
 }

@@ -15,7 +15,7 @@ use lib.Dec.{ltb}
 use Rattle.field.specs.Le.{u32le}
 use Rattle.common.specs.Header.{header_of, content_size}
 use Rattle.common.specs.declared.ResChunkHeader.{ResChunkHeader}
-use Rattle.res_string_pool.specs.Pool.{count_of, is_utf16, no_garbage, unread, numbered, end_of, pool_from, second_by, behind_garbage, pool_of}
+use Rattle.res_string_pool.specs.Pool.{count_of, no_garbage, unread, numbered, end_of, pool_from, second_by, behind_garbage, pool_of}
 use Rattle.res_string_pool.specs.declared.Garbage.{Garbage}
 use Rattle.res_string_pool.specs.declared.Pool.{Pool}
 use Rattle.res_string_pool.specs.declared.PoolEnd.{PoolEnd}
@@ -75,27 +75,6 @@ module _ (n count styles size : ℕ) where
           omega arith
       go false t = next (ltb-false n (4 * count) t) (ltb (n - 4 * count) (4 * styles)) refl
 
--- ---- the numbers
-
--- each as it is read or computed; `c'` and `s'` are count and styles once more, z and t the two sizes that are subtracted
-pub numbered-by
-    : (at : ℕ) (h : ResChunkHeader) (m : List ℕ) (declared styles flags start count c' s' z t size : ℕ)
-    → declared ≡ u32le m 8
-    → styles ≡ u32le m 12
-    → flags ≡ u32le m 16
-    → start ≡ u32le m 20
-    → count ≡ count_of start styles
-    → c' ≡ count
-    → s' ≡ styles
-    → z ≡ h.size
-    → t ≡ start
-    → size ≡ z - t
-    → ◌≡◌ {A = Pool}
-    (record { declared = declared; count = count; utf16 = is_utf16 flags; offsets = at + 28; strings = at + 28 + 4 * c' + 4 * s'; size = size })
-    (numbered at h m)
-unfolding numbered
-numbered-by at h m declared styles flags start count c' s' z t size e₁ e₂ e₃ e₄ e₅ e₆ e₇ e₈ e₉ e₁₀ = rw (e₁₀, e₉, e₈, e₇, e₆, e₅, e₄, e₃, e₂, e₁)
-
 -- ---- the pool from its header on
 
 -- how the parts of the pool whose header h stands at the front of m end
@@ -151,19 +130,18 @@ module _ (h : ResChunkHeader) (l : List ℕ) where
 
   -- the number of bytes and the rest, as they are read
   pub behind_garbage-by
-      : (skipped n : ℕ)
-      → skipped ≡ content_size h
-      → n ≡ skipped
+      : (n : ℕ)
+      → n ≡ content_size h
       → n ≤ length l - 8
       → second_by
-      (record { found = true; kind = h.kind; skipped = skipped })
+      (record { found = true; kind = h.kind; skipped = n })
       (8 + n)
       (take (length l - (8 + n)) (drop (8 + n) l))
       (header_of (take (length l - (8 + n)) (drop (8 + n) l)))
       ≡ behind_garbage h l
-  behind_garbage-by skipped n a b p =
+  behind_garbage-by n a p =
       let all : length (drop (8 + n) l) ≤ length l - (8 + n) = le_of_eq (length-drop (8 + n) l) in
-      rw (take_all (length l - (8 + n)) (drop (8 + n) l) all, b, a) (sym (behind_garbage-skipped (omega arith)))
+      rw (take_all (length l - (8 + n)) (drop (8 + n) l) all, a) (sym (behind_garbage-skipped (omega arith)))
 
 -- ---- the whole
 

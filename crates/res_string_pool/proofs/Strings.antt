@@ -4,7 +4,7 @@
 use Rattle.std.specs.Prelude.{Some, None}
 use Prim.Native.Nat.{ℕ, ◌+◌, ◌*◌, ◌%◌, ◌≤◌, ◌<◌}
 use native.Mathlib.Omega.{arith}
-use mathlib.Core.Path.{◌≡◌, refl, sym}
+use mathlib.Core.Path.{◌≡◌, refl, sym, ap}
 use mathlib.Core.List.{List}
 use mathlib.Core.Bool.{Bool, true, false}
 use borrow.Author.Tests.{leb-true, leb-false, le-leb, lt-leb}
@@ -16,14 +16,8 @@ use Rattle.res_string_pool.specs.Content.{width8, length8, width16, length16, wi
 -- ---- the cases of a length
 
 module _ (l : List ℕ) (at : ℕ) where
-  pub width8-two : 128 ≤ u8le l at → width8 l at ≡ 2
-  width8-two p = rw (le-leb 128 (u8le l at) p)
-
   pub width8-one : u8le l at < 128 → width8 l at ≡ 1
   width8-one p = rw (lt-leb 128 (u8le l at) p)
-
-  pub length8-two : 128 ≤ u8le l at → length8 l at ≡ u8le l at % 128 * 256 + u8le l (at + 1)
-  length8-two p = rw (le-leb 128 (u8le l at) p)
 
   pub length8-one : u8le l at < 128 → length8 l at ≡ u8le l at
   length8-one p = rw (lt-leb 128 (u8le l at) p)
@@ -64,8 +58,9 @@ module _ (l : List ℕ) (at n closing : ℕ) where
       go true t =
           let p : at + n + closing ≤ length l = leb-true (at + n + closing) (length l) t in
           let s = within-content p in
-          let a : at ≡ k = cc in
-          let b : n ≡ u = cc in
+          let both : ◌≡◌ {A = ℕ × ℕ} (at, n) (k, u) = cc in
+          let a : at ≡ k = ap (λ (pair : ℕ × ℕ). pair.0) both in
+          let b : n ≡ u = ap (λ (pair : ℕ × ℕ). pair.1) both in
           (a, b, omega arith)
       go false t =
           let s = within-cut (leb-false (at + n + closing) (length l) t) in

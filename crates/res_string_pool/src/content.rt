@@ -1,12 +1,11 @@
 // A string of the pool: where its content lies.
 //
-// Mirrors structs/res_string_pool.rs (apk-info 13770539b8): `split_string`. Answers: `Split`, in lib.rt. Definitions: specs/Content.antt.
+// Mirrors structs/res_string_pool.rs (apk-info 13770539b8): `split_string`. Definitions: specs/Content.antt.
 // Differs from the Rust: the content is told by its place and length, so that a caller can hand out a part of the file.
 ghost use Rattle.std.specs.Prelude.{◌≡◌, ◌≤◌, ◌<◌};
 ghost use Rattle.field.specs.Le.{u8le, u16le};
 ghost use Rattle.res_string_pool.specs.Content.{within, width8, length8, split8, split16, split_of};
 
-use super::to_usize;
 use field::u8_at;
 
 // The byte at a place, and 0 past the end: a string that lacks a byte of its lengths lacks its closing bytes too.
@@ -42,9 +41,9 @@ fn length8_at(s: &[u8], at: usize) -> usize
     let b = byte_at(s, at);
     if 128 <= b {
         let low = byte_at(s, at + 1);
-        return to_usize(b % 128 * 256 + low);
+        return (b % 128 * 256 + low) as usize;
     }
-    to_usize(b)
+    b as usize
 }
 
 // A content of n bytes at the place `at`, if it and the closing bytes behind it are there.
@@ -71,11 +70,11 @@ fn split_utf16(s: &[u8]) -> Option<(usize, usize)>
 {
     let u = unit_at(s, 0);
     if 32768 <= u {
-        let high = to_usize(u % 32768);
-        let low = to_usize(unit_at(s, 2));
+        let high = (u % 32768) as usize;
+        let low = unit_at(s, 2) as usize;
         return content_in(s, 4, 2 * (high * 65536 + low), 2);
     }
-    content_in(s, 2, 2 * to_usize(u), 2)
+    content_in(s, 2, 2 * (u as usize), 2)
 }
 
 // The string at the front of s, which is the pool's data from an offset on.

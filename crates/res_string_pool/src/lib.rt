@@ -8,7 +8,7 @@
 ghost use Rattle.std.specs.Prelude.{◌≡◌, ◌+◌, ◌-◌, ◌*◌, ◌/◌, ◌≤◌, ◌<◌, length};
 ghost use Rattle.records.specs.Limits.{file_limit};
 ghost use Rattle.common.specs.Header.{header_of};
-ghost use Rattle.res_string_pool.specs.Pool.{capped, count_of, no_garbage, unread, end_of, numbered, pool_from, second_by};
+ghost use Rattle.res_string_pool.specs.Pool.{count_of, unread, end_of, numbered, pool_from, second_by};
 ghost use Rattle.res_string_pool.specs.Pool.{behind_garbage, pool_of, outside_of};
 
 use common::{ResChunkHeader, header_at};
@@ -19,7 +19,7 @@ pub mod content;
 pub use content::split_string;
 
 // The chunk that stood in the pool's place and was skipped whole: note 0 where there was one.
-#[derive(Clone, Copy)]
+#[derive(Clone, Copy, Debug, Default, PartialEq, Eq)]
 pub struct Garbage {
     pub found: bool,
     pub kind: u32,
@@ -28,7 +28,7 @@ pub struct Garbage {
 
 // The pool: how many strings it declares and how many its offsets hold, whether they are UTF-16, where offsets and string data
 // begin, and how many bytes the data has. A place is counted from the first byte behind the file's header.
-#[derive(Clone, Copy)]
+#[derive(Clone, Copy, Debug, Default, PartialEq, Eq)]
 pub struct Pool {
     pub declared: u32,
     pub count: u32,
@@ -39,7 +39,7 @@ pub struct Pool {
 }
 
 // Whether all of the pool is there, or which part ran out, with how many bytes left where that part begins.
-#[derive(Clone, Copy)]
+#[derive(Clone, Copy, Debug, PartialEq, Eq)]
 pub enum PoolEnd {
     Complete,
     GarbageShort(usize),
@@ -49,44 +49,26 @@ pub enum PoolEnd {
     DataShort(usize),
 }
 
-#[derive(Clone, Copy)]
+#[derive(Clone, Copy, Debug, PartialEq, Eq)]
 pub struct PoolRead {
     pub garbage: Garbage,
     pub pool: Pool,
     pub end: PoolEnd,
 }
 
-// ---- numbers
-
-fn to_usize(x: u32) -> usize
-    ensures { result ≡ x }
-{
-    x as usize
-}
-
-fn less(a: usize, b: usize) -> usize
-    ensures { result ≡ a - b }
-{
-    if a <= b { 0 } else { a - b }
-}
-
-fn cap_u32(n: usize) -> usize
-    ensures { result ≡ capped n }
-{
-    if n <= 4294967295 { n } else { 4294967295 }
-}
-
 // How many strings the offsets hold: what lies between the five numbers with the styles' offsets and the data.
+#[tactic(auto, unfolding(crate::specs::Pool::count_of))]
 fn count_of(start: u32, styles: u32) -> u32
     ensures { result ≡ count_of start styles }
 {
-    let before = cap_u32(cap_u32(4 * to_usize(styles)) + 28);
-    (less(to_usize(start), before) / 4) as u32
+    let offsets = styles.saturating_mul(4);
+    start.saturating_sub(offsets.saturating_add(28)) / 4
 }
 
 // ---- the parts
 
 // Which part runs out in the n bytes behind the five numbers.
+#[tactic(auto, unfolding(crate::specs::Pool::end_of))]
 fn end_of(n: usize, count: usize, styles: usize, size: usize) -> PoolEnd
     requires { (count < 4294967296) × (styles < 4294967296) }
     ensures { result ≡ end_of n count styles size }
@@ -111,29 +93,13 @@ fn short(garbage: Garbage, end: PoolEnd) -> PoolRead
 {
     PoolRead {
         garbage,
-        pool: Pool {
-            declared: 0,
-            count: 0,
-            utf16: false,
-            offsets: 0,
-            strings: 0,
-            size: 0,
-        },
+        pool: Pool::default(),
         end,
     }
 }
 
-fn no_garbage() -> Garbage
-    ensures { result ≡ no_garbage }
-{
-    Garbage {
-        found: false,
-        kind: 0,
-        skipped: 0,
-    }
-}
-
 // The numbers of the pool whose header h stands at the front of m, which begins at the place `at`.
+#[tactic(auto, unfolding(crate::specs::Pool::numbered))]
 fn numbers_of(at: usize, h: ResChunkHeader, m: &[u8]) -> Pool
     requires { (28 ≤ length m.now) × (at ≤ file_limit) }
     ensures { result ≡ numbered at h m.now }
@@ -148,8 +114,8 @@ fn numbers_of(at: usize, h: ResChunkHeader, m: &[u8]) -> Pool
         count,
         utf16: flags / 256 % 2 == 0,
         offsets: at + 28,
-        strings: at + 28 + 4 * to_usize(count) + 4 * to_usize(styles),
-        size: less(to_usize(h.size), to_usize(start)),
+        strings: at + 28 + 4 * (count as usize) + 4 * (styles as usize),
+        size: h.size.saturating_sub(start) as usize,
     }
 }
 
@@ -164,8 +130,8 @@ fn pool_from(garbage: Garbage, at: usize, h: ResChunkHeader, m: &[u8]) -> PoolRe
     let pool = numbers_of(at, h, m);
     let end = end_of(
         m.len() - 28,
-        to_usize(pool.count),
-        to_usize(u32_at(m, 12)),
+        pool.count as usize,
+        u32_at(m, 12) as usize,
         pool.size,
     );
     PoolRead { garbage, pool, end }
@@ -176,11 +142,10 @@ fn second(garbage: Garbage, at: usize, m: &[u8]) -> PoolRead
     requires { at ≤ file_limit }
     ensures { result ≡ second_by garbage at m.now (header_of m.now) }
 {
-    let read = header_at(m, 0);
-    match read {
-        None => short(garbage, PoolEnd::HeaderShort(m.len())),
-        Some(h) => pool_from(garbage, at, h, m),
-    }
+    let Some(h) = header_at(m, 0) else {
+        return short(garbage, PoolEnd::HeaderShort(m.len()));
+    };
+    pool_from(garbage, at, h, m)
 }
 
 // The pool behind the chunk with the header h, which stands in its place and is skipped by its size.
@@ -189,18 +154,16 @@ fn behind_garbage(h: ResChunkHeader, s: &[u8]) -> PoolRead
     ensures { result ≡ behind_garbage h s.now }
 {
     let skipped = h.content_size();
-    let n = to_usize(skipped);
+    let n = skipped as usize;
     if s.len() - 8 < n {
-        return short(no_garbage(), PoolEnd::GarbageShort(s.len() - 8));
+        return short(Garbage::default(), PoolEnd::GarbageShort(s.len() - 8));
     }
-    let at = 8 + n;
-    let m = &s[at..];
     let garbage = Garbage {
         found: true,
         kind: h.kind,
         skipped,
     };
-    second(garbage, at, m)
+    second(garbage, 8 + n, &s[8 + n..])
 }
 
 // The pool at the front of s, the bytes behind the file's header.
@@ -209,16 +172,13 @@ pub fn pool_of(s: &[u8]) -> PoolRead
     requires { length s.now ≤ file_limit }
     ensures { result ≡ pool_of s.now }
 {
-    let read = header_at(s, 0);
-    match read {
-        None => short(no_garbage(), PoolEnd::HeaderShort(s.len())),
-        Some(h) => {
-            if h.kind == 1 {
-                pool_from(no_garbage(), 0, h, s)
-            } else {
-                behind_garbage(h, s)
-            }
-        }
+    let Some(h) = header_at(s, 0) else {
+        return short(Garbage::default(), PoolEnd::HeaderShort(s.len()));
+    };
+    if h.kind == 1 {
+        pool_from(Garbage::default(), 0, h, s)
+    } else {
+        behind_garbage(h, s)
     }
 }
 
@@ -230,14 +190,11 @@ pub fn outside_of(o: &[u8], size: usize) -> u32
     requires { length o.now ≤ file_limit }
     ensures { result ≡ outside_of o.now size (length o.now / 4) }
 {
-    let n = o.len() / 4;
-    let mut i = 0;
     let mut k = 0;
-    while i < n {
-        if size <= to_usize(u32_at(o, 4 * i)) {
+    for i in 0..o.len() / 4 {
+        if size <= u32_at(o, 4 * i) as usize {
             k += 1;
         }
-        i += 1;
     }
     k
 }

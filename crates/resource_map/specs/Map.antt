@@ -1,6 +1,6 @@
 -- The resource map at the front of a list of bytes, which is what follows the string pool: docs/FORMAT.md, H13 to H15.
 --
---   map_of    how many ids it has; Short where its header or its ids run out, with the bytes left where that part begins
+--   map_of    how many ids it has; Err where its header or its ids run out, with the bytes left where that part begins
 --   id_of     id i of the bytes behind its header
 --
 -- A header of any type stands for it. The ids follow its 8 bytes directly, also where its header size says otherwise.

@@ -36,7 +36,7 @@ sums_at (a ∷ l) [] i h = absurd (let z : ⊥ = omega arith in z)
 sums_at (a ∷ l) (b ∷ share) zero h = refl
 sums_at (a ∷ l) (b ∷ share) (suc i) h = sums_at l share i (omega arith)
 
-pub added-at : (r : RoundUp) (share : List ℕ) (i : ℕ) → length r.counts ≡ length share → (added_to r share).answer ≡ (Ok tt)
+pub added-at : (r : RoundUp) (share : List ℕ) (i : ℕ) → length r.counts ≡ length share → (added_to r share).answer ≡ Ok tt
     → get_or (added_to r share).round_up.counts i 0 ≡ get_or r.counts i 0 + get_or share i 0
 added-at r share i even e = rw (room-added r share (added-room r share e)) (sums_at r.counts share i even)
 
@@ -60,7 +60,7 @@ unfolding share_by numbers_of
 share-refused counts x bytes = rw (refusal_number-some x)
 
 pub refused-one : (r : RoundUp) (counts : List ℕ) (x : Refusal) (bytes : ℕ) → length r.counts ≡ places
-    → (added_to r (share_of counts (Err x) bytes)).answer ≡ (Ok tt)
+    → (added_to r (share_of counts (Err x) bytes)).answer ≡ Ok tt
     → (added_to r (share_of counts (Err x) bytes)).round_up.counts
     ≡ set r.counts (refused_from + refusal_number x) (get_or r.counts (refused_from + refusal_number x) 0 + 1)
 refused-one r counts x bytes whole e =
@@ -114,7 +114,7 @@ room-all (a ∷ l) [] h p = refl
 room-all (a ∷ l) (b ∷ share) h p = rw (le-leb (a + b) largest (p 0)) (room-all l share (omega arith) (λ i. p (suc i)))
 
 pub added-fits : (r : RoundUp) (share : List ℕ) → length r.counts ≡ length share → ((i : ℕ) → get_or r.counts i 0 + get_or share i 0 ≤ largest)
-    → (added_to r share).answer ≡ (Ok tt)
+    → (added_to r share).answer ≡ Ok tt
 added-fits r share even p = rw (room-added r share (room-all r.counts share even p))
 
 -- ---- a history
@@ -127,7 +127,7 @@ pub record Same (r : RoundUp) (added all : List File) : Type 0 where
 module _ (r : RoundUp) (f : File) (fs : List File) (rest : Same (next r f) (added_in (next r f) fs) fs) where
   history-step : (a : Result (Unit {0}) Refusal) → (added_to r (share_in f)).answer ≡ a → Same r (cond (is_added a) (f ∷ []) [] ++ added_in (next r f) fs) (f ∷ fs)
   unfolding NoneFull after
-  history-step (Ok tt) e = record { none = (e, rest.none); same = rest.same }
+  history-step (Ok u) e = record { none = (e, rest.none); same = rest.same }
   history-step (Err x) e =
       let back = (full-same r (share_in f) x e).1 in record {
         none = subst (λ (y : RoundUp). NoneFull y (added_in (next r f) fs)) back rest.none;
@@ -152,8 +152,8 @@ zero-some x e = true≢false (sym (eq-eqb (refusal_number x) 0 e) ∙ refusal_nu
 
 pub add_numbers-unique : (a b : Result (Unit {0}) Refusal) → add_numbers a ≡ add_numbers b → a ≡ b
 unfolding add_numbers
-add_numbers-unique (Ok tt) (Ok tt) e = refl
-add_numbers-unique (Ok tt) (Err y) e = absurd (zero-some y (sym (ap (λ (n : AddNumbers). n.refusal) e)))
-add_numbers-unique (Err x) (Ok tt) e = absurd (zero-some x (ap (λ (n : AddNumbers). n.refusal) e))
+add_numbers-unique (Ok u) (Ok v) e = refl
+add_numbers-unique (Ok u) (Err y) e = absurd (zero-some y (sym (ap (λ (n : AddNumbers). n.refusal) e)))
+add_numbers-unique (Err x) (Ok v) e = absurd (zero-some x (ap (λ (n : AddNumbers). n.refusal) e))
 add_numbers-unique (Err x) (Err y) e =
     ap Err (refusal_number-unique x y (ap (λ (n : AddNumbers). n.refusal) e) (ap (λ (n : AddNumbers). n.value) e))

@@ -85,9 +85,6 @@ pub record Adding (before share counts : List ℕ) (i : ℕ) : Type 0 where
   pub room : has_room (drop i counts) (drop i share) ≡ true
   pub same : take i counts ++ sums (drop i counts) (drop i share) ≡ sums before share
 
-pub adding-first : (before share : List ℕ) → has_room before share ≡ true → Adding before share before 0
-adding-first before share h = record { within = omega arith; long = refl; room = h; same = refl }
-
 pub adding-next : (before share counts : List ℕ) (i : ℕ) → length before ≡ length share → i < length counts → Adding before share counts i
     → Adding before share (set counts i (get_or counts i 0 + get_or share i 0)) (i + 1)
 adding-next before share counts i whole h a =

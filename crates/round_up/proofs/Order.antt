@@ -52,11 +52,11 @@ has_room-swap (x ∷ l) (m ∷ a) (n ∷ b) p q =
 -- ---- one file
 
 -- the answer tells whether there is room
-pub added-room : (r : RoundUp) (share : List ℕ) → (added_to r share).answer ≡ (Ok tt) → has_room r.counts share ≡ true
+pub added-room : (r : RoundUp) (share : List ℕ) → (added_to r share).answer ≡ Ok tt → has_room r.counts share ≡ true
 unfolding added_to
 added-room r share = go (has_room r.counts share)
   where
-    go : (b : Bool) → (cond b (added_of (sums r.counts share)) (full_of r)).answer ≡ (Ok tt) → b ≡ true
+    go : (b : Bool) → (cond b (added_of (sums r.counts share)) (full_of r)).answer ≡ Ok tt → b ≡ true
     go true e = refl
     go false e = absurd (true≢false (sym (ap is_added e)))
 
@@ -67,7 +67,7 @@ room-added r share h = rw h
 abbrev with-counts : List ℕ → RoundUp
 with-counts l = record { counts = l }
 
-module _ (r : RoundUp) (a b : File) (first : (added_to r (share_in a)).answer ≡ (Ok tt)) (second : (added_to (next r a) (share_in b)).answer ≡ (Ok tt)) where
+module _ (r : RoundUp) (a b : File) (first : (added_to r (share_in a)).answer ≡ Ok tt) (second : (added_to (next r a) (share_in b)).answer ≡ Ok tt) where
   counts-a : next r a ≡ with-counts (sums r.counts (share_in a))
   counts-a = ap (λ (x : Added). x.round_up) (room-added r (share_in a) (added-room r (share_in a) first))
 
@@ -80,10 +80,10 @@ module _ (r : RoundUp) (a b : File) (first : (added_to r (share_in a)).answer �
   counts-b : next r b ≡ with-counts (sums r.counts (share_in b))
   counts-b = ap (λ (x : Added). x.round_up) (room-added r (share_in b) swapped.0)
 
-  pub swap-first : (added_to r (share_in b)).answer ≡ (Ok tt)
+  pub swap-first : (added_to r (share_in b)).answer ≡ Ok tt
   swap-first = rw (room-added r (share_in b) swapped.0)
 
-  pub swap-second : (added_to (next r b) (share_in a)).answer ≡ (Ok tt)
+  pub swap-second : (added_to (next r b) (share_in a)).answer ≡ Ok tt
   swap-second = rw (counts-b, room-added (with-counts (sums r.counts (share_in b))) (share_in a) swapped.1)
 
   pub swap-same : next (next r a) b ≡ next (next r b) a
@@ -101,7 +101,7 @@ unfolding NoneFull after
 order_same Permᴰ.nil r h = (h, refl)
 order_same (Permᴰ.cons {a} {b} {l₁} {l₂} e p) r h =
     let rest = order_same p (next r b) (subst (λ (x : File). NoneFull (next r x) l₁) e h.1) in
-    ((subst (λ (x : File). (added_to r (share_in x)).answer ≡ (Ok tt)) e h.0, rest.0), ap (λ (x : File). after (next r x) l₁) e ∙ rest.1)
+    ((subst (λ (x : File). (added_to r (share_in x)).answer ≡ Ok tt) e h.0, rest.0), ap (λ (x : File). after (next r x) l₁) e ∙ rest.1)
 order_same (Permᴰ.swap {a} {b} {a'} {b'} {l} e d) r h =
     let same = swap-same r a b h.0 h.1.0 in
     let rest : NoneFull (next (next r b) a) l = subst (λ (x : RoundUp). NoneFull x l) same h.1.1 in

@@ -1,15 +1,14 @@
 -- Laws of what a file adds (specs/RoundUp.antt): classes, rows, and the turns of `read_share`. No contract cites this file.
 use Rattle.std.specs.Prelude.{Result, Ok, Err}
-use Prim.Native.Nat.{ℕ, suc, ◌+◌, ◌-◌, ◌*◌, ◌≤◌, ◌<◌}
+use Prim.Native.Nat.{ℕ, suc, ◌+◌, ◌-◌, ◌*◌, ◌<◌}
 use native.Mathlib.Omega.{arith}
 use native.Mathlib.Numerals.{add-one}
 use mathlib.Core.Path.{◌≡◌, refl, sym, ◌∙◌, ap}
 use mathlib.Core.List.{List, [], ◌∷◌, ◌++◌, append_assoc, append-nil}
 use mathlib.Core.Bool.{Bool, true, false, cond}
 use lib.ListN.{length, get_or, set, take, replicate, length-append, length-set, replicate-append-replicate}
-use lib.Seq.{take-suc, take_all, length-take-le, set-append_left}
+use lib.Seq.{take-suc, length-take-le, set-append_left}
 use lib.Dec.{leb, eqb}
-use borrow.Author.Tests.{eq-eqb, ne_eqb}
 use Rattle.errors.specs.Refusal.{numbers_of}
 use Rattle.errors.proofs.Laws.{refusal_number-le}
 use Rattle.errors.specs.declared.Numbers.{Numbers}
@@ -32,6 +31,9 @@ class_of-lt n = go (leb n (class_bound 0)) (leb n (class_bound 1)) (leb n (class
     go false false false true e = omega arith
     go false false false false true = omega arith
     go false false false false false = omega arith
+
+-- for `share_by`
+pub ruleset class_bounds = (class_of-lt)
 
 pub set-append-add : (xs ys : List ℕ) (n : ℕ) (a : ℕ) → set (xs ++ ys) (length xs + n) a ≡ xs ++ set ys n a
 set-append-add [] ys n a = ap (λ (i : ℕ). set ys i a) (let z : 0 + n ≡ n = omega arith in z)
@@ -91,12 +93,6 @@ module _ (class : ℕ) (counts : List ℕ) (inside : class < classes) (whole : l
       ∙ sym (append_assoc done (row_of class v) (zeros_for (k + 1)))
       ∙ ap (λ (l : List ℕ). l ++ zeros_for (k + 1)) (sym (rows_more k h)))
 
-  pub laid-all : (k : ℕ) → kinds ≤ k → k ≤ kinds → laid_of class counts k ≡ read_share counts class
-  laid-all k a b =
-      let e : k ≡ kinds = omega arith in
-      ap (laid_of class counts) e
-      ∙ ap (λ (l : List ℕ). head_of ++ l) (append-nil (cells_of class (take kinds counts)) ∙ ap (cells_of class) (take_all kinds counts (omega arith)))
-
 -- ---- a share
 
 -- the number of an answer has a place
@@ -104,14 +100,6 @@ pub number_lt : (a : Result ReadCounts Refusal) → (numbers_of a).refusal < num
 unfolding numbers_of
 number_lt (Ok c) = omega arith
 number_lt (Err r) = omega (arith, refusal_number-le r)
-
-pub share_by-read : (counts : List ℕ) (number len : ℕ) → number ≡ 0 → share_by counts number len ≡ read_share counts (class_of len)
-unfolding share_by
-share_by-read counts number len e = rw (eq-eqb number 0 e)
-
-pub share_by-refused : (counts : List ℕ) (number len : ℕ) → (number ≡ 0 → ⊥) → share_by counts number len ≡ refused_share number
-unfolding share_by
-share_by-refused counts number len e = rw (ne_eqb number 0 e)
 
 pub share_by-length : (counts : List ℕ) (number len : ℕ) → length counts ≡ kinds → length (share_by counts number len) ≡ places
 unfolding share_by
@@ -122,13 +110,6 @@ share_by-length counts number len h = go (eqb number 0)
     go false = length-set (replicate {A = ℕ} places 0) (refused_from + number) 1
 
 -- ---- adding a share, and the answer of `add_reading`
-
-module _ (before share : List ℕ) (room : Bool) (told : room ≡ has_room before share) where
-  pub adds-all : room ≡ true → (after : List ℕ) → after ≡ sums before share → AddsShare before share true after
-  adds-all h after e = let q = sym told ∙ h in record { room = sym q; counts = rw q e }
-
-  pub adds_none : room ≡ false → AddsShare before share false before
-  adds_none h = let q = sym told ∙ h in record { room = sym q; counts = rw q }
 
 module _ (r : RoundUp) (counts : List ℕ) (a : Result ReadCounts Refusal) (len : ℕ) (n : Numbers) (share : List ℕ) (told : n ≡ numbers_of a)
     (shared : share ≡ share_by counts n.refusal len) (room : Bool) (after : List ℕ) (adds : AddsShare r.counts share room after) where

@@ -33,12 +33,12 @@ after r [] = r
 after r (f ∷ fs) = after (next r f) fs
 
 abbrev pub is_added : Result (Unit {0}) Refusal → Bool
-is_added (Ok tt) = true
+is_added (Ok u) = true
 is_added (Err x) = false
 
 unfoldable pub NoneFull : RoundUp → List File → Type 0
 NoneFull r [] = Unit {0}
-NoneFull r (f ∷ fs) = ((added_to r (share_in f)).answer ≡ (Ok tt)) × NoneFull (next r f) fs
+NoneFull r (f ∷ fs) = ((added_to r (share_in f)).answer ≡ Ok tt) × NoneFull (next r f) fs
 
 unfoldable pub added_in : RoundUp → List File → List File
 added_in r [] = []

@@ -121,7 +121,7 @@ pub record AddsShare (before share : List ℕ) (r : Bool) (after : List ℕ) : T
   pub counts : after ≡ cond (has_room before share) (sums before share) before
 
 abbrev pub added_of : List ℕ → Added
-added_of counts = record { answer = (Ok tt); round_up = record { counts = counts } }
+added_of counts = record { answer = Ok tt; round_up = record { counts = counts } }
 
 abbrev pub full_of : RoundUp → Added
 full_of r = record { answer = Err RoundUpFull; round_up = r }
@@ -130,5 +130,5 @@ unfoldable pub added_to : RoundUp → List ℕ → Added
 added_to r share = cond (has_room r.counts share) (added_of (sums r.counts share)) (full_of r)
 
 unfoldable pub add_numbers : Result (Unit {0}) Refusal → AddNumbers
-add_numbers (Ok tt) = record { refusal = 0; value = 0 }
+add_numbers (Ok u) = record { refusal = 0; value = 0 }
 add_numbers (Err r) = record { refusal = refusal_number r; value = refusal_value r }

@@ -5,7 +5,7 @@
 // Definitions: specs/RoundUp.antt, specs/Kinds.antt. What holds of a history of files: specs/History.antt, proofs/Sums.antt, Order.antt, Told.antt.
 #![tactic(auto)]
 
-ghost use Rattle.std.specs.Prelude.{◌≡◌, ℕ, ◌<◌, min, true, length, get_or};
+ghost use Rattle.std.specs.Prelude.{◌≡◌, ℕ, ◌<◌, true, length, get_or};
 ghost use Rattle.round_up.specs.RoundUp.{empty_round_up, files_read, refused_by, notes_of};
 ghost use Rattle.round_up.specs.RoundUp.{class_of, read_share, refused_share, share_by, share_of};
 ghost use Rattle.round_up.specs.RoundUp.{sums, has_room, AddsShare, added_of, full_of, added_to, add_numbers};
@@ -29,23 +29,23 @@ pub const GRID_FROM: usize = REFUSED_FROM + NUMBERS;
 
 pub const PLACES: usize = GRID_FROM + CLASSES * ROUND_UP_KINDS;
 
-const LARGEST: u32 = 4294967295;
+const LARGEST: u32 = u32::MAX;
 
 // The counts: files read, files refused by number, and the grid kind by kind; `files_read`, `refused_by` and `notes_of` say what stands where.
-#[derive(Clone, Copy)]
+#[derive(Clone, Copy, Debug, PartialEq, Eq)]
 pub struct RoundUp {
     pub counts: [u32; PLACES],
 }
 
 // The answer, and the round-up from now on.
-#[derive(Clone, Copy)]
+#[derive(Clone, Copy, Debug, PartialEq, Eq)]
 pub struct Added {
     pub answer: Result<(), Refusal>,
     pub round_up: RoundUp,
 }
 
-// The numbers of an `AddAnswer`.
-#[derive(Clone, Copy)]
+// The numbers of an answer to a file that is to be added.
+#[derive(Clone, Copy, Debug, PartialEq, Eq)]
 pub struct AddNumbers {
     pub refusal: u32,
     pub value: u64,
@@ -88,10 +88,8 @@ pub fn notes_of(round_up: RoundUp, kind: u32, class: u32) -> u32
 {
     let row = kind as usize;
     let column = class as usize;
-    if row < ROUND_UP_KINDS {
-        if column < CLASSES {
-            return round_up.counts[GRID_FROM + (CLASSES * row + column)];
-        }
+    if row < ROUND_UP_KINDS && column < CLASSES {
+        return round_up.counts[GRID_FROM + (CLASSES * row + column)];
     }
     0
 }
@@ -105,16 +103,8 @@ fn count_kind(counts: &mut [u32; ROUND_UP_KINDS], kind: u32)
 {
     let at = kind as usize;
     if at < ROUND_UP_KINDS {
-        counts[at] = counts[at] + 1;
-        return;
+        counts[at] += 1;
     }
-}
-
-// The smaller of two.
-fn fewer(a: usize, b: usize) -> usize
-    ensures { result ≡ min a b }
-{
-    if a <= b { a } else { b }
 }
 
 // How many of the first `notes` notes of a table are of each kind, 0 to 12. The table is lent as words, three to a note, and may hold any.
@@ -122,12 +112,10 @@ fn fewer(a: usize, b: usize) -> usize
 pub fn kinds_in(words: &[u32], notes: u32) -> [u32; ROUND_UP_KINDS]
     ensures { result ≡ kinds_in words.now notes }
 {
-    let n = fewer(notes as usize, words.len() / NOTE_WORDS);
+    let n = (notes as usize).min(words.len() / NOTE_WORDS);
     let mut counts = [0u32; ROUND_UP_KINDS];
-    let mut i: usize = 0;
-    while i < n {
+    for i in 0..n {
         count_kind(&mut counts, words[NOTE_WORDS * i]);
-        i += 1;
     }
     counts
 }
@@ -136,25 +124,18 @@ pub fn kinds_in(words: &[u32], notes: u32) -> [u32; ROUND_UP_KINDS]
 
 // The size class of a file: 0 up to 4,096 bytes, 1 up to 16,384, 2 up to 65,536, 3 up to 262,144, 4 up to 1,048,576, 5 above.
 // Ruled out: a file of 4,096 bytes in class 1, and one of 1,048,577 in class 4.
+#[tactic(auto, unfolding(crate::specs::RoundUp::class_of))]
 pub fn class_of(file_length: usize) -> usize
     ensures { result ≡ class_of file_length }
 {
-    if file_length <= 4096 {
-        return 0;
+    match file_length {
+        0..=4096 => 0,
+        4097..=16384 => 1,
+        16385..=65536 => 2,
+        65537..=262144 => 3,
+        262145..=1048576 => 4,
+        _ => 5,
     }
-    if file_length <= 16384 {
-        return 1;
-    }
-    if file_length <= 65536 {
-        return 2;
-    }
-    if file_length <= 262144 {
-        return 3;
-    }
-    if file_length <= 1048576 {
-        return 4;
-    }
-    5
 }
 
 // What a file that was read adds: one more file read, and its notes of each kind in its class.
@@ -164,10 +145,8 @@ fn read_share(kinds: [u32; ROUND_UP_KINDS], class: usize) -> [u32; PLACES]
 {
     let mut share = [0u32; PLACES];
     share[0] = 1;
-    let mut k: usize = 0;
-    while k < ROUND_UP_KINDS {
-        share[GRID_FROM + (CLASSES * k + class)] = kinds[k];
-        k += 1;
+    for (k, notes) in kinds.iter().enumerate() {
+        share[GRID_FROM + (CLASSES * k + class)] = *notes;
     }
     share
 }
@@ -183,6 +162,7 @@ fn refused_share(number: u32) -> [u32; PLACES]
 }
 
 // What a file adds: refusal 0 is a file read. Ruled out: the notes of a file that was refused.
+#[tactic(auto, using(crate::proofs::Shares::class_bounds), unfolding(crate::specs::RoundUp::share_by))]
 pub fn share_by(kinds: [u32; ROUND_UP_KINDS], number: u32, file_length: usize) -> [u32; PLACES]
     requires { number < 53 }
     ensures { result ≡ share_by kinds number file_length }
@@ -200,12 +180,10 @@ fn has_room(counts: &[u32], share: &[u32]) -> bool
     requires { length counts.now ≡ length share.now }
     ensures { result ≡ has_room counts.now share.now }
 {
-    let mut i: usize = 0;
-    while i < counts.len() {
-        if LARGEST - share[i] < counts[i] {
+    for (i, more) in share.iter().enumerate() {
+        if LARGEST - *more < counts[i] {
             return false;
         }
-        i += 1;
     }
     true
 }
@@ -215,10 +193,8 @@ fn add_share(counts: &mut [u32], share: &[u32])
     requires { (length counts.old ≡ length share.now) × (has_room counts.old share.now ≡ true) }
     ensures { counts.new ≡ sums counts.old share.now }
 {
-    let mut i: usize = 0;
-    while i < counts.len() {
-        counts[i] = counts[i] + share[i];
-        i += 1;
+    for (i, more) in share.iter().enumerate() {
+        counts[i] += *more;
     }
 }
 
@@ -249,10 +225,9 @@ fn full(round_up: RoundUp) -> Added
 fn with_counts(counts: [u32; PLACES]) -> Added
     ensures { result ≡ added_of counts }
 {
-    let next = RoundUp { counts };
     Added {
         answer: Ok(()),
-        round_up: next,
+        round_up: RoundUp { counts },
     }
 }
 
@@ -276,6 +251,7 @@ pub fn add_reading(
 }
 
 // The numbers of an answer. Ruled out: 0 beside 29.
+#[tactic(auto, unfolding(crate::specs::RoundUp::add_numbers))]
 pub fn add_numbers(answer: Result<(), Refusal>) -> AddNumbers
     ensures { result ≡ add_numbers answer }
 {

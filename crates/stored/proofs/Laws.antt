@@ -1,43 +1,20 @@
 -- Laws of specs/Inner/Data.antt, for the proofs of this crate. No contract cites this file.
--- In order: a word inside and behind the last; a part inside, behind the words and past the end; a table that is filled word by word; a count
--- inside and outside the table; the text of a group, and a text that fits a buffer.
-use Rattle.std.proofs.Common.{◌≡◌, ℕ, zero, suc, ◌+◌, ◌-◌, ◌*◌, ◌/◌, ◌%◌, ◌<◌, ◌≤◌, Bool, true, false, List, [], ◌∷◌, ◌++◌, length, get_or, take, drop, set, sym, refl, ap, ◌∙◌, append_assoc, zero-add, add-one, arith, length-append, length-take-le, drop-cons, le-ltb, lt-ltb, le-leb}
-use borrow.Author.Tests.{lt-leb}
+-- In order: a word behind the last; a table that is filled word by word; a count outside the table; the text of a group, and a text that fits a
+-- buffer.
+use Rattle.std.proofs.Common.{◌≡◌, ℕ, zero, suc, ◌+◌, ◌*◌, ◌/◌, ◌<◌, ◌≤◌, Bool, true, false, List, [], ◌∷◌, ◌++◌, length, get_or, take, drop, set}
+use Rattle.std.proofs.Common.{sym, refl, ap, ◌∙◌, append_assoc, zero-add, add-one, arith, length-append, length-take-le, drop-cons, drop_of_length-le}
+use Rattle.std.proofs.Common.{append-nil, le-ltb, lt-ltb}
 use lib.Seq.{set_at, set_out, sets-eq}
-use Rattle.field.specs.Le.{u32le}
 use Rattle.digits.specs.Digits.{decimal}
 use Rattle.digits.specs.Written.{written, Wrote}
 use Rattle.digits.proofs.Written.{length-written, wrote-append, wrote-more, wrote_none}
-use Rattle.stored.specs.Inner.Data.{word_at, part_in, words_to, room_for, loaded, bumped, tallied, group_text, Leads}
+use Rattle.stored.specs.Inner.Data.{word_at, words_to, room_for, loaded, bumped, tallied, group_text, Leads}
 
 -- ---- a word
 
-pub word_at-inside : {r : ℕ} (s : List ℕ) (i : ℕ) → i < length s / 4 → r ≡ u32le s (4 * i) → r ≡ word_at s i
+pub word_at_behind : (s : List ℕ) (i : ℕ) → length s / 4 ≤ i → word_at s i ≡ 0
 unfolding word_at
-word_at-inside s i h e = rw (lt-ltb i (length s / 4) h) e
-
-pub word_at-behind : (s : List ℕ) (i : ℕ) → length s / 4 ≤ i → word_at s i ≡ 0
-unfolding word_at
-word_at-behind s i h = rw (le-ltb i (length s / 4) h)
-
--- ---- a part
-
-pub part_in-inside :
-    (all s : List ℕ) (i : ℕ) {from n : ℕ} → from ≡ word_at s i → n ≡ word_at s (i + 1) → from + n ≤ length all →
-    take (from + n - from) (drop from all) ≡ part_in all s i
-unfolding part_in
-part_in-inside all s i {from} {n} e f h =
-    let z : from + n - from ≡ n = omega arith in
-    rw (← e, ← f, le-leb (from + n) (length all) h, z)
-
-pub part_in-past :
-    (all s : List ℕ) (i : ℕ) {from n : ℕ} → from ≡ word_at s i → n ≡ word_at s (i + 1) → length all < from + n → [] ≡ part_in all s i
-unfolding part_in
-part_in-past all s i {from} {n} e f h = rw (← e, ← f, lt-leb (from + n) (length all) h)
-
-pub part_in-behind : (all s : List ℕ) (i : ℕ) → length s / 4 ≤ i → [] ≡ part_in all s i
-unfolding part_in
-part_in-behind all s i h = rw (word_at-behind s i h, word_at-behind s (i + 1) (omega arith), le-leb 0 (length all) (omega arith))
+word_at_behind s i h = rw (le-ltb i (length s / 4) h)
 
 -- ---- a table that is filled
 
@@ -58,33 +35,26 @@ unfolding words_to
 filled-step s table n e h f =
     rw (add-one, e, f, drop-cons table n 0 h, set_at (words_to n s) (get_or table n 0) (drop (suc n) table) (word_at s n) n (length-words_to n s), append_assoc)
 
-pub filled-whole : {l : List ℕ} (s table : List ℕ) (n : ℕ) → l ≡ words_to n s ++ drop n table → n ≡ room_for s table → l ≡ loaded s table
+-- all of the first n places are filled, and the rest stands behind them
+pub filled-whole :
+    {l : List ℕ} (s table : List ℕ) (n i : ℕ) → l ≡ words_to i s ++ drop i (take n table) → n ≡ room_for s table → i ≡ length (take n table) →
+    l ++ drop n table ≡ loaded s table
 unfolding loaded
-filled-whole s table n e f = e ∙ rw f
+filled-whole s table n i e f h =
+    let k : i ≡ n = omega (arith, length-take-le n table (omega arith)) in
+    let g : length (take n table) ≤ n = omega arith in
+    rw (e, k, drop_of_length-le (take n table) g, append-nil, f)
 
 -- ---- the counts
 
-pub bumped-inside : {v : ℕ} (l : List ℕ) (i : ℕ) → v ≡ (get_or l i 0 + 1) % 4294967296 → set l i v ≡ bumped l i
+pub bumped_outside : (l : List ℕ) (i : ℕ) → length l ≤ i → l ≡ bumped l i
 unfolding bumped
-bumped-inside l i e = rw e
+bumped_outside l i h = sym (set_out l i _ h)
 
-pub bumped-outside : (l : List ℕ) (i : ℕ) → length l ≤ i → l ≡ bumped l i
-unfolding bumped
-bumped-outside l i h = sym (set_out l i _ h)
-
-pub tallied-wrong : {k : List ℕ} (l : List ℕ) (g : ℕ) (right : Bool) → right ≡ false → k ≡ bumped l (2 * g + 1) → k ≡ tallied l g right
+pub tallied_outside : (l : List ℕ) (g : ℕ) (right : Bool) → length l ≤ g → l ≡ tallied l g right
 unfolding tallied
-tallied-wrong l g right e f = rw e f
-
-pub tallied-right :
-    {k m : List ℕ} (l : List ℕ) (g : ℕ) (right : Bool) → right ≡ true → k ≡ bumped l (2 * g + 1) → m ≡ bumped k (2 * g) → m ≡ tallied l g right
-unfolding tallied
-tallied-right l g right e f h = rw (e, ← f) h
-
-pub tallied-outside : (l : List ℕ) (g : ℕ) (right : Bool) → length l ≤ g → l ≡ tallied l g right
-unfolding tallied
-tallied-outside l g true h = rw (← bumped-outside l (2 * g + 1) (omega arith), ← bumped-outside l (2 * g) (omega arith))
-tallied-outside l g false h = bumped-outside l (2 * g + 1) (omega arith)
+tallied_outside l g true h = rw (← bumped_outside l (2 * g + 1) (omega arith), ← bumped_outside l (2 * g) (omega arith))
+tallied_outside l g false h = bumped_outside l (2 * g + 1) (omega arith)
 
 -- ---- the text of a group
 
@@ -102,9 +72,9 @@ group_text-inside l g h e f w x y z =
     wrote-more (wrote-append (wrote-append (wrote-append w x) y) z) (rw (lt-ltb g (length l) h, e, f)) (omega arith)
 
 -- a text that fits stands at the front, whole
-pub leads-of-wrote : {text l k : List ℕ} {m r : ℕ} → Wrote m 0 text l r k → m ≤ length l → Leads text l r k
+pub leads_of_wrote : {text l k : List ℕ} {m r : ℕ} → Wrote m 0 text l r k → m ≤ length l → Leads text l r k
 unfolding written
-leads-of-wrote {text} {l} {k} {m} {r} w h =
+leads_of_wrote {text} {l} {k} {m} {r} w h =
     let e : r ≡ length text = omega (arith, w.place) in
     let f : 0 + length text ≤ length l = omega (arith, w.near) in
     let o : k ≡ text ++ drop r l = w.out ∙ (sets-eq text l 0 f ∙ rw (e, zero-add)) in

@@ -24,6 +24,7 @@ pub fn read_in<R: Read>(reader: &mut R, room: &mut [u8]) -> io::Result<usize>
     ensures end { IfOk result (λ n. n < length room.new → IsAtEnd (R.remaining reader.new)) }
 {
     let mut n: usize = 0;
+    // No `for`: the next place depends on how many bytes a read gives.
     while n < room.len() {
         let more = reader.read(&mut room[n..])?;
         if more == 0 {
@@ -36,6 +37,7 @@ pub fn read_in<R: Read>(reader: &mut R, room: &mut [u8]) -> io::Result<usize>
 
 // Word i of a part; 0 behind its last whole word.
 // Ruled out: the word that begins at byte i, and the bytes behind the last whole word read as one.
+#[tactic(auto, unfolding(crate::specs::Inner::Data::word_at))]
 pub fn word(s: &[u8], i: usize) -> u32
     ensures { result ≡ word_at s.now i }
 {
@@ -47,18 +49,16 @@ pub fn word(s: &[u8], i: usize) -> u32
 
 // A part of the data: where it begins, and how many bytes it has, are words i and i + 1 of `s`. Nothing where it does not lie inside.
 // Ruled out: as much of a part that passes the end as is there, and nothing for one that ends with the data.
+#[tactic(auto, using(crate::proofs::Laws::word_at_behind), unfolding(crate::specs::Inner::Data::part_in))]
 pub fn part<'a>(data: &'a [u8], s: &[u8], i: usize) -> &'a [u8]
     ensures { result.now ≡ part_in «data».now s.now i }
 {
     if s.len() / 4 <= i {
-        return &data[0..0];
+        return &[];
     }
     let from = word(s, i) as usize;
     let to = from + word(s, i + 1) as usize;
-    if data.len() < to {
-        return &data[0..0];
-    }
-    &data[from..to]
+    data.get(from..to).unwrap_or(&[])
 }
 
 // The words of a part, at the front of `table`; how many there are, or as many as have room.
@@ -67,13 +67,9 @@ pub fn load(words: &[u8], table: &mut [u32]) -> usize
     ensures count { result ≡ room_for words.now table.new }
     ensures table { table.new ≡ loaded words.now table.old }
 {
-    let mut n = 0;
-    while n < table.len() {
-        if words.len() / 4 <= n {
-            return n;
-        }
-        table[n] = word(words, n);
-        n += 1;
+    let n = table.len().min(words.len() / 4);
+    for (i, place) in table[..n].iter_mut().enumerate() {
+        *place = word(words, i);
     }
     n
 }
@@ -85,24 +81,24 @@ pub fn load(words: &[u8], table: &mut [u32]) -> usize
 pub fn count_at(counts: &[u32], place: usize) -> u32
     ensures { result ≡ slice_index counts.now place }
 {
-    if place < counts.len() {
-        return counts[place];
-    }
-    0
+    counts.get(place).copied().unwrap_or(0)
 }
 
 // One more at a place. A place outside the table is nowhere, and 4294967295 goes to 0.
 // Ruled out: another place changed, and 4294967295 left as it is.
+#[tactic(auto, using(crate::proofs::Laws::bumped_outside), unfolding(crate::specs::Inner::Data::bumped))]
 pub fn bump(counts: &mut [u32], place: usize)
     ensures { counts.new ≡ bumped counts.old place }
 {
+    // A test, since nothing is known of a slice's elements after its `get_mut`.
     if place < counts.len() {
-        counts[place] = std::num::wrapping_add_u32(counts[place], 1);
+        counts[place] = counts[place].wrapping_add(1);
     }
 }
 
 // One more answer of a group, and one more right one where it is.
 // Ruled out: a wrong answer that is not counted among those asked for, and one counted as right.
+#[tactic(auto, using(crate::proofs::Laws::tallied_outside), unfolding(crate::specs::Inner::Data::tallied))]
 pub fn tally(counts: &mut [u32], group: usize, right: bool)
     ensures { counts.new ≡ tallied counts.old group right }
 {
@@ -128,7 +124,7 @@ fn put_text(out: &mut [u8], counts: &[u32], group: usize) -> usize
     let a = put_word(out, 0, right);
     let b = put_bytes(out, a, b" of ");
     let c = put_word(out, b, asked);
-    put_byte(out, c, 10)
+    put_byte(out, c, b'\n')
 }
 
 // How many answers of a group are right, and of how many: `3 of 4` and a line feed, at the front of a buffer that takes any two numbers. Answers

@@ -2,8 +2,10 @@
 -- In order: what a good entry is (`isGood-..`); the table entry by entry (`namesFrom-..`); good names rise (`rising-of-good`); a
 -- name that is found lies in the area, is not empty and is ASCII (`system_name-of-good`).
 use Rattle.std.specs.Prelude.{Some, None, Result, Ok, Err}
-use Rattle.std.proofs.Common.{◌≡◌, ℕ, zero, suc, ◌+◌, ◌-◌, ◌*◌, ◌<◌, ◌≤◌, Bool, true, false, cond, not, ◌&&◌, eqb, ltb, leb, List, [], ◌∷◌, length, get_or, take, drop, sym, refl, ◌∙◌, add-one, arith, drop-cons, ltb-true, le-ltb, lt-ltb, eq-eqb, ne_eqb, eqb-true, le-leb, leb-true}
-use borrow.Author.Tests.{not-true, not-false, lt-leb}
+use Rattle.std.proofs.Common.{◌≡◌, ℕ, zero, suc, ◌+◌, ◌*◌, ◌<◌, ◌≤◌, Bool, true, false, cond, not, ◌&&◌, eqb, ltb, leb, List, [], ◌∷◌}
+use Rattle.std.proofs.Common.{length, get_or, take, drop, sym, refl, ap, ◌∙◌, add-one, arith, drop-cons, ltb-true, lt-ltb, eq-eqb}
+use Rattle.std.proofs.Common.{eqb-true, le-leb, leb-true}
+use borrow.Author.Tests.{not-true, not-false}
 use Rattle.system_types.specs.Names.{Lent, top_byte, is_good, names_from, names_of, Rising, name_by_id, system_name}
 use Rattle.utf.specs.Plain.{is_ascii}
 use Rattle.utf.proofs.Tables.{both_true}
@@ -35,22 +37,6 @@ module _ (area : List ℕ) (last id start n : ℕ) where
         ascii = f.1;
       }
 
-  pub is_good-falls : id ≤ last → is_good area last id start n ≡ false
-  unfolding is_good
-  is_good-falls p = rw (le-ltb last id p)
-
-  pub is_good-top : last < id → (top_byte id ≡ 1 → ⊥) → is_good area last id start n ≡ false
-  unfolding is_good
-  is_good-top p q = rw (lt-ltb last id p, ne_eqb (top_byte id) 1 q)
-
-  pub is_good-empty : last < id → top_byte id ≡ 1 → n < 1 → is_good area last id start n ≡ false
-  unfolding is_good
-  is_good-empty p q r = rw (lt-ltb last id p, eq-eqb (top_byte id) 1 q, lt-leb 1 n r)
-
-  pub is_good-past : last < id → top_byte id ≡ 1 → 1 ≤ n → length area < start + n → is_good area last id start n ≡ false
-  unfolding is_good
-  is_good-past p q r t = rw (lt-ltb last id p, eq-eqb (top_byte id) 1 q, le-leb 1 n r, lt-leb (start + n) (length area) t)
-
   pub is_good-ascii
       : last < id
       → top_byte id ≡ 1
@@ -59,15 +45,6 @@ module _ (area : List ℕ) (last id start n : ℕ) where
       → is_good area last id start n ≡ is_ascii (take n (drop start area))
   unfolding is_good
   is_good-ascii p q r t = rw (lt-ltb last id p, eq-eqb (top_byte id) 1 q, le-leb 1 n r, le-leb (start + n) (length area) t)
-
-  -- the part, from its start to its end
-  pub is_good-by
-      : last < id
-      → top_byte id ≡ 1
-      → 1 ≤ n
-      → start + n ≤ length area
-      → is_good area last id start n ≡ is_ascii (take (start + n - start) (drop start area))
-  is_good-by p q r t = let e : start + n - start ≡ n = omega arith in rw e (is_good-ascii p q r t)
 
   -- an area that is ASCII as a whole
   pub is_good-plain
@@ -78,11 +55,6 @@ module _ (area : List ℕ) (last id start n : ℕ) where
       → start + n ≤ length area
       → is_good area last id start n ≡ true
   is_good-plain e p q r t = is_good-ascii p q r t ∙ is_ascii-take n (drop start area) (is_ascii-drop start area e)
-
--- a test that another had let through
-pub behind_test : (t b r : Bool) → r ≡ cond t false b → r ≡ true → b ≡ true
-behind_test true b r e h = let z : ◌≡◌ {A = ℕ} 0 1 = cc in absurd (let y : ⊥ = omega arith in y)
-behind_test false b r e h = sym e ∙ h
 
 -- ---- the table, entry by entry
 
@@ -124,7 +96,7 @@ module _ (area : List ℕ) (last : ℕ) (w : List ℕ) (k : ℕ) (h : 3 * k + 3 
     names_from-passed t e = sym (names_from-step (sym is ∙ not-false r t)) ∙ e
 
 -- no word is left
-pub names_from-stop : (area : List ℕ) (last k : ℕ) (w : List ℕ) → length w ≡ 0 → names_from area last k w ≡ (Ok tt)
+pub names_from-stop : (area : List ℕ) (last k : ℕ) (w : List ℕ) → length w ≡ 0 → names_from area last k w ≡ Ok tt
 unfolding names_from
 names_from-stop area last k [] h = refl
 names_from-stop area last k (x ∷ w) h = absurd (let y : ⊥ = omega arith in y)
@@ -163,7 +135,7 @@ record Rises (last : ℕ) (w : List ℕ) : Type 0 where
   above : Above last w
   rising : Rising w
 
-names_from-rises : (area : List ℕ) (last k : ℕ) (w : List ℕ) → names_from area last k w ≡ (Ok tt) → Rises last w
+names_from-rises : (area : List ℕ) (last k : ℕ) (w : List ℕ) → names_from area last k w ≡ Ok tt → Rises last w
 unfolding names_from
 names_from-rises area last k [] e =
     record {
@@ -177,8 +149,8 @@ names_from-rises area last k (id ∷ start ∷ n ∷ w) e = go (is_good area las
     go
         : (b : Bool)
         → is_good area last id start n ≡ b
-        → cond b (names_from area id (k + 1) w) (Err k) ≡ (Ok tt)
-        → (names_from area id (k + 1) w ≡ (Ok tt) → Rises id w)
+        → cond b (names_from area id (k + 1) w) (Err k) ≡ Ok tt
+        → (names_from area id (k + 1) w ≡ Ok tt → Rises id w)
         → Rises last (id ∷ start ∷ n ∷ w)
     go true t f more =
         let r = more f in
@@ -186,14 +158,14 @@ names_from-rises area last k (id ∷ start ∷ n ∷ w) e = go (is_good area las
         record { above = above_more last id start n w p.rises r.above; rising = rising-more id start n w r.above r.rising }
     go false t f more = let z : ◌≡◌ {A = ℕ} 0 1 = cc in absurd (let y : ⊥ = omega arith in y)
 
-pub rising-of-good : (lent : Lent) → names_of lent ≡ (Ok tt) → Rising lent.names
+pub rising-of-good : (lent : Lent) → names_of lent ≡ Ok tt → Rising lent.names
 rising-of-good lent e = (names_from-rises lent.area 0 0 lent.names e).rising
 
 -- ---- a name that is found
 
 name_of-of-good
     : (area : List ℕ) (last k : ℕ) (w : List ℕ) (id s n : ℕ)
-    → names_from area last k w ≡ (Ok tt)
+    → names_from area last k w ≡ Ok tt
     → name_by_id id w ≡ Some (s, n)
     → (s + n ≤ length area) × (1 ≤ n) × (is_ascii (take n (drop s area)) ≡ true)
 unfolding names_from name_by_id
@@ -206,24 +178,25 @@ name_of-of-good area last k (x ∷ start ∷ m ∷ w) id s n e f =
     go
         : (b : Bool)
         → is_good area last x start m ≡ b
-        → cond b (names_from area x (k + 1) w) (Err k) ≡ (Ok tt)
+        → cond b (names_from area x (k + 1) w) (Err k) ≡ Ok tt
         → (d : Bool)
         → cond d (Some (start, m)) (name_by_id id w) ≡ Some (s, n)
-        → (names_from area x (k + 1) w ≡ (Ok tt)
+        → (names_from area x (k + 1) w ≡ Ok tt
         → name_by_id id w ≡ Some (s, n)
         → (s + n ≤ length area) × (1 ≤ n) × (is_ascii (take n (drop s area)) ≡ true))
         → (s + n ≤ length area) × (1 ≤ n) × (is_ascii (take n (drop s area)) ≡ true)
     go false t g d f more = let z : ◌≡◌ {A = ℕ} 0 1 = cc in absurd (let y : ⊥ = omega arith in y)
     go true t g true f more =
         let p = is_good-parts area last x start m t in
-        let a : start ≡ s = cc in
-        let b : m ≡ n = cc in
+        let both : ◌≡◌ {A = ℕ × ℕ} (start, m) (s, n) = cc in
+        let a : start ≡ s = ap (λ (pair : ℕ × ℕ). pair.0) both in
+        let b : m ≡ n = ap (λ (pair : ℕ × ℕ). pair.1) both in
         rw (← a, ← b) (p.fits, p.some, p.ascii)
     go true t g false f more = more g f
 
 pub system_name-of-good
     : (lent : Lent) (id s n : ℕ)
-    → names_of lent ≡ (Ok tt)
+    → names_of lent ≡ Ok tt
     → system_name id lent.names ≡ Some (s, n)
     → (s + n ≤ length lent.area) × (1 ≤ n) × (is_ascii (take n (drop s lent.area)) ≡ true)
 system_name-of-good lent id s n e f = go (eqb (top_byte id) 1) f

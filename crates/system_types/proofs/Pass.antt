@@ -2,7 +2,8 @@
 -- In order: before the first entry 16777215 does for 0 (`names_from-low`); what the pass knows of the entries that it has seen
 -- (`Seen`), at its start, behind an entry and at its end.
 use Rattle.std.specs.Prelude.{Ok}
-use Rattle.std.proofs.Common.{◌≡◌, ℕ, ◌+◌, ◌*◌, ◌/◌, ◌%◌, ◌<◌, ◌≤◌, Bool, true, false, ◌&&◌, eqb, ltb, List, [], ◌∷◌, length, get_or, drop, sym, refl, ◌∙◌, arith, length-drop, ltb-true, lt-ltb, eqb-true}
+use Rattle.std.proofs.Common.{◌≡◌, ℕ, ◌+◌, ◌*◌, ◌/◌, ◌%◌, ◌<◌, ◌≤◌, Bool, true, false, ◌&&◌, eqb, ltb, List, [], ◌∷◌, length, get_or, drop}
+use Rattle.std.proofs.Common.{sym, refl, ◌∙◌, arith, length-drop, ltb-true, lt-ltb, eqb-true}
 use mathlib.Core.Bool.{and-false}
 use Rattle.system_types.specs.Names.{lends, top_byte, is_good, names_from, names_of}
 use Rattle.utf.specs.Plain.{is_ascii}
@@ -86,7 +87,7 @@ pub Seen-done
     → Seen area w k falls last most
     → length w / 3 ≤ k
     → ((((eqb (length w % 3) 0 && eqb falls 0) && ltb last 33554432) && ltb most (length area)) && ltb (length area) 4294967296) ≡ true
-    → names_of (lends w area) ≡ (Ok tt)
+    → names_of (lends w area) ≡ Ok tt
 Seen-done area w k falls last most seen p e =
     let none = eqb (length w % 3) 0 && eqb falls 0 in
     let a = both_true ((none && ltb last 33554432) && ltb most (length area)) (ltb (length area) 4294967296) e in

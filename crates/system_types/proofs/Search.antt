@@ -1,9 +1,10 @@
 -- Laws of looking a name up: specs/Names.antt, `name_by_id`, `system_name`. No contract cites this file.
 -- In order: the entry with the id, where none before it has it (`name_of-at`); no entry has it (`name_by_id-missing`); of a table whose
 -- ids rise, how far an entry's id is from the first (`rises_by`), an entry with the id (`rising-found`), and the two parts that a
--- search by halves knows (`Between`), one law for each way that a turn goes.
+-- search by halves knows (`Between`).
 use Rattle.std.specs.Prelude.{Some, None}
-use Rattle.std.proofs.Common.{◌≡◌, ℕ, zero, suc, ◌+◌, ◌*◌, ◌/◌, ◌<◌, ◌≤◌, Bool, true, false, ltb, List, [], ◌∷◌, length, get_or, sym, refl, ◌∙◌, arith, ltb-false, ltb-true, eq-eqb, ne_eqb}
+use Rattle.std.proofs.Common.{◌≡◌, ℕ, zero, suc, ◌+◌, ◌*◌, ◌/◌, ◌<◌, ◌≤◌, Bool, true, false, ltb, List, [], ◌∷◌, length, get_or, sym, refl}
+use Rattle.std.proofs.Common.{◌∙◌, arith, ltb-false, ltb-true, eq-eqb, ne_eqb}
 use Rattle.system_types.specs.Names.{top_byte, Rising, name_by_id, system_name}
 use Rattle.system_types.proofs.Laws.{get_d-behind}
 
@@ -37,9 +38,6 @@ name_of-at id (x ∷ y ∷ z ∷ w) (suc i) p e h =
 pub system_name-top : (id : ℕ) (w : List ℕ) → top_byte id ≡ 1 → system_name id w ≡ name_by_id id w
 system_name-top id w e = rw (eq-eqb (top_byte id) 1 e)
 
-pub system_name-other : (id : ℕ) (w : List ℕ) → (top_byte id ≡ 1 → ⊥) → system_name id w ≡ None
-system_name-other id w e = rw (ne_eqb (top_byte id) 1 e)
-
 -- ---- ids that rise
 
 -- ids that rise are at least as far from each other as their entries
@@ -67,38 +65,6 @@ pub record Between (w : List ℕ) (id low high : ℕ) : Type 0 where
   pub order : low ≤ high
   pub below : (j : ℕ) → j < low → get_or w (3 * j) 0 < id
   pub above : (j : ℕ) → high ≤ j → 3 * j + 3 ≤ length w → id < get_or w (3 * j) 0
-
-pub between_first : (w : List ℕ) (id : ℕ) → Between w id 0 (length w / 3)
-between_first w id =
-    record {
-      fits = omega arith;
-      order = omega arith;
-      below = λ j p. absurd (let y : ⊥ = omega arith in y);
-      above = λ j p q. absurd (let y : ⊥ = omega arith in y);
-    }
-
-module _ (w : List ℕ) (id low high middle : ℕ) (r : Rising w) (b : Between w id low high) (p : low ≤ middle) (q : middle < high) where
-  pub between-low : get_or w (3 * middle) 0 < id → Between w id (middle + 1) high
-  between-low h = record { fits = b.fits; order = omega arith; below = go; above = b.above }
-    where
-      go : (j : ℕ) → j < middle + 1 → get_or w (3 * j) 0 < id
-      go j k = at (ltb j middle) refl
-        where
-          at : (t : Bool) → ltb j middle ≡ t → get_or w (3 * j) 0 < id
-          at true e =
-              let s = r.rises j middle (ltb-true j middle e) (let f = b.fits in omega arith) in
-              omega arith
-          at false e = let f = ltb-false j middle e in let g : j ≡ middle = omega arith in rw g h
-
-  pub between-high : id < get_or w (3 * middle) 0 → Between w id low middle
-  between-high h = record { fits = let f = b.fits in omega arith; order = p; below = b.below; above = go }
-    where
-      go : (j : ℕ) → middle ≤ j → 3 * j + 3 ≤ length w → id < get_or w (3 * j) 0
-      go j k l = at (ltb middle j) refl
-        where
-          at : (t : Bool) → ltb middle j ≡ t → id < get_or w (3 * j) 0
-          at true e = let s = r.rises middle j (ltb-true middle j e) l in omega arith
-          at false e = let f = ltb-false middle j e in let g : j ≡ middle = omega arith in rw g h
 
 pub between-missing : (w : List ℕ) (id low high : ℕ) → Between w id low high → high ≤ low → name_by_id id w ≡ None
 between-missing w id low high b p = name_by_id-missing id w go

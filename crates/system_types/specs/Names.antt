@@ -1,14 +1,15 @@
 -- The system names that the caller lends: three words each (id, start, length) over an area of bytes: docs/FORMAT.md, N4 to N7.
 --
 --   Lent         what is lent beside a file: the words of the names and the area of their bytes; lends the two as one
---   names_of      Good where every entry keeps the rule; else the first that breaks it, or the number of whole entries where words remain
---   Rising       the ids of the whole entries strictly rise, which is what a search by halves needs; names that are Good do
---   system_name   where the name with an id lies: the first entry that has it; Missing where none has, or the id's top byte is not 1
+--   names_of      Ok where every entry keeps the rule; else the first that breaks it, or the number of whole entries where words remain
+--   Rising       the ids of the whole entries strictly rise, which is what a search by halves needs; names that keep the rule do
+--   system_name   where the name with an id lies: the first entry that has it; None where none has, or the id's top byte is not 1
 --   without      what follows one leading text, and the whole where it does not lead
 --
 -- The rule: ids strictly rise and have top byte 1, a length is at least 1, the part lies in the area, its bytes are below 128 (`is_ascii` of utf).
--- A list of words is those left. No words at all are Good. Laws: proofs/Laws.antt.
-use Rattle.std.specs.Prelude.{ℕ, ◌+◌, ◌*◌, ◌/◌, ◌<◌, ◌≤◌, Bool, true, false, cond, ◌&&◌, List, [], ◌∷◌, length, take, drop, ◌==◌, nat_le, nat_lt, slice_index, Option, Some, None, Result, Ok, Err}
+-- A list of words is those left. No words at all keep the rule. Laws: proofs/Laws.antt.
+use Rattle.std.specs.Prelude.{ℕ, ◌+◌, ◌*◌, ◌/◌, ◌<◌, ◌≤◌, Bool, true, false, cond, ◌&&◌, List, [], ◌∷◌, length, take, drop, ◌==◌, nat_le}
+use Rattle.std.specs.Prelude.{nat_lt, slice_index, Option, Some, None, Result, Ok, Err}
 use Rattle.utf.specs.Plain.{is_ascii}
 
 -- ---- what is lent
@@ -36,7 +37,7 @@ is_good area last id start n =
 
 -- the entries from number k on, behind one with the id `last`
 unfoldable pub names_from : List ℕ → ℕ → ℕ → List ℕ → Result (Unit {0}) ℕ
-names_from area last k [] = (Ok tt)
+names_from area last k [] = Ok tt
 names_from area last k (id ∷ []) = Err k
 names_from area last k (id ∷ start ∷ []) = Err k
 names_from area last k (id ∷ start ∷ n ∷ w) = cond (is_good area last id start n) (names_from area id (k + 1) w) (Err k)

@@ -1,11 +1,11 @@
 // The names of the framework's resources, by id: a table that the caller lends, its rule, and a name of it.
 //
-// Mirrors structs/system_types.rs (apk-info 13770539b8): `get_type_name`. Answers: `NamesRead`, `Lookup`. Definitions: specs/Names.antt.
+// Mirrors structs/system_types.rs (apk-info 13770539b8): `get_type_name`. Definitions: specs/Names.antt.
 // Differs from the Rust: there the table is compiled in, here it is three words a name over an area of bytes; and a name is
 // answered whole, so that leaving out `android:attr/` is a question of its own.
 #![tactic(auto)]
 
-ghost use Rattle.std.specs.Prelude.{◌≡◌, ◌+◌, ◌/◌, ◌<◌, ◌≤◌, true, false, length, if◌then◌else◌, nat_lt, Ok};
+ghost use Rattle.std.specs.Prelude.{◌≡◌, ◌+◌, ◌/◌, ◌<◌, ◌≤◌, true, false, length, if◌then◌else◌, nat_lt, IfSome, Ok};
 ghost use Rattle.system_types.specs.Names.{lends, is_good, names_of, name_by_id, system_name, starts_with, without, android_attr};
 ghost use Rattle.system_types.specs.Names.{Rising};
 ghost use Rattle.utf.specs.Plain.{is_ascii};
@@ -28,6 +28,7 @@ fn is_plain(area: &[u8], entries: usize) -> bool
 
 // Whether an entry keeps the rule, behind one with the id `last`; `plain` where the area is known to be ASCII as a whole. The sum is
 // made as usize, where it does not wrap.
+#[tactic(auto, unfolding(crate::specs::Names::is_good))]
 fn is_good(area: &[u8], plain: bool, last: ResourceId, id: ResourceId, start: u32, n: u32) -> bool
     requires { plain ≡ true → is_ascii area.now ≡ true }
     ensures { result ≡ is_good area.now last.0 id.0 start n }
@@ -59,32 +60,22 @@ fn last_byte(start: u32, n: u32) -> usize
     (start as usize) + (std::num::wrapping_sub_u32(n, 1) as usize)
 }
 
-// The greater of two numbers. Its promise says only that neither is above it, which is all that the check of the names needs.
-fn greater(a: usize, b: usize) -> usize
-    ensures { (a ≤ result) × (b ≤ result) }
-{
-    if a < b { b } else { a }
-}
-
 // True only where all the names keep their rule, over an area that is ASCII as a whole. The loop has no early way out: whether an id
 // did not rise and the furthest last byte decide. Ids that rise from above 16777215 to below 33554432 have top byte 1.
 fn all_keep(names: &[u32], area: &[u8]) -> bool
     requires { is_ascii area.now ≡ true }
-    ensures { result ≡ true → names_of (lends names.now area.now) ≡ (Ok tt) }
+    ensures { result ≡ true → names_of (lends names.now area.now) ≡ Ok tt }
 {
-    let whole = names.len() / 3;
     let mut falls: usize = 0;
     let mut last = 16777215;
-    let mut most = 0;
-    let mut k = 0;
-    while k < whole {
+    let mut most: usize = 0;
+    for k in 0..names.len() / 3 {
         let id = names[3 * k];
-        most = greater(most, last_byte(names[3 * k + 1], names[3 * k + 2]));
+        most = most.max(last_byte(names[3 * k + 1], names[3 * k + 2]));
         if id <= last {
             falls = 1;
         }
         last = id;
-        k += 1;
     }
     (names.len() % 3 == 0)
         & (falls == 0)
@@ -100,8 +91,7 @@ fn check_each(names: &[u32], area: &[u8], plain: bool) -> Result<(), usize>
 {
     let whole = names.len() / 3;
     let mut last = 0;
-    let mut k = 0;
-    while k < whole {
+    for k in 0..whole {
         let id = names[3 * k];
         if !is_good(
             area,
@@ -114,58 +104,44 @@ fn check_each(names: &[u32], area: &[u8], plain: bool) -> Result<(), usize>
             return Err(k);
         }
         last = id;
-        k += 1;
     }
     if names.len() % 3 != 0 {
-        return Err(k);
+        return Err(whole);
     }
     Ok(())
 }
 
 // Whether the lent names keep their rule. All of them are looked at, each time: a caller who asks often pays for each question. Where
 // the one pass finds all good, no entry is asked by itself.
-// Ruled out: Good for a table with a word too many, and the earlier of two entries whose ids do not rise.
+// Ruled out: Ok for a table with a word too many, and the earlier of two entries whose ids do not rise.
 pub fn check_names(names: &[u32], area: &[u8]) -> Result<(), usize>
     ensures { result ≡ names_of (lends names.now area.now) }
 {
     let plain = is_plain(area, names.len() / 3);
-    if plain {
-        if all_keep(names, area) {
-            return Ok(());
-        }
+    if plain && all_keep(names, area) {
+        return Ok(());
     }
     check_each(names, area, plain)
 }
 
 // ---- looking a name up
 
-// A guess at the entry with an id, and the number of entries where there is none. Without gaps the entry is as far from the first as its
+// A guess at the entry with an id. Without gaps the entry is as far from the first as its
 // id is; the id at that place is too high by the gaps before it, and the guess lies as much before the place.
-fn guess(names: &[u32], wanted: ResourceId) -> usize
+fn guess(names: &[u32], wanted: ResourceId) -> Option<usize>
     requires { Rising names.now }
-    ensures { result ≤ length names.now / 3 }
+    ensures { IfSome result (λ place. place < length names.now / 3) }
 {
-    let whole = names.len() / 3;
-    if whole < 1 {
-        return whole;
-    }
-    let first = names[0];
-    if wanted.0 < first {
-        return whole;
-    }
-    let far = wanted.0 - first;
+    let far = wanted.0.checked_sub(*names.first()?)?;
     let place = far as usize;
-    if whole <= place {
-        return whole;
+    if names.len() / 3 <= place {
+        return None;
     }
     let over = names[3 * place] - wanted.0;
-    if far < over {
-        return whole;
-    }
-    (far - over) as usize
+    Some(far.checked_sub(over)? as usize)
 }
 
-// The name of an id by halves, as the ids rise.
+// The name of an id by halves, as the ids rise. The library's `binary_search` looks at single items, and an entry is three words of the slice.
 fn by_halves(names: &[u32], wanted: ResourceId) -> Option<(u32, u32)>
     requires { Rising names.now }
     ensures { result ≡ name_by_id wanted.0 names.now }
@@ -188,7 +164,7 @@ fn by_halves(names: &[u32], wanted: ResourceId) -> Option<(u32, u32)>
 }
 
 // The name of an id: where it is guessed, if it is there, and else by halves.
-// Ruled out: the name of another id with the same low bytes, and Missing for the first or the last entry.
+// Ruled out: the name of another id with the same low bytes, and None for the first or the last entry.
 pub fn get_type_name(names: &[u32], id: ResourceId) -> Option<(u32, u32)>
     requires { Rising names.now }
     ensures { result ≡ system_name id.0 names.now }
@@ -196,8 +172,7 @@ pub fn get_type_name(names: &[u32], id: ResourceId) -> Option<(u32, u32)>
     if id.0 / 16777216 != 1 {
         return None;
     }
-    let place = guess(names, id);
-    if place < names.len() / 3 {
+    if let Some(place) = guess(names, id) {
         if names[3 * place] == id.0 {
             return Some((names[3 * place + 1], names[3 * place + 2]));
         }
@@ -212,17 +187,7 @@ pub fn get_type_name(names: &[u32], id: ResourceId) -> Option<(u32, u32)>
 pub fn starts_with(s: &[u8], prefix: &[u8]) -> bool
     ensures { result ≡ starts_with s.now «prefix».now }
 {
-    if s.len() < prefix.len() {
-        return false;
-    }
-    let mut i = 0;
-    while i < prefix.len() {
-        if s[i] != prefix[i] {
-            return false;
-        }
-        i += 1;
-    }
-    true
+    s.starts_with(prefix)
 }
 
 // What follows one leading `android:attr/`, and s where it does not lead.
@@ -230,9 +195,5 @@ pub fn starts_with(s: &[u8], prefix: &[u8]) -> bool
 pub fn without_attr(s: &[u8]) -> &[u8]
     ensures { result.now ≡ without android_attr s.now }
 {
-    if starts_with(s, b"android:attr/") {
-        &s[13..]
-    } else {
-        s
-    }
+    s.strip_prefix(b"android:attr/").unwrap_or(s)
 }

@@ -5,7 +5,6 @@ use mathlib.Core.Path.{◌≡◌, refl, sym, ap, ◌∙◌}
 use mathlib.Core.Bool.{Bool, true, false, cond, ◌&&◌, true≢false}
 use mathlib.Core.List.{List, [], ◌∷◌}
 use native.Mathlib.Omega.{arith}
-use lib.Bits.{bit_xor}
 use lib.Dec.{eqb}
 use lib.ListN.{length, get_or, drop, length-append}
 use borrow.Author.Tests.{eqb-true, eq-eqb, ne_eqb}
@@ -23,7 +22,7 @@ use Rattle.records.specs.Repeats.{same_space}
 use Rattle.system_types.specs.Names.{Lent}
 use Rattle.text.specs.declared.Head.{Head}
 use Rattle.text.specs.Content.{Content, none, cut, some, content_of, same_text, same_name}
-use Rattle.tables.specs.Inner.Keys.{upper, lower, mixed, fold_of, hash_of, hash_in, joined, key_by, keys_of}
+use Rattle.tables.specs.Inner.Keys.{mixed, fold_of, hash_of, hash_in, joined, key_by, keys_of}
 use Rattle.tables.specs.Inner.Ways.{same_at}
 
 -- ---- a text
@@ -42,7 +41,8 @@ fold_same (t ∷ ts) [] s e =
     absurd (let q : length (bytes_of (t ∷ ts)) ≡ length (bytes_of []) = ap length (eq_bytes-true (bytes_of (t ∷ ts)) (bytes_of []) e) in
     let z : ⊥ = omega (arith, q, some_bytes t ts) in z)
 fold_same (t ∷ ts) (u ∷ us) s e =
-    let p = both_true (eqb (step_value t) (step_value u)) (eq_bytes (bytes_of ts) (bytes_of us)) (sym (eq_bytes-encode (step_value t) (step_value u) (bytes_of ts) (bytes_of us)) ∙ e) in
+    let p = both_true (eqb (step_value t) (step_value u)) (eq_bytes (bytes_of ts) (bytes_of us))
+    (sym (eq_bytes-encode (step_value t) (step_value u) (bytes_of ts) (bytes_of us)) ∙ e) in
     let v : step_value t ≡ step_value u = eqb-true (step_value t) (step_value u) p.0 in
     ap (λ (n : ℕ). fold_of (mixed s n) ts) v ∙ fold_same ts us (mixed s (step_value u)) p.1
 
@@ -112,13 +112,15 @@ module _ (h : Head) (t : List ℕ) (lent : Lent) where
       go true f = ap (joined s) (hash_in-same 0 (content_of h t lent a) (content_of h t lent b) f)
       go false f = refl
 
-  key-by : (p q n m a b : ℕ) → p ≡ q → same_name h t lent n m ≡ true → same_space (same_name h t lent) q a b ≡ true → key_by h t lent p n a ≡ key_by h t lent q m b
+  key-by : (p q n m a b : ℕ) → p ≡ q → same_name h t lent n m ≡ true → same_space (same_name h t lent) q a b ≡ true
+      → key_by h t lent p n a ≡ key_by h t lent q m b
   unfolding key_by
   key-by p q n m a b e f g =
       let c : number_of n ≡ number_of m = hash_in-same 0 (content_of h t lent n) (content_of h t lent m) f in
       rw (e, c) (ap (λ (x : ℕ). x / 4294967296) (space-same (mixed (number_of m) q) q a b g))
 
-  pub key-same : (w : List ℕ) (p n ns j : ℕ) → same_at (same_name h t lent) p n ns w (attribute_width * j) ≡ true → keys_of (key_by h t lent) w j ≡ key_by h t lent p n ns
+  pub key-same : (w : List ℕ) (p n ns j : ℕ) → same_at (same_name h t lent) p n ns w (attribute_width * j) ≡ true
+      → keys_of (key_by h t lent) w j ≡ key_by h t lent p n ns
   key-same w p n ns j e =
       let x = get_or w (attribute_width * j + attribute_prefix) 0 in
       let y = get_or w (attribute_width * j + attribute_name) 0 in
@@ -139,16 +141,6 @@ module _ (h : Head) (t : List ℕ) (lent : Lent) where
       rw (eq-eqb p own_prefix o)
       (ap (λ (z : ℕ). z / 4294967296)
       (w ∙ ap (λ (z : ℕ). mixed z (y % 4294967296)) v ∙ ap (joined s) f ∙ ap (λ (z : ℕ). joined z (number_of ns)) (q ∙ ap (λ (z : ℕ). mixed z p) e)))
-
--- ---- a value
-
-pub mixed-by : (s v a p q : ℕ) → a ≡ bit_xor (s / 4294967296) v → p ≡ bit_xor (a * 2654435769 / 4294967296) (lower s v % 4294967296)
-    → q ≡ bit_xor (lower s v / 4294967296) (a * 2654435769 % 4294967296) → p * 4294967296 + q ≡ mixed s v
-unfolding mixed
-mixed-by s v a p q e f g =
-    let x : p ≡ bit_xor (upper s v / 4294967296) (lower s v % 4294967296) = f ∙ ap (λ (b : ℕ). bit_xor (b * 2654435769 / 4294967296) (lower s v % 4294967296)) e in
-    let y : q ≡ bit_xor (lower s v / 4294967296) (upper s v % 4294967296) = g ∙ ap (λ (b : ℕ). bit_xor (lower s v / 4294967296) (b * 2654435769 % 4294967296)) e in
-    ap (λ (b : ℕ). b * 4294967296 + q) x ∙ ap (λ (b : ℕ). bit_xor (upper s v / 4294967296) (lower s v % 4294967296) * 4294967296 + b) y
 
 -- ---- the loop
 

@@ -2,6 +2,5 @@
 pub mod Hashes
 pub mod Keys
 pub mod Numbering
-pub mod Tables
 pub mod Valid
 pub mod Ways

@@ -1,14 +1,15 @@
 -- Laws of specs/Inner/Numbered.antt: equal texts are an equivalence (`same_back`, `same-on`); nothing is known at first (`numbered-none`); what is told of
--- two indices (`told_same`, `told-other`); which index stands for a text (`first-met`, `first-own`); and one index more (`numbered_more`). No contract cites this file.
-use Prim.Native.Nat.{ℕ, zero, suc, ◌+◌, ◌-◌, ◌/◌, ◌%◌, ◌≤◌, ◌<◌}
+-- two indices (`told_same`, `told-other`, `told_as`); which index stands for a text (`first-met`, `first-own`); and one index more
+-- (`numbered_more`). No contract cites this file.
+use Prim.Native.Nat.{ℕ, zero, suc, ◌+◌, ◌-◌, ◌/◌, ◌%◌, ◌<◌}
 use native.Mathlib.Omega.{arith}
 use mathlib.Core.Path.{◌≡◌, refl, sym, ◌∙◌, ap}
-use mathlib.Core.Bool.{Bool, true, false, cond, ◌&&◌, true≢false}
+use mathlib.Core.Bool.{Bool, true, false, ◌&&◌, true≢false}
 use mathlib.Core.List.{List}
-use borrow.Author.Tests.{eqb-true, eqb-false, eq-eqb, ne_eqb, le-leb, lt-leb}
+use borrow.Author.Tests.{eqb-true, eqb-false, eq-eqb, ne_eqb}
 use lib.ListN.{length, get_or, set, replicate, length-set}
 use lib.Seq.{get_or-set_same, get_or-set_other}
-use lib.Dec.{eqb, leb}
+use lib.Dec.{eqb}
 use Rattle.utf.specs.Text.{eq_bytes}
 use Rattle.utf.proofs.Tables.{both_true}
 use Rattle.utf.proofs.Equal.{eq_bytes-refl, eq_bytes-true}
@@ -18,10 +19,8 @@ use Rattle.text.specs.declared.Head.{Head}
 use Rattle.text.specs.declared.Found.{Found}
 use Rattle.text.specs.Inner.Found.{part_of, Finds, is_found}
 use Rattle.text.proofs.Read.{same_text-self, is_found-text}
-use Rattle.tables.specs.declared.numbers.Told.{Told}
-use Rattle.tables.specs.declared.numbers.Told.TheVariants.{Same, Other}
 use Rattle.tables.specs.Inner.Keys.{hash_in}
-use Rattle.tables.specs.Inner.Numbered.{place_count, near_count, word_count, very_long_from, seen_at, first_at, number_at, mark_of, Numbered, met_at, FirstOf, ToldBy}
+use Rattle.tables.specs.Inner.Numbered.{place_count, word_count, seen_at, first_at, number_at, mark_of, Numbered, met_at, FirstOf}
 use Rattle.tables.proofs.Hashes.{hash_in-same}
 
 -- ---- equal texts
@@ -71,20 +70,6 @@ module _ (h : Head) (t : List ℕ) (lent : Lent) (i j : ℕ) where
   found-own g y e q =
       same-own (e ∙ is_found-text h.utf16 t lent.area g ∙ ap has_text y.same ∙ ap (λ (k : ℕ). has_text (content_of h t lent k)) (sym q)) q
 
--- how many places are looked at
-pub near-all : (n m : ℕ) → n ≡ m → very_long_from ≤ n → place_count ≡ cond (leb very_long_from m) place_count near_count
-near-all n m e l = rw (le-leb very_long_from m (omega (arith, e, l)))
-
-pub near-few : (n m : ℕ) → n ≡ m → n < very_long_from → near_count ≡ cond (leb very_long_from m) place_count near_count
-near-few n m e l = rw (lt-leb very_long_from m (omega (arith, e, l)))
-
--- what is told
-pub told-yes : (b : Bool) (r : Told) → ToldBy b r → r ≡ Same → true ≡ b
-told-yes b r x e = let y = x in sym (rw e at y)
-
-pub told-no : (b : Bool) (r : Told) → ToldBy b r → r ≡ Other → false ≡ b
-told-no b r x e = let y = x in sym (rw e at y)
-
 -- one place more that has another text
 pub more-false : (f : ℕ → Bool) (q : ℕ) → ((k : ℕ) → k < q → f k ≡ false) → f q ≡ false → (k : ℕ) → k < q + 1 → f k ≡ false
 more-false f q all here k l = go (eqb k q) refl
@@ -125,6 +110,15 @@ module _ (h : Head) (t : List ℕ) (lent : Lent) where
         → same_name h t lent i j ≡ false
     told-other i j p q a b e f g = false-by (same_name h t lent i j) (λ s. g (k.alike p q i j a b e f s))
 
+    -- what the code answers: whether one index stands for both
+    pub told_as : (i j p q : ℕ) → p < place_count → q < place_count → seen_at m p ≡ i + 1 → seen_at m q ≡ j + 1
+        → eqb (first_at m p) (first_at m q) ≡ same_name h t lent i j
+    told_as i j p q a b e f = go (eqb (first_at m p) (first_at m q)) refl
+      where
+        go : (z : Bool) → eqb (first_at m p) (first_at m q) ≡ z → eqb (first_at m p) (first_at m q) ≡ same_name h t lent i j
+        go true z = z ∙ sym (told_same i j p q a b e f (eqb-true (first_at m p) (first_at m q) z))
+        go false z = z ∙ sym (told-other i j p q a b e f (eqb-false (first_at m p) (first_at m q) z))
+
     -- ---- which index stands for a text
 
     pub met-none : (i q : ℕ) → seen_at m q ≡ 0 → false ≡ met_at (same_name h t lent) m i q
@@ -142,9 +136,6 @@ module _ (h : Head) (t : List ℕ) (lent : Lent) where
         (λ s. d (k.number q (seen_at m q - 1) p seen ∙ sym (hash_in-same 0 (content_of h t lent i) (content_of h t lent (seen_at m q - 1)) s) ∙ sym e)) in
         sym (met_some i q n ∙ other)
 
-    pub met-found : (i q : ℕ) {r : Bool} → (seen_at m q ≡ 0 → ⊥) → r ≡ same_name h t lent i (seen_at m q - 1) → r ≡ met_at (same_name h t lent) m i q
-    met-found i q n e = e ∙ sym (met_some i q n)
-
     -- at a place that has the same text
     pub first-met : (i q : ℕ) {r : Bool} → q < place_count → r ≡ met_at (same_name h t lent) m i q → r ≡ true → FirstOf (same_name h t lent) m i (first_at m q)
     first-met i q p e s = go (eqb (seen_at m q) 0) refl
@@ -158,7 +149,8 @@ module _ (h : Head) (t : List ℕ) (lent : Lent) where
             let at = content_of h t lent in record {
               small = omega arith;
               own = same_text-on (at i) (at (seen_at m q - 1)) (at (first_at m q)) same (k.first q (seen_at m q - 1) p seen);
-              others = λ l b lt f g. k.alike q l (seen_at m q - 1) b p lt seen f (same_text-on (at (seen_at m q - 1)) (at i) (at b) (same_text-back (at i) (at (seen_at m q - 1)) same) g);
+              others = λ l b lt f g. k.alike q l (seen_at m q - 1) b p lt seen f
+                  (same_text-on (at (seen_at m q - 1)) (at i) (at b) (same_text-back (at i) (at (seen_at m q - 1)) same) g);
             }
 
     -- where no place has
@@ -227,7 +219,8 @@ module _ (h : Head) (t : List ℕ) (lent : Lent) where
           where
             go : (z : Bool) → eqb j p ≡ z → number_at more j ≡ hash_in 0 (content_of h t lent a)
             go true z =
-                ap (λ (x : ℕ). number_at more x) (eqb-true j p z) ∙ number-own ∙ e ∙ ap (λ (x : ℕ). hash_in 0 (content_of h t lent x)) (own_is j a (eqb-true j p z) q)
+                ap (λ (x : ℕ). number_at more x) (eqb-true j p z) ∙ number-own ∙ e
+                ∙ ap (λ (x : ℕ). hash_in 0 (content_of h t lent x)) (own_is j a (eqb-true j p z) q)
             go false z = number-other j b (eqb-false j p z) ∙ k.number j a b (sym (seen_other j b (eqb-false j p z)) ∙ q)
 
         first-at : (j a : ℕ) → j < place_count → seen_at more j ≡ a + 1 → same_name h t lent a (first_at more j) ≡ true

@@ -41,10 +41,12 @@ drop-take a m w h l =
 
 module _ (rule : Rule) (new : List ℕ) where
   -- record j + 1 is record j of those behind the first
-  at_next : (j : ℕ) (w : List ℕ) → rule new (take attribute_width (drop (attribute_width * suc j) w)) ≡ rule new (take attribute_width (drop (attribute_width * j) (drop attribute_width w)))
+  at_next : (j : ℕ) (w : List ℕ) → rule new (take attribute_width (drop (attribute_width * suc j) w))
+      ≡ rule new (take attribute_width (drop (attribute_width * j) (drop attribute_width w)))
   at_next j w =
       let q : attribute_width * suc j ≡ attribute_width + attribute_width * j = omega arith in
-      ap (λ (k : ℕ). rule new (take attribute_width (drop k w))) q ∙ ap (λ (l : List ℕ). rule new (take attribute_width l)) (sym (drop-drop (attribute_width * j) attribute_width w))
+      ap (λ (k : ℕ). rule new (take attribute_width (drop k w))) q
+      ∙ ap (λ (l : List ℕ). rule new (take attribute_width l)) (sym (drop-drop (attribute_width * j) attribute_width w))
 
   one_at : (n j : ℕ) (w : List ℕ) → j < n → rule new (take attribute_width (drop (attribute_width * j) w)) ≡ true → repeats_one rule new n w ≡ true
   unfolding repeats_one
@@ -52,7 +54,8 @@ module _ (rule : Rule) (new : List ℕ) where
   one_at (suc n) zero w l e = or_left (rule new (take attribute_width w)) (repeats_one rule new n (drop attribute_width w)) e
   one_at (suc n) (suc j) w l e = or_right (rule new (take attribute_width w)) (one_at n j (drop attribute_width w) (omega arith) (sym (at_next j w) ∙ e))
 
-  never : (n : ℕ) (w : List ℕ) → ((j : ℕ) → j < n → rule new (take attribute_width (drop (attribute_width * j) w)) ≡ true → ⊥) → repeats_one rule new n w ≡ false
+  never : (n : ℕ) (w : List ℕ) → ((j : ℕ) → j < n → rule new (take attribute_width (drop (attribute_width * j) w)) ≡ true → ⊥)
+      → repeats_one rule new n w ≡ false
   unfolding repeats_one
   never zero w h = refl
   never (suc n) w h =
@@ -65,7 +68,8 @@ module _ (same : ℕ → ℕ → Bool) (owner p n kind value ns : ℕ) (w : List
   pub repeat-at : (j : ℕ) → j < length w / attribute_width → same_at same p n ns w (attribute_width * j) ≡ true → is_repeat (by_prefix same) new w ≡ true
   repeat-at j l e = one_at (by_prefix same) new (length w / attribute_width) j w l (by_prefix-at same owner p n kind value ns w (attribute_width * j) ∙ e)
 
-  pub repeat-never : ((j : ℕ) → j < length w / attribute_width → same_at same p n ns w (attribute_width * j) ≡ true → ⊥) → is_repeat (by_prefix same) new w ≡ false
+  pub repeat-never : ((j : ℕ) → j < length w / attribute_width → same_at same p n ns w (attribute_width * j) ≡ true → ⊥)
+      → is_repeat (by_prefix same) new w ≡ false
   repeat-never h =
       never (by_prefix same) new (length w / attribute_width) w
       (λ j l e. h j l (sym (by_prefix-at same owner p n kind value ns w (attribute_width * j)) ∙ e))
@@ -79,11 +83,13 @@ module _ (rule : Rule) (new : List ℕ) where
   split-more (suc a) b w =
       let sum : suc a + b ≡ suc (a + b) = omega arith in
       let q : attribute_width + attribute_width * a ≡ attribute_width * suc a = omega arith in
-      let places : drop (attribute_width * a) (drop attribute_width w) ≡ drop (attribute_width * suc a) w = drop-drop (attribute_width * a) attribute_width w ∙ ap (λ (k : ℕ). drop k w) q in
+      let places : drop (attribute_width * a) (drop attribute_width w) ≡ drop (attribute_width * suc a) w =
+      drop-drop (attribute_width * a) attribute_width w ∙ ap (λ (k : ℕ). drop k w) q in
       ap (λ (m : ℕ). repeats_one rule new m w) sum
       ∙ ap (λ (r : Bool). rule new (take attribute_width w) || r)
       (split-more a b (drop attribute_width w) ∙ ap (λ (l : List ℕ). repeats_one rule new a (drop attribute_width w) || repeats_one rule new b l) places)
-      ∙ or_assoc (rule new (take attribute_width w)) (repeats_one rule new a (drop attribute_width w)) (repeats_one rule new b (drop (attribute_width * suc a) w))
+      ∙ or_assoc (rule new (take attribute_width w)) (repeats_one rule new a (drop attribute_width w))
+      (repeats_one rule new b (drop (attribute_width * suc a) w))
 
   front_same : (a m : ℕ) (w : List ℕ) → attribute_width * a ≤ m → attribute_width * a ≤ length w → repeats_one rule new a (take m w) ≡ repeats_one rule new a w
   unfolding repeats_one
@@ -98,13 +104,15 @@ module _ (rule : Rule) (new : List ℕ) where
       ∙ ap (λ (r : Bool). rule new (take attribute_width w) || r) rest
 
   -- one of the front
-  pub repeat-front : (k : ℕ) (w f : List ℕ) → attribute_width * k ≤ length w → f ≡ take (attribute_width * k) w → is_repeat rule new f ≡ true → is_repeat rule new w ≡ true
+  pub repeat-front : (k : ℕ) (w f : List ℕ) → attribute_width * k ≤ length w → f ≡ take (attribute_width * k) w → is_repeat rule new f ≡ true
+      → is_repeat rule new w ≡ true
   repeat-front k w f h e some =
       let n : length w / attribute_width ≡ k + (length w - attribute_width * k) / attribute_width = omega arith in
       let lf : length f ≡ attribute_width * k = ap length e ∙ length-take-le (attribute_width * k) w h in
       let nf : length f / attribute_width ≡ k = omega arith in
       let front : repeats_one rule new k w ≡ true =
-      sym (front_same k (attribute_width * k) w (omega arith) h) ∙ ap (repeats_one rule new k) (sym e) ∙ ap (λ (m : ℕ). repeats_one rule new m f) (sym nf) ∙ some in
+      sym (front_same k (attribute_width * k) w (omega arith) h) ∙ ap (repeats_one rule new k) (sym e)
+      ∙ ap (λ (m : ℕ). repeats_one rule new m f) (sym nf) ∙ some in
       ap (λ (m : ℕ). repeats_one rule new m w) n ∙ split-more k _ w
       ∙ or_left (repeats_one rule new k w) (repeats_one rule new ((length w - attribute_width * k) / attribute_width) (drop (attribute_width * k) w)) front
 
@@ -116,13 +124,16 @@ module _ (rule : Rule) (new : List ℕ) where
       let lf : length f ≡ attribute_width * k = ap length e ∙ length-take-le (attribute_width * k) w h in
       let nf : length f / attribute_width ≡ k = omega arith in
       let front : repeats_one rule new k w ≡ false =
-      sym (front_same k (attribute_width * k) w (omega arith) h) ∙ ap (repeats_one rule new k) (sym e) ∙ ap (λ (m : ℕ). repeats_one rule new m f) (sym nf) ∙ none in
-      ap (λ (m : ℕ). repeats_one rule new m w) n ∙ split-more k _ w ∙ ap (λ (r : Bool). r || repeats_one rule new ((length w - attribute_width * k) / attribute_width) (drop (attribute_width * k) w)) front
+      sym (front_same k (attribute_width * k) w (omega arith) h) ∙ ap (repeats_one rule new k) (sym e)
+      ∙ ap (λ (m : ℕ). repeats_one rule new m f) (sym nf) ∙ none in
+      ap (λ (m : ℕ). repeats_one rule new m w) n ∙ split-more k _ w
+      ∙ ap (λ (r : Bool). r || repeats_one rule new ((length w - attribute_width * k) / attribute_width) (drop (attribute_width * k) w)) front
       ∙ ap (λ (m : ℕ). repeats_one rule new (m / attribute_width) (drop (attribute_width * k) w)) (sym (length-drop (attribute_width * k) w))
 
 -- ---- the search
 
-below_of : (n : ℕ) (s : List ℕ) (j f i g : ℕ) → (i ≡ j → ⊥) → Leads n s j f i g → (i < child_of s i g) × (child_of s i g < n) × Reached n s j (child_of s i g) (g / 2)
+below_of : (n : ℕ) (s : List ℕ) (j f i g : ℕ) → (i ≡ j → ⊥) → Leads n s j f i g
+    → (i < child_of s i g) × (child_of s i g < n) × Reached n s j (child_of s i g) (g / 2)
 below_of n s j f i g d (there e q) = absurd (d e)
 below_of n s j f i g d (down l m r) = (l, m, (f, r))
 
@@ -139,7 +150,8 @@ pub record Walks (key : Key) (same : ℕ → ℕ → Bool) (w s : List ℕ) (k p
   pub all : Hung (keys_of key w) s (length w / attribute_width) → k ≡ key p n ns → (j : ℕ) → j < length w / attribute_width
       → same_at same p n ns w (attribute_width * j) ≡ true → Reached (length w / attribute_width) s j i g
 
-module _ (key : Key) (same : ℕ → ℕ → Bool) (w s : List ℕ) (k p n ns : ℕ) (agree : (j : ℕ) → same_at same p n ns w (attribute_width * j) ≡ true → keys_of key w j ≡ key p n ns) where
+module _ (key : Key) (same : ℕ → ℕ → Bool) (w s : List ℕ) (k p n ns : ℕ) (agree : (j : ℕ) → same_at same p n ns w
+    (attribute_width * j) ≡ true → keys_of key w j ≡ key p n ns) where
   abbrev N : ℕ
   N = length w / attribute_width
 
@@ -163,7 +175,8 @@ module _ (key : Key) (same : ℕ → ℕ → Bool) (w s : List ℕ) (k p n ns : 
 
     pub walks-found : (r : Bool) → r ≡ hit → r ≡ true → Sought key same w s k p n ns (record { found = true; at = i; left = g })
     walks-found r e f = record {
-      answer = λ _ _ owner kind value. sym (repeat-at same owner p n kind value ns w i a.below (here (eqb (get_or s (link_width * i + link_key) 0) k) (sym e ∙ f)));
+      answer = λ _ _ owner kind value. sym (repeat-at same owner p n kind value ns w i a.below (here (eqb (get_or s (link_width * i + link_key) 0) k)
+          (sym e ∙ f)));
       ends = λ q. absurd (true≢false q);
     }
       where

@@ -12,7 +12,7 @@ ghost use Rattle.text.specs.Inner.Found.{Asks, Inside, Finds, part_of};
 ghost use Rattle.tables.specs.Inner.Numbered.{word_count, Numbered, ToldBy};
 ghost use Rattle.tables.specs.Inner.Ways.{same_at};
 
-use crate::numbers::{NEAR, Told, enter, is_long, near_of, told_of};
+use crate::numbers::{NEAR, enter, is_long, near_of, told_of};
 use crate::{is_plain_name, same_space};
 use common::StringIndex;
 use records::{ATTRIBUTE_NAME, ATTRIBUTE_NAMESPACE, ATTRIBUTE_PREFIX, ATTRIBUTE_WORDS, OWN_PREFIX};
@@ -51,11 +51,9 @@ fn same_kept(
 {
     enter(t, names, area, h, name, g, numbers);
     enter(t, names, area, h, index, f, numbers);
-    let told = told_of(numbers, index, name, near_of(g));
-    match told {
-        Told::Unknown => same_whole(t, area, h.utf16, f, g),
-        Told::Same => true,
-        Told::Other => false,
+    match told_of(numbers, index, name, near_of(g)) {
+        Some(same) => same,
+        None => same_whole(t, area, h.utf16, f, g),
     }
 }
 
@@ -89,14 +87,15 @@ fn same_found_by(
 }
 
 // What is known of two indices, of which the second has a long text; of any other nothing is kept.
-fn told_if(long: bool, numbers: &[u64], i: StringIndex, j: StringIndex) -> Told
+fn told_if(long: bool, numbers: &[u64], i: StringIndex, j: StringIndex) -> Option<bool>
     requires { length numbers.now ≡ word_count }
     ensures { (h : Head) (t : List ℕ) (lent : Lent) → Numbered h t lent numbers.now → ToldBy (same_name h t lent i.0 j.0) result }
 {
     if long {
-        return told_of(numbers, i, j, NEAR);
+        told_of(numbers, i, j, NEAR)
+    } else {
+        None
     }
-    Told::Unknown
 }
 
 // Whether two indices have the same text, of which the second was found as g: by equal indices, then by what is known of a long one, then by
@@ -123,11 +122,9 @@ pub fn same_by(
     if index.0 == name.0 {
         return is_found(g);
     }
-    let told = told_if(long, numbers, index, name);
-    match told {
-        Told::Unknown => same_found_by(t, names, area, h, plain, index, name, g, long, numbers),
-        Told::Same => true,
-        Told::Other => false,
+    match told_if(long, numbers, index, name) {
+        Some(same) => same,
+        None => same_found_by(t, names, area, h, plain, index, name, g, long, numbers),
     }
 }
 
@@ -171,11 +168,9 @@ pub fn same_numbered(
     if i.0 == j.0 {
         return has_text(t, names, area, h, i);
     }
-    let told = told_of(numbers, i, j, NEAR);
-    match told {
-        Told::Unknown => same_looked(t, names, area, h, i, j, numbers),
-        Told::Same => true,
-        Told::Other => false,
+    match told_of(numbers, i, j, NEAR) {
+        Some(same) => same,
+        None => same_looked(t, names, area, h, i, j, numbers),
     }
 }
 
@@ -272,14 +267,12 @@ pub fn has_numbered(
 {
     let long = is_long(wanted);
     let plain = is_plain_long(t, area, h.utf16, prefix, wanted, long);
-    let mut i = 0;
-    while ATTRIBUTE_WORDS <= words.len() - i {
+    for record in words.chunks_exact(ATTRIBUTE_WORDS) {
         if is_same(
-            t, names, area, h, words, i, prefix, name, ns, wanted, plain, long, numbers,
+            t, names, area, h, record, 0, prefix, name, ns, wanted, plain, long, numbers,
         ) {
             return true;
         }
-        i += ATTRIBUTE_WORDS;
     }
     false
 }

@@ -3,34 +3,27 @@
 // Stands for the hash in the Rust's `HashSet` of attribute names. Definitions: specs/Inner/Keys.antt. Differs from the Rust: it has no
 // secret, so that who knows it can make texts of one number; docs/DECISIONS.md says what that costs.
 ghost use Rattle.std.specs.Prelude.{◌≡◌};
-ghost use Rattle.std.specs.Int.Bits.{bit_xor};
 ghost use Rattle.system_types.specs.Names.{lends};
 ghost use Rattle.text.specs.Inner.Found.{Asks, Inside, Finds, part_of};
 ghost use Rattle.tables.specs.Inner.Keys.{mixed, hash_of, hash_in, key_by};
 ghost use Rattle.tables.specs.Inner.Numbered.{Numbered};
 
-use crate::numbers::number_of;
+use crate::numbers::{HALF, number_of};
 use common::StringIndex;
 use records::OWN_PREFIX;
 use text::{Found, Head, find};
 use utf::{is_refused, next_of};
 
-fn cross(a: u32, b: u32) -> u32
-    ensures { result ≡ bit_xor a b }
-{
-    a ^ b
-}
-
 // A value mixed into the state.
+#[tactic(auto, unfolding(crate::specs::Inner::Keys::mixed))]
 fn mix(s: u64, v: u32) -> u64
     ensures { result ≡ mixed s v }
 {
-    let a = cross((s / 4294967296) as u32, v);
-    let x = a as u64 * 2654435769;
-    let y = (s % 4294967296 + v as u64) % 4294967296 * 3266489917;
-    let p = cross((x / 4294967296) as u32, (y % 4294967296) as u32);
-    let q = cross((y / 4294967296) as u32, (x % 4294967296) as u32);
-    p as u64 * 4294967296 + q as u64
+    let x = u64::from((s / HALF) as u32 ^ v) * 2654435769;
+    let y = (s % HALF + u64::from(v)) % HALF * 3266489917;
+    let p = (x / HALF) as u32 ^ (y % HALF) as u32;
+    let q = (y / HALF) as u32 ^ (x % HALF) as u32;
+    u64::from(p) * HALF + u64::from(q)
 }
 
 // The values of a text's steps, mixed one by one: no copy is made, and a text that is refused is the empty one.
@@ -43,6 +36,7 @@ pub fn hash_of(utf16: bool, b: &[u8], seed: u64) -> u64
         return s;
     }
     let mut at: usize = 0;
+    // No `for`: the next place depends on the step's width, and nothing yields the steps as an iterator.
     while at < b.len() {
         let t = next_of(utf16, b, at);
         s = mix(s, t.value);
@@ -58,8 +52,7 @@ pub fn hash_found(t: &[u8], area: &[u8], utf16: bool, f: Found, seed: u64) -> u6
     ensures { result ≡ hash_in seed (part_of utf16 t.now area.now f) }
 {
     match f {
-        Found::Nothing => seed,
-        Found::Cut => seed,
+        Found::Nothing | Found::Cut => seed,
         Found::System(at, n) => hash_of(false, &area[at..at + n], seed),
         Found::Pool(at, n) => hash_of(utf16, &t[at..at + n], seed),
     }
@@ -85,10 +78,10 @@ pub fn key_of(
 {
     let s = mix(number_of(t, names, area, h, name, g, numbers), prefix);
     if prefix != OWN_PREFIX {
-        return (s / 4294967296) as u32;
+        return (s / HALF) as u32;
     }
     let f = find(t, names, area, h, ns);
     let n = number_of(t, names, area, h, ns, f, numbers);
-    let u = mix(s, (n / 4294967296) as u32);
-    (mix(u, (n % 4294967296) as u32) / 4294967296) as u32
+    let u = mix(s, (n / HALF) as u32);
+    (mix(u, (n % HALF) as u32) / HALF) as u32
 }

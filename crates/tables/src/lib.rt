@@ -35,11 +35,7 @@ pub fn put_one(words: &mut [u32], i: usize, a: u32)
 pub fn zero_all(words: &mut [u32])
     ensures { words.new ≡ replicate (length words.old) 0 }
 {
-    let mut i = 0;
-    while i < words.len() {
-        words[i] = 0;
-        i += 1;
-    }
+    words.fill(0);
 }
 
 // Zeros from the place `from` on. Ruled out: a word before it changed, and one behind it kept.
@@ -89,7 +85,8 @@ fn is_plain_name(t: &[u8], area: &[u8], utf16: bool, prefix: u32, f: Found) -> b
 }
 
 // Whether an attribute of this prefix, name and namespace, whatever its other words, repeats one of these (W23). The name's own text is
-// found once, and looked at once, or not at all (`is_plain_name`): where it is plain, bytes are compared, and its marks tell most names apart before they are looked up.
+// found once, and looked at once, or not at all (`is_plain_name`): where it is plain, bytes are compared, and its marks tell most names apart before
+// they are looked up.
 // Ruled out: yes for the same index under another prefix, and no for another index whose text is the same.
 pub fn has(
     t: &[u8],
@@ -118,15 +115,13 @@ pub fn has(
     }
     let plain = is_plain_name(t, area, h.utf16, prefix, wanted);
     let marks = marks_of(t, names, area, h, plain, wanted);
-    let mut i = 0;
-    while ATTRIBUTE_WORDS <= words.len() - i {
-        if words[i + ATTRIBUTE_PREFIX] == prefix {
-            let other = StringIndex(words[i + ATTRIBUTE_NAME]);
+    for record in words.chunks_exact(ATTRIBUTE_WORDS) {
+        if record[ATTRIBUTE_PREFIX] == prefix {
+            let other = StringIndex(record[ATTRIBUTE_NAME]);
             if same_as_known(t, names, area, h, plain, marks, other, name, wanted) {
                 return true;
             }
         }
-        i += ATTRIBUTE_WORDS;
     }
     false
 }

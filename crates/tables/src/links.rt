@@ -155,14 +155,7 @@ pub fn seek(
             };
         }
         let c = child(links, i, left);
-        if c <= i {
-            return WayEnd {
-                found: false,
-                at: i,
-                left,
-            };
-        }
-        if n <= c {
+        if c <= i || n <= c {
             return WayEnd {
                 found: false,
                 at: i,

@@ -9,7 +9,8 @@ ghost use Rattle.text.specs.declared.Head.{Head};
 ghost use Rattle.text.specs.Content.{content_of, has_text, same_name};
 ghost use Rattle.text.specs.Inner.Found.{Asks, Finds, part_of};
 ghost use Rattle.tables.specs.Inner.Keys.{hash_in};
-ghost use Rattle.tables.specs.Inner.Numbered.{place_count, near_count, word_count, long_from, very_long_from, size_of, mark_of, Numbered, met_at, FirstOf, ToldBy};
+ghost use Rattle.tables.specs.Inner.Numbered.{place_count, near_count, word_count, long_from, very_long_from, size_of};
+ghost use Rattle.tables.specs.Inner.Numbered.{mark_of, Numbered, met_at, FirstOf, ToldBy};
 
 use crate::hash::hash_found;
 use common::StringIndex;
@@ -30,15 +31,8 @@ const ALL: u32 = 256;
 // A text of so many bytes is very long: to look at all places costs less than to compare it.
 const VERY_LONG: usize = 16384;
 
-const HALF: u64 = 4294967296;
-
-// Where two texts stand to each other.
-#[derive(Clone, Copy)]
-pub enum Told {
-    Unknown,
-    Same,
-    Other,
-}
+// A word of 64 bits is two numbers of 32: the quotient and the remainder by this.
+pub(crate) const HALF: u64 = 4294967296;
 
 // ---- how long a text is, which decides who is asked and nothing else
 
@@ -46,10 +40,8 @@ fn size_of(f: Found) -> usize
     ensures { result ≡ size_of f }
 {
     match f {
-        Found::Nothing => 0,
-        Found::Cut => 0,
-        Found::System(_, n) => n,
-        Found::Pool(_, n) => n,
+        Found::Nothing | Found::Cut => 0,
+        Found::System(_, n) | Found::Pool(_, n) => n,
     }
 }
 
@@ -79,40 +71,32 @@ fn place_of(numbers: &[u64], index: StringIndex, near: u32) -> usize
     requires { length numbers.now ≡ word_count }
     ensures { result < place_count }
 {
-    let own = index.0 as u64 + 1;
-    let mut k: u32 = 0;
-    while k < near {
+    let own = u64::from(index.0) + 1;
+    for k in 0..near {
         let p = (index.0 as usize + k as usize) % PLACES;
         let seen = numbers[p] / HALF;
-        if seen == own {
+        if seen == own || seen == 0 {
             return p;
         }
-        if seen == 0 {
-            return p;
-        }
-        k += 1;
     }
     index.0 as usize % PLACES
 }
 
-// What is known of the texts of two indices, from `near` places for each.
+// Whether two indices have the same text, if that is known, from `near` places for each.
 // Ruled out: the same for two texts of one number, and what stands at the place of another index taken for it.
-pub fn told_of(numbers: &[u64], i: StringIndex, j: StringIndex, near: u32) -> Told
+pub fn told_of(numbers: &[u64], i: StringIndex, j: StringIndex, near: u32) -> Option<bool>
     requires { length numbers.now ≡ word_count }
     ensures { (h : Head) (t : List ℕ) (lent : Lent) → Numbered h t lent numbers.now → ToldBy (same_name h t lent i.0 j.0) result }
 {
     let a = numbers[place_of(numbers, i, near)];
     let b = numbers[place_of(numbers, j, near)];
-    if a / HALF != i.0 as u64 + 1 {
-        return Told::Unknown;
+    if a / HALF != u64::from(i.0) + 1 {
+        return None;
     }
-    if b / HALF != j.0 as u64 + 1 {
-        return Told::Unknown;
+    if b / HALF != u64::from(j.0) + 1 {
+        return None;
     }
-    if a % HALF == b % HALF {
-        return Told::Same;
-    }
-    Told::Other
+    Some(a % HALF == b % HALF)
 }
 
 // ---- one index more
@@ -162,12 +146,10 @@ fn first_same(
         × (has_text (content_of h t.now (lends names.now area.now) own.0) ≡ true) × (own.0 < 4294967295) }
     ensures { FirstOf (same_name h t.now (lends names.now area.now)) numbers.now own.0 result }
 {
-    let mut q: usize = 0;
-    while q < PLACES {
+    for q in 0..PLACES {
         if is_met(t, names, area, h, own, f, number, numbers, q) {
             return (numbers[q] % HALF) as u32;
         }
-        q += 1;
     }
     own.0
 }
@@ -176,7 +158,7 @@ fn put(numbers: &mut [u64], p: usize, index: StringIndex, first: u32, number: u6
     requires { (length numbers.old ≡ word_count) × (p < place_count) × (index.0 < 4294967295) }
     ensures { numbers.new ≡ set (set numbers.old p (mark_of index.0 first)) (p + place_count) number }
 {
-    numbers[p] = (index.0 as u64 + 1) * HALF + first as u64;
+    numbers[p] = (u64::from(index.0) + 1) * HALF + u64::from(first);
     numbers[p + PLACES] = number;
 }
 
@@ -257,7 +239,6 @@ pub fn enter(
     let seen = (numbers[p] / HALF) as u32;
     if takes(t, names, area, h, index, f, seen) {
         enter_at(t, names, area, h, index, f, p, numbers);
-        return;
     }
 }
 
@@ -279,7 +260,7 @@ fn kept_number(
 {
     enter(t, names, area, h, index, f, numbers);
     let p = place_of(numbers, index, near_of(f));
-    if numbers[p] / HALF == index.0 as u64 + 1 {
+    if numbers[p] / HALF == u64::from(index.0) + 1 {
         return numbers[p + PLACES];
     }
     hash_found(t, area, h.utf16, f, 0)

@@ -3,11 +3,10 @@
 -- other (`content_of-system`, `content_of-string`).
 use Rattle.std.specs.Prelude.{Some, None}
 use Prim.Native.Nat.{ℕ, ◌+◌, ◌-◌, ◌*◌, ◌≤◌, ◌<◌}
-use native.Mathlib.Omega.{arith}
 use native.Mathlib.Nat.{le_of_eq}
-use mathlib.Core.Path.{◌≡◌, sym, ap, ◌∙◌}
+use mathlib.Core.Path.{◌≡◌, refl, sym, ap, ◌∙◌}
 use mathlib.Core.List.{List}
-use mathlib.Core.Bool.{Bool, true}
+use mathlib.Core.Bool.{Bool}
 use borrow.Author.Tests.{lt-ltb, le-ltb}
 use lib.ListN.{length, take, drop, length-drop}
 use lib.Seq.{take_all}
@@ -20,7 +19,7 @@ use Rattle.text.specs.declared.Head.{Head}
 use Rattle.text.specs.declared.Found.{Found}
 use Rattle.text.specs.declared.Found.TheVariants.{Nothing, Cut, System, Pool}
 use Rattle.text.specs.Content.{none, named_by, system_of, string_at, string_of, data_of, content_of}
-use Rattle.text.specs.Inner.Found.{Fits, Stands, is_found}
+use Rattle.text.specs.Inner.Found.{Fits, Stands}
 
 module _ (h : Head) (t : List ℕ) (i : ℕ) where
   pub string_of-past : h.count ≤ i → string_of h t i ≡ none
@@ -85,11 +84,11 @@ module _ (h : Head) (t : List ℕ) (lent : Lent) (i : ℕ) where
   -- a system name goes first
   pub content_of-system
       : (w : Bool) (r : Found)
-      → is_found r ≡ true
+      → (r ≡ Nothing → ⊥)
       → Stands w t lent.area (system_of h t lent i) r
       → Stands w t lent.area (content_of h t lent i) r
   unfolding content_of
-  content_of-system w Nothing e s = absurd (let z : ◌≡◌ {A = ℕ} 0 1 = cc in let y : ⊥ = omega arith in y)
+  content_of-system w Nothing e s = absurd (e refl)
   content_of-system w Cut e s = record { same = rw (← s.same); inside = s.inside }
   content_of-system w (System at n) e s = record { same = rw (← s.same); inside = s.inside }
   content_of-system w (Pool at n) e s = record { same = rw (← s.same); inside = s.inside }

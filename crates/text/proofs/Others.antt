@@ -7,8 +7,8 @@ use native.Mathlib.Omega.{arith}
 use native.Mathlib.Nat.{add-zero}
 use mathlib.Core.Path.{◌≡◌, refl, sym, ap, ◌∙◌}
 use mathlib.Core.List.{List, [], ◌∷◌}
-use mathlib.Core.Bool.{Bool, true, false, cond, not, true≢false}
-use borrow.Author.Tests.{lt-ltb, ltb-true, ltb-false, eqb-true, not-true}
+use mathlib.Core.Bool.{Bool, true, false, cond, true≢false}
+use borrow.Author.Tests.{lt-ltb, ltb-true, ltb-false, eqb-true}
 use lib.ListN.{length, take, drop, get_or, length-drop}
 use lib.Seq.{get_or-take, get_or-drop, length-take-le, drop-drop}
 use lib.Dec.{eqb, ltb}
@@ -30,7 +30,7 @@ use Rattle.text.specs.Content.{Content, none, cut, some, named_by, system_of, sp
 use Rattle.text.specs.Content.{plain_in, same_text}
 use Rattle.text.specs.Inner.Found.{Fits, part_of}
 use Rattle.text.specs.Inner.Marks.{Other, string_in, first_of}
-use Rattle.text.proofs.Parts.{take-drop-part, slice_of, data-from, length-data}
+use Rattle.text.proofs.Parts.{take-drop-part, data-from, length-data}
 use Rattle.text.proofs.Index.{string_of-in, system_of-past, system_of-in}
 use Rattle.text.proofs.Read.{part-lt}
 
@@ -59,14 +59,6 @@ module _ (t : List ℕ) (q m at n : ℕ) (h : q + m ≤ length t) (k : at + n �
       let y : get_or (take n (drop at t)) (n - back) 0 ≡ get_or t (at + n - back) 0 =
       get_or-take n (drop at t) (n - back) 0 (omega arith) ∙ get_or-drop at t (n - back) 0 ∙ ap (λ (z : ℕ). get_or t z 0) j in
       eq_bytes-here (take m (drop q t)) (take n (drop at t)) (n - back) (λ z. d (sym x ∙ z ∙ y))
-
--- as ranges give the parts
-pub other-slices
-    : (t : List ℕ) (q m at n : ℕ) {r : Bool}
-    → r ≡ eq_bytes (take (q + m - q) (drop q t)) (take (at + n - at) (drop at t))
-    → not r ≡ true
-    → eq_bytes (take m (drop q t)) (take n (drop at t)) ≡ false
-other-slices t q m at n {r} e f = let g = sym e ∙ not-true r f in rw (slice_of q m, slice_of at n) at g
 
 -- ---- a string whose head is two bytes
 

@@ -55,17 +55,6 @@ without-rest s = without-case s (starts_with s android_attr) (starts_with-le s a
 pub slice_of : (start n : ℕ) → start + n - start ≡ n
 slice_of start n = omega arith
 
-pub stripped-le
-    : (area : List ℕ) (start n k : ℕ)
-    → start + n ≤ length area
-    → k ≡ length (without android_attr (take n (drop start area)))
-    → k ≤ start + n
-stripped-le area start n k h e =
-    let s = take n (drop start area) in
-    let ls : length s ≡ n = length-take-le n (drop start area) (rw length-drop (omega arith)) in
-    let q = (without-rest s).0 in
-    omega arith
-
 pub stripped-stands
     : (w : Bool) (t area : List ℕ) (start n k : ℕ)
     → start + n ≤ length area

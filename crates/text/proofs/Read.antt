@@ -45,9 +45,6 @@ module _ (t area : List ℕ) {f : Found} {at n : ℕ} where
   inside-pool i e = rw e at i
 
 module _ (w : Bool) (t area : List ℕ) {f : Found} where
-  pub part_of-nothing : f ≡ Nothing → part_of w t area f ≡ none
-  part_of-nothing e = rw e
-
   pub part_of-cut : f ≡ Cut → part_of w t area f ≡ cut
   part_of-cut e = rw e
 
@@ -202,12 +199,6 @@ pub text_of-held : (w : Bool) (s : List ℕ) {y : List ℕ} → text_of w s ≡ 
 text_of-held w s e l = omega (arith, text_of-length-le w s, ap length e)
 
 -- ---- a text of ASCII
-
--- a system name is one
-pub ascii-system : (w : Bool) (t area : List ℕ) {f : Found} {at n : ℕ} → Inside t area f → f ≡ System at n → true ≡ ascii_in (part_of w t area f)
-ascii-system w t area {f} {at} {n} i e =
-    let q : (at + n ≤ length area) × (is_ascii (take n (drop at area)) ≡ true) = rw e at i in
-    sym (ap (λ (g : Found). ascii_in (part_of w t area g)) e ∙ q.1)
 
 -- and it is whole
 pub ascii-whole : (c : Content) → ascii_in c ≡ true → damage_in c ≡ whole

@@ -28,15 +28,10 @@ fn bytes_apart(t: &[u8], q: usize, m: usize, at: usize, n: usize, back: usize) -
     if m != n {
         return true;
     }
-    if back <= n {
-        if t[q + m - back] != t[at + n - back] {
-            return true;
-        }
+    if back <= n && t[q + m - back] != t[at + n - back] {
+        return true;
     }
-    if LONG <= n {
-        return false;
-    }
-    !same_bytes(&t[q..q + m], &t[at..at + n])
+    n < LONG && !same_bytes(&t[q..q + m], &t[at..at + n])
 }
 
 // The same of the UTF-8 string that begins at the place p, in data that ends at the place `end`: its head is two lengths of one byte.
@@ -98,13 +93,7 @@ fn alike_apart(t: &[u8], h: Head, k: Marks, p: usize) -> bool
     if k.room < p {
         return false;
     }
-    if u16_at(t, p) != k.head {
-        return false;
-    }
-    if t[p + k.far] == k.last {
-        return false;
-    }
-    true
+    u16_at(t, p) == k.head && t[p + k.far] != k.last
 }
 
 fn place_apart(t: &[u8], h: Head, k: Marks, p: usize) -> bool
@@ -112,10 +101,7 @@ fn place_apart(t: &[u8], h: Head, k: Marks, p: usize) -> bool
     ensures { result ≡ true → Other h.utf16 t.now (string_in h.utf16 t.now (h.strings + h.size) p)
         (take k.n (drop k.at t.now)) }
 {
-    if alike_apart(t, h, k, p) {
-        return true;
-    }
-    string_apart(t, h.utf16, h.strings + h.size, p, k.at, k.n)
+    alike_apart(t, h, k, p) || string_apart(t, h.utf16, h.strings + h.size, p, k.at, k.n)
 }
 
 // Whether a part of the file surely has another text than what was found, which is plain.
@@ -124,10 +110,8 @@ fn part_apart(t: &[u8], area: &[u8], utf16: bool, q: usize, m: usize, g: Found) 
     ensures { result ≡ true → same_text (some utf16 (take m (drop q t.now))) (part_of utf16 t.now area.now g) ≡ false }
 {
     match g {
-        Found::Nothing => false,
-        Found::Cut => false,
-        Found::System(_, _) => false,
         Found::Pool(at, n) => bytes_apart(t, q, m, at, n, 2),
+        _ => false,
     }
 }
 
@@ -137,10 +121,8 @@ fn pool_apart(t: &[u8], area: &[u8], utf16: bool, f: Found, g: Found) -> bool
     ensures { result ≡ true → same_text (part_of utf16 t.now area.now f) (part_of utf16 t.now area.now g) ≡ false }
 {
     match f {
-        Found::Nothing => false,
-        Found::Cut => false,
-        Found::System(_, _) => false,
         Found::Pool(q, m) => part_apart(t, area, utf16, q, m, g),
+        _ => false,
     }
 }
 
@@ -151,10 +133,7 @@ pub fn ends_apart(t: &[u8], area: &[u8], utf16: bool, plain: bool, f: Found, g: 
     requires { Inside t.now area.now f × Inside t.now area.now g × Known plain (plain_in (part_of utf16 t.now area.now g)) }
     ensures { result ≡ true → same_text (part_of utf16 t.now area.now f) (part_of utf16 t.now area.now g) ≡ false }
 {
-    if plain {
-        return pool_apart(t, area, utf16, f, g);
-    }
-    false
+    plain && pool_apart(t, area, utf16, f, g)
 }
 
 // Whether an index surely has another text than what was found, by the marks of this. A long text is not passed over for it.
@@ -172,10 +151,7 @@ pub fn surely_differs(
     ensures { result ≡ true → same_text (content_of h t.now (lends names.now area.now) index.0)
         (part_of h.utf16 t.now area.now g) ≡ false }
 {
-    if index.0 < k.first.0 {
-        return false;
-    }
-    if h.count <= index.0 {
+    if index.0 < k.first.0 || h.count <= index.0 {
         return false;
     }
     let o = u32_at(t, h.offsets + 4 * (index.0 as usize));
@@ -204,13 +180,7 @@ fn utf8_marks(t: &[u8], count: u32, first: StringIndex, end: usize, at: usize, n
     requires { at + n ≤ length t.now }
     ensures { Chosen false t.now count first.0 end at n result }
 {
-    if n < 1 {
-        return no_marks(count);
-    }
-    if 128 <= n {
-        return no_marks(count);
-    }
-    if end < n + 3 {
+    if n < 1 || 128 <= n || end < n + 3 {
         return no_marks(count);
     }
     Marks {
@@ -229,16 +199,7 @@ fn utf16_marks(t: &[u8], count: u32, first: StringIndex, end: usize, at: usize, 
     requires { at + n ≤ length t.now }
     ensures { Chosen true t.now count first.0 end at n result }
 {
-    if n < 2 {
-        return no_marks(count);
-    }
-    if 65536 <= n {
-        return no_marks(count);
-    }
-    if n % 2 != 0 {
-        return no_marks(count);
-    }
-    if end < n + 4 {
+    if n < 2 || 65536 <= n || n % 2 != 0 || end < n + 4 {
         return no_marks(count);
     }
     Marks {
@@ -256,10 +217,11 @@ fn utf16_marks(t: &[u8], count: u32, first: StringIndex, end: usize, at: usize, 
 fn first_of(names: &[u32], ids: u32) -> StringIndex
     ensures { result.0 ≡ first_of names.now ids }
 {
-    if names.len() == 0 {
-        return StringIndex(0);
+    if names.is_empty() {
+        StringIndex(0)
+    } else {
+        StringIndex(ids)
     }
-    StringIndex(ids)
 }
 
 fn pool_marks(t: &[u8], names: &[u32], h: Head, at: usize, n: usize) -> Marks
@@ -279,13 +241,8 @@ pub fn marks_of(t: &[u8], names: &[u32], area: &[u8], h: Head, plain: bool, g: F
     requires { Fits t.now h × Inside t.now area.now g × Known plain (plain_in (part_of h.utf16 t.now area.now g)) }
     ensures { Marked t.now (lends names.now area.now) h g result }
 {
-    if !plain {
-        return no_marks(h.count);
-    }
     match g {
-        Found::Nothing => no_marks(h.count),
-        Found::Cut => no_marks(h.count),
-        Found::System(_, _) => no_marks(h.count),
-        Found::Pool(at, n) => pool_marks(t, names, h, at, n),
+        Found::Pool(at, n) if plain => pool_marks(t, names, h, at, n),
+        _ => no_marks(h.count),
     }
 }

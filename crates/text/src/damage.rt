@@ -39,8 +39,7 @@ pub fn replaced_of_found(t: &[u8], area: &[u8], utf16: bool, f: Found) -> u32
     ensures { result ≡ replaced_count (damage_in (part_of utf16 t.now area.now f)) }
 {
     match f {
-        Found::Nothing => 0,
-        Found::Cut => 0,
+        Found::Nothing | Found::Cut => 0,
         Found::System(_, _) => 0,
         Found::Pool(at, n) => replaced_in_part(utf16, &t[at..at + n]),
     }

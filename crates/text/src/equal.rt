@@ -41,8 +41,7 @@ pub fn is_plain_found(t: &[u8], area: &[u8], utf16: bool, f: Found) -> bool
     ensures { result ≡ plain_in (part_of utf16 t.now area.now f) }
 {
     match f {
-        Found::Nothing => false,
-        Found::Cut => false,
+        Found::Nothing | Found::Cut => false,
         Found::System(_, _) => true,
         Found::Pool(at, n) => is_plain(utf16, &t[at..at + n]),
     }

@@ -108,11 +108,10 @@ fn find_system(t: &[u8], names: &[u32], area: &[u8], h: Head, index: StringIndex
     }
     let map = h.map;
     let id = id_at(&t[map..], index);
-    let name = get_type_name(names, id);
-    match name {
-        None => Found::Nothing,
-        Some((start, n)) => stripped(area, start as usize, n as usize),
-    }
+    let Some((start, n)) = get_type_name(names, id) else {
+        return Found::Nothing;
+    };
+    stripped(area, start as usize, n as usize)
 }
 
 // ---- the pool string
@@ -125,8 +124,7 @@ fn string_at(t: &[u8], utf16: bool, strings: usize, size: usize, o: usize) -> Fo
     if size <= o {
         return Found::Cut;
     }
-    let split = split_string(utf16, &t[strings + o..strings + size]);
-    match split {
+    match split_string(utf16, &t[strings + o..strings + size]) {
         None => Found::Cut,
         Some((at, n)) => Found::Pool(strings + o + at, n),
     }
@@ -151,12 +149,9 @@ pub fn find(t: &[u8], names: &[u32], area: &[u8], h: Head, index: StringIndex) -
     requires { Asks t.now (lends names.now area.now) h }
     ensures { Finds t.now (lends names.now area.now) h index.0 result }
 {
-    let named = find_system(t, names, area, h, index);
-    match named {
+    match find_system(t, names, area, h, index) {
         Found::Nothing => find_string(t, h, index),
-        Found::Cut => Found::Cut,
-        Found::System(at, n) => Found::System(at, n),
-        Found::Pool(at, n) => Found::Pool(at, n),
+        named => named,
     }
 }
 
@@ -167,12 +162,7 @@ pub fn find(t: &[u8], names: &[u32], area: &[u8], h: Head, index: StringIndex) -
 pub fn is_found(f: Found) -> bool
     ensures { result ≡ is_found f }
 {
-    match f {
-        Found::Nothing => false,
-        Found::Cut => true,
-        Found::System(_, _) => true,
-        Found::Pool(_, _) => true,
-    }
+    !matches!(f, Found::Nothing)
 }
 
 // Whether an index has a text. No string is looked at: where the pool has one, cut or not, there is a text.
@@ -181,11 +171,7 @@ pub fn has_text(t: &[u8], names: &[u32], area: &[u8], h: Head, index: StringInde
     requires { Asks t.now (lends names.now area.now) h }
     ensures { result ≡ has_text (content_of h t.now (lends names.now area.now) index.0) }
 {
-    if index.0 < h.count {
-        return true;
-    }
-    let named = find_system(t, names, area, h, index);
-    is_found(named)
+    index.0 < h.count || is_found(find_system(t, names, area, h, index))
 }
 
 // ---- two texts

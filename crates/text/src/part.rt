@@ -19,8 +19,7 @@ pub fn content_of<'a>(t: &'a [u8], area: &'a [u8], f: Found) -> &'a [u8]
     ensures { (w : Bool) → result.now ≡ raw_of (part_of w t.now area.now f) }
 {
     match f {
-        Found::Nothing => &t[0..0],
-        Found::Cut => &t[0..0],
+        Found::Nothing | Found::Cut => &[],
         Found::System(at, n) => &area[at..at + n],
         Found::Pool(at, n) => &t[at..at + n],
     }
@@ -30,9 +29,10 @@ fn state_of(valid: bool) -> NameState
     ensures { result ≡ valid_by valid }
 {
     if valid {
-        return NameState::Valid;
+        NameState::Valid
+    } else {
+        NameState::Invalid
     }
-    NameState::Invalid
 }
 
 // Whether there is a text, and whether it is a valid name: a string that is cut is an empty text, and no name.
@@ -56,8 +56,7 @@ pub fn found_into(t: &[u8], area: &[u8], utf16: bool, f: Found, out: &mut [u8]) 
     ensures { Wrote (text_in (part_of utf16 t.now area.now f)) out.old out.new result }
 {
     match f {
-        Found::Nothing => 0,
-        Found::Cut => 0,
+        Found::Nothing | Found::Cut => 0,
         Found::System(at, n) => text_into(false, &area[at..at + n], out),
         Found::Pool(at, n) => text_into(utf16, &t[at..at + n], out),
     }
@@ -70,8 +69,7 @@ pub fn found_whole(t: &[u8], area: &[u8], utf16: bool, f: Found) -> bool
     ensures { result ≡ whole_name (part_of utf16 t.now area.now f) }
 {
     match f {
-        Found::Nothing => false,
-        Found::Cut => false,
+        Found::Nothing | Found::Cut => false,
         Found::System(at, n) => whole_name(false, &area[at..at + n]),
         Found::Pool(at, n) => whole_name(utf16, &t[at..at + n]),
     }
@@ -84,8 +82,7 @@ pub fn found_ascii(t: &[u8], area: &[u8], utf16: bool, f: Found) -> bool
     ensures { result ≡ ascii_in (part_of utf16 t.now area.now f) }
 {
     match f {
-        Found::Nothing => false,
-        Found::Cut => false,
+        Found::Nothing | Found::Cut => false,
         Found::System(_, _) => true,
         Found::Pool(at, n) => is_ascii_text(utf16, &t[at..at + n]),
     }
@@ -98,8 +95,7 @@ pub fn found_ascii_into(t: &[u8], area: &[u8], utf16: bool, f: Found, out: &mut 
     ensures { Wrote (text_in (part_of utf16 t.now area.now f)) out.old out.new result }
 {
     match f {
-        Found::Nothing => 0,
-        Found::Cut => 0,
+        Found::Nothing | Found::Cut => 0,
         Found::System(at, n) => ascii_into(false, &area[at..at + n], out),
         Found::Pool(at, n) => ascii_into(utf16, &t[at..at + n], out),
     }

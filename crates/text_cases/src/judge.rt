@@ -14,22 +14,11 @@ fn file_of<'a>(data: &'a [u8], files: &[u8], number: u32) -> &'a [u8] {
 
 // What the buffer holds before a question: no byte of it is 0.
 fn soil(out: &mut [u8]) {
-    let mut i = 0;
-    while i < out.len() {
-        out[i] = 170;
-        i += 1;
-    }
+    out.fill(170);
 }
 
 fn is_zero(s: &[u8]) -> bool {
-    let mut i = 0;
-    while i < s.len() {
-        if s[i] != 0 {
-            return false;
-        }
-        i += 1;
-    }
-    true
+    s.iter().all(|b| *b == 0)
 }
 
 // ---- an answer
@@ -45,29 +34,15 @@ pub struct Wanted {
 
 // Whether the numbers are those wanted, the buffer begins with `want`, and the rest of it is 0. A refused answer wants no text.
 fn is_right(a: TextNumbers, out: &[u8], w: Wanted, want: &[u8]) -> bool {
-    if a.refusal != w.refusal {
-        return false;
+    let numbers = a.refusal == w.refusal
+        && a.value == w.value as u64
+        && a.state == w.state
+        && a.replaced == w.replaced
+        && a.length == want.len() as u64;
+    match out.strip_prefix(want) {
+        Some(rest) => numbers && is_zero(rest),
+        None => false,
     }
-    if a.value != w.value as u64 {
-        return false;
-    }
-    if a.state != w.state {
-        return false;
-    }
-    if a.replaced != w.replaced {
-        return false;
-    }
-    let n = want.len();
-    if a.length != n as u64 {
-        return false;
-    }
-    if out.len() < n {
-        return false;
-    }
-    if &out[0..n] != want {
-        return false;
-    }
-    is_zero(&out[n..])
 }
 
 // Whether the text question answers so, in the whole of `out`.

@@ -26,10 +26,8 @@ fn replay_rows<'a>(
     out: &mut [u8],
     counts: &mut [u32],
 ) {
-    let mut at = 0;
-    while rows.len() - at >= 44 {
-        judge(data, files, &rows[at..at + 44], names, area, out, counts);
-        at += 44;
+    for row in rows.chunks_exact(44) {
+        judge(data, files, row, names, area, out, counts);
     }
 }
 
@@ -58,11 +56,9 @@ fn replay_sets(
     out: &mut [u8],
     counts: &mut [u32],
 ) {
-    let mut at = 0;
-    while sets.len() - at >= 24 {
-        replay_set(data, files, &sets[at..at + 24], names, out, counts);
+    for set in sets.chunks_exact(24) {
+        replay_set(data, files, set, names, out, counts);
         bump(counts, count::SETS);
-        at += 24;
     }
 }
 

@@ -46,12 +46,7 @@ fn none() -> Tally {
 }
 
 fn counted(n: u64, more: bool) -> u64 {
-    if more {
-        if n < 0xffffffff {
-            return n + 1;
-        }
-    }
-    n
+    n.saturating_add(u64::from(more))
 }
 
 fn with(t: Tally, v: Verdict) -> Tally {
@@ -72,18 +67,12 @@ fn text_right(utf16: bool, s: &[u8], want: &[u8]) -> bool {
         return false;
     }
     let m = text_into(utf16, s, &mut out);
-    if m != n {
-        return false;
-    }
-    &out[..n] == want
+    m == n && &out[..n] == want
 }
 
 // Whether the text of s has this state, with so many U+FFFD put in.
 fn state_right(utf16: bool, s: &[u8], state: u8, replaced: usize) -> bool {
-    if state_of(utf16, s) != state as u32 {
-        return false;
-    }
-    replaced_of(utf16, s) == replaced
+    state_of(utf16, s) == u32::from(state) && replaced_of(utf16, s) == replaced
 }
 
 // ---- the vectors
@@ -172,6 +161,7 @@ fn walk(file: &[u8]) -> Tally {
     let mut from = 0;
     let mut to = 0;
     let mut at = 0;
+    // No `for`: where the next record begins is known only from this one, and nothing yields them as an iterator.
     while at < file.len() {
         let r = record_at(file, at);
         let v = judge(file, r, utf16, from, to);

@@ -5,10 +5,7 @@ use xml::valid_name;
 
 // State 1 is that of a text with U+FFFD put in, and no example is bad UTF-16.
 fn state_with(replaced: usize) -> u8 {
-    if replaced == 0 {
-        return 0;
-    }
-    1
+    u8::from(replaced != 0)
 }
 
 fn text_case(t: Tally, utf16: bool, s: &[u8], want: &[u8], replaced: usize) -> Tally {

@@ -1,13 +1,13 @@
 -- Laws of `is_ascii` of specs/Plain.antt, for this crate and its callers. No contract cites this file.
--- In order: the greatest byte decides (`seenAscii-..`, with `most` the greatest byte so far); each byte is below 128 (`is_ascii-at`); the rest
+-- In order: the greatest byte decides (`seen_ascii-..`, with `most` the greatest byte so far); each byte is below 128 (`is_ascii-at`); the rest
 -- of such bytes, and their front (`is_ascii-drop`, `is_ascii-take`, `is_ascii-rest`).
-use mathlib.Core.Path.{◌≡◌, refl, sym}
-use mathlib.Core.Bool.{Bool, true, false, ◌&&◌, and-true, and-false}
+use mathlib.Core.Path.{◌≡◌, refl}
+use mathlib.Core.Bool.{Bool, true, false, ◌&&◌, and-true, and_assoc}
 use mathlib.Core.List.{List, [], ◌∷◌, ◌++◌}
-use Prim.Native.Nat.{ℕ, zero, suc, ◌+◌, ◌≤◌, ◌<◌}
+use Prim.Native.Nat.{ℕ, zero, suc, ◌+◌, ◌<◌, max}
 use native.Mathlib.Numerals.{add-one}
 use native.Mathlib.Omega.{arith}
-use borrow.Author.Tests.{ltb-true, lt-ltb}
+use borrow.Author.Tests.{ltb-true, ltb-false, lt-ltb, le-ltb}
 use lib.Dec.{ltb}
 use lib.ListN.{length, take, drop, get_or}
 use lib.Seq.{drop-cons, drop-length}
@@ -16,35 +16,26 @@ use Rattle.utf.proofs.Tables.{both_true}
 
 -- ---- the greatest byte
 
+-- of two numbers both are below a bound where the greater is
+pub ltb-max : (n x y : ℕ) → ltb (max x y) n ≡ (ltb x n && ltb y n)
+ltb-max n x y = go (ltb x n) refl (ltb y n) refl
+  where
+    go : (s : Bool) → ltb x n ≡ s → (t : Bool) → ltb y n ≡ t → ltb (max x y) n ≡ (s && t)
+    go true e true f = lt-ltb (max x y) n (omega (arith, ltb-true x n e, ltb-true y n f))
+    go true e false f = le-ltb (max x y) n (omega (arith, ltb-false y n f))
+    go false e t f = le-ltb (max x y) n (omega (arith, ltb-false x n e))
+
 -- `most` and all the bytes of l are below 128
 abbrev pub seen_ascii : ℕ → List ℕ → Bool
 seen_ascii most l = ltb most 0x80 && is_ascii l
 
--- a byte above the greatest takes its place
-seen_ascii-above : (most b : ℕ) (l : List ℕ) → most < b → seen_ascii b l ≡ seen_ascii most (b ∷ l)
-unfolding is_ascii
-seen_ascii-above most b l h = go (ltb b 0x80) refl
-  where
-    go : (t : Bool) → ltb b 0x80 ≡ t → seen_ascii b l ≡ (ltb most 0x80 && (ltb b 0x80 && is_ascii l))
-    go true e = let p : b < 128 = ltb-true b 0x80 e in rw (lt-ltb most 0x80 (omega arith), e)
-    go false e = rw e (sym (and-false (ltb most 0x80)))
-
--- a byte up to the greatest changes nothing
-seen_ascii-below : (most b : ℕ) (l : List ℕ) → b ≤ most → seen_ascii most l ≡ seen_ascii most (b ∷ l)
-unfolding is_ascii
-seen_ascii-below most b l h = go (ltb most 0x80) refl
-  where
-    go : (t : Bool) → ltb most 0x80 ≡ t → seen_ascii most l ≡ (ltb most 0x80 && (ltb b 0x80 && is_ascii l))
-    go true e = let p : most < 128 = ltb-true most 0x80 e in rw (lt-ltb b 0x80 (omega arith))
-    go false e = rw e
-
 -- at a place in a list
-module _ (s : List ℕ) (i most : ℕ) (h : i < length s) where
-  pub seen_ascii-put : most < get_or s i 0 → seen_ascii (get_or s i 0) (drop (i + 1) s) ≡ seen_ascii most (drop i s)
-  seen_ascii-put p = rw (add-one i, drop-cons s i 0 h) (seen_ascii-above most (get_or s i 0) (drop (suc i) s) p)
-
-  pub seen_ascii-kept : get_or s i 0 ≤ most → seen_ascii most (drop (i + 1) s) ≡ seen_ascii most (drop i s)
-  seen_ascii-kept p = rw (add-one i, drop-cons s i 0 h) (seen_ascii-below most (get_or s i 0) (drop (suc i) s) p)
+pub seen_ascii-next : (s : List ℕ) (i most : ℕ) → i < length s
+    → seen_ascii (max most (get_or s i 0)) (drop (i + 1) s) ≡ seen_ascii most (drop i s)
+unfolding is_ascii
+seen_ascii-next s i most h =
+    rw (ltb-max 0x80 most (get_or s i 0), add-one i, drop-cons s i 0 h)
+    (and_assoc (ltb most 0x80) (ltb (get_or s i 0) 0x80) (is_ascii (drop (suc i) s)))
 
 pub seen_ascii-end : (s : List ℕ) (i most : ℕ) → i ≡ length s → seen_ascii most (drop i s) ≡ ltb most 0x80
 unfolding is_ascii

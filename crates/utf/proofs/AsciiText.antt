@@ -1,4 +1,4 @@
--- Texts of ASCII in either encoding: the greatest low byte and the greatest high byte decide (`seenUnits-..`); such a text is whole
+-- Texts of ASCII in either encoding: the greatest low byte and the greatest high byte decide (`seen_units-..`); such a text is whole
 -- (`ascii_text-sound`) and is its bytes, or the low bytes of its units (`ascii_text-utf8`, `ascii_text-utf16`); how they are written.
 -- No contract cites this file.
 use mathlib.Core.Path.{◌≡◌, refl, sym, ap, ◌∙◌}
@@ -7,10 +7,10 @@ use mathlib.Core.List.{List, [], ◌∷◌, ◌++◌, append-nil}
 use Prim.Native.Nat.{ℕ, zero, suc, ◌+◌, ◌*◌, ◌/◌, ◌%◌, ◌≤◌, ◌<◌, max, min}
 use native.Mathlib.Numerals.{add-one}
 use native.Mathlib.Omega.{arith}
-use borrow.Author.Tests.{ltb-true, ltb-false, lt-ltb, le-ltb, lt-leb}
+use borrow.Author.Tests.{ltb-true}
 use lib.Dec.{ltb}
-use lib.ListN.{length, get_or, set, take, drop, length-set, drop_of_length-le, take-append-drop}
-use lib.Seq.{drop-cons, drop-drop, drop-length, take-suc, take-suc-set, drop-set-lt}
+use lib.ListN.{length, get_or, set, take, drop, length-set, length-append, take-append-drop}
+use lib.Seq.{drop-drop, drop-length, take-suc, take-suc-set, drop-set-lt}
 use Rattle.utf.specs.declared.Step.TheVariants.{Scalar}
 use Rattle.utf.specs.Utf16.{step16}
 use Rattle.utf.specs.Text.{steps_after, steps_of, bytes_of, all_sound, is_sound, text_of, put_text}
@@ -19,18 +19,9 @@ use Rattle.utf.proofs.Tables.{both_true}
 use Rattle.utf.proofs.Scalars.{encode_one}
 use Rattle.utf.proofs.Laws.{is_sound-ascii, text_of-ascii}
 use Rattle.utf.proofs.Units.{pair_of-plain, step16-two}
-use Rattle.utf.proofs.Ascii.{is_ascii-at}
+use Rattle.utf.proofs.Ascii.{ltb-max, is_ascii-at}
 
 -- ---- the greatest low byte and the greatest high byte
-
--- of two numbers both are below a bound where the greater is
-ltb-max : (n x y : ℕ) → ltb (max x y) n ≡ (ltb x n && ltb y n)
-ltb-max n x y = go (ltb x n) refl (ltb y n) refl
-  where
-    go : (s : Bool) → ltb x n ≡ s → (t : Bool) → ltb y n ≡ t → ltb (max x y) n ≡ (s && t)
-    go true e true f = lt-ltb (max x y) n (omega (arith, ltb-true x n e, ltb-true y n f))
-    go true e false f = le-ltb (max x y) n (omega (arith, ltb-false y n f))
-    go false e t f = le-ltb (max x y) n (omega (arith, ltb-false x n e))
 
 -- `low` and `high` are ASCII, and all units of l
 abbrev pub seen_units : ℕ → ℕ → List ℕ → Bool
@@ -51,27 +42,43 @@ unfolding ascii_units
 seen_units-more low high a b l =
     rw (ltb-max 0x80 low a, ltb-max 1 high b) (regroup (ltb low 0x80) (ltb a 0x80) (ltb high 1) (ltb b 1) (ascii_units l))
 
--- two bytes at a place
-two_at : (s : List ℕ) (i : ℕ) → 2 * i + 1 < length s → drop (2 * i) s ≡ get_or s (2 * i) 0 ∷ get_or s (2 * i + 1) 0 ∷ drop (2 * (i + 1)) s
-two_at s i h =
-    let e : 2 * (i + 1) ≡ suc (suc (2 * i)) = omega arith in
-    rw (e, add-one (2 * i), drop-cons s (2 * i) 0 (omega arith), drop-cons s (suc (2 * i)) 0 (omega arith))
+-- a unit u, and the units behind it
+pub seen_units-next : (low high : ℕ) (u l : List ℕ) → length u ≡ 2
+    → seen_units (max low (get_or u 0 0)) (max high (get_or u 1 0)) l ≡ seen_units low high (u ++ l)
+seen_units-next low high [] l h = absurd (let z : ⊥ = omega arith in z)
+seen_units-next low high (a ∷ []) l h = absurd (let z : ⊥ = omega arith in z)
+seen_units-next low high (a ∷ b ∷ []) l h = seen_units-more low high a b l
+seen_units-next low high (a ∷ b ∷ c ∷ u) l h = absurd (let z : ⊥ = omega arith in z)
 
-pub seen_units-next : (s : List ℕ) (i low high : ℕ) → 2 * i + 1 < length s
-    → seen_units (max low (get_or s (2 * i) 0)) (max high (get_or s (2 * i + 1) 0)) (drop (2 * (i + 1)) s) ≡ seen_units low high (drop (2 * i) s)
-seen_units-next s i low high h =
-    rw (two_at s i h) (seen_units-more low high (get_or s (2 * i) 0) (get_or s (2 * i + 1) 0) (drop (2 * (i + 1)) s))
-
-pub seen_units-end : (s : List ℕ) (i low high : ℕ) → length s ≤ 2 * i → seen_units low high (drop (2 * i) s) ≡ (ltb low 0x80 && ltb high 1)
+pub seen_units_end : (low high : ℕ) (l : List ℕ) → length l < 1 → seen_units low high l ≡ (ltb low 0x80 && ltb high 1)
 unfolding ascii_units
-seen_units-end s i low high h = rw (drop_of_length-le s h) (and-true (ltb low 0x80 && ltb high 1))
+seen_units_end low high [] h = and-true (ltb low 0x80 && ltb high 1)
+seen_units_end low high (a ∷ l) h = absurd (let z : ⊥ = omega arith in z)
+
+-- whole units are left of s, and with the greatest bytes so far they say what s says
+pub record UnitsLeft (low high size : ℕ) (rest s : List ℕ) : Type 0 where
+  pub two : size ≡ 2
+  pub even : length rest % 2 ≡ 0
+  pub seen : seen_units low high rest ≡ ascii_units s
+
+pub units-turn : (low high size size' : ℕ) (u rest rest' s : List ℕ) → UnitsLeft low high size rest s → size' ≡ size → rest ≡ u ++ rest'
+    → length u ≡ size → UnitsLeft (max low (get_or u 0 0)) (max high (get_or u 1 0)) size' rest' s
+units-turn low high size size' u rest rest' s p e f h = record {
+  two = e ∙ p.two;
+  even = omega (arith, p.even, p.two, ap length f, length-append u rest');
+  seen = seen_units-next low high u rest' (h ∙ p.two) ∙ ap (seen_units low high) (sym f) ∙ p.seen;
+}
+
+pub units_end : (low high size : ℕ) (rest s : List ℕ) → UnitsLeft low high size rest s → length rest < size
+    → ascii_units s ≡ (ltb low 0x80 && ltb high 1)
+units_end low high size rest s p h = sym p.seen ∙ seen_units_end low high rest (omega (arith, p.two, p.even))
 
 -- a byte alone at the end
-pub ascii_units-odd : (s : List ℕ) → length s % 2 ≡ 1 → ascii_units s ≡ false
+pub ascii_units_odd : (s : List ℕ) → length s % 2 ≡ 1 → ascii_units s ≡ false
 unfolding ascii_units
-ascii_units-odd [] h = absurd (let z : ⊥ = omega arith in z)
-ascii_units-odd (a ∷ []) h = refl
-ascii_units-odd (a ∷ b ∷ s) h = rw (ascii_units-odd s (omega arith)) (and-false (ltb a 0x80 && ltb b 1))
+ascii_units_odd [] h = absurd (let z : ⊥ = omega arith in z)
+ascii_units_odd (a ∷ []) h = refl
+ascii_units_odd (a ∷ b ∷ s) h = rw (ascii_units_odd s (omega arith)) (and-false (ltb a 0x80 && ltb b 1))
 
 -- ---- such a text is whole, and what it is
 
@@ -115,11 +122,11 @@ ascii_text-utf16 s e = rw (units-sound s e) (units-bytes s e)
 pub ascii_text-utf8 : (s : List ℕ) → is_ascii_text false s ≡ true → text_of false s ≡ s
 ascii_text-utf8 s e = text_of-ascii s (is_ascii-at s e)
 
-pub low_bytes-length : (s : List ℕ) → length (low_bytes s) ≡ length s / 2
+pub low_bytes_length : (s : List ℕ) → length (low_bytes s) ≡ length s / 2
 unfolding low_bytes
-low_bytes-length [] = omega arith
-low_bytes-length (a ∷ []) = omega arith
-low_bytes-length (a ∷ b ∷ s) = omega (arith, low_bytes-length s)
+low_bytes_length [] = omega arith
+low_bytes_length (a ∷ []) = omega arith
+low_bytes_length (a ∷ b ∷ s) = omega (arith, low_bytes_length s)
 
 low_bytes-at : (s : List ℕ) (i : ℕ) → 2 * i + 1 < length s → get_or (low_bytes s) i 0 ≡ get_or s (2 * i) 0
 unfolding low_bytes
@@ -136,9 +143,6 @@ pub record Copied (l out₀ out : List ℕ) (i : ℕ) : Type 0 where
   pub done : take i out ≡ take i l
   pub kept : drop i out ≡ drop i out₀
 
-pub none-copied : (l out : List ℕ) → Copied l out out 0
-none-copied l out = record { same = refl; done = refl; kept = refl }
-
 pub copied : (l out₀ out : List ℕ) (i v : ℕ) → Copied l out₀ out i → i < length l → i < length out → v ≡ get_or l i 0
     → Copied l out₀ (set out i v) (i + 1)
 copied l out₀ out i v c h k e = record {
@@ -149,13 +153,13 @@ copied l out₀ out i v c h k e = record {
       past ∙ sym (drop-drop 1 i out) ∙ ap (λ (r : List ℕ). drop 1 r) c.kept ∙ drop-drop 1 i out₀;
 }
 
-pub copied-low : (s out₀ out : List ℕ) (i : ℕ) → Copied (low_bytes s) out₀ out i → i < length s / 2 → i < length out
+pub copied_low : (s out₀ out : List ℕ) (i : ℕ) → Copied (low_bytes s) out₀ out i → i < length s / 2 → i < length out
     → Copied (low_bytes s) out₀ (set out i (get_or s (2 * i) 0)) (i + 1)
-copied-low s out₀ out i c h k =
-    copied (low_bytes s) out₀ out i (get_or s (2 * i) 0) c (omega (arith, low_bytes-length s)) k (sym (low_bytes-at s i (omega arith)))
+copied_low s out₀ out i c h k =
+    copied (low_bytes s) out₀ out i (get_or s (2 * i) 0) c (omega (arith, low_bytes_length s)) k (sym (low_bytes-at s i (omega arith)))
 
-pub all-copied : (l out₀ out : List ℕ) (i : ℕ) → Copied l out₀ out i → i ≡ length l → out ≡ l ++ drop (length l) out₀
-all-copied l out₀ out i c e =
+pub all_copied : (l out₀ out : List ℕ) (i : ℕ) → Copied l out₀ out i → i ≡ length l → out ≡ l ++ drop (length l) out₀
+all_copied l out₀ out i c e =
     sym (take-append-drop i out)
     ∙ ap (λ (r : List ℕ). r ++ drop i out) (c.done ∙ take_all l i e)
     ∙ ap (λ (r : List ℕ). l ++ r) (c.kept ∙ ap (λ (n : ℕ). drop n out₀) e)
@@ -168,13 +172,9 @@ all-copied l out₀ out i c e =
 pub into-utf16 : (s out after : List ℕ) (n : ℕ) → is_ascii_text true s ≡ true → length s ≤ 0xffffffffffffffff
     → (n ≡ length (low_bytes s)) × (after ≡ put_text (low_bytes s) out)
     → (n ≡ min (length (text_of true s)) 0xffffffffffffffff) × (after ≡ put_text (text_of true s) out)
-into-utf16 s out after n e h p = rw (ascii_text-utf16 s e) (omega (arith, p.0, low_bytes-length s), p.1)
+into-utf16 s out after n e h p = rw (ascii_text-utf16 s e) (omega (arith, p.0, low_bytes_length s), p.1)
 
 pub into-utf8 : (s out after : List ℕ) (n : ℕ) → is_ascii_text false s ≡ true → length s ≤ 0xffffffffffffffff
     → (n ≡ length s) × (after ≡ put_text s out)
     → (n ≡ min (length (text_of false s)) 0xffffffffffffffff) × (after ≡ put_text (text_of false s) out)
 into-utf8 s out after n e h p = rw (ascii_text-utf8 s e) (omega (arith, p.0), p.1)
-
-pub put-short : (x out : List ℕ) → length out < length x → out ≡ put_text x out
-unfolding put_text
-put-short x out l = rw (lt-leb (length x) (length out) l)

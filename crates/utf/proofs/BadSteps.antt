@@ -1,12 +1,13 @@
 -- Bad steps and the state of a text. In order: the count of bad steps along a loop (`Tallied`), and its bound; state and count by soundness and
 -- encoding.
 use mathlib.Core.Path.{◌≡◌, refl, sym, ap, ◌∙◌}
-use mathlib.Core.Bool.{Bool, true, false, cond, true≢false}
+use mathlib.Core.Bool.{Bool, true, false, cond, true≢false, not}
 use mathlib.Core.List.{List, [], ◌∷◌}
 use Prim.Native.Nat.{ℕ, zero, suc, ◌+◌, ◌-◌, ◌≤◌, ◌<◌}
 use native.Mathlib.Omega.{arith}
 use lib.ListN.{length, drop}
 use Rattle.utf.specs.declared.Step.{Step}
+use Rattle.std.specs.Int.{from_bool}
 use Rattle.utf.specs.Text.{step_of, width_of, sound_of, steps_after, steps_of, all_sound, bad_count, is_sound, damage_of, state_number, replaced_count}
 use Rattle.utf.specs.Inner.StepRuns.{Took}
 use Rattle.utf.proofs.Tables.{both_true}
@@ -20,19 +21,16 @@ pub record Tallied (s : List ℕ) (at n : ℕ) : Type 0 where
   pub rest : n + bad_count (steps_of false (drop at s)) ≡ bad_count (steps_of false s)
   pub held : n ≤ at
 
-pub none-tallied : (s : List ℕ) → Tallied s 0 0
-none-tallied s = record { rest = omega arith; held = omega arith }
-
-marked : (b : Bool) (k m : ℕ) → k ≡ cond b 0 1 → cond b m (suc m) ≡ k + m
+marked : (b : Bool) (k m : ℕ) → k ≡ from_bool (not b) → cond b m (suc m) ≡ k + m
 marked true k m e = omega (arith, e)
 marked false k m e = omega (arith, e)
 
-pub mark-le : (b : Bool) (k : ℕ) → k ≡ cond b 0 1 → k ≤ 1
+pub mark-le : (b : Bool) (k : ℕ) → k ≡ from_bool (not b) → k ≤ 1
 mark-le true k e = omega (arith, e)
 mark-le false k e = omega (arith, e)
 
 pub tallied : (s : List ℕ) (at n value width k : ℕ) (sound : Bool) → Tallied s at n → at < length s → Took false s at value width sound
-    → k ≡ cond sound 0 1 → Tallied s (at + width) (n + k)
+    → k ≡ from_bool (not sound) → Tallied s (at + width) (n + k)
 unfolding bad_count
 tallied s at n value width k sound c h t e =
     let m = bad_count (steps_of false (drop (at + width) s)) in

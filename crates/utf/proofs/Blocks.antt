@@ -1,15 +1,16 @@
--- Blocks whose steps are single units: how the greatest mark decides (`seenBasic-..`, with `most` the greatest mark so far), and that each
+-- Blocks whose steps are single units: how the greatest mark decides (`seen_basic-..`, with `most` the greatest mark so far), and that each
 -- step in such a block is sound (`ran-block`). No contract cites this file.
 use mathlib.Core.Path.{◌≡◌, refl, sym, ap, ◌∙◌, subst}
 use mathlib.Core.Bool.{Bool, true, false, not, ◌&&◌, and-true, and-false, cond}
-use mathlib.Core.List.{List, ◌∷◌}
-use Prim.Native.Nat.{ℕ, zero, suc, ◌+◌, ◌*◌, ◌/◌, ◌%◌, ◌≤◌, ◌<◌}
+use mathlib.Core.List.{List, ◌∷◌, ◌++◌}
+use Prim.Native.Nat.{ℕ, zero, suc, ◌+◌, ◌*◌, ◌/◌, ◌%◌, ◌≤◌, ◌<◌, max}
 use native.Mathlib.Numerals.{add-one}
 use native.Mathlib.Omega.{arith}
 use borrow.Author.Tests.{ltb-true, le-ltb, eq-eqb, ne_eqb, eqb-true, eqb-false, not-true}
 use lib.Dec.{ltb, eqb}
-use lib.ListN.{length, get_or, take, drop}
-use lib.Seq.{drop-cons, drop-length}
+use lib.ListN.{length, get_or, take, drop, length-append, length-drop}
+use lib.Seq.{drop-cons, drop-length, drop-drop}
+use Rattle.std.proofs.lemmas.List.{take_at, drop_at}
 use Rattle.utf.specs.Plain.{is_ascii}
 use Rattle.utf.specs.Inner.StepRuns.{Ran, basic_from, is_basic, is_single}
 use Rattle.utf.proofs.Tables.{both_true}
@@ -38,23 +39,16 @@ basic_from-cons false b s = refl
 abbrev pub seen_basic : ℕ → ℕ → List ℕ → Bool
 seen_basic most i s = ltb most 1 && basic_from (is_odd i) (drop i s)
 
-seen-above : (most x : ℕ) (t r : Bool) → x ≡ cond t 1 0 → most < x → (ltb x 1 && r) ≡ (ltb most 1 && (not t && r))
-seen-above most x true r e h = rw (le-ltb x 1 (omega (arith, e))) (sym (and-false (ltb most 1)))
-seen-above most x false r e h = absurd (let z : ⊥ = omega (arith, e) in z)
-
-seen_below : (most x : ℕ) (t r : Bool) → x ≡ cond t 1 0 → x ≤ most → (ltb most 1 && r) ≡ (ltb most 1 && (not t && r))
-seen_below most x true r e h = rw (le-ltb most 1 (omega (arith, e)))
-seen_below most x false r e h = refl
+seen-mark : (most x : ℕ) (t r : Bool) → x ≡ cond t 1 0 → (ltb (max most x) 1 && r) ≡ (ltb most 1 && (not t && r))
+seen-mark most x true r e = rw (le-ltb (max most x) 1 (omega (arith, e))) (sym (and-false (ltb most 1)))
+seen-mark most x false r e = ap (λ (n : ℕ). ltb n 1 && r) (let z : max most x ≡ most = omega (arith, e) in z)
 
 module _ (s : List ℕ) (i most x : ℕ) (h : i < length s) (e : x ≡ cond (is_odd i && eqb (get_or s i 0 / 8) 27) 1 0) where
   basic-next : basic_from (is_odd i) (drop i s) ≡ (not (is_odd i && eqb (get_or s i 0 / 8) 27) && basic_from (is_odd (i + 1)) (drop (i + 1) s))
   basic-next = rw (add-one i, is_odd-next i, drop-cons s i 0 h) (basic_from-cons (is_odd i) (get_or s i 0) (drop (suc i) s))
 
-  pub seen_basic-put : most < x → seen_basic x (i + 1) s ≡ seen_basic most i s
-  seen_basic-put p = seen-above most x (is_odd i && eqb (get_or s i 0 / 8) 27) _ e p ∙ ap (λ (b : Bool). ltb most 1 && b) (sym basic-next)
-
-  pub seen_basic-kept : x ≤ most → seen_basic most (i + 1) s ≡ seen_basic most i s
-  seen_basic-kept p = seen_below most x (is_odd i && eqb (get_or s i 0 / 8) 27) _ e p ∙ ap (λ (b : Bool). ltb most 1 && b) (sym basic-next)
+  pub seen_basic-next : seen_basic (max most x) (i + 1) s ≡ seen_basic most i s
+  seen_basic-next = seen-mark most x (is_odd i && eqb (get_or s i 0 / 8) 27) _ e ∙ ap (λ (b : Bool). ltb most 1 && b) (sym basic-next)
 
 pub seen_basic-end : (s : List ℕ) (i most : ℕ) → i ≡ length s → seen_basic most i s ≡ ltb most 1
 unfolding basic_from
@@ -90,3 +84,26 @@ pub ran-block : (utf16 : Bool) (s : List ℕ) (at i n : ℕ) → Ran utf16 s at 
     → is_single utf16 (take n (drop i s)) ≡ true → n ≡ 64 → Ran utf16 s at (i + 64)
 ran-block false s at i n r h b e m = ran-utf8 64 s at i r h (rw m at e)
 ran-block true s at i n r h b e m = ran-utf16 32 s at i r h b (rw m at e)
+
+-- the blocks that were passed end at i, and the rest is cut into blocks too
+pub record Passed (utf16 : Bool) (s : List ℕ) (at i size : ℕ) (rest : List ℕ) : Type 0 where
+  pub ran : Ran utf16 s at i
+  pub inside : i ≤ length s
+  pub whole : size ≡ 64
+  pub left : rest ≡ drop i s
+
+pub passed-next : (utf16 : Bool) (s : List ℕ) (at i size size' : ℕ) (block rest rest' : List ℕ) → Passed utf16 s at i size rest → size' ≡ size
+    → rest ≡ block ++ rest' → length block ≡ size → ((k : ℕ) → get_or s k 0 < 256) → is_single utf16 block ≡ true
+    → Passed utf16 s at (i + length block) size' rest'
+passed-next utf16 s at i size size' block rest rest' p e f n bytes single =
+    let more : drop i s ≡ block ++ rest' = sym p.left ∙ f in
+    let wide : length block ≡ 64 = n ∙ p.whole in
+    let long = ap length more in
+    let within : i + 64 ≤ length s = omega (arith, p.inside, wide, long, length-append block rest', length-drop i s) in
+    let here : take 64 (drop i s) ≡ block = rw more (take_at block rest' 64 wide) in
+    let next : drop 64 (drop i s) ≡ rest' = rw more (drop_at block rest' 64 wide) in record {
+      ran = rw wide (ran-block utf16 s at i 64 p.ran within bytes (rw here single) refl);
+      inside = omega (arith, within, wide);
+      whole = e ∙ p.whole;
+      left = rw wide (sym next ∙ drop-drop 64 i s);
+    }

@@ -2,12 +2,15 @@
 use mathlib.Core.Path.{◌≡◌, refl, sym, ap, ◌∙◌}
 use mathlib.Core.Bool.{Bool, true, false, ◌&&◌, true≢false}
 use mathlib.Core.List.{List, [], ◌∷◌, ◌++◌}
-use Prim.Native.Nat.{ℕ, suc, ◌-◌, ◌≤◌, ◌<◌}
+use Prim.Native.Nat.{ℕ, ◌-◌, ◌<◌}
 use native.Mathlib.Omega.{arith}
 use borrow.Author.Tests.{eqb-true, eqb-false, eq-eqb}
 use lib.Dec.{eqb}
-use lib.ListN.{length, get_or, drop, drop_of_length-le}
-use lib.Seq.{drop-cons}
+use lib.ListN.{length, get_or}
+use denote.Ref.{Bor}
+use Rattle.std.specs.Prelude.{Option, None, Some, slice_get}
+use Rattle.std.specs.Option.{option_eq, option_copied}
+use Rattle.std.specs.Cmp.Lexicographic.{pointwise}
 use Rattle.utf.specs.Utf8.{encode}
 use Rattle.utf.specs.Text.{eq_bytes}
 use Rattle.utf.proofs.Tables.{both_true}
@@ -57,24 +60,29 @@ eq_bytes-encode u v x y = go (eqb u v) refl
     go true e = rw (eqb-true u v e) (eq_bytes-append (encode v) x y)
     go false e = eq_bytes-not (encode u ++ x) (encode v ++ y) (λ f. eqb-false u v e (encode-unique u v x y f))
 
--- ---- byte by byte, from the end
-
--- the same from a place on
-pub same-last : (a b : List ℕ) → length a ≡ length b → drop (length a) a ≡ drop (length a) b
-same-last a b e =
-    let h : length a ≤ length a = omega arith in
-    let k : length b ≤ length a = omega (arith, e) in
-    rw (drop_of_length-le a h, drop_of_length-le b k)
-
-pub same_more : (a b : List ℕ) (i : ℕ) → 0 < i → i ≤ length a → length a ≡ length b → get_or a (i - 1) 0 ≡ get_or b (i - 1) 0
-    → drop i a ≡ drop i b → drop (i - 1) a ≡ drop (i - 1) b
-same_more a b i h l n e f =
-    let s : suc (i - 1) ≡ i = omega arith in
-    let g : drop (suc (i - 1)) a ≡ drop (suc (i - 1)) b = rw s f in
-    rw (drop-cons a (i - 1) 0 (omega arith), drop-cons b (i - 1) 0 (omega (arith, n)), e, g)
+-- ---- what the code sees of two lists
 
 pub eq_bytes-here : (a b : List ℕ) (k : ℕ) → (get_or a k 0 ≡ get_or b k 0 → ⊥) → eq_bytes a b ≡ false
 eq_bytes-here a b k n = eq_bytes-not a b (λ e. n (ap (λ (l : List ℕ). get_or l k 0) e))
 
 pub eq_bytes-length : (a b : List ℕ) → (length a ≡ length b → ⊥) → eq_bytes a b ≡ false
 eq_bytes-length a b n = eq_bytes-not a b (λ e. n (ap length e))
+
+-- what `==` of two slices says
+pub eq_bytes-pointwise : (a b : List ℕ) → pointwise eqb a b ≡ eq_bytes a b
+unfolding eq_bytes
+eq_bytes-pointwise [] [] = refl
+eq_bytes-pointwise [] (y ∷ b) = refl
+eq_bytes-pointwise (x ∷ a) [] = refl
+eq_bytes-pointwise (x ∷ a) (y ∷ b) = ap (λ (t : Bool). eqb x y && t) (eq_bytes-pointwise a b)
+
+-- lists that end otherwise
+pub ends-differ : (a b : List ℕ) (x y : Option (Bor ℕ)) (r : Bool) → option_copied x ≡ slice_get a (length a - 1)
+    → option_copied y ≡ slice_get b (length b - 1) → r ≡ option_eq (λ p q. eqb p.now q.now) x y → r ≡ false → eq_bytes a b ≡ false
+ends-differ a b x y r e f g h = eq_bytes-not a b (λ z. go x y (e ∙ ap (λ (l : List ℕ). slice_get l (length l - 1)) z ∙ sym f) (sym g ∙ h))
+  where
+    go : (x y : Option (Bor ℕ)) → option_copied x ≡ option_copied y → option_eq (λ p q. eqb p.now q.now) x y ≡ false → ⊥
+    go None None e g = true≢false g
+    go None (Some q) e g = cc
+    go (Some p) None e g = cc
+    go (Some p) (Some q) e g = let z : p.now ≡ q.now = cc in true≢false (sym (eq-eqb p.now q.now z) ∙ g)

@@ -1,9 +1,9 @@
 -- What the two loops that measure and write a text know at their heads: `Counted`, and `Written` over the lent bytes.
--- Each has its start, its turn and its end, over plain values. At the end: what a text that is written leaves, and one that is not.
+-- Each has its turn and its end, over plain values. At the end: what a text that is written leaves, and one that is not.
 use mathlib.Core.Path.{◌≡◌, refl, sym, ap, ◌∙◌}
 use mathlib.Core.Bool.{Bool, true, false, cond}
 use mathlib.Core.List.{List, [], ◌++◌, append_assoc, append-nil}
-use Prim.Native.Nat.{ℕ, ◌+◌, ◌-◌, ◌≤◌, ◌<◌, min}
+use Prim.Native.Nat.{ℕ, ◌+◌, ◌≤◌, ◌<◌, min}
 use native.Mathlib.Omega.{arith}
 use borrow.Author.Tests.{le-leb, lt-leb, leb-true}
 use lib.Dec.{leb}
@@ -16,11 +16,8 @@ use Rattle.utf.proofs.Turns.{turn-bytes, end-bytes}
 
 -- ---- the length, and no more than a usize holds
 pub record Counted (w : Bool) (s : List ℕ) (at n : ℕ) : Type 0 where
-  pub rest : n + length (bytes_of (steps_of w (drop at s))) ≡ length (bytes_of (steps_of w s))
+  pub rest : min (n + length (bytes_of (steps_of w (drop at s)))) 0xffffffffffffffff ≡ min (length (bytes_of (steps_of w s))) 0xffffffffffffffff
   pub held : n ≤ 0xffffffffffffffff
-
-pub none-counted : (w : Bool) (s : List ℕ) → Counted w s 0 0
-none-counted w s = record { rest = omega arith; held = omega arith }
 
 module _ (w : Bool) (s : List ℕ) (at n value width k : ℕ) (sound : Bool) (c : Counted w s at n) (h : at < length s) (t : Took w s at value width sound)
     (e : k ≡ length (encode value)) where
@@ -30,11 +27,8 @@ module _ (w : Bool) (s : List ℕ) (at n value width k : ℕ) (sound : Bool) (c 
       ∙ length-append (encode value) (bytes_of (steps_of w (drop (at + width) s)))
       ∙ ap (λ (m : ℕ). m + length (bytes_of (steps_of w (drop (at + width) s)))) (sym e)
 
-  pub counted : k ≤ 0xffffffffffffffff - n → Counted w s (at + width) (n + k)
-  counted l = record { rest = omega (arith, c.rest, next); held = omega (arith, c.held) }
-
-  pub counted-past : 0xffffffffffffffff - n < k → 0xffffffffffffffff ≡ min (length (bytes_of (steps_of w s))) 0xffffffffffffffff
-  counted-past l = omega (arith, c.rest, c.held, next)
+  pub counted : (m : ℕ) → m ≡ min (n + k) 0xffffffffffffffff → Counted w s (at + width) m
+  counted m f = record { rest = omega (arith, c.rest, next, f); held = omega (arith, f) }
 
 pub all-counted : (w : Bool) (s : List ℕ) (at n : ℕ) → Counted w s at n → length s ≤ at → n ≡ min (length (bytes_of (steps_of w s))) 0xffffffffffffffff
 all-counted w s at n c h = omega (arith, c.rest, c.held, ap length (end-bytes w s at h))
@@ -45,9 +39,6 @@ pub record Written (w : Bool) (s out₀ out : List ℕ) (at o : ℕ) : Type 0 wh
   pub room : o ≤ length out₀
   pub done : take o out ++ bytes_of (steps_of w (drop at s)) ≡ bytes_of (steps_of w s)
   pub kept : drop o out ≡ drop o out₀
-
-pub none_written : (w : Bool) (s out : List ℕ) → Written w s out out 0 0
-none_written w s out = record { same = refl; room = omega arith; done = refl; kept = refl }
 
 pub fitting : (w : Bool) (s out₀ out : List ℕ) (at o value width : ℕ) (sound : Bool) → Written w s out₀ out at o → at < length s
     → Took w s at value width sound → length (bytes_of (steps_of w s)) ≤ length out₀ → o + length (encode value) ≤ length out

@@ -1,22 +1,22 @@
 -- The steps through a block of places that are as in whole sequences are sound (`placed-turn`), where the next char is found from its first byte
 -- (`NextChar`, specs/Inner/StepRuns.antt). In order: the next char; a place; bytes 80 to BF in a row; the places of a block so far.
 use mathlib.Core.Path.{◌≡◌, refl, sym, subst, ap, ◌∙◌}
-use mathlib.Core.Bool.{Bool, true, false, not, cond}
+use mathlib.Core.Bool.{Bool, true, false, not}
 use mathlib.Core.List.{List}
-use Prim.Native.Nat.{ℕ, ◌+◌, ◌≤◌, ◌<◌}
+use Prim.Native.Nat.{ℕ, ◌+◌, ◌≤◌, ◌<◌, min}
 use native.Mathlib.Omega.{arith}
 use borrow.Author.Tests.{ltb-true, ltb-false, eqb-true, eqb-false}
 use lib.Dec.{ltb, eqb}
 use lib.ListN.{length, get_or, drop}
-use mir.Val.{bool_byte}
+use Rattle.std.specs.Int.{from_bool}
 use Rattle.utf.specs.Utf8.{inside, step8}
 use Rattle.utf.specs.Text.{step_value, width_of, sound_of}
 use Rattle.utf.specs.Inner.StepRuns.{IsInner, Placed, NextChar, Ran}
 use Rattle.utf.proofs.Scalars.{inside-ends}
 use Rattle.utf.proofs.Places.{step8-at}
 use Rattle.utf.proofs.Turns.{took}
-use Rattle.utf.proofs.Units.{ran-none, ran-step}
-use Rattle.utf.proofs.Forms.{inner_of, some-inside}
+use Rattle.utf.proofs.Units.{ran-step}
+use Rattle.utf.proofs.Forms.{inner_of}
 use Rattle.utf.proofs.Sequences.{not-inner}
 
 -- ---- the next char
@@ -114,62 +114,24 @@ pub record InnerTo (s : List ℕ) (at i : ℕ) : Type 0 where
   pub ends : i ≤ length s
   pub inner : (k : ℕ) → at ≤ k → k < i → IsInner (get_or s k 0)
 
-pub inner-none : (s : List ℕ) (at : ℕ) → at ≤ length s → InnerTo s at at
-inner-none s at h = record { later = omega arith; ends = h; inner = λ k l m. absurd (let z : ⊥ = omega arith in z) }
-
-pub inner-more : (s : List ℕ) (at i : ℕ) → InnerTo s at i → i < length s → IsInner (get_or s i 0) → InnerTo s at (i + 1)
-inner-more s at i p h q = let l = p.later in record { later = omega arith; ends = omega arith; inner = λ k a b. go k a b (eqb k i) refl }
-  where
-    go : (k : ℕ) → at ≤ k → k < i + 1 → (x : Bool) → eqb k i ≡ x → IsInner (get_or s k 0)
-    go k a b true e = subst (λ (j : ℕ). IsInner (get_or s j 0)) (sym (eqb-true k i e)) q
-    go k a b false e = let n = eqb-false k i e in p.inner k a (omega arith)
-
-pub inner-stop : (s : List ℕ) (at i : ℕ) → InnerTo s at i → not (inside 0x80 0xbf (get_or s i 0)) ≡ true → NextChar s at i × (i ≤ length s)
-inner-stop s at i p e = (record { later = p.later; inner = p.inner; stop = not-inner (get_or s i 0) e }, p.ends)
-
--- a place behind the end reads as 0
-pub inner-end : (s : List ℕ) (at i : ℕ) → InnerTo s at i → length s ≤ i → NextChar s at i × (i ≤ length s)
-inner-end s at i p h =
-    (record { later = p.later; inner = p.inner; stop = λ q. let z = some-inside s i (omega (arith, q.0)) in absurd (let y : ⊥ = omega arith in y) }, p.ends)
-
 -- ---- the places of a block so far
-
-pub bool_byte-is : (b : Bool) → bool_byte b ≡ cond b 1 0
-bool_byte-is true = refl
-bool_byte-is false = refl
 
 pub record FormedTo (n : ℕ) (s : List ℕ) (at least k : ℕ) : Type 0 where
   pub within : k ≤ n
   pub small : least ≤ 1
   pub ran : least ≡ 1 → (to : ℕ) → NextChar s (at + k) to → Ran false s at to
 
-pub formed-first : (m : ℕ) (s : List ℕ) (at : ℕ) → (IsInner (get_or s at 0) → ⊥) → FormedTo m s at 1 0
-formed-first m s at n = record { within = omega arith; small = omega arith; ran = λ _ to t. first to t }
-  where
-    first : (to : ℕ) → NextChar s (at + 0) to → Ran false s at to
-    first to t =
-        let e : at + 0 ≡ at = omega arith in
-        let u = subst (λ (j : ℕ). NextChar s j to) e t in
-        subst (λ (j : ℕ). Ran false s at j) (next-unique s at to at u (next_here s at n)) (ran-none false s at)
-
-module _ (m : ℕ) (s : List ℕ) (at least k x : ℕ) (b : Bool) (e : x ≡ cond b 1 0) (p : FormedTo m s at least k) (h : k < m) where
-  pub formed-put : x < least → FormedTo m s at x (k + 1)
-  formed-put l = let small = p.small in record { within = omega arith; small = omega arith; ran = λ z. absurd (let y : ⊥ = omega arith in y) }
-
-  pub formed-kept : least ≤ x → (b ≡ true → ((to : ℕ) → NextChar s (at + k) to → Ran false s at to) → (to : ℕ) → NextChar s (at + k + 1) to → Ran false s at to)
-      → FormedTo m s at least (k + 1)
-  formed-kept l n = record { within = omega arith; small = p.small; ran = λ z. go b e z n }
-    where
-      go : (t : Bool) → x ≡ cond t 1 0 → least ≡ 1
-          → (t ≡ true → ((to : ℕ) → NextChar s (at + k) to → Ran false s at to) → (to : ℕ) → NextChar s (at + k + 1) to → Ran false s at to)
-          → (to : ℕ) → NextChar s (at + (k + 1)) to → Ran false s at to
-      go false f z r = absurd (let y : ⊥ = omega arith in y)
-      go true f z r = λ to t.
+pub formed-next : (m : ℕ) (s : List ℕ) (at least k : ℕ) (b : Bool) → FormedTo m s at least k → k < m
+    → (b ≡ true → ((to : ℕ) → NextChar s (at + k) to → Ran false s at to) → (to : ℕ) → NextChar s (at + k + 1) to → Ran false s at to)
+    → FormedTo m s at (min least (from_bool b)) (k + 1)
+formed-next m s at least k false p h n =
+    let small = p.small in
+    record { within = omega arith; small = omega arith; ran = λ z. absurd (let y : ⊥ = omega arith in y) }
+formed-next m s at least k true p h n =
+    let small = p.small in record {
+      within = omega arith;
+      small = omega arith;
+      ran = λ z to t.
           let i : at + (k + 1) ≡ at + k + 1 = omega arith in
-          r refl (p.ran z) to (subst (λ (j : ℕ). NextChar s j to) i t)
-
-pub formed-all : (m : ℕ) (s : List ℕ) (at least k : ℕ) → FormedTo m s at least k → least ≡ 1 → m ≤ k → (to : ℕ) → NextChar s (at + m) to → Ran false s at to
-formed-all m s at least k p e h to t =
-    let within = p.within in
-    let i : at + m ≡ at + k = omega arith in
-    p.ran e to (subst (λ (j : ℕ). NextChar s j to) i t)
+          n refl (p.ran (omega arith)) to (subst (λ (j : ℕ). NextChar s j to) i t);
+    }

@@ -20,7 +20,6 @@ pub mod PlainLaws
 pub mod Ascii
 pub mod Blocks
 pub mod AsciiText
-pub mod SameBlocks
 pub mod Either
 pub mod Forms
 pub mod Sequences

@@ -9,6 +9,8 @@ use borrow.Author.Tests.{leb-true, leb-false, eqb-true, eqb-false}
 use lib.Dec.{leb, eqb}
 use lib.ListN.{length, get_or, drop, length-append, length-drop}
 use lib.Seq.{drop-cons}
+use Rattle.std.specs.Prelude.{MatchOption}
+use Rattle.std.specs.Bool.{then_some}
 use Rattle.utf.specs.declared.Step.{Step}
 use Rattle.utf.specs.declared.Step.TheVariants.{Scalar}
 use Rattle.utf.specs.Utf8.{encode}
@@ -83,12 +85,23 @@ end-bytes utf16 s at h = ap bytes_of (steps_of-end utf16 s at h)
 -- ---- two texts at once
 
 pub paired : (wa : Bool) (a : List ℕ) (i u n : ℕ) (x : Bool) (wb : Bool) (b : List ℕ) (j v m : ℕ) (y : Bool) → i < length a → j < length b
-    → Took wa a i u n x → Took wb b j v m y → Paired wa a i wb b j (eqb u v) (i + n) (j + m)
-paired wa a i u n x wb b j v m y h k t r = record {
-  bytes = rw (turn-bytes wa a i u n x h t, turn-bytes wb b j v m y k r)
-      (eq_bytes-encode u v (bytes_of (steps_of wa (drop (i + n) a))) (bytes_of (steps_of wb (drop (j + m) b))));
-  later = omega arith;
-}
+    → Took wa a i u n x → Took wb b j v m y
+    → MatchOption {T = ℕ × ℕ} (then_some (eqb u v) (i + n, j + m)) (eq_bytes (bytes_of (steps_of wa (drop i a))) (bytes_of (steps_of wb (drop j b))) ≡ false)
+    (λ next. Paired wa a i wb b j next.0 next.1)
+paired wa a i u n x wb b j v m y h k t r = go (eqb u v) refl
+  where
+    rest : Bool
+    rest = eq_bytes (bytes_of (steps_of wa (drop (i + n) a))) (bytes_of (steps_of wb (drop (j + m) b)))
+
+    both : eq_bytes (bytes_of (steps_of wa (drop i a))) (bytes_of (steps_of wb (drop j b))) ≡ (eqb u v && rest)
+    both = rw (turn-bytes wa a i u n x h t, turn-bytes wb b j v m y k r)
+        (eq_bytes-encode u v (bytes_of (steps_of wa (drop (i + n) a))) (bytes_of (steps_of wb (drop (j + m) b))))
+
+    go : (z : Bool) → eqb u v ≡ z
+        → MatchOption {T = ℕ × ℕ} (then_some z (i + n, j + m)) (eq_bytes (bytes_of (steps_of wa (drop i a))) (bytes_of (steps_of wb (drop j b))) ≡ false)
+        (λ next. Paired wa a i wb b j next.0 next.1)
+    go true e = record { bytes = both ∙ ap (λ (z : Bool). z && rest) e; later = omega (arith, t.least) }
+    go false e = both ∙ ap (λ (z : Bool). z && rest) e
 
 pub bytes_of-some : (utf16 : Bool) (s : List ℕ) → 0 < length s → 0 < length (bytes_of (steps_of utf16 s))
 unfolding bytes_of steps_after

@@ -55,8 +55,8 @@ took-unit s at h b n =
 
 -- ---- a run of sound steps
 
-pub ran-none : (utf16 : Bool) (s : List ℕ) (at : ℕ) → Ran utf16 s at at
-ran-none utf16 s at = record { later = omega arith; rest = refl }
+pub ran_none : (utf16 : Bool) (s : List ℕ) (at : ℕ) → Ran utf16 s at at
+ran_none utf16 s at = record { later = omega arith; rest = refl }
 
 pub ran-join : (utf16 : Bool) (s : List ℕ) (at i to : ℕ) → Ran utf16 s at i → Ran utf16 s i to → Ran utf16 s at to
 ran-join utf16 s at i to p q = record { later = omega (arith, p.later, q.later); rest = q.rest ∙ p.rest }
@@ -82,9 +82,6 @@ halted-bad utf16 s at end i value width sound r h t e = record {
   ran = r;
   halts = λ _. stops _ _ sound (turn-sound utf16 s i value width sound h t) e;
 }
-
-pub halted-end : (utf16 : Bool) (s : List ℕ) (at end i : ℕ) → Ran utf16 s at i → end ≤ i → Halted utf16 s at end i
-halted-end utf16 s at end i r h = record { ran = r; halts = λ l. absurd (let z : ⊥ = omega arith in z) }
 
 -- ---- the spelling of a value: a unit, or a pair of them, the low byte first
 

@@ -19,48 +19,34 @@ pub fn is_ascii_text(utf16: bool, s: &[u8]) -> bool
 }
 
 // The low byte of each unit at the front of a buffer that holds them.
+#[tactic(auto, using(crate::proofs::AsciiText::all_copied, crate::proofs::AsciiText::low_bytes_length))]
 fn put_lows(s: &[u8], out: &mut [u8])
     requires { length s.now / 2 ≤ length out.old }
     ensures { out.new ≡ low_bytes s.now ++ drop (length (low_bytes s.now)) out.old }
 {
-    let n = s.len() / 2;
-    let mut i: usize = 0;
-    while i < n {
+    for i in 0..s.len() / 2 {
         out[i] = s[2 * i];
-        i += 1;
     }
 }
 
-// The bytes as they stand at the front of a buffer that holds them.
-fn put_copy(s: &[u8], out: &mut [u8])
-    requires { length s.now ≤ length out.old }
-    ensures { out.new ≡ s.now ++ drop (length s.now) out.old }
-{
-    let mut i: usize = 0;
-    while i < s.len() {
-        out[i] = s[i];
-        i += 1;
-    }
-}
-
+#[tactic(auto, using(crate::proofs::AsciiText::low_bytes_length), unfolding(crate::specs::Text::put_text))]
 fn lows_into(s: &[u8], out: &mut [u8]) -> usize
     ensures { (result ≡ length (low_bytes s.now)) × (out.new ≡ put_text (low_bytes s.now) out.old) }
 {
     let n = s.len() / 2;
-    if out.len() < n {
-        return n;
+    if n <= out.len() {
+        put_lows(s, out);
     }
-    put_lows(s, out);
     n
 }
 
+#[tactic(auto, unfolding(crate::specs::Text::put_text))]
 fn copy_into(s: &[u8], out: &mut [u8]) -> usize
     ensures { (result ≡ length s.now) × (out.new ≡ put_text s.now out.old) }
 {
-    if out.len() < s.len() {
-        return s.len();
+    if s.len() <= out.len() {
+        out[..s.len()].copy_from_slice(s);
     }
-    put_copy(s, out);
     s.len()
 }
 

@@ -12,7 +12,7 @@ pub mod span;
 pub mod utf16;
 pub mod utf8;
 
-ghost use Rattle.std.specs.Prelude.{◌≡◌, ◌+◌, ◌-◌, ◌≤◌, ◌<◌, min, true, false, ◌++◌, length, drop};
+ghost use Rattle.std.specs.Prelude.{◌≡◌, ◌+◌, ◌≤◌, ◌<◌, min, true, false, ◌++◌, length, drop};
 ghost use Rattle.utf.specs.Text.{step_of, step_value, width_of, sound_of, steps_of, bytes_of, is_sound, refused, text_of, put_text};
 ghost use Rattle.utf.specs.Inner.StepRuns.{Took, Ran, Halted};
 
@@ -35,7 +35,8 @@ pub enum Step {
     End,
 }
 
-// What a step stands for, how far it goes, and whether it is sound.
+// What a step stands for, how far it goes, and whether it is sound: `Took` of specs/Inner/StepRuns.antt tells the three apart, and an Option or a Result
+// would be no plainer, since a bad step too has a value, U+FFFD, and a width.
 #[derive(Clone, Copy)]
 pub struct Taken {
     pub value: u32,
@@ -43,25 +44,27 @@ pub struct Taken {
     pub sound: bool,
 }
 
-fn taken_of(t: Step) -> Taken
-    ensures { (result.value ≡ step_value t) × (result.width ≡ width_of t) × (result.sound ≡ sound_of t) }
-{
-    match t {
-        Step::Scalar(v, n) => Taken {
-            value: v,
-            width: n,
-            sound: true,
-        },
-        Step::Bad(part) => Taken {
-            value: 0xfffd,
-            width: part,
-            sound: false,
-        },
-        Step::End => Taken {
-            value: 0,
-            width: 0,
-            sound: false,
-        },
+impl From<Step> for Taken {
+    ghost from_gives = { λ t r. (r.value ≡ step_value t) × (r.width ≡ width_of t) × (r.sound ≡ sound_of t) };
+
+    fn from(t: Step) -> Taken {
+        match t {
+            Step::Scalar(v, n) => Taken {
+                value: v,
+                width: n,
+                sound: true,
+            },
+            Step::Bad(part) => Taken {
+                value: 0xfffd,
+                width: part,
+                sound: false,
+            },
+            Step::End => Taken {
+                value: 0,
+                width: 0,
+                sound: false,
+            },
+        }
     }
 }
 
@@ -81,17 +84,14 @@ pub fn next_of(utf16: bool, s: &[u8], at: usize) -> Taken
     requires { at < length s.now }
     ensures { Took utf16 s.now at result.value result.width result.sound }
 {
-    if !utf16 {
-        let b = s[at];
-        if b < 128 {
-            return Taken {
-                value: b as u32,
-                width: 1,
-                sound: true,
-            };
-        }
+    if !utf16 && s[at] < 128 {
+        return Taken {
+            value: u32::from(s[at]),
+            width: 1,
+            sound: true,
+        };
     }
-    taken_of(step_at(utf16, s, at))
+    Taken::from(step_at(utf16, s, at))
 }
 
 // ---- whether it is sound
@@ -101,34 +101,32 @@ fn utf8_run(s: &[u8], at: usize, end: usize) -> usize
     requires { end ≤ length s.now }
     ensures { Ran false s.now at result }
 {
-    let mut i = at;
-    while i < end {
+    for i in at..end {
         if 128 <= s[i] {
             return i;
         }
-        i += 1;
     }
-    i
+    at.max(end)
 }
 
 // The first place from `at` on that holds a surrogate, or less than a unit before `end`: a unit's high byte tells, D8 to DF are 27 times 8 and up.
 fn utf16_run(s: &[u8], at: usize, end: usize) -> usize
-    requires { (at < 0x10000000000000000 - 1) × (end ≤ length s.now) }
+    requires { end ≤ length s.now }
     ensures { Ran true s.now at result }
 {
-    let mut i = at;
-    while i + 1 < end {
+    let units = end.saturating_sub(at) / 2;
+    for k in 0..units {
+        let i = at + 2 * k;
         if s[i + 1] / 8 == 27 {
             return i;
         }
-        i += 2;
     }
-    i
+    at + 2 * units
 }
 
 // Unit by unit: a place from `at` on, before which each step is sound; from `end` on nothing is looked at.
 fn sound_run(utf16: bool, s: &[u8], at: usize, end: usize) -> usize
-    requires { (at < 0x10000000000000000 - 1) × (end ≤ length s.now) }
+    requires { end ≤ length s.now }
     ensures { Ran utf16 s.now at result }
 {
     if utf16 {
@@ -143,11 +141,11 @@ fn block_run(utf16: bool, s: &[u8], at: usize) -> usize
     ensures { Ran utf16 s.now at result × (result ≤ length s.now) }
 {
     let mut i = at;
-    while 64 <= s.len() - i {
-        if !is_single(utf16, &s[i..i + 64]) {
+    for block in s[at..].chunks_exact(64) {
+        if !is_single(utf16, block) {
             return i;
         }
-        i += 64;
+        i += block.len();
     }
     i
 }
@@ -194,10 +192,7 @@ fn block_end(at: usize, n: usize) -> usize
     requires { at ≤ n }
     ensures { result ≡ min (at + 64) n }
 {
-    if n - at < 64 {
-        return n;
-    }
-    at + 64
+    at + (n - at).min(64)
 }
 
 // Whether no step is bad: block by block as far as that goes, then step by step through the block that does not pass, and so on. The look at
@@ -223,10 +218,7 @@ pub fn is_sound(utf16: bool, s: &[u8]) -> bool
 pub fn is_refused(utf16: bool, s: &[u8]) -> bool
     ensures { result ≡ refused utf16 s.now }
 {
-    if utf16 {
-        return !is_sound(true, s);
-    }
-    false
+    utf16 && !is_sound(true, s)
 }
 
 // ---- the length and the bytes
@@ -236,14 +228,11 @@ fn bytes_len(utf16: bool, s: &[u8]) -> usize
     ensures { result ≡ min (length (bytes_of (steps_of utf16 s.now))) 0xffffffffffffffff }
 {
     let mut at = 0;
-    let mut n = 0;
+    let mut n: usize = 0;
     while at < s.len() {
         let t = next_of(utf16, s, at);
         let k = scalar_len(t.value);
-        if 0xffffffffffffffff - n < k {
-            return 0xffffffffffffffff;
-        }
-        n += k;
+        n = n.saturating_add(k);
         at += t.width;
     }
     n

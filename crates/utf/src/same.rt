@@ -2,51 +2,39 @@
 //
 // Mirrors `==` of two texts in the Rust; here each stays where it lies, in its own encoding. Definitions: specs/Text.antt.
 // Two in UTF-16 are told by their bytes, since a sound text has one spelling; only the empty text has many, all that are refused.
-ghost use Rattle.std.specs.Prelude.{◌≡◌, Bool, true, false, cond, [], ◌≤◌, ◌<◌, eqb, length};
+ghost use Rattle.std.specs.Prelude.{◌≡◌, Bool, true, false, [], ◌<◌, length, drop, MatchOption};
 ghost use Rattle.utf.specs.Text.{steps_of, bytes_of, text_of, eq_bytes};
 ghost use Rattle.utf.specs.Inner.StepRuns.{Paired};
 ghost use Rattle.utf.specs.Plain.{is_plain, Known};
 
-use super::span::{greater, is_ascii};
+use super::span::is_ascii;
 use super::{is_refused, next_of};
 
 // ---- step by step
 
-// Whether the steps at two places stand for the same, and the places after them.
-#[derive(Clone, Copy)]
-pub struct Both {
-    pub same: bool,
-    pub i: usize,
-    pub j: usize,
-}
-
-// Two bytes of ASCII are compared as they stand.
-fn both_at(utf16_a: bool, a: &[u8], i: usize, utf16_b: bool, b: &[u8], j: usize) -> Both
+// The places after the steps at two places, if the two stand for the same. Two bytes of ASCII are compared as they stand.
+fn both_at(
+    utf16_a: bool,
+    a: &[u8],
+    i: usize,
+    utf16_b: bool,
+    b: &[u8],
+    j: usize,
+) -> Option<(usize, usize)>
     requires { (i < length a.now) × (j < length b.now) }
-    ensures { Paired utf16_a a.now i utf16_b b.now j result.same result.i result.j }
+    ensures { MatchOption result
+        (eq_bytes (bytes_of (steps_of utf16_a (drop i a.now))) (bytes_of (steps_of utf16_b (drop j b.now))) ≡ false)
+        (λ next. Paired utf16_a a.now i utf16_b b.now j next.0 next.1) }
 {
-    if !utf16_a {
-        if !utf16_b {
-            let x = a[i];
-            let y = b[j];
-            if x < 128 {
-                if y < 128 {
-                    return Both {
-                        same: x == y,
-                        i: i + 1,
-                        j: j + 1,
-                    };
-                }
-            }
+    if !utf16_a && !utf16_b {
+        let (x, y) = (a[i], b[j]);
+        if x < 128 && y < 128 {
+            return (x == y).then_some((i + 1, j + 1));
         }
     }
     let t = next_of(utf16_a, a, i);
     let u = next_of(utf16_b, b, j);
-    Both {
-        same: t.value == u.value,
-        i: i + t.width,
-        j: j + u.width,
-    }
+    (t.value == u.value).then_some((i + t.width, j + u.width))
 }
 
 fn same_steps(utf16_a: bool, a: &[u8], utf16_b: bool, b: &[u8]) -> bool
@@ -58,109 +46,36 @@ fn same_steps(utf16_a: bool, a: &[u8], utf16_b: bool, b: &[u8]) -> bool
         if b.len() <= j {
             return false;
         }
-        let t = both_at(utf16_a, a, i, utf16_b, b, j);
-        if !t.same {
+        let Some(next) = both_at(utf16_a, a, i, utf16_b, b, j) else {
             return false;
-        }
-        i = t.i;
-        j = t.j;
+        };
+        (i, j) = next;
     }
     b.len() <= j
 }
 
 // ---- by their bytes
 
-// 1 for two bytes that differ.
-fn differ_mark(x: u8, y: u8) -> u8
-    ensures { result ≡ cond (eqb x y) 0 1 }
-{
-    if x == y {
-        return 0;
-    }
-    1
-}
-
-// Whether bytes of one length are the same: all of them are looked at, with no early way out, and the greatest mark decides.
-fn same_block(a: &[u8], b: &[u8]) -> bool
-    requires { length a.now ≡ length b.now }
-    ensures { result ≡ eq_bytes a.now b.now }
-{
-    let mut most: u8 = 0;
-    let mut i: usize = 0;
-    while i < a.len() {
-        most = greater(most, differ_mark(a[i], b[i]));
-        i += 1;
-    }
-    most < 1
-}
-
-// The same in blocks of 64 bytes, of which there is one at least: the last byte, the last block, and then from the front, up to the first block
-// that differs.
-fn same_blocks(a: &[u8], b: &[u8]) -> bool
-    requires { (64 ≤ length a.now) × (length a.now ≡ length b.now) }
-    ensures { result ≡ eq_bytes a.now b.now }
-{
-    let n = a.len();
-    if a[n - 1] != b[n - 1] {
-        return false;
-    }
-    let last = n - 64;
-    if !same_block(&a[last..last + 64], &b[last..last + 64]) {
-        return false;
-    }
-    let mut i: usize = 0;
-    while i < last {
-        if !same_block(&a[i..i + 64], &b[i..i + 64]) {
-            return false;
-        }
-        i += 64;
-    }
-    true
-}
-
-// Whether the bytes are the same. Names that differ mostly do so in their length or at their end; a short one is looked at byte by byte from there.
+// Whether the bytes are the same. Names that differ mostly do so in their length or at their end, which are looked at first.
 // Ruled out: true of bytes and of more that begin with them; true of two that differ in the last alone.
 pub fn same_bytes(a: &[u8], b: &[u8]) -> bool
     ensures { result ≡ eq_bytes a.now b.now }
 {
-    if a.len() != b.len() {
-        return false;
-    }
-    if 64 <= a.len() {
-        return same_blocks(a, b);
-    }
-    let mut i = a.len();
-    while 0 < i {
-        let k = i - 1;
-        if a[k] != b[k] {
-            return false;
-        }
-        i = k;
-    }
-    true
+    a.len() == b.len() && a.last() == b.last() && a == b
 }
 
 // Whether the text in UTF-16 is empty: it has no bytes, or it is refused.
 fn is_blank(s: &[u8]) -> bool
     ensures { result ≡ eq_bytes [] (text_of true s.now) }
 {
-    if is_refused(true, s) {
-        return true;
-    }
-    s.len() == 0
+    is_refused(true, s) || s.is_empty()
 }
 
 // Whether two texts in UTF-16 are the same: bytes that differ are the same text only where both are empty.
 fn same_utf16(a: &[u8], b: &[u8]) -> bool
     ensures { result ≡ eq_bytes (text_of true a.now) (text_of true b.now) }
 {
-    if same_bytes(a, b) {
-        return true;
-    }
-    if is_blank(a) {
-        return is_blank(b);
-    }
-    false
+    same_bytes(a, b) || is_blank(a) && is_blank(b)
 }
 
 // ---- the texts
@@ -171,13 +86,7 @@ fn is_far_longer(a: &[u8], utf16_b: bool, b: &[u8]) -> bool
     ensures { result ≡ true → (w : Bool) → (eq_bytes (text_of w a.now) (text_of utf16_b b.now) ≡ false)
         × (eq_bytes (text_of utf16_b b.now) (text_of w a.now) ≡ false) }
 {
-    if utf16_b {
-        return false;
-    }
-    if b.len() == 0 {
-        return false;
-    }
-    b.len() < a.len() / 16
+    !utf16_b && !b.is_empty() && b.len() < a.len() / 16
 }
 
 // Whether two texts, each in its own encoding, are the same. One that is far longer than the other is not looked at.
@@ -185,23 +94,18 @@ fn is_far_longer(a: &[u8], utf16_b: bool, b: &[u8]) -> bool
 pub fn same_text(utf16_a: bool, a: &[u8], utf16_b: bool, b: &[u8]) -> bool
     ensures { result ≡ eq_bytes (text_of utf16_a a.now) (text_of utf16_b b.now) }
 {
-    if utf16_a {
-        if utf16_b {
-            return same_utf16(a, b);
-        }
+    if utf16_a && utf16_b {
+        return same_utf16(a, b);
     }
-    if is_far_longer(a, utf16_b, b) {
-        return false;
-    }
-    if is_far_longer(b, utf16_a, a) {
+    if is_far_longer(a, utf16_b, b) || is_far_longer(b, utf16_a, a) {
         return false;
     }
     let no_b = is_refused(utf16_b, b);
     if is_refused(utf16_a, a) {
-        return no_b || b.len() == 0;
+        return no_b || b.is_empty();
     }
     if no_b {
-        return a.len() == 0;
+        return a.is_empty();
     }
     same_steps(utf16_a, a, utf16_b, b)
 }
@@ -225,10 +129,8 @@ pub fn same_known(plain: bool, utf16_a: bool, a: &[u8], utf16_b: bool, b: &[u8])
     requires { Known plain (is_plain utf16_b b.now) }
     ensures { result ≡ eq_bytes (text_of utf16_a a.now) (text_of utf16_b b.now) }
 {
-    if plain {
-        if utf16_a == utf16_b {
-            return same_bytes(a, b);
-        }
+    if plain && utf16_a == utf16_b {
+        return same_bytes(a, b);
     }
     same_text(utf16_a, a, utf16_b, b)
 }

@@ -1,7 +1,8 @@
-// Bytes looked at as a whole, with no early way out, so that the compiler takes many at once.
+// Bytes looked at as a whole, with no early way out, so that the compiler takes many at once: `all` would stop at the first byte that fails, and so look
+// at one byte at a time.
 //
 // `is_ascii` mirrors std's of that name. Definitions: specs/Plain.antt and specs/Inner/StepRuns.antt.
-ghost use Rattle.std.specs.Prelude.{◌≡◌, ◌&&◌, cond, ◌/◌, ◌%◌, max, eqb};
+ghost use Rattle.std.specs.Prelude.{◌≡◌, ◌&&◌, cond, ◌/◌, ◌%◌, eqb};
 ghost use Rattle.utf.specs.Plain.{is_ascii};
 ghost use Rattle.utf.specs.Inner.StepRuns.{is_basic, is_single, ascii_units};
 
@@ -10,14 +11,9 @@ ghost use Rattle.utf.specs.Inner.StepRuns.{is_basic, is_single, ascii_units};
 pub fn is_ascii(s: &[u8]) -> bool
     ensures { result ≡ is_ascii s.now }
 {
-    let mut most = 0;
-    let mut i = 0;
-    while i < s.len() {
-        let b = s[i];
-        if most < b {
-            most = b;
-        }
-        i += 1;
+    let mut most: u8 = 0;
+    for b in s {
+        most = most.max(*b);
     }
     most < 128
 }
@@ -26,61 +22,36 @@ pub fn is_ascii(s: &[u8]) -> bool
 fn surrogate_mark(at: usize, b: u8) -> u8
     ensures { result ≡ cond (eqb (at % 2) 1 && eqb (b / 8) 27) 1 0 }
 {
-    if at % 2 == 1 {
-        if b / 8 == 27 {
-            return 1;
-        }
-    }
-    0
+    u8::from((at % 2 == 1) & (b / 8 == 27))
 }
 
 // Whether no unit of UTF-16 is a surrogate: the greatest mark decides.
 fn is_basic(s: &[u8]) -> bool
     ensures { result ≡ is_basic s.now }
 {
-    let mut most = 0;
-    let mut i = 0;
-    while i < s.len() {
-        let x = surrogate_mark(i, s[i]);
-        if most < x {
-            most = x;
-        }
-        i += 1;
+    let mut most: u8 = 0;
+    for (i, b) in s.iter().enumerate() {
+        most = most.max(surrogate_mark(i, *b));
     }
     most < 1
 }
 
-// The greater of two bytes.
-pub(crate) fn greater(a: u8, b: u8) -> u8
-    ensures { result ≡ max a b }
-{
-    if a < b {
-        return b;
-    }
-    a
-}
-
 // Whether each unit of UTF-16 is ASCII: the greatest low byte and the greatest high byte decide. A byte alone at the end is no unit.
 // Ruled out: true of 41 01, which is U+0141; true of 41 00 42, where a byte stands alone.
+#[tactic(auto, using(crate::proofs::AsciiText::units_end, crate::proofs::AsciiText::ascii_units_odd))]
 pub fn is_ascii_units(s: &[u8]) -> bool
     ensures { result ≡ ascii_units s.now }
 {
     if s.len() % 2 == 1 {
         return false;
     }
-    let n = s.len() / 2;
     let mut low: u8 = 0;
     let mut high: u8 = 0;
-    let mut i: usize = 0;
-    while i < n {
-        low = greater(low, s[2 * i]);
-        high = greater(high, s[2 * i + 1]);
-        i += 1;
+    for unit in s.chunks_exact(2) {
+        low = low.max(unit[0]);
+        high = high.max(unit[1]);
     }
-    if low < 128 {
-        return high < 1;
-    }
-    false
+    low < 128 && high < 1
 }
 
 // Whether each step is a single unit: a byte of ASCII, or a unit of UTF-16 that is no surrogate.

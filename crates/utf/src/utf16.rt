@@ -8,37 +8,27 @@ use super::Step;
 use super::utf8::byte_at;
 
 // The unit at i.
+#[tactic(auto, unfolding(crate::specs::Utf16::unit))]
 fn unit_at(s: &[u8], i: usize) -> u16
     requires { i < 0x10000000000000000 - 1 }
     ensures { result ≡ unit s.now i }
 {
-    let a = byte_at(s, i);
-    let b = byte_at(s, i + 1);
-    a as u16 + b as u16 * 256
+    u16::from_le_bytes([byte_at(s, i), byte_at(s, i + 1)])
 }
 
 // The step at a unit u, and the unit after it.
+#[tactic(auto, unfolding(crate::specs::Utf16::pair_of))]
 fn pair_of(u: u16, w: u16) -> Step
     ensures { result ≡ pair_of u w }
 {
-    let x = u as u32;
-    let y = w as u32;
-    if x < 0xd800 {
-        return Step::Scalar(x, 2);
+    match (u, w) {
+        (0xd800..=0xdbff, 0xdc00..=0xdfff) => Step::Scalar(
+            0x10000 + (u32::from(u) - 0xd800) * 1024 + (u32::from(w) - 0xdc00),
+            4,
+        ),
+        (0xd800..=0xdfff, _) => Step::Bad(2),
+        _ => Step::Scalar(u32::from(u), 2),
     }
-    if 0xdfff < x {
-        return Step::Scalar(x, 2);
-    }
-    if 0xdbff < x {
-        return Step::Bad(2);
-    }
-    if y < 0xdc00 {
-        return Step::Bad(2);
-    }
-    if 0xdfff < y {
-        return Step::Bad(2);
-    }
-    Step::Scalar(0x10000 + (x - 0xd800) * 1024 + (y - 0xdc00), 4)
 }
 
 // The step at `at`: a scalar value of one unit or of a pair, or a surrogate without its other half.

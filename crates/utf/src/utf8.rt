@@ -10,6 +10,7 @@ ghost use Rattle.utf.specs.Inner.Lead.{row, lead_of, step_by};
 use super::Step;
 
 // What a first byte says: how many bytes follow (4: it starts nothing), and the range of the second.
+// The 4 stays a number, since `lead_of` and `step_by` of specs/Inner/Lead.antt hold it.
 #[derive(Clone, Copy)]
 pub struct Lead {
     pub more: u8,
@@ -24,89 +25,50 @@ fn row(more: u8, low: u8, high: u8) -> Lead
 }
 
 // The row of Table 3-7 that has the first byte b.
+#[tactic(auto, unfolding(crate::specs::Inner::Lead::lead_of))]
 fn lead_of(b: u8) -> Lead
     ensures { result ≡ lead_of b }
 {
-    if b < 0x80 {
-        return row(0, 0, 0);
+    match b {
+        0x00..=0x7f => row(0, 0, 0),
+        0xc2..=0xdf => row(1, 0x80, 0xbf),
+        0xe0 => row(2, 0xa0, 0xbf),
+        0xe1..=0xec => row(2, 0x80, 0xbf),
+        0xed => row(2, 0x80, 0x9f),
+        0xee..=0xef => row(2, 0x80, 0xbf),
+        0xf0 => row(3, 0x90, 0xbf),
+        0xf1..=0xf3 => row(3, 0x80, 0xbf),
+        0xf4 => row(3, 0x80, 0x8f),
+        _ => row(4, 0, 0),
     }
-    if b < 0xc2 {
-        return row(4, 0, 0);
-    }
-    if b < 0xe0 {
-        return row(1, 0x80, 0xbf);
-    }
-    if b < 0xe1 {
-        return row(2, 0xa0, 0xbf);
-    }
-    if b < 0xed {
-        return row(2, 0x80, 0xbf);
-    }
-    if b < 0xee {
-        return row(2, 0x80, 0x9f);
-    }
-    if b < 0xf0 {
-        return row(2, 0x80, 0xbf);
-    }
-    if b < 0xf1 {
-        return row(3, 0x90, 0xbf);
-    }
-    if b < 0xf4 {
-        return row(3, 0x80, 0xbf);
-    }
-    if b < 0xf5 {
-        return row(3, 0x80, 0x8f);
-    }
-    row(4, 0, 0)
 }
 
 // The byte at i, and 0 past the end.
 pub(crate) fn byte_at(s: &[u8], i: usize) -> u8
     ensures { result ≡ get_or s.now i 0 }
 {
-    if i < s.len() { s[i] } else { 0 }
+    s.get(i).copied().unwrap_or(0)
 }
 
 // The step at a first byte b0 of the row l, and the three bytes after it.
+#[tactic(auto, unfolding(crate::specs::Inner::Lead::step_by))]
 fn step_by(l: Lead, b0: u8, b1: u8, b2: u8, b3: u8) -> Step
     ensures { result ≡ step_by l b0 b1 b2 b3 }
 {
-    let more = l.more;
-    let v0 = b0 as u32;
-    let v1 = b1 as u32 % 64;
-    let v2 = b2 as u32 % 64;
-    let v3 = b3 as u32 % 64;
-    if more == 0 {
-        return Step::Scalar(v0, 1);
+    let v0 = u32::from(b0);
+    let v1 = u32::from(b1) % 64;
+    let v2 = u32::from(b2) % 64;
+    let v3 = u32::from(b3) % 64;
+    match l.more {
+        0 => Step::Scalar(v0, 1),
+        4 => Step::Bad(1),
+        _ if b1 < l.low || l.high < b1 => Step::Bad(1),
+        1 => Step::Scalar(v0 % 32 * 64 + v1, 2),
+        _ if b2 < 0x80 || 0xbf < b2 => Step::Bad(2),
+        2 => Step::Scalar(v0 % 16 * 4096 + v1 * 64 + v2, 3),
+        _ if b3 < 0x80 || 0xbf < b3 => Step::Bad(3),
+        _ => Step::Scalar(v0 % 8 * 262144 + v1 * 4096 + v2 * 64 + v3, 4),
     }
-    if more == 4 {
-        return Step::Bad(1);
-    }
-    if b1 < l.low {
-        return Step::Bad(1);
-    }
-    if l.high < b1 {
-        return Step::Bad(1);
-    }
-    if more == 1 {
-        return Step::Scalar(v0 % 32 * 64 + v1, 2);
-    }
-    if b2 < 0x80 {
-        return Step::Bad(2);
-    }
-    if 0xbf < b2 {
-        return Step::Bad(2);
-    }
-    if more == 2 {
-        return Step::Scalar(v0 % 16 * 4096 + v1 * 64 + v2, 3);
-    }
-    if b3 < 0x80 {
-        return Step::Bad(3);
-    }
-    if 0xbf < b3 {
-        return Step::Bad(3);
-    }
-    Step::Scalar(v0 % 8 * 262144 + v1 * 4096 + v2 * 64 + v3, 4)
 }
 
 // The step at `at`: a scalar value, or the maximal subpart of what is ill-formed there.
@@ -128,16 +90,16 @@ pub fn utf8_step(s: &[u8], at: usize) -> Step
 }
 
 // How many bytes a scalar value takes.
+#[tactic(auto, unfolding(crate::specs::Utf8::encode))]
 pub(crate) fn scalar_len(v: u32) -> usize
     ensures { result ≡ length (encode v) }
 {
-    if v < 0x80 {
-        return 1;
+    match v {
+        0x00..=0x7f => 1,
+        0x80..=0x7ff => 2,
+        0x800..=0xffff => 3,
+        _ => 4,
     }
-    if v < 0x800 {
-        return 2;
-    }
-    if v < 0x10000 { 3 } else { 4 }
 }
 
 // Writes a scalar value at `at`, and returns the place after it.

@@ -43,7 +43,7 @@ zeros_of n kind (shows s u d) why e = go (leb (length s) n) e
   where
     go :
         (b : Bool) →
-        cond b (Ok (record { length = (length s); uncovered = u; state = d })) (Err (TextShort (length s))) ≡ Err why →
+        cond {A = Result ValueWritten Refusal} b (Ok (record { length = length s; uncovered = u; state = d })) (Err (TextShort (length s))) ≡ Err why →
         cond b (s ++ replicate (n - length s) 0) (replicate n 0) ≡ replicate n 0
     go true q = let z : ◌≡◌ {A = ℕ} 0 1 = cc in absurd (let y : ⊥ = omega arith in y)
     go false q = refl
@@ -56,9 +56,12 @@ behind-of n kind (shows s w x) k u d e = go (leb (length s) n) e
   where
     go :
         (b : Bool) →
-        cond b (Ok (record { length = (length s); uncovered = w; state = x })) (Err (TextShort (length s))) ≡ Ok (record { length = k; uncovered = u; state = d }) →
+        cond {A = Result ValueWritten Refusal} b (Ok (record { length = length s; uncovered = w; state = x })) (Err (TextShort (length s))) ≡ Ok (record { length = k; uncovered = u; state = d }) →
         drop k (cond b (s ++ replicate (n - length s) 0) (replicate n 0)) ≡ replicate (n - k) 0
-    go true q = let m : k ≡ length s = cc in rw (m, drop-append_seam)
+    go true q =
+        let both : ◌≡◌ {A = ValueWritten} (record { length = k; uncovered = u; state = d }) (record { length = length s; uncovered = w; state = x }) = cc in
+        let m : k ≡ length s = ap (λ (y : ValueWritten). y.length) both in
+        rw (m, drop-append_seam)
     go false q = let z : ◌≡◌ {A = ℕ} 0 1 = cc in absurd (let y : ⊥ = omega arith in y)
 
 module _ (f : List ℕ) (lent : Lent) (items area before after : List ℕ) (a : Attribute) where

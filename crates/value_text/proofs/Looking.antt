@@ -1,6 +1,6 @@
 -- Laws of finding the items of an attribute's name, and of its value. No contract cites this file.
--- In order: an item against a text (`is-item`); a name in a buffer (`name-held`); no names lent (`pool-..`); the value (`value-..`).
-use Rattle.std.specs.Prelude.{None, Ok}
+-- In order: what is no `Some` (`none_by`); an item against a text (`is-item`); a name in a buffer (`name-held`); no names lent (`pool-..`); the value (`value-..`).
+use Rattle.std.specs.Prelude.{Option, Some, None, Ok}
 use Prim.Native.Nat.{ℕ, ◌-◌, ◌/◌, ◌≤◌, ◌<◌}
 use mathlib.Core.Path.{◌≡◌, refl, sym, ap, ◌∙◌}
 use mathlib.Core.List.{List, []}
@@ -34,6 +34,12 @@ use Rattle.value_text.specs.declared.Told.TheVariants.{NoName}
 use Rattle.errors.specs.declared.TextState.TheVariants.{Whole}
 use Rattle.value_text.specs.Value.{shows, named_value, value_by, attribute_value}
 use Rattle.value_text.specs.Inner.Leads.{Tells}
+
+-- ---- the `else` of a `let Some(..) = .. else`
+
+pub none_by : {T : Type 0} (o : Option T) → ((x : T) → o ≡ Some x → ⊥) → o ≡ None
+none_by None n = refl
+none_by (Some x) n = absurd (n x refl)
 
 -- ---- an item against a text
 

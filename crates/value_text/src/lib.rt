@@ -1,7 +1,7 @@
 // The text of a value, as a page shows it.
 //
 // Mirrors structs/common.rs (apk-info 13770539b8), `to_string` without resources of its own, and axml.rs where it asks `get_attr_value`
-// first. Answers: `ValueAnswer`, length and state of the text and the bits that no name covers, or a refusal. Definitions: specs/Value.antt.
+// first. Answers: a `ValueWritten`, length and state of the text and the bits that no name covers, or a refusal. Definitions: specs/Value.antt.
 // Differs from the Rust: float, dimension and fraction have no text here (docs/DIFFERENCES.md).
 #![tactic(auto)]
 
@@ -94,14 +94,12 @@ pub fn find_item(
     ensures { FirstNamed item_area.now (text_in (part_of utf16 t.now area.now f)) items.now result }
 {
     let whole = items.len() / ITEM_WORDS;
-    let mut k = 0;
-    while k < whole {
+    for k in 0..whole {
         if is_item(t, area, utf16, f, items, item_area, k) {
             return k;
         }
-        k += 1;
     }
-    k
+    whole
 }
 
 // The first item of the attribute whose name was found, or the number of items, where the first item at each place of a name is known: a
@@ -271,10 +269,8 @@ pub fn value_into(
 fn open_behind(opened: Opened, read: Result<(), usize>) -> Result<Head, Refusal>
     ensures { result ≡ behind_items opened read }
 {
-    match read {
-        Ok(()) => head_of(opened),
-        Err(k) => Err(Refusal::ItemsError(k)),
-    }
+    read.map_err(|k| Refusal::ItemsError(k))?;
+    head_of(opened)
 }
 
 fn head_of(opened: Opened) -> Result<Head, Refusal>
@@ -299,11 +295,8 @@ pub fn open_value(
 ) -> Result<Head, Refusal>
     ensures { result ≡ value_open file.now (lends names.now area.now) items.now item_area.now }
 {
-    let entered = enter(file, names, area, Asker::Question);
-    match entered {
-        Ok(opened) => open_behind(opened, check_items(items, item_area)),
-        Err(why) => Err(why),
-    }
+    let opened = enter(file, names, area, Asker::Question)?;
+    open_behind(opened, check_items(items, item_area))
 }
 
 // The same, where the first item at each place of a name is known.
@@ -319,11 +312,8 @@ pub fn open_known(
     requires { Firsts item_area.now items.now firsts.now }
     ensures { result ≡ value_open file.now (lends names.now area.now) items.now item_area.now }
 {
-    let entered = enter(file, names, area, Asker::Question);
-    match entered {
-        Ok(opened) => open_behind(opened, check_known(items, item_area, firsts)),
-        Err(why) => Err(why),
-    }
+    let opened = enter(file, names, area, Asker::Question)?;
+    open_behind(opened, check_known(items, item_area, firsts))
 }
 
 fn refuse(out: &mut [u8], why: Refusal) -> Result<ValueWritten, Refusal>

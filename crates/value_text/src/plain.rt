@@ -80,6 +80,13 @@ fn put_reference(out: &mut [u8], names: &[u32], area: &[u8], v: u32) -> usize
     }
 }
 
+// A name, a part of the area.
+fn put_name(out: &mut [u8], area: &[u8], start: u32, n: u32) -> usize
+    ensures { Wrote 4294967296 0 (part_in area.now start n) out.old result out.new }
+{
+    put_bytes(out, 0, part_of(area, start, n))
+}
+
 // `@` for an id of the framework, `?` for any other.
 fn mark_of(v: u32) -> u8
     ensures { result ≡ cond (eqb (top_byte v) 1) 64 63 }
@@ -96,7 +103,7 @@ fn put_attribute(out: &mut [u8], names: &[u32], area: &[u8], v: u32) -> usize
 {
     let name = get_type_name(names, ResourceId(v));
     match name {
-        Some((start, n)) => put_bytes(out, 0, part_of(area, start, n)),
+        Some((start, n)) => put_name(out, area, start, n),
         None => put_marked(out, mark_of(v), v),
     }
 }
@@ -123,6 +130,7 @@ pub fn string_state(t: &[u8], area: &[u8], utf16: bool, f: Found) -> TextState
 }
 
 // How a value of a type is written.
+#[tactic(auto, unfolding(crate::specs::Inner::Forms::form_of))]
 pub fn form_of(kind: u32) -> Form
     ensures { result ≡ form_of (value_type_of kind) }
 {
@@ -152,32 +160,14 @@ pub fn form_of(kind: u32) -> Form
 pub fn is_other(form: Form) -> bool
     ensures { result ≡ is_other form }
 {
-    match form {
-        Form::Reference => false,
-        Form::Attribute => false,
-        Form::Pool => false,
-        Form::Number => false,
-        Form::Word => false,
-        Form::Truth => false,
-        Form::Color => false,
-        Form::Other => true,
-    }
+    matches!(form, Form::Other)
 }
 
 // Whether a value of the form is a string of the pool.
 pub fn is_pool(form: Form) -> bool
     ensures { result ≡ is_pool form }
 {
-    match form {
-        Form::Reference => false,
-        Form::Attribute => false,
-        Form::Pool => true,
-        Form::Number => false,
-        Form::Word => false,
-        Form::Truth => false,
-        Form::Color => false,
-        Form::Other => false,
-    }
+    matches!(form, Form::Pool)
 }
 
 // The text of a value at the front of a buffer; what stands behind it is anything.

@@ -1,5 +1,6 @@
 -- What an attribute does to the tables, as one push of specs/Settle.antt. No contract cites this file.
 -- In order: the words of the last node's attributes, the four ways (`attribute-none`, `-same`, `-full`, `-kept`), and the same as `keep` says it.
+use Rattle.std.specs.Prelude.{Option, Some, None, Result, Ok, Err, unwrap_or}
 use Prim.Native.Nat.{ℕ, ◌+◌, ◌-◌, ◌*◌, ◌/◌, ◌≤◌, ◌<◌}
 use native.Mathlib.Omega.{arith}
 use mathlib.Core.Path.{◌≡◌, refl, sym, ◌∙◌, ap}
@@ -9,16 +10,15 @@ use borrow.Author.Tests.{le-leb, lt-leb, eq-eqb, ne_eqb, eqb-true, eqb-false}
 use lib.ListN.{length, take, drop, set}
 use lib.Seq.{drop_at, take-add, length-take-le, get_or-set_other}
 use lib.Dec.{eqb}
+use Rattle.errors.specs.declared.Refusal.{Refusal}
 use Rattle.errors.specs.declared.Refusal.TheVariants.{AttributesFull}
 use Rattle.xml_elements.specs.declared.XmlAttributeElement.{XmlAttributeElement}
-use Rattle.records.specs.Words.{node_width, node_first, node_count, attribute_width, attribute_words}
-use Rattle.records.specs.Repeats.{Rule, by_prefix, is_repeat}
+use Rattle.records.specs.Words.{node_width, node_first, node_count, attribute_width}
+use Rattle.records.specs.Repeats.{Rule, is_repeat}
 use Rattle.events.specs.declared.Event.TheVariants.{Attribute}
 use Rattle.tables.specs.Inner.Keys.{Key}
 use Rattle.walk.specs.declared.tree.Tree.{Tree}
-use Rattle.walk.specs.declared.tree.Put.{Put}
-use Rattle.walk.specs.declared.tree.Put.TheVariants.{NotStored, Full as NoPlace, Stored}
-use Rattle.walk.specs.declared.placing.Placed.TheVariants.{Done, Full}
+use Rattle.walk.specs.declared.placing.Stop.TheVariants.{Full}
 use Rattle.walk.specs.Inner.Tree.{kept_tree, own_words, new_words, Tied, Chained, PlacesBy, Keeps}
 use Rattle.walk.proofs.Trees.{take_put, linked-set}
 
@@ -46,24 +46,29 @@ module _ (rule : Rule) (key : Key) (ns ats : List ℕ) (t : Tree) (o : List ℕ)
   some : (t.nodes ≡ 0 → ⊥) → length (take (node_width * t.nodes) ns) ≡ 0 → ⊥
   some z e = z (omega (arith, lu))
 
-  pub attribute-none : Chained key ns ats t → t.nodes ≡ 0 → PlacesBy rule key (Done t) ns ats t o (Attribute p a) ns ats
+  pub attribute-none : Chained key ns ats t → t.nodes ≡ 0 → PlacesBy rule key (Ok t) ns ats t o (Attribute p a) ns ats
   attribute-none l z =
       let y : length (take (node_width * t.nodes) ns) ≡ 0 = omega (arith, lu) in
       record { stack = o; tied = h; few = omega arith; chained = l; pushed = λ r os cs rn ra. rw (eq-eqb _ 0 y) }
 
-  pub attribute-same : Chained key ns ats t → (t.nodes ≡ 0 → ⊥) → is_repeat rule (new_words t p a) (own_words t ats) ≡ true → PlacesBy rule key (Done t) ns ats t o (Attribute p a) ns ats
+  pub attribute-same : Chained key ns ats t → (t.nodes ≡ 0 → ⊥) → is_repeat rule (new_words t p a) (own_words t ats) ≡ true
+      → PlacesBy rule key (Ok t) ns ats t o (Attribute p a) ns ats
   attribute-same l z e = record { stack = o; tied = h; few = omega arith; chained = l; pushed = λ r os cs rn ra. rw (ne_eqb _ 0 (some z), lu, dn, ← owned, e) }
 
-  pub attribute-full : (ns' ats' : List ℕ) (m : ℕ) → m ≡ length ats → (t.nodes ≡ 0 → ⊥) → is_repeat rule (new_words t p a) (own_words t ats) ≡ false
-      → length ats < attribute_width * t.attributes + attribute_width → PlacesBy rule key (Full (AttributesFull (m / attribute_width))) ns ats t o (Attribute p a) ns' ats'
-  attribute-full ns' ats' m em z e none r os cs rn ra =
+  pub attribute-full : (ns' ats' : List ℕ) → (t.nodes ≡ 0 → ⊥) → is_repeat rule (new_words t p a) (own_words t ats) ≡ false
+      → length ats < attribute_width * t.attributes + attribute_width
+      → PlacesBy rule key (Err (Full (AttributesFull (length ats / attribute_width)))) ns ats t o (Attribute p a) ns' ats'
+  attribute-full ns' ats' z e none r os cs rn ra =
       let over : r.attributes < length (take (attribute_width * t.attributes) ats) + attribute_width = omega (arith, la) in
-      rw (ne_eqb _ 0 (some z), lu, dn, ← owned, e, lt-leb _ _ over, em, ra)
+      rw (ne_eqb _ 0 (some z), lu, dn, ← owned, e, lt-leb _ _ over, ra)
 
-  pub attribute-kept : (ns' ats' : List ℕ) → (t.nodes ≡ 0 → ⊥) → is_repeat rule (new_words t p a) (own_words t ats) ≡ false → attribute_width * t.attributes + attribute_width ≤ length ats
-      → length ns' ≡ length ns → length ats' ≡ length ats → ats' ≡ take (attribute_width * t.attributes) ats ++ new_words t p a ++ drop (attribute_width * t.attributes + attribute_width) ats
-      → take (node_width * t.nodes) ns' ≡ set (take (node_width * t.nodes) ns) (node_width * (t.nodes - 1) + node_count) (t.attributes + 1 - t.first) → Chained key ns' ats' (kept_tree t)
-      → PlacesBy rule key (Done (kept_tree t)) ns ats t o (Attribute p a) ns' ats'
+  pub attribute-kept : (ns' ats' : List ℕ) → (t.nodes ≡ 0 → ⊥) → is_repeat rule (new_words t p a) (own_words t ats) ≡ false
+      → attribute_width * t.attributes + attribute_width ≤ length ats
+      → length ns' ≡ length ns → length ats' ≡ length ats
+      → ats' ≡ take (attribute_width * t.attributes) ats ++ new_words t p a ++ drop (attribute_width * t.attributes + attribute_width) ats
+      → take (node_width * t.nodes) ns' ≡ set (take (node_width * t.nodes) ns) (node_width * (t.nodes - 1) + node_count) (t.attributes + 1 - t.first)
+      → Chained key ns' ats' (kept_tree t)
+      → PlacesBy rule key (Ok (kept_tree t)) ns ats t o (Attribute p a) ns' ats'
   attribute-kept ns' ats' z e room ln lats put words l = record {
     stack = o;
     tied = record {
@@ -73,12 +78,15 @@ module _ (rule : Rule) (key : Key) (ns ats : List ℕ) (t : Tree) (o : List ℕ)
         first = omega (arith, h.sized.first);
         inside = h.sized.inside;
       };
-      linked = rw words (linked-set (take (node_width * t.nodes) ns) (node_width * (t.nodes - 1) + node_count) (t.attributes + 1 - t.first) (t.nodes - 1) o refl h.linked);
+      linked =
+          rw words
+          (linked-set (take (node_width * t.nodes) ns) (node_width * (t.nodes - 1) + node_count) (t.attributes + 1 - t.first) (t.nodes - 1) o refl h.linked);
       top = h.top;
       above_root = h.above_root;
       attributes_before_it = λ q.
           rw words
-          (get_or-set_other (take (node_width * t.nodes) ns) (node_width * (t.nodes - 1) + node_count) (node_width * t.above_root + node_first) (t.attributes + 1 - t.first) 0 (λ y. omega arith)
+          (get_or-set_other (take (node_width * t.nodes) ns) (node_width * (t.nodes - 1) + node_count) (node_width * t.above_root + node_first)
+          (t.attributes + 1 - t.first) 0 (λ y. omega arith)
           ∙ h.attributes_before_it q);
       below = omega (arith, h.below);
     };
@@ -86,7 +94,8 @@ module _ (rule : Rule) (key : Key) (ns ats : List ℕ) (t : Tree) (o : List ℕ)
     chained = l;
     pushed = λ r os cs rn ra. (
         let fit : length (take (attribute_width * t.attributes) ats) + attribute_width ≤ r.attributes = omega (arith, la) in
-        let count : (attribute_width * t.attributes + attribute_width - attribute_width * t.first) / attribute_width ≡ t.attributes + 1 - t.first = omega (arith, h.sized.first) in
+        let count : (attribute_width * t.attributes + attribute_width - attribute_width * t.first) / attribute_width ≡ t.attributes + 1 - t.first =
+        omega (arith, h.sized.first) in
         rw (ne_eqb _ 0 (some z), lu, dn, ← owned, e, le-leb _ _ fit, words, more, la, count));
   }
     where
@@ -97,28 +106,30 @@ module _ (rule : Rule) (key : Key) (ns ats : List ℕ) (t : Tree) (o : List ℕ)
 
 -- ---- as `keep` says it
 
--- what `has` answers for the words between the code's places f and u, whatever the other words of the new record are
-pub own-repeat : (same : ℕ → ℕ → Bool) (p : ℕ) (a : XmlAttributeElement) (ats : List ℕ) (t : Tree) (f u : ℕ) (r b : Bool) → f ≡ attribute_width * t.first
-    → u ≡ attribute_width * t.attributes
-    → ((owner kind value : ℕ) → r ≡ is_repeat (by_prefix same) (attribute_words owner p a.name.0 kind value a.namespace_uri.0) (take (u - f) (drop f ats)))
-    → r ≡ b → is_repeat (by_prefix same) (new_words t p a) (own_words t ats) ≡ b
-own-repeat same p a ats t f u r b ef eu e q = sym (rw (ef, eu) at (e (t.nodes - 1) a.data_type a.«data»)) ∙ q
-
-module _ (rule : Rule) (key : Key) (ns ats ns' ats' : List ℕ) (t : Tree) (o : List ℕ) (h : Tied ns ats t o) (l : Chained key ns ats t) (p : ℕ) (a : XmlAttributeElement) where
-  pub keep_same : {r : Put} → r ≡ NotStored → Keeps rule key r t p a ns ats ns' ats' → PlacesBy rule key (Done t) ns ats t o (Attribute p a) ns' ats'
+module _ (rule : Rule) (key : Key) (ns ats ns' ats' : List ℕ) (t : Tree) (o : List ℕ) (h : Tied ns ats t o) (l : Chained key ns ats t) (p : ℕ)
+    (a : XmlAttributeElement) where
+  pub keep_same : {r : Result (Option Tree) Refusal} → r ≡ Ok None → Keeps rule key r t p a ns ats ns' ats'
+      → PlacesBy rule key (Ok t) ns ats t o (Attribute p a) ns' ats'
   keep_same e q₀ = let q = rw e at q₀ in rw (q.nodes, q.attributes) (go (eqb t.nodes 0) refl q.there)
     where
       go : (b : Bool) → eqb t.nodes 0 ≡ b → ((t.nodes ≡ 0 → ⊥) → is_repeat rule (new_words t p a) (own_words t ats) ≡ true)
-          → PlacesBy rule key (Done t) ns ats t o (Attribute p a) ns ats
+          → PlacesBy rule key (Ok t) ns ats t o (Attribute p a) ns ats
       go true z q = attribute-none rule key ns ats t o h p a l (eqb-true _ _ z)
       go false z q = attribute-same rule key ns ats t o h p a l (eqb-false _ _ z) (q (eqb-false _ _ z))
 
-  pub keep-full : {r : Put} (m : ℕ) → r ≡ NoPlace → Keeps rule key r t p a ns ats ns' ats' → m ≡ length ats
-      → PlacesBy rule key (Full (AttributesFull (m / attribute_width))) ns ats t o (Attribute p a) ns' ats'
-  keep-full m e q₀ em = let q = rw e at q₀ in attribute-full rule key ns ats t o h p a ns' ats' m em q.some q.new q.full
+  pub keep-full : {r : Result (Option Tree) Refusal} (x : Refusal) → r ≡ Err x → Keeps rule key r t p a ns ats ns' ats'
+      → PlacesBy rule key (Err (Full x)) ns ats t o (Attribute p a) ns' ats'
+  keep-full x e q₀ = let q = rw e at q₀ in rw q.0 (attribute-full rule key ns ats t o h p a ns' ats' q.1.some q.1.new q.1.full)
 
-  pub keep-stored : {r : Put} (u : Tree) → r ≡ Stored u → Keeps rule key r t p a ns ats ns' ats' → length ns' ≡ length ns → length ats' ≡ length ats
-      → PlacesBy rule key (Done u) ns ats t o (Attribute p a) ns' ats'
+  pub keep-stored : {r : Result (Option Tree) Refusal} (u : Tree) → r ≡ Ok (Some u) → Keeps rule key r t p a ns ats ns' ats' → length ns' ≡ length ns
+      → length ats' ≡ length ats
+      → PlacesBy rule key (Ok u) ns ats t o (Attribute p a) ns' ats'
   keep-stored u e q₀ ln la =
       let q = rw e at q₀ in
       rw q.tree (attribute-kept rule key ns ats t o h p a ns' ats' q.some q.new q.room ln la q.attributes q.nodes (rw q.tree at q.chained))
+
+  -- the tree behind an attribute that was not refused: the one before it, where it is not stored
+  pub keep-kept : (k : Option Tree) {r : Result (Option Tree) Refusal} → r ≡ Ok k → Keeps rule key r t p a ns ats ns' ats' → length ns' ≡ length ns
+      → length ats' ≡ length ats → PlacesBy rule key (Ok (unwrap_or k t)) ns ats t o (Attribute p a) ns' ats'
+  keep-kept None e q ln la = keep_same e q
+  keep-kept (Some u) e q ln la = keep-stored u e q ln la

@@ -1,6 +1,7 @@
 -- The last node's attributes behind the first 32, as `keep_far` finds and leaves them: linked, in the words behind the nodes. No contract cites this file.
--- In order: which attributes are far (`far-of`), what is compared one by one (`front-found`, `front-near`, `front-first`), the words behind the first 32 (`behind-hung`, `own_behind`), the node's count (`counted-nodes`),
--- one more where it is not linked (`chained-near`), and where it is (`linked-nodes`, `chained-far`).
+-- In order: which attributes are far (`far-of`), what is compared one by one (`front-found`, `front-near`, `front-first`), the words behind the first 32
+-- (`behind-hung`, `own_behind`), the node's count (`counted-nodes`), one more where it is not linked (`chained-near`), and where it is (`linked-nodes`,
+-- `chained-far`).
 use Prim.Native.Nat.{ℕ, ◌+◌, ◌-◌, ◌*◌, ◌/◌, ◌≤◌, ◌<◌}
 use native.Mathlib.Omega.{arith}
 use native.Mathlib.Nat.{pos_of_ne-zero}
@@ -28,21 +29,16 @@ both : (a b : Bool) → (a && b) ≡ true → (a ≡ true) × (b ≡ true)
 both true b e = (refl, e)
 both false b e = absurd (true≢false (sym e))
 
-pub far-of : (ns ats : List ℕ) (t : Tree) (own links : ℕ) → (t.nodes ≡ 0 → ⊥) → Sized ns ats t → own ≡ attribute_width * t.attributes - attribute_width * t.first
+pub far-of : (ns ats : List ℕ) (t : Tree) (own links : ℕ) → (t.nodes ≡ 0 → ⊥) → Sized ns ats t
+    → own ≡ attribute_width * t.attributes - attribute_width * t.first
     → links ≡ length ns - node_width * t.nodes → is_far own links ≡ true → Far ns t
 far-of ns ats t own links z h eo el e =
     let b = both (leb front_words own) (leb (link_width * ((own - front_words) / attribute_width) + link_width) links) e in
     let m : front_words ≤ own = leb-true front_words own b.0 in
-    let r : link_width * ((own - front_words) / attribute_width) + link_width ≤ links = leb-true (link_width * ((own - front_words) / attribute_width) + link_width) links b.1 in
+    let r : link_width * ((own - front_words) / attribute_width) + link_width ≤ links =
+    leb-true (link_width * ((own - front_words) / attribute_width) + link_width) links b.1 in
     let q : (own - front_words) / attribute_width ≡ behind_of t = omega (arith, h.first) in
     record { some = pos_of_ne-zero z; many = omega (arith, h.first); room = omega arith }
-
--- the words that are compared one by one are own words
-pub front-le : (far : Bool) (own links front : ℕ) → far ≡ is_far own links → front ≡ cond far front_words own → front ≤ own
-front-le true own links front e q =
-    let m : front_words ≤ own = leb-true front_words own (both (leb front_words own) (leb (link_width * ((own - front_words) / attribute_width) + link_width) links) (sym e)).0 in
-    omega (arith, q)
-front-le false own links front e q = omega (arith, q)
 
 -- what `has` says of them: yes for one of them is yes for all
 module _ (ns ats : List ℕ) (t : Tree) (h : Sized ns ats t) (rule : Rule) (new : List ℕ) (f u own links front : ℕ) (ef : f ≡ attribute_width * t.first)
@@ -64,17 +60,20 @@ module _ (ns ats : List ℕ) (t : Tree) (h : Sized ns ats t) (rule : Rule) (new 
   pub front-near : (far r b : Bool) → far ≡ false → front ≡ cond far front_words own → r ≡ is_repeat rule new (take (f + front - f) (drop f ats)) → r ≡ b
       → is_repeat rule new (own_words t ats) ≡ b
   front-near far r b z q e x =
-      let n : front ≡ attribute_width * t.attributes - attribute_width * t.first = (rw z at q) ∙ eo ∙ ap (λ (k : ℕ). k - f) eu ∙ ap (λ (k : ℕ). attribute_width * t.attributes - k) ef in
+      let n : front ≡ attribute_width * t.attributes - attribute_width * t.first =
+      (rw z at q) ∙ eo ∙ ap (λ (k : ℕ). k - f) eu ∙ ap (λ (k : ℕ). attribute_width * t.attributes - k) ef in
       sym (e ∙ ap (is_repeat rule new) (front-as (attribute_width * t.attributes - attribute_width * t.first) n)) ∙ x
 
   pub front-first : (far r b : Bool) → far ≡ true → front ≡ cond far front_words own → r ≡ is_repeat rule new (take (f + front - f) (drop f ats)) → r ≡ b
       → is_repeat rule new (front_of t ats) ≡ b
   front-first far r b z q e x = sym (e ∙ ap (is_repeat rule new) (front-as front_words (rw z at q))) ∙ x
 
-  pub front-found : (far r : Bool) → far ≡ is_far own links → front ≡ cond far front_words own → r ≡ is_repeat rule new (take (f + front - f) (drop f ats)) → r ≡ true
+  pub front-found : (far r : Bool) → far ≡ is_far own links → front ≡ cond far front_words own → r ≡ is_repeat rule new (take (f + front - f) (drop f ats))
+      → r ≡ true
       → is_repeat rule new (own_words t ats) ≡ true
   front-found true r z q e x =
-      let m : front_words ≤ own = leb-true front_words own (both (leb front_words own) (leb (link_width * ((own - front_words) / attribute_width) + link_width) links) (sym z)).0 in
+      let m : front_words ≤ own =
+      leb-true front_words own (both (leb front_words own) (leb (link_width * ((own - front_words) / attribute_width) + link_width) links) (sym z)).0 in
       repeat-front rule new 32 (own_words t ats) (front_of t ats) (omega (arith, own-length)) (front-far m) (front-first true r true refl q e x)
   front-found false r z q e x = front-near false r true refl q e x
 
@@ -99,7 +98,8 @@ module _ (ns ats : List ℕ) (t : Tree) (h : Sized ns ats t) (far : Far ns t) wh
   behind-count : length (take (U - F) (drop F ats)) / attribute_width ≡ behind_of t
   behind-count = omega (arith, behind-length)
 
-  pub behind-room : (f u p : ℕ) → f ≡ F → u ≡ U → p ≡ P → link_width * (length (take (u - f) (drop f ats)) / attribute_width) ≤ length (take (length ns - p) (drop p ns))
+  pub behind-room : (f u p : ℕ) → f ≡ F → u ≡ U → p ≡ P
+      → link_width * (length (take (u - f) (drop f ats)) / attribute_width) ≤ length (take (length ns - p) (drop p ns))
   behind-room f u p ef eu ep =
       let l : length (drop P ns) ≡ length ns - P = length-drop P ns in
       let e : length (take (length ns - P) (drop P ns)) ≡ length ns - P = length-take-le (length ns - P) (drop P ns) (omega arith) in
@@ -153,7 +153,8 @@ module _ (ns ats : List ℕ) (t : Tree) (h : Sized ns ats t) (far : Far ns t) wh
       repeat_split rule new 32 (own_words t ats) (front_of t ats) (omega (arith, lo, far.many)) front none
       ∙ ap (is_repeat rule new) rest ∙ sym (rw (ef, eu) at e) ∙ q
 
-  pub far-repeat : (key : Key) (same : ℕ → ℕ → Bool) (p : ℕ) (a : XmlAttributeElement) (f u q k : ℕ) (r : WayEnd) (b : Bool) → f ≡ F → u ≡ U → q ≡ P → Chained key ns ats t
+  pub far-repeat : (key : Key) (same : ℕ → ℕ → Bool) (p : ℕ) (a : XmlAttributeElement) (f u q k : ℕ) (r : WayEnd) (b : Bool) → f ≡ F → u ≡ U → q ≡ P
+      → Chained key ns ats t
       → Sought key same (take (u - f) (drop f ats)) (take (length ns - q) (drop q ns)) k p a.name.0 a.namespace_uri.0 r → k ≡ key p a.name.0 a.namespace_uri.0
       → is_repeat (by_prefix same) (new_words t p a) (front_of t ats) ≡ false → r.found ≡ b → is_repeat (by_prefix same) (new_words t p a) (own_words t ats) ≡ b
   far-repeat key same p a f u q k r b ef eu eq l s ek none x =
@@ -169,7 +170,8 @@ put-behind f l ys =
 
 module _ (ns ats ns₁ ats' : List ℕ) (t u : Tree) (p : ℕ) (a : XmlAttributeElement) (h : Sized ns ats t) (some : 0 < t.nodes)
     (room : attribute_width * t.attributes + attribute_width ≤ length ats) (w : Puts u t p a ns ats ns₁ ats') where
-  pub counted-nodes : take (node_width * t.nodes) ns₁ ≡ set (take (node_width * t.nodes) ns) (node_width * (t.nodes - 1) + node_count) (t.attributes + 1 - t.first)
+  pub counted-nodes : take (node_width * t.nodes) ns₁
+      ≡ set (take (node_width * t.nodes) ns) (node_width * (t.nodes - 1) + node_count) (t.attributes + 1 - t.first)
   counted-nodes = rw w.nodes (take-set-lt (node_width * t.nodes) ns (node_width * (t.nodes - 1) + node_count) (t.attributes + 1 - t.first) (omega arith))
 
   links-same : drop (node_width * t.nodes) ns₁ ≡ drop (node_width * t.nodes) ns
@@ -195,7 +197,8 @@ module _ (ns ats ns₁ ats' : List ℕ) (t u : Tree) (p : ℕ) (a : XmlAttribute
           absurd (let y : ⊥ = omega (arith, h.first, nodes-length) in y)
       near l false eb c ec z =
           let m = leb-false front_words own eb in
-          hung-none (keys_of key (drop (attribute_width * t.first + front_words) ats')) (drop (node_width * t.nodes) ns₁) (behind_of (kept_tree t)) (omega (arith, h.first))
+          hung-none (keys_of key (drop (attribute_width * t.first + front_words) ats')) (drop (node_width * t.nodes) ns₁) (behind_of (kept_tree t))
+          (omega (arith, h.first))
 
   -- ---- where it is linked
 
@@ -216,7 +219,9 @@ module _ (ns ats ns₁ ats' : List ℕ) (t u : Tree) (p : ℕ) (a : XmlAttribute
     before-length = length-take-le (attribute_width * t.attributes) ats h.attributes
 
     with-length : length (before-it ++ new_words t p a) ≡ attribute_width * t.attributes + attribute_width
-    with-length = length-append before-it (new_words t p a) ∙ (let z : length before-it + attribute_width ≡ attribute_width * t.attributes + attribute_width = omega (arith, before-length) in z)
+    with-length =
+        length-append before-it (new_words t p a) ∙
+        (let z : length before-it + attribute_width ≡ attribute_width * t.attributes + attribute_width = omega (arith, before-length) in z)
 
     word-old : (j : ℕ) → j < attribute_width * t.attributes → get_or ats' j 0 ≡ get_or ats j 0
     word-old j l =
@@ -274,20 +279,23 @@ module _ (ns ats ns₁ ats' : List ℕ) (t u : Tree) (p : ℕ) (a : XmlAttribute
       after : drop (node_width * t.nodes) ns' ≡ ys
       after = rw (put-behind free ns₁ ys) (drop_at (take free ns₁) ys (node_width * t.nodes) front_length)
 
-      pub linked-nodes : take (node_width * t.nodes) ns' ≡ set (take (node_width * t.nodes) ns) (node_width * (t.nodes - 1) + node_count) (t.attributes + 1 - t.first)
+      pub linked-nodes : take (node_width * t.nodes) ns'
+          ≡ set (take (node_width * t.nodes) ns) (node_width * (t.nodes - 1) + node_count) (t.attributes + 1 - t.first)
       linked-nodes =
           rw (put-behind free ns₁ ys) (take_at (take free ns₁) ys (node_width * t.nodes) front_length) ∙ ap (λ (k : ℕ). take k ns₁) ef ∙ counted-nodes
 
       mid : mid_of free (length ns₁ - free) ns₁ ≡ drop (node_width * t.nodes) ns
       mid =
-          rw ef (take_all (length ns₁ - node_width * t.nodes) (drop (node_width * t.nodes) ns₁) (omega (arith, length-drop (node_width * t.nodes) ns₁)) ∙ links-same)
+          rw ef
+          (take_all (length ns₁ - node_width * t.nodes) (drop (node_width * t.nodes) ns₁) (omega (arith, length-drop (node_width * t.nodes) ns₁)) ∙ links-same)
 
       part_same : take (length ns - free) (drop free ns) ≡ mid_of free (length ns₁ - free) ns₁
       part_same =
           rw ef (take_all (length ns - node_width * t.nodes) (drop (node_width * t.nodes) ns) (omega (arith, length-drop (node_width * t.nodes) ns))) ∙ sym mid
 
       -- the end that `seek` found is there still
-      pub ends-here : (n count k e g : ℕ) → n ≡ count → Ends n (take (length ns - free) (drop free ns)) k e g → Ends count (mid_of free (length ns₁ - free) ns₁) k e g
+      pub ends-here : (n count k e g : ℕ) → n ≡ count → Ends n (take (length ns - free) (drop free ns)) k e g
+          → Ends count (mid_of free (length ns₁ - free) ns₁) k e g
       ends-here n count k e g q x =
           subst (λ (m : ℕ). Ends m (mid_of free (length ns₁ - free) ns₁) k e g) q (subst (λ (l : List ℕ). Ends n l k e g) part_same x)
 

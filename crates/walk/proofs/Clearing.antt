@@ -13,7 +13,6 @@ use lib.Seq.{take_all, take-suc-set}
 use lib.Dec.{ltb}
 use Rattle.anomaly.specs.declared.Note.{Note as NoteOf}
 use Rattle.system_types.specs.Names.{Lent}
-use Rattle.walk.specs.declared.Stage.{Stage}
 use Rattle.walk.specs.declared.Stage.TheVariants.{Fresh, Reading as InBody, Clearing}
 use Rattle.walk.specs.declared.State.{State}
 use Rattle.walk.specs.Reading.{Reading, zero_note}
@@ -22,30 +21,19 @@ use Rattle.errors.specs.declared.ReadCounts.{ReadCounts}
 use Rattle.errors.specs.declared.Refusal.{Refusal}
 
 pub true-false : true ≡ false → ⊥
-true-false e = let z : ◌≡◌ {A = ℕ} 0 1 = cc in omega arith
+true-false e = cc
 
 pub false-true : false ≡ true → ⊥
 false-true e = true-false (sym e)
 
 pub clearing-not : (a : Result ReadCounts Refusal) → Clearing a ≡ InBody → ⊥
-clearing-not a e = let z : ◌≡◌ {A = ℕ} 0 1 = cc in omega arith
+clearing-not a e = cc
 
 pub fresh-clears : (a : Result ReadCounts Refusal) → Fresh ≡ Clearing a → ⊥
-fresh-clears a e = let z : ◌≡◌ {A = ℕ} 0 1 = cc in omega arith
-
-pub reading-clears : (a : Result ReadCounts Refusal) → InBody ≡ Clearing a → ⊥
-reading-clears a e = clearing-not a (sym e)
-
-abbrev answer_at : Result ReadCounts Refusal → Stage → Result ReadCounts Refusal
-answer_at b Fresh = b
-answer_at b InBody = b
-answer_at b (Clearing a) = a
-
-pub clearing-same : {a b : Result ReadCounts Refusal} → Clearing a ≡ Clearing b → a ≡ b
-clearing-same {a} {b} e = ap (answer_at b) e
+fresh-clears a e = cc
 
 pub fresh-not : Fresh ≡ InBody → ⊥
-fresh-not e = let z : ◌≡◌ {A = ℕ} 0 1 = cc in omega arith
+fresh-not e = cc
 
 -- ---- a place
 

@@ -1,8 +1,7 @@
--- What an event asks and does, by its case: which ask for texts, and that their names are valid (`asks-for`), which are not the end, and those that
--- leave the tables alone.
--- No contract cites this file.
+-- What an event asks and does, by its case: which ask for texts, and that their names are valid (`asks-for`), which are not the end, and what
+-- `place` does with an event whose case is known (`place-as`). No contract cites this file.
+use Rattle.std.specs.Prelude.{Result, Ok, Err}
 use Prim.Native.Nat.{ℕ}
-use native.Mathlib.Omega.{arith}
 use mathlib.Core.Path.{◌≡◌, refl, sym, ◌∙◌, ap, subst}
 use mathlib.Core.List.{List}
 use mathlib.Core.Bool.{Bool, true, false, not, cond, ◌&&◌}
@@ -25,7 +24,7 @@ use Rattle.xml_elements.specs.declared.Chunk.TheVariants.{Start, End, Other as O
 use Rattle.xml_elements.specs.declared.CutChunk.{CutChunk}
 use Rattle.xml_elements.specs.declared.CutChunk.TheVariants.{CutLine, CutHead, CutGap, CutAttributes, CutTrailing, CutEnd, CutOther}
 use Rattle.xml_elements.specs.declared.Turn.{Turn}
-use Rattle.xml_elements.specs.declared.Turn.TheVariants.{Stop, Foreign, Met, Cut}
+use Rattle.xml_elements.specs.declared.Turn.TheVariants.{Stop as NoTurn, Foreign, Met, Cut}
 use Rattle.xml_elements.specs.Chunk.{trailing_of, attribute_at, turn_of}
 use Rattle.records.specs.Repeats.{Rule}
 use Rattle.system_types.specs.Names.{Lent}
@@ -41,23 +40,23 @@ use Rattle.events.specs.Inner.Steps.{note_if, to_step, named_step, name_step, ch
 use Rattle.events.specs.Inner.Pending.{Held, Ready, Within}
 use Rattle.tables.specs.Inner.Keys.{Key}
 use Rattle.walk.specs.declared.tree.Tree.{Tree}
-use Rattle.walk.specs.declared.placing.Placed.{Placed}
-use Rattle.walk.specs.declared.placing.Placed.TheVariants.{Done, Full, Due, Finished}
-use Rattle.walk.specs.Inner.Tree.{Tied, Chained, PlacesBy, NotEnd, AsksFor}
+use Rattle.walk.specs.declared.placing.Stop.{Stop}
+use Rattle.walk.specs.declared.placing.Stop.TheVariants.{Full, Due, Finished}
+use Rattle.walk.specs.Inner.Tree.{PlacesBy, NotEnd, AsksFor}
 
 -- ---- which events ask for texts
 
 nothing-not : (p : ℕ) (a : XmlAttributeElement) → Nothing ≡ Attribute p a → ⊥
-nothing-not p a e = let z : ◌≡◌ {A = ℕ} 0 1 = cc in omega arith
+nothing-not p a e = cc
 
 note-not : (x : ResAnomaly) (p : ℕ) (a : XmlAttributeElement) → Note x ≡ Attribute p a → ⊥
-note-not x p a e = let z : ◌≡◌ {A = ℕ} 0 1 = cc in omega arith
+note-not x p a e = cc
 
 refuse-not : (x : Refusal) (p : ℕ) (a : XmlAttributeElement) → Refuse x ≡ Attribute p a → ⊥
-refuse-not x p a e = let z : ◌≡◌ {A = ℕ} 0 1 = cc in omega arith
+refuse-not x p a e = cc
 
 finish-not : (p : ℕ) (a : XmlAttributeElement) → Finish ≡ Attribute p a → ⊥
-finish-not p a e = let z : ◌≡◌ {A = ℕ} 0 1 = cc in omega arith
+finish-not p a e = cc
 
 note_if-not : (q : Bool) (x : ResAnomaly) (p : ℕ) (a : XmlAttributeElement) → note_if q (Note x) ≡ Attribute p a → ⊥
 note_if-not true x p a e = note-not x p a e
@@ -91,13 +90,13 @@ attribute-pool N o t b c p a Over h e = absurd (finish-not p a e)
 -- ---- whose names are valid
 
 open-not : (n : StringIndex) (x l p : ℕ) (a : XmlAttributeElement) → Open n x l ≡ Attribute p a → ⊥
-open-not n x l p a e = let z : ◌≡◌ {A = ℕ} 0 1 = cc in omega arith
+open-not n x l p a e = cc
 
 close-not : (p : ℕ) (a : XmlAttributeElement) → Close ≡ Attribute p a → ⊥
-close-not p a e = let z : ◌≡◌ {A = ℕ} 0 1 = cc in omega arith
+close-not p a e = cc
 
 left_not : (n : StringIndex) (p : ℕ) (a : XmlAttributeElement) → LeftOut n ≡ Attribute p a → ⊥
-left_not n p a e = let z : ◌≡◌ {A = ℕ} 0 1 = cc in omega arith
+left_not n p a e = cc
 
 named-not : (c : Cursor) (s : NameState) (p : ℕ) (a : XmlAttributeElement) → (named_step c s).event ≡ Attribute p a → ⊥
 named-not c NoText p a e = note-not _ p a e
@@ -131,7 +130,7 @@ cut-not n c CutEnd p a e = close-not p a e
 cut-not n c CutOther p a e = nothing-not p a e
 
 turn-not : (b : List ℕ) (c : Cursor) (u : Turn) (p : ℕ) (a : XmlAttributeElement) → (turn_step b c u).event ≡ Attribute p a → ⊥
-turn-not b c Stop p a e = nothing-not p a e
+turn-not b c NoTurn p a e = nothing-not p a e
 turn-not b c (Foreign k n m) p a e = foreign-not (eqb k c.run) (foreign_note k n) p a e
 turn-not b c (Met x) p a e = chunk-not c x p a e
 turn-not b c (Cut x) p a e = cut-not (length b) c x p a e
@@ -176,11 +175,11 @@ attribute-valid N o t b c p a Over e n = absurd (finish-not p a e)
 -- a valid name, by its text
 valid-by : (b : Bool) → valid_by b ≡ Valid → b ≡ true
 valid-by true e = refl
-valid-by false e = absurd (let z : ◌≡◌ {A = ℕ} 0 1 = cc in omega arith)
+valid-by false e = cc
 
 valid-is : (x : Content) → state_in x ≡ Valid → is_name x ≡ true
-valid-is none e = absurd (let z : ◌≡◌ {A = ℕ} 0 1 = cc in omega arith)
-valid-is cut e = absurd (let z : ◌≡◌ {A = ℕ} 0 1 = cc in omega arith)
+valid-is none e = cc
+valid-is cut e = cc
 valid-is (some w s) e = valid-by (valid_name w s) e
 
 -- what `place` asks of the event of a step
@@ -211,11 +210,11 @@ asks-for mode t lent b o c s ready w q = go s.event refl
 
 -- ---- which events are not the end
 
-pub not_end : (p : Placed) (e : Event) → (e ≡ Finish → ⊥) → NotEnd p e
-not_end (Done u) e h = h
-not_end (Full x) e h = tt
-not_end (Due x) e h = tt
-not_end Finished e h = tt
+pub not_end : (p : Result Tree Stop) (e : Event) → (e ≡ Finish → ⊥) → NotEnd p e
+not_end (Ok u) e h = h
+not_end (Err (Full x)) e h = tt
+not_end (Err (Due x)) e h = tt
+not_end (Err Finished) e h = tt
 
 -- nor is an event that is said to be another
 abbrev pub Other : Event → Type 0
@@ -231,17 +230,9 @@ Other (Refuse x) = Unit {0}
 pub not-other : (e e' : Event) → e ≡ e' → Other e' → e ≡ Finish → ⊥
 not-other e e' p h q = subst (λ (x : Event). Other x) (sym p ∙ q) h
 
--- ---- those that leave the tables alone
+-- ---- an event whose case is known
 
 module _ (rule : Rule) (key : Key) (ns ats : List ℕ) (t : Tree) (o : List ℕ) (e : Event) where
-  pub place-as : (p : Placed) (ns' ats' : List ℕ) (e' : Event) → e ≡ e' → PlacesBy rule key p ns ats t o e' ns' ats' → PlacesBy rule key p ns ats t o e ns' ats'
+  pub place-as : (p : Result Tree Stop) (ns' ats' : List ℕ) (e' : Event) → e ≡ e' → PlacesBy rule key p ns ats t o e' ns' ats'
+      → PlacesBy rule key p ns ats t o e ns' ats'
   place-as p ns' ats' e' q h = rw q h
-
-  pub place-nothing : Tied ns ats t o → Chained key ns ats t → e ≡ Nothing → PlacesBy rule key (Done t) ns ats t o e ns ats
-  place-nothing h l q = rw q (record { stack = o; tied = h; few = omega arith; chained = l; pushed = λ r os cs rn ra. refl })
-
-  pub place-left : (n : StringIndex) → Tied ns ats t o → Chained key ns ats t → e ≡ LeftOut n → PlacesBy rule key (Done t) ns ats t o e ns ats
-  place-left n h l q = rw q (record { stack = o; tied = h; few = omega arith; chained = l; pushed = λ r os cs rn ra. refl })
-
-  pub place-refused : (x : Refusal) → e ≡ Refuse x → PlacesBy rule key (Full x) ns ats t o e ns ats
-  place-refused x q = rw q (λ r os cs rn ra. refl)

@@ -19,7 +19,8 @@ use Rattle.walk.specs.declared.State.{State}
 use Rattle.walk.specs.declared.placing.Halt.{Halt}
 use Rattle.walk.specs.declared.placing.Stop.TheVariants.{Finished}
 use Rattle.walk.specs.Settle.{Room, Tables, going}
-use Rattle.walk.specs.Reading.{Reading, zero_note, final_of, Dropped, none_dropped, dropped_from, dropped_in, nodes_kept_by, attributes_kept_by, nodes_kept, attributes_kept}
+use Rattle.walk.specs.Reading.{Reading, zero_note, final_of, Dropped, none_dropped, dropped_from}
+use Rattle.walk.specs.Reading.{dropped_in, nodes_kept_by, attributes_kept_by, nodes_kept, attributes_kept}
 use Rattle.walk.specs.Inner.Tree.{above_root_of, Tied, tables_of, kept_nodes, kept_attributes}
 use Rattle.walk.specs.Inner.Run.{RanBy, RanIn}
 use Rattle.walk.specs.Inner.Outcome.{done_answer, Keepable, Finishes, room_of, cleared, outcome, StateOk, Advanced}

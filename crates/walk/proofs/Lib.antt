@@ -1,5 +1,4 @@
 -- The root of the crate's laws.
-pub mod Tests
 pub mod Settle
 pub mod Trees
 pub mod Attributes

@@ -40,7 +40,8 @@ pub first-same : (f : List ℕ) (lent : Lent) (ns ats : List ℕ) (os : List Not
 first-same f lent ns ats os cap mode = refl
 
 -- the one equation says the numbers and the tables
-pub reads-of-whole : (f : List ℕ) (lent : Lent) (ns ats : List ℕ) (os : List NoteOf) (cap mode : ℕ) (r : Result ReadCounts Refusal) (ns' ats' : List ℕ) (os' : List NoteOf)
+pub reads-of-whole : (f : List ℕ) (lent : Lent) (ns ats : List ℕ) (os : List NoteOf) (cap mode : ℕ) (r : Result ReadCounts Refusal) (ns' ats' : List ℕ)
+    (os' : List NoteOf)
     → Leaves f lent ns ats os cap mode r ns' ats' os' → Reads f lent ns ats os cap mode r ns' ats' os'
 reads-of-whole f lent ns ats os cap mode r ns' ats' os' h = record {
   answer = ap (λ (x : Reading). numbers_of x.answer) h.whole;
@@ -107,7 +108,9 @@ module _ (f : List ℕ) (lent : Lent) (ns ats : List ℕ) (st : State) (g : Stat
           attributes_before_it = λ n. absurd (n refl);
           below = omega arith;
         };
-        chained = λ _. hung-none (keys_of (key_by (opened_of f).head (tables_in f (opened_of f).head) lent) (drop (attribute_width * 0 + front_words) ats)) (drop (node_width * 0) ns) 0 refl;
+        chained =
+            λ _. hung-none (keys_of (key_by (opened_of f).head (tables_in f (opened_of f).head) lent) (drop (attribute_width * 0 + front_words) ats))
+            (drop (node_width * 0) ns) 0 refl;
         budget = omega (arith, told.short, body-le);
         few = omega (arith, told.short, body-le);
         stored = omega arith;

@@ -1,18 +1,18 @@
 -- What an element that opens or closes does to the tables, as one push of specs/Settle.antt. No contract cites this file.
--- In order: words put at a place, the list of open elements, a node opens (`node_opens`, `node-full`), an element closes (`node-closes`).
+-- In order: words put at a place, the list of open elements, a node opens (`node_opens`), an element closes (`node-closes`).
 -- Not here: attributes (Attributes.antt).
+use Rattle.std.specs.Prelude.{Ok}
 use Prim.Native.Nat.{ℕ, ◌+◌, ◌*◌, ◌/◌, ◌≤◌, ◌<◌}
 use native.Mathlib.Omega.{arith}
 use mathlib.Core.Path.{◌≡◌, refl, sym, ◌∙◌, ap, subst}
 use mathlib.Core.List.{List, [], ◌∷◌, ◌++◌}
 use mathlib.Core.Bool.{cond}
-use borrow.Author.Tests.{le-leb, lt-leb, eq-eqb, ne_eqb}
+use borrow.Author.Tests.{le-leb, eq-eqb, ne_eqb}
 use lib.ListN.{length, take, drop, set, get_or, length-append, length-set, get_or-append}
 use lib.Seq.{take_at, length-take-le, get_or-set_other, get_or-append-add, get_or-take}
 use lib.Dec.{eqb}
 use Rattle.common.specs.declared.StringIndex.{StringIndex}
 use Rattle.anomaly.specs.declared.Note.{Note as NoteOf}
-use Rattle.errors.specs.declared.Refusal.TheVariants.{NodesFull}
 use Rattle.records.specs.Words.{node_width, node_parent, node_first, node_count, attribute_width}
 use Rattle.records.specs.Repeats.{Rule}
 use Rattle.events.specs.declared.Event.TheVariants.{Open, Close}
@@ -20,7 +20,6 @@ use Rattle.tables.specs.Inner.Keys.{Key, keys_of}
 use Rattle.tables.specs.Inner.Ways.{front_words}
 use Rattle.tables.proofs.Ways.{hung-none}
 use Rattle.walk.specs.declared.tree.Tree.{Tree}
-use Rattle.walk.specs.declared.placing.Placed.TheVariants.{Done, Full}
 use Rattle.walk.specs.Settle.{Room, going, push, parent_in, closed_in}
 use Rattle.walk.specs.Reading.{Dropped, none_dropped, dropped_from, dropped_in}
 use Rattle.walk.specs.Inner.Tree.{parent_of, opened_tree, closed_tree, opened_words, Linked, above_root_of, Tied, tables_of, behind_of, Chained, PlacesBy}
@@ -75,7 +74,8 @@ above_in w (dropped_from k) n h e some = omega (arith, h.1)
 -- ---- a node opens
 
 module _ (rule : Rule) (key : Key) (ns ats ns' : List ℕ) (t : Tree) (name : StringIndex) (fixed line : ℕ) (room : node_width * t.nodes + node_width ≤ length ns)
-    (len : length ns' ≡ length ns) (put : ns' ≡ take (node_width * t.nodes) ns ++ opened_words t name.0 fixed line ++ drop (node_width * t.nodes + node_width) ns) where
+    (len : length ns' ≡ length ns)
+    (put : ns' ≡ take (node_width * t.nodes) ns ++ opened_words t name.0 fixed line ++ drop (node_width * t.nodes + node_width) ns) where
   abbrev w : List ℕ
   w = take (node_width * t.nodes) ns
 
@@ -106,11 +106,13 @@ module _ (rule : Rule) (key : Key) (ns ats ns' : List ℕ) (t : Tree) (name : St
 
   module _ (o : List ℕ) (h : Tied ns ats t o) (u : Tree) (un : u.nodes ≡ t.nodes + 1) (ua : u.attributes ≡ t.attributes)
       (uf : u.first ≡ t.attributes) (ui : u.inner ≡ t.nodes) (us : above_root_of (dropped_in (t.nodes ∷ o)) ≡ u.above_root)
-      (uu : (u.above_root ≡ 0 → ⊥) → get_or (w ++ opening) (node_width * u.above_root + node_first) 0 ≡ u.attributes_before_it) (ub : u.attributes_before_it ≤ t.attributes) where
+      (uu : (u.above_root ≡ 0 → ⊥) → get_or (w ++ opening) (node_width * u.above_root + node_first) 0 ≡ u.attributes_before_it)
+      (ub : u.attributes_before_it ≤ t.attributes) where
     pushed : (r : Room) (os : List NoteOf) (cs : List ℕ) → r.nodes ≡ length ns → r.attributes ≡ length ats
         → push rule r (going (tables_of ns ats t o os cs)) (Open name fixed line) ≡ going (tables_of ns' ats u (t.nodes ∷ o) os cs)
     pushed r os cs rn ra =
-        let la : length (take (attribute_width * t.attributes) ats) ≡ attribute_width * t.attributes = length-take-le (attribute_width * t.attributes) ats h.sized.attributes in
+        let la : length (take (attribute_width * t.attributes) ats) ≡ attribute_width * t.attributes =
+        length-take-le (attribute_width * t.attributes) ats h.sized.attributes in
         let fit : length w + node_width ≤ r.nodes = omega (arith, lw) in
         let da : attribute_width * t.attributes / attribute_width ≡ t.attributes = omega arith in
         let dn : node_width * t.nodes / node_width ≡ t.nodes = omega arith in
@@ -132,23 +134,24 @@ module _ (rule : Rule) (key : Key) (ns ats ns' : List ℕ) (t : Tree) (name : St
     }
 
     chained : Chained key ns' ats u
-    chained _ = hung-none (keys_of key (drop (attribute_width * u.first + front_words) ats)) (drop (node_width * u.nodes) ns') (behind_of u) (omega (arith, ua, uf))
+    chained _ =
+        hung-none (keys_of key (drop (attribute_width * u.first + front_words) ats)) (drop (node_width * u.nodes) ns') (behind_of u) (omega (arith, ua, uf))
 
-    done : PlacesBy rule key (Done u) ns ats t o (Open name fixed line) ns' ats
+    done : PlacesBy rule key (Ok u) ns ats t o (Open name fixed line) ns' ats
     done = record { stack = t.nodes ∷ o; tied = tied; few = rw (un, ua) (omega arith); chained = chained; pushed = pushed }
 
-  pub node_opens : (o : List ℕ) → Tied ns ats t o → PlacesBy rule key (Done (opened_tree t)) ns ats t o (Open name fixed line) ns' ats
+  pub node_opens : (o : List ℕ) → Tied ns ats t o → PlacesBy rule key (Ok (opened_tree t)) ns ats t o (Open name fixed line) ns' ats
   node_opens [] h =
       let z : t.nodes ≡ 0 = omega (arith, h.linked, lw) in
       rw (eq-eqb t.nodes 0 z)
-      (done [] h (record { nodes = 1; attributes = t.attributes; first = t.attributes; inner = 0; above_root = 0; attributes_before_it = 0 }) (omega arith) refl refl (sym z)
+      (done [] h (record t { nodes = 1; first = t.attributes; inner = 0; above_root = 0; attributes_before_it = 0 }) (omega arith) refl refl (sym z)
       refl (λ n. absurd (n refl)) (omega arith))
   node_opens (k ∷ []) h =
       let q = linked-some w k [] h.linked in
       let e : t.inner ≡ 0 = sym h.top ∙ h.linked.0 in
       rw (ne_eqb t.nodes 0 (λ z. omega (arith, lw)), eq-eqb t.inner 0 e)
       (done (k ∷ []) h
-      (record { nodes = t.nodes + 1; attributes = t.attributes; first = t.attributes; inner = t.nodes; above_root = t.nodes; attributes_before_it = t.attributes })
+      (record t { nodes = t.nodes + 1; first = t.attributes; inner = t.nodes; above_root = t.nodes; attributes_before_it = t.attributes })
       refl refl refl refl refl (λ _. get_d-behind w opening (node_width * t.nodes) node_first lw) (omega arith))
   node_opens (k ∷ j ∷ r) h =
       let q = linked-some w k (j ∷ r) h.linked in
@@ -156,16 +159,9 @@ module _ (rule : Rule) (key : Key) (ns ats ns' : List ℕ) (t : Tree) (name : St
       let b = above_in w (dropped_in (k ∷ j ∷ r)) t.above_root (dropped-stored w (k ∷ j ∷ r) h.linked) h.above_root in
       rw (ne_eqb t.nodes 0 (λ z. omega (arith, lw)), ne_eqb t.inner 0 e)
       (done (k ∷ j ∷ r) h
-      (record { nodes = t.nodes + 1; attributes = t.attributes; first = t.attributes; inner = t.nodes; above_root = t.above_root; attributes_before_it = t.attributes_before_it })
-      refl refl refl refl h.above_root (λ n. get_or-append w opening 0 (node_width * t.above_root + node_first) (omega (arith, b n)) ∙ h.attributes_before_it n) h.below)
-
--- no place for it
-pub node-full : (rule : Rule) (key : Key) (ns ats ns' : List ℕ) (t : Tree) (name : StringIndex) (fixed line : ℕ) (o : List ℕ) → Tied ns ats t o
-    → length ns < node_width * t.nodes + node_width → PlacesBy rule key (Full (NodesFull (length ns / node_width))) ns ats t o (Open name fixed line) ns' ats
-node-full rule key ns ats ns' t name fixed line o h none r os cs rn ra =
-    let lw : length (take (node_width * t.nodes) ns) ≡ node_width * t.nodes = length-take-le (node_width * t.nodes) ns h.sized.nodes in
-    let over : r.nodes < length (take (node_width * t.nodes) ns) + node_width = omega (arith, lw) in
-    rw (lt-leb _ _ over, rn)
+      (record t { nodes = t.nodes + 1; first = t.attributes; inner = t.nodes })
+      refl refl refl refl h.above_root
+      (λ n. get_or-append w opening 0 (node_width * t.above_root + node_first) (omega (arith, b n)) ∙ h.attributes_before_it n) h.below)
 
 -- ---- an element closes
 
@@ -173,7 +169,7 @@ module _ (rule : Rule) (key : Key) (ns ats : List ℕ) (t : Tree) where
   abbrev u : List ℕ
   u = take (node_width * t.nodes) ns
 
-  stays : (o : List ℕ) → Tied ns ats t o → Chained key ns ats t → closed_in o ≡ o → PlacesBy rule key (Done t) ns ats t o Close ns ats
+  stays : (o : List ℕ) → Tied ns ats t o → Chained key ns ats t → closed_in o ≡ o → PlacesBy rule key (Ok t) ns ats t o Close ns ats
   stays o h l e = record { stack = o; tied = h; few = omega arith; chained = l; pushed = λ r os cs rn ra. rw e }
 
   -- the parent word of the innermost is the next of the open elements
@@ -183,7 +179,7 @@ module _ (rule : Rule) (key : Key) (ns ats : List ℕ) (t : Tree) where
       rw (← h.top) (sym (get_or-take (node_width * t.nodes) ns (node_width * k + node_parent) 0 (omega (arith, h.linked.1, lu))) ∙ h.linked.2)
 
   pub node-closes : (o : List ℕ) → Tied ns ats t o → Chained key ns ats t
-      → PlacesBy rule key (Done (cond (eqb t.inner 0) t (closed_tree t (get_or ns (node_width * t.inner + node_parent) 0)))) ns ats t o Close ns ats
+      → PlacesBy rule key (Ok (cond (eqb t.inner 0) t (closed_tree t (get_or ns (node_width * t.inner + node_parent) 0)))) ns ats t o Close ns ats
   node-closes [] h l = rw (eq-eqb t.inner 0 (sym h.top)) (stays [] h l refl)
   node-closes (k ∷ []) h l = rw (eq-eqb t.inner 0 (sym h.top ∙ h.linked.0)) (stays (k ∷ []) h l refl)
   node-closes (k ∷ j ∷ []) h l =

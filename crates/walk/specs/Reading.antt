@@ -97,7 +97,8 @@ abbrev pub room_in : List ℕ → List ℕ → List NoteOf → ℕ → ℕ → R
 room_in nodes attributes notes cap mode = record { nodes = length nodes; attributes = length attributes; notes = length notes; cap = cap; mode = mode }
 
 -- what a call of `read` leaves: the numbers of the answer (B7), and each lent table whole
-pub record Reads (f : List ℕ) (lent : Lent) (ns ats : List ℕ) (os : List NoteOf) (cap mode : ℕ) (r : Result ReadCounts Refusal) (ns' ats' : List ℕ) (os' : List NoteOf) : Type 0 where
+pub record Reads (f : List ℕ) (lent : Lent) (ns ats : List ℕ) (os : List NoteOf) (cap mode : ℕ) (r : Result ReadCounts Refusal) (ns' ats' : List ℕ)
+    (os' : List NoteOf) : Type 0 where
   pub answer : numbers_of r ≡ numbers_of (reading (room_in ns ats os cap mode) f lent).answer
   pub nodes : ns' ≡ (reading (room_in ns ats os cap mode) f lent).nodes
   pub attributes : ats' ≡ (reading (room_in ns ats os cap mode) f lent).attributes

@@ -6,8 +6,8 @@ ghost use Rattle.anomaly.specs.Note.{kind_index};
 ghost use Rattle.walk.specs.Inner.Outcome.{clearing_at, clear_next, noted_by, Refuses, Keepable, Finishes, Noted};
 
 use crate::tree::{Tree, kept_attributes, kept_nodes};
-use crate::{Stage, State};
-use anomaly::{Note, ResAnomaly, kind_index, note_of};
+use crate::{NO_NOTE, Stage, State};
+use anomaly::{ResAnomaly, kind_index, note_of};
 use errors::{ReadCounts, Refusal};
 use events::Cursor;
 use records::{attribute_place, node_place};
@@ -17,45 +17,12 @@ use tables::{zero_all, zero_from};
 fn to_clear(st: State, from: usize, answer: Result<ReadCounts, Refusal>) -> State
     ensures { result ≡ clearing_at st from answer }
 {
-    let opened = st.opened;
-    let cur = st.cur;
-    let tree = st.tree;
-    let notes = st.notes;
-    if from < st.room {
-        return State {
-            done: false,
-            slot: from,
-            note: Note {
-                kind: 0,
-                a: 0,
-                b: 0,
-            },
-            room: st.room,
-            cap: st.cap,
-            mode: st.mode,
-            stage: Stage::Clearing(answer),
-            opened,
-            cur,
-            tree,
-            notes,
-        };
-    }
     State {
-        done: true,
+        done: st.room <= from,
         slot: from,
-        note: Note {
-            kind: 0,
-            a: 0,
-            b: 0,
-        },
-        room: st.room,
-        cap: st.cap,
-        mode: st.mode,
+        note: NO_NOTE,
         stage: Stage::Clearing(answer),
-        opened,
-        cur,
-        tree,
-        notes,
+        ..st
     }
 }
 
@@ -63,11 +30,10 @@ fn to_clear(st: State, from: usize, answer: Result<ReadCounts, Refusal>) -> Stat
 pub fn clear_next(st: State, answer: Result<ReadCounts, Refusal>) -> State
     ensures { result ≡ clear_next st answer }
 {
-    let slot = st.slot;
-    if slot < st.room {
-        return to_clear(st, slot + 1, answer);
+    if st.slot < st.room {
+        return to_clear(st, st.slot + 1, answer);
     }
-    to_clear(st, slot, answer)
+    to_clear(st, st.slot, answer)
 }
 
 // A refusal leaves zeros only. Ruled out: a word of a table kept, and the note table cleared from the notes on.
@@ -89,15 +55,13 @@ pub fn finish(nodes: &mut [u32], attributes: &mut [u32], st: State, tree: Tree) 
     let a = kept_attributes(tree);
     zero_from(nodes, node_place(k));
     zero_from(attributes, attribute_place(a));
-    let notes = st.notes;
-    let used = notes.used;
     let counts = ReadCounts {
         starts: tree.nodes,
         nodes: k,
         attributes: a,
-        notes: used as u32,
+        notes: st.notes.used as u32,
     };
-    to_clear(st, used, Ok(counts))
+    to_clear(st, st.notes.used, Ok(counts))
 }
 
 // A note is to be written: it is counted, and its place is the next.
@@ -105,22 +69,15 @@ fn noted(st: State, cur: Cursor, tree: Tree, x: ResAnomaly) -> State
     requires { (get_or st.notes.counts (kind_index x) 0 < st.cap) × (st.notes.used < st.room) }
     ensures { result ≡ noted_by st cur tree x }
 {
-    let opened = st.opened;
-    let before = st.notes;
-    let note = note_of(x);
-    let notes = before.stored(kind_index(x));
     State {
         done: false,
-        slot: before.used,
-        note,
-        room: st.room,
-        cap: st.cap,
-        mode: st.mode,
+        slot: st.notes.used,
+        note: note_of(x),
         stage: Stage::Reading,
-        opened,
         cur,
         tree,
-        notes,
+        notes: st.notes.stored(kind_index(x)),
+        ..st
     }
 }
 
@@ -137,8 +94,7 @@ pub fn note_due(
     requires { get_or st.notes.counts (kind_index x) 0 < st.cap }
     ensures { Noted nodes.old attributes.old st cur tree x result nodes.new attributes.new }
 {
-    let notes = st.notes;
-    if notes.used < st.room {
+    if st.notes.used < st.room {
         return noted(st, cur, tree, x);
     }
     refuse(nodes, attributes, st, Refusal::NotesFull(st.room))

@@ -1,9 +1,9 @@
-// The covered core of the reading: what a file leaves in lent tables, up to the note table, which is the caller's to write.
+// The reading of a file into lent tables of nodes and attributes. It stops at each note, for the caller to write into the note table.
 //
 // Mirrors axml.rs (apk-info 13770539b8): `AXML::new` and `get_xml_tree`. tree.rt keeps the tree, placing.rt puts events away, passing.rt
 // passes chunks that change nothing, ending.rt ends a reading. Definitions: specs/Reading.antt and specs/Settle.antt say what comes back,
 // the others what the code does on its way.
-// Differs from the Rust: tables are lent and have limited room, and the reading stops at each note for the caller to write it.
+// Differs from the Rust: tables are lent and have limited room, and the caller writes the notes.
 #![tactic(auto)]
 
 pub mod ending;
@@ -14,7 +14,7 @@ pub mod tree;
 ghost use Rattle.std.specs.Prelude.{◌≡◌};
 ghost use Rattle.system_types.specs.Names.{lends};
 ghost use Rattle.walk.specs.declared.Stage.TheVariants.{Fresh, Reading as InBody};
-ghost use Rattle.walk.specs.Inner.Outcome.{no_tree, first, started_by, StateOk, AdvanceKeeps, Answers};
+ghost use Rattle.walk.specs.Inner.Outcome.{first, started_by, StateOk, AdvanceKeeps, Answers};
 ghost use Rattle.walk.specs.Inner.KnownSoFar.{KnownSoFar};
 
 use anomaly::{Note, Notes, kind_index};
@@ -58,27 +58,18 @@ pub struct State {
     pub notes: Notes,
 }
 
-fn no_tree() -> Tree
-    ensures { result ≡ no_tree }
-{
-    Tree {
-        nodes: 0,
-        attributes: 0,
-        first: 0,
-        inner: 0,
-        above_root: 0,
-        attributes_before_it: 0,
-    }
-}
+// What a place of the note table holds where there is no note.
+pub const NO_NOTE: Note = Note {
+    kind: 0,
+    a: 0,
+    b: 0,
+};
 
 // The state before the first call, for a note table of `room` places, `cap` notes of each kind, and the mode of the reading.
 // Ruled out: a state that has counted notes, and one that takes the head for opened.
 pub fn begin(room: usize, cap: u32, mode: u32) -> State
     ensures { result ≡ first room cap mode }
 {
-    let cur = first_cursor();
-    let tree = no_tree();
-    let notes = Notes::new();
     let opened = Opened {
         garbage: Garbage {
             found: false,
@@ -100,19 +91,15 @@ pub fn begin(room: usize, cap: u32, mode: u32) -> State
     State {
         done: false,
         slot: 0,
-        note: Note {
-            kind: 0,
-            a: 0,
-            b: 0,
-        },
+        note: NO_NOTE,
         room,
         cap,
         mode,
         stage: Stage::Fresh,
         opened,
-        cur,
-        tree,
-        notes,
+        cur: first_cursor(),
+        tree: Tree::default(),
+        notes: Notes::new(),
     }
 }
 
@@ -120,25 +107,10 @@ pub fn begin(room: usize, cap: u32, mode: u32) -> State
 fn started(st: State, opened: Opened) -> State
     ensures { result ≡ started_by st opened }
 {
-    let cur = first_cursor();
-    let tree = no_tree();
-    let notes = Notes::new();
     State {
-        done: false,
-        slot: 0,
-        note: Note {
-            kind: 0,
-            a: 0,
-            b: 0,
-        },
-        room: st.room,
-        cap: st.cap,
-        mode: st.mode,
         stage: Stage::Reading,
         opened,
-        cur,
-        tree,
-        notes,
+        ..begin(st.room, st.cap, st.mode)
     }
 }
 
@@ -159,29 +131,22 @@ fn read_on(
         nodes.new attributes.new
         × KnownSoFar file.now (lends names.now area.now) result memory.new numbers.new }
 {
-    let opened = st.opened;
-    let notes = st.notes;
     let mut cur = st.cur;
     let mut tree = st.tree;
     loop {
-        let h = run_in(
-            file, names, area, st.mode, opened, nodes, attributes, memory, cur, tree, numbers,
+        let halt = run_in(
+            file, names, area, st.mode, st.opened, nodes, attributes, memory, cur, tree, numbers,
         );
-        cur = h.cur;
-        tree = h.tree;
-        let stop = h.stop;
-        match stop {
-            Stop::Full(x) => {
-                return refuse(nodes, attributes, st, x);
-            }
-            Stop::Finished => {
-                return finish(nodes, attributes, st, tree);
-            }
+        cur = halt.cur;
+        tree = halt.tree;
+        match halt.stop {
+            Stop::Full(x) => return refuse(nodes, attributes, st, x),
+            Stop::Finished => return finish(nodes, attributes, st, tree),
             Stop::Due(x) => {
-                if notes.is_due(st.cap, kind_index(x)) {
+                if st.notes.is_due(st.cap, kind_index(x)) {
                     return note_due(nodes, attributes, st, cur, tree, x);
                 }
-                cur = pass_in(file, opened, notes, st.cap, cur);
+                cur = pass_in(file, st.opened, st.notes, st.cap, cur);
             }
         }
     }
@@ -204,8 +169,7 @@ fn start(
         nodes.new attributes.new
         × KnownSoFar file.now (lends names.now area.now) result memory.new numbers.new }
 {
-    let entered = enter(file, names, area, Asker::Reading(st.cap, st.mode));
-    match entered {
+    match enter(file, names, area, Asker::Reading(st.cap, st.mode)) {
         Err(x) => refuse(nodes, attributes, st, x),
         Ok(opened) => read_on(
             file,
@@ -225,10 +189,8 @@ fn start(
 pub fn answer_of(st: State) -> Result<ReadCounts, Refusal>
     ensures { Answers st result }
 {
-    let stage = st.stage;
-    match stage {
-        Stage::Fresh => Err(Refusal::MissingRoot),
-        Stage::Reading => Err(Refusal::MissingRoot),
+    match st.stage {
+        Stage::Fresh | Stage::Reading => Err(Refusal::MissingRoot),
         Stage::Clearing(answer) => answer,
     }
 }
@@ -252,8 +214,7 @@ pub fn advance_knowing(
         nodes.new attributes.new
         × KnownSoFar file.now (lends names.now area.now) result memory.new numbers.new }
 {
-    let stage = st.stage;
-    match stage {
+    match st.stage {
         Stage::Fresh => start(file, names, area, nodes, attributes, st, memory, numbers),
         Stage::Reading => read_on(file, names, area, nodes, attributes, st, memory, numbers),
         Stage::Clearing(answer) => clear_next(st, answer),

@@ -2,7 +2,7 @@
 //
 // Mirrors axml.rs (apk-info 13770539b8): `skip_run` and the notes that `Anomalies::push` drops. Definitions: specs/Inner/Pass.antt.
 // Differs from the Rust: once both sorts of foreign chunks are at their cap, a stretch of both is one loop, and none of its notes is made.
-ghost use Rattle.std.specs.Prelude.{◌≡◌, ◌≤◌, length};
+ghost use Rattle.std.specs.Prelude.{ℕ, ◌≡◌, ◌≤◌, ◌<◌, length, IfSome};
 ghost use Rattle.head.specs.Head.{body_in};
 ghost use Rattle.events.specs.Inner.Steps.{passed_to};
 ghost use Rattle.events.specs.Inner.Pending.{Within};
@@ -20,20 +20,20 @@ pub struct Reach {
     pub run: u32,
 }
 
-// Past a foreign chunk of either sort, where one stands at `at`.
-fn pass_one(b: &[u8], at: usize, run: u32) -> Reach
+// Past a foreign chunk of either sort, where one stands at `at`, whatever stood before it.
+fn pass_one(b: &[u8], at: usize) -> Option<Reach>
     requires { at ≤ length b.now }
-    ensures { Reaches b.now at run result.at result.run }
+    ensures { IfSome result (λ r. (at < r.at) × ((run : ℕ) → Reaches b.now at run r.at r.run)) }
 {
     let n = run_used(b, at, 0);
     if 0 < n {
-        return Reach { at: at + n, run: 0 };
+        return Some(Reach { at: at + n, run: 0 });
     }
     let m = run_used(b, at, 1);
     if 0 < m {
-        return Reach { at: at + m, run: 1 };
+        return Some(Reach { at: at + m, run: 1 });
     }
-    Reach { at, run }
+    None
 }
 
 // Past all foreign chunks from `from` on, of either sort.
@@ -42,31 +42,24 @@ pub fn pass_foreign(b: &[u8], from: usize, before: u32) -> Reach
     requires { from ≤ length b.now }
     ensures { Reaches b.now from before result.at result.run }
 {
-    let mut at = from;
-    let mut run = before;
-    loop {
-        let r = pass_one(b, at, run);
-        if r.at == at {
-            return r;
-        }
-        at = r.at;
-        run = r.run;
+    let mut reach = Reach {
+        at: from,
+        run: before,
+    };
+    while let Some(next) = pass_one(b, reach.at) {
+        reach = next;
     }
+    reach
 }
 
 fn passed_to(c: Cursor, r: Reach) -> Cursor
     ensures { result ≡ passed_to c r.at r.run }
 {
-    let start = c.start;
     Cursor {
         at: r.at,
         run: r.run,
-        depth: c.depth,
-        starts: c.starts,
         phase: Phase::AtChunk,
-        start,
-        reach: c.reach,
-        left: c.left,
+        ..c
     }
 }
 
@@ -82,10 +75,8 @@ pub fn pass_in(file: &[u8], o: Opened, notes: Notes, cap: u32, c: Cursor) -> Cur
     if notes.is_due(cap, kind_index(ResAnomaly::XmlNodeHeaderSize(0))) {
         return c;
     }
-    let b = body_of(file, o.head);
-    let phase = c.phase;
-    match phase {
-        Phase::AtChunk => passed_to(c, pass_foreign(b, c.at, c.run)),
+    match c.phase {
+        Phase::AtChunk => passed_to(c, pass_foreign(body_of(file, o.head), c.at, c.run)),
         _ => c,
     }
 }

@@ -2,6 +2,7 @@
 //
 // Mirrors axml.rs (apk-info 13770539b8): the body of the loop of `get_xml_tree`.
 // Definitions: specs/Inner/Tree.antt, specs/Inner/Run.antt. Differs from the Rust: a record without a place refuses.
+ghost use Rattle.std.specs.Prelude.{◌≡◌};
 ghost use Rattle.records.specs.Repeats.{Rule, by_prefix};
 ghost use Rattle.system_types.specs.Names.{lends};
 ghost use Rattle.text.specs.Content.{same_name};
@@ -10,29 +11,21 @@ ghost use Rattle.tables.specs.Inner.Numbered.{Numbered};
 ghost use Rattle.events.specs.declared.Event.TheVariants.{Open, Attribute, Close};
 ghost use Rattle.head.specs.Head.{tables_in};
 ghost use Rattle.events.specs.Inner.Remembered.{Remembers};
+ghost use Rattle.walk.specs.declared.placing.Stop.TheVariants.{Full};
 ghost use Rattle.walk.specs.Inner.Tree.{Fit, Places, NotEnd, AsksFor};
 ghost use Rattle.walk.specs.Inner.Run.{Running, RanOn, RunningIn, RanIn};
 
-use crate::tree::{Put, Tree, close_node, keep, open_node};
+use crate::tree::{Tree, close_node, keep, open_node};
 use anomaly::ResAnomaly;
 use common::StringIndex;
 use errors::Refusal;
 use events::{Cursor, Event, step_at};
 use head::{Opened, body_of, tables_of};
-use records::{ATTRIBUTE_WORDS, NODE_WORDS, node_place};
+use records::{NODE_WORDS, node_place};
 use text::Head;
 use xml_elements::XmlAttributeElement;
 
-// What became of an event.
-#[derive(Clone, Copy)]
-pub enum Placed {
-    Done(Tree),
-    Full(Refusal),
-    Due(ResAnomaly),
-    Finished,
-}
-
-// Why `run` stopped.
+// Why an event is not put away, so that `run` stops: it refuses, it is a note for the caller, or nothing is left.
 #[derive(Clone, Copy)]
 pub enum Stop {
     Full(Refusal),
@@ -40,6 +33,15 @@ pub enum Stop {
     Finished,
 }
 
+impl From<Refusal> for Stop {
+    ghost from_gives = { λ x r. r ≡ Full x };
+
+    fn from(x: Refusal) -> Stop {
+        Stop::Full(x)
+    }
+}
+
+// Where `run` stopped, and why.
 #[derive(Clone, Copy)]
 pub struct Halt {
     pub cur: Cursor,
@@ -55,24 +57,24 @@ fn open_place(
     name: StringIndex,
     fixed: u32,
     line: u32,
-) -> Placed
+) -> Result<Tree, Stop>
     requires { Fit nodes.old attributes.now tree }
     ensures { (rule : Rule) (key : Key) → Places rule key result nodes.old attributes.now tree (Open name fixed line)
         nodes.new attributes.now }
 {
     if nodes.len() - node_place(tree.nodes) < NODE_WORDS {
-        return Placed::Full(Refusal::NodesFull(nodes.len() / NODE_WORDS));
+        return Err(Stop::Full(Refusal::NodesFull(nodes.len() / NODE_WORDS)));
     }
-    Placed::Done(open_node(nodes, tree, name, fixed, line))
+    Ok(open_node(nodes, tree, name, fixed, line))
 }
 
 // The innermost element closes.
-fn close_place(nodes: &[u32], attributes: &[u32], tree: Tree) -> Placed
+fn close_place(nodes: &[u32], attributes: &[u32], tree: Tree) -> Result<Tree, Stop>
     requires { Fit nodes.now attributes.now tree }
     ensures { (rule : Rule) (key : Key) → Places rule key result nodes.now attributes.now tree Close
         nodes.now attributes.now }
 {
-    Placed::Done(close_node(nodes, tree))
+    Ok(close_node(nodes, tree))
 }
 
 // An attribute is kept, where it is no repeat and has a place.
@@ -87,7 +89,7 @@ fn keep_place(
     prefix: u32,
     a: XmlAttributeElement,
     numbers: &mut [u64],
-) -> Placed
+) -> Result<Tree, Stop>
     requires { AsksFor (Attribute prefix a) t.now (lends names.now area.now) h × Fit nodes.old attributes.old tree
         × Numbered h t.now (lends names.now area.now) numbers.old }
     ensures { Places (by_prefix (same_name h t.now (lends names.now area.now)))
@@ -95,14 +97,10 @@ fn keep_place(
         nodes.old attributes.old tree (Attribute prefix a) nodes.new attributes.new
         × Numbered h t.now (lends names.now area.now) numbers.new }
 {
-    let p = keep(
+    let kept = keep(
         t, names, area, h, nodes, attributes, tree, prefix, a, numbers,
-    );
-    match p {
-        Put::NotStored => Placed::Done(tree),
-        Put::Full => Placed::Full(Refusal::AttributesFull(attributes.len() / ATTRIBUTE_WORDS)),
-        Put::Stored(u) => Placed::Done(u),
-    }
+    )?;
+    Ok(kept.unwrap_or(tree))
 }
 
 // Puts an event away. Ruled out: a refusal for an attribute that is left out, and a note taken for the end.
@@ -116,7 +114,7 @@ pub fn place(
     tree: Tree,
     e: Event,
     numbers: &mut [u64],
-) -> Placed
+) -> Result<Tree, Stop>
     requires { AsksFor e t.now (lends names.now area.now) h × Fit nodes.old attributes.old tree
         × Numbered h t.now (lends names.now area.now) numbers.old }
     ensures { Places (by_prefix (same_name h t.now (lends names.now area.now)))
@@ -125,22 +123,21 @@ pub fn place(
         × Numbered h t.now (lends names.now area.now) numbers.new }
 {
     match e {
-        Event::Nothing => Placed::Done(tree),
+        Event::Nothing => Ok(tree),
         Event::Open(name, fixed, line) => open_place(nodes, attributes, tree, name, fixed, line),
         Event::Attribute(prefix, a) => keep_place(
             t, names, area, h, nodes, attributes, tree, prefix, a, numbers,
         ),
-        Event::LeftOut(name) => Placed::Done(tree),
+        Event::LeftOut(_) => Ok(tree),
         Event::Close => close_place(nodes, attributes, tree),
-        Event::Note(x) => Placed::Due(x),
-        Event::Refuse(x) => Placed::Full(x),
-        Event::Finish => Placed::Finished,
+        Event::Note(x) => Err(Stop::Due(x)),
+        Event::Refuse(x) => Err(Stop::Full(x)),
+        Event::Finish => Err(Stop::Finished),
     }
 }
 
 // Puts events away until a note falls due, something is refused, or nothing is left. t is the bytes that texts are read from, b the
-// body, `mode` that of the reading, `memory` what is known of its names,
-// `numbers` of its long texts.
+// body, `mode` that of the reading, `memory` what is known of its names, `numbers` of its long texts.
 // Ruled out: a note passed over, and a stop before the end with none due.
 pub fn run(
     t: &[u8],
@@ -168,33 +165,18 @@ pub fn run(
     let mut grown = tree;
     loop {
         let s = step_at(t, names, area, mode, o, b, cur, memory);
-        let e = s.event;
-        let next = s.cur;
-        let p = place(t, names, area, o.head, nodes, attributes, grown, e, numbers);
-        match p {
-            Placed::Done(u) => {
-                cur = next;
+        match place(
+            t, names, area, o.head, nodes, attributes, grown, s.event, numbers,
+        ) {
+            Ok(u) => {
+                cur = s.cur;
                 grown = u;
             }
-            Placed::Full(x) => {
+            Err(stop) => {
                 return Halt {
-                    cur: next,
+                    cur: s.cur,
                     tree: grown,
-                    stop: Stop::Full(x),
-                };
-            }
-            Placed::Due(x) => {
-                return Halt {
-                    cur: next,
-                    tree: grown,
-                    stop: Stop::Due(x),
-                };
-            }
-            Placed::Finished => {
-                return Halt {
-                    cur: next,
-                    tree: grown,
-                    stop: Stop::Finished,
+                    stop,
                 };
             }
         }

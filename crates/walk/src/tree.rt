@@ -12,9 +12,11 @@ ghost use Rattle.text.specs.Inner.Found.{Asks};
 ghost use Rattle.tables.specs.Inner.Keys.{key_by};
 ghost use Rattle.tables.specs.Inner.Numbered.{Numbered};
 ghost use Rattle.events.specs.declared.Event.TheVariants.{Attribute};
-ghost use Rattle.walk.specs.Inner.Tree.{parent_of, opened_tree, closed_tree, kept_tree, opened_words, kept_nodes, kept_attributes, new_words, front_of, Fit, Far, Puts, KeepsIn, AsksFor};
+ghost use Rattle.walk.specs.Inner.Tree.{parent_of, opened_tree, closed_tree, kept_tree, opened_words, kept_nodes, kept_attributes, new_words};
+ghost use Rattle.walk.specs.Inner.Tree.{front_of, Fit, Far, PutsIn, KeepsIn, AsksFor};
 
 use common::StringIndex;
+use errors::Refusal;
 use records::{
     ATTRIBUTE_WORDS, NO_PARENT, NODE_COUNT, NODE_PARENT, attribute_place, node_place,
     put_attribute, put_node,
@@ -27,7 +29,7 @@ use xml_elements::XmlAttributeElement;
 
 // How many nodes and attributes are stored, how many attributes before those of the last node, the innermost open element, the one that is
 // open above the first (0: none), and how many attributes were there before it.
-#[derive(Clone, Copy)]
+#[derive(Clone, Copy, Default)]
 pub struct Tree {
     pub nodes: u32,
     pub attributes: u32,
@@ -35,16 +37,6 @@ pub struct Tree {
     pub inner: u32,
     pub above_root: u32,
     pub attributes_before_it: u32,
-}
-
-// What became of an attribute.
-#[derive(Clone, Copy)]
-pub enum Put {
-    // it repeats one of its element, or there is no element
-    NotStored,
-    // no place
-    Full,
-    Stored(Tree),
 }
 
 impl Tree {
@@ -56,32 +48,27 @@ impl Tree {
         if n == 0 {
             return Tree {
                 nodes: 1,
-                attributes: self.attributes,
                 first: self.attributes,
                 inner: 0,
                 above_root: 0,
                 attributes_before_it: 0,
+                ..self
             };
         }
-        let open = self.inner;
-        if open == 0 {
-            return Tree {
-                nodes: n + 1,
-                attributes: self.attributes,
-                first: self.attributes,
-                inner: n,
-                above_root: n,
-                attributes_before_it: self.attributes,
-            };
-        }
-        Tree {
+        let opened = Tree {
             nodes: n + 1,
-            attributes: self.attributes,
             first: self.attributes,
             inner: n,
-            above_root: self.above_root,
-            attributes_before_it: self.attributes_before_it,
+            ..self
+        };
+        if self.inner == 0 {
+            return Tree {
+                above_root: n,
+                attributes_before_it: self.attributes,
+                ..opened
+            };
         }
+        opened
     }
 
     fn closed(self, parent: u32) -> Tree
@@ -89,21 +76,15 @@ impl Tree {
     {
         if parent == 0 {
             return Tree {
-                nodes: self.nodes,
-                attributes: self.attributes,
-                first: self.first,
                 inner: 0,
                 above_root: 0,
                 attributes_before_it: 0,
+                ..self
             };
         }
         Tree {
-            nodes: self.nodes,
-            attributes: self.attributes,
-            first: self.first,
             inner: parent,
-            above_root: self.above_root,
-            attributes_before_it: self.attributes_before_it,
+            ..self
         }
     }
 
@@ -112,12 +93,8 @@ impl Tree {
         ensures { result ≡ kept_tree self }
     {
         Tree {
-            nodes: self.nodes,
             attributes: self.attributes + 1,
-            first: self.first,
-            inner: self.inner,
-            above_root: self.above_root,
-            attributes_before_it: self.attributes_before_it,
+            ..self
         }
     }
 }
@@ -166,23 +143,27 @@ pub fn close_node(nodes: &[u32], tree: Tree) -> Tree
     tree.closed(nodes[i])
 }
 
-// A new attribute of the last node is stored behind the others, and the node counts it.
+// A new attribute of the last node is stored behind the others, and the node counts it; or it has no place.
 fn store(
     nodes: &mut [u32],
     attributes: &mut [u32],
     tree: Tree,
     prefix: u32,
     a: XmlAttributeElement,
-) -> Tree
-    requires { Fit nodes.old attributes.old tree × (0 < tree.nodes) × (attribute_width * tree.attributes + attribute_width ≤ length attributes.old) }
-    ensures { Puts result tree prefix a nodes.old attributes.old nodes.new attributes.new }
+) -> Result<Tree, Refusal>
+    requires { Fit nodes.old attributes.old tree × (0 < tree.nodes) }
+    ensures { PutsIn result tree prefix a nodes.old attributes.old nodes.new attributes.new }
 {
+    let used = attribute_place(tree.attributes);
+    if attributes.len() - used < ATTRIBUTE_WORDS {
+        return Err(Refusal::AttributesFull(attributes.len() / ATTRIBUTE_WORDS));
+    }
     let name = a.name;
     let ns = a.namespace_uri;
     let last = tree.nodes - 1;
     put_attribute(
         attributes,
-        attribute_place(tree.attributes),
+        used,
         last,
         prefix,
         name.0,
@@ -195,7 +176,7 @@ fn store(
         node_place(last) + NODE_COUNT,
         tree.attributes + 1 - tree.first,
     );
-    tree.kept()
+    Ok(tree.kept())
 }
 
 // The same as `keep` from the 33rd attribute of a node on, where it repeats none of the first 32: the others are linked, in the words behind the nodes.
@@ -210,7 +191,7 @@ fn keep_far(
     prefix: u32,
     a: XmlAttributeElement,
     numbers: &mut [u64],
-) -> Put
+) -> Result<Option<Tree>, Refusal>
     requires { Asks t.now (lends names.now area.now) h × Fit nodes.old attributes.old tree × Far nodes.old tree
         × Numbered h t.now (lends names.now area.now) numbers.old }
     ensures { ((is_repeat (by_prefix (same_name h t.now (lends names.now area.now))) (new_words tree prefix a) (front_of tree attributes.old) ≡ false
@@ -241,12 +222,9 @@ fn keep_far(
         numbers,
     );
     if e.found {
-        return Put::NotStored;
+        return Ok(None);
     }
-    if attributes.len() - used < ATTRIBUTE_WORDS {
-        return Put::Full;
-    }
-    let u = store(nodes, attributes, tree, prefix, a);
+    let u = store(nodes, attributes, tree, prefix, a)?;
     link(
         &mut nodes[free..],
         (used - from) / ATTRIBUTE_WORDS,
@@ -254,10 +232,11 @@ fn keep_far(
         e.at,
         e.left,
     );
-    Put::Stored(u)
+    Ok(Some(u))
 }
 
-// An attribute of the last node, unless it repeats one of that node's; `numbers` is what is known of long texts.
+// An attribute of the last node: the tree with it, or None where it repeats one of that node's or there is no node, or the refusal where it has
+// no place. `numbers` is what is known of long texts.
 // Ruled out: a place asked for a repeat, and the node's count of attributes left as it was.
 pub fn keep(
     t: &[u8],
@@ -270,7 +249,7 @@ pub fn keep(
     prefix: u32,
     a: XmlAttributeElement,
     numbers: &mut [u64],
-) -> Put
+) -> Result<Option<Tree>, Refusal>
     requires { AsksFor (Attribute prefix a) t.now (lends names.now area.now) h × Fit nodes.old attributes.old tree
         × Numbered h t.now (lends names.now area.now) numbers.old }
     ensures { KeepsIn (by_prefix (same_name h t.now (lends names.now area.now)))
@@ -280,7 +259,7 @@ pub fn keep(
 {
     let n = tree.nodes;
     if n == 0 {
-        return Put::NotStored;
+        return Ok(None);
     }
     let from = attribute_place(tree.first);
     let used = attribute_place(tree.attributes);
@@ -299,17 +278,15 @@ pub fn keep(
         ns,
         numbers,
     ) {
-        return Put::NotStored;
+        return Ok(None);
     }
     if far {
         return keep_far(
             t, names, area, h, nodes, attributes, tree, prefix, a, numbers,
         );
     }
-    if attributes.len() - used < ATTRIBUTE_WORDS {
-        return Put::Full;
-    }
-    Put::Stored(store(nodes, attributes, tree, prefix, a))
+    let u = store(nodes, attributes, tree, prefix, a)?;
+    Ok(Some(u))
 }
 
 // How many nodes are kept at the end: all before the second open element (W29). Ruled out: a finished child of a dropped element counted, and

@@ -1,7 +1,7 @@
 -- Laws of specs/Inner/ClearPlaces.antt: a clear place is passed by one byte, whether a char begins there or not (`clear-passes`).
--- In order: the values of four bytes that are clear; a place; the places of a block. Which bytes are clear: proofs/ClearBytes.antt.
+-- In order: the values of four bytes that are clear; a place. Which bytes are clear: proofs/ClearBytes.antt.
 use mathlib.Core.Path.{◌≡◌, refl, sym, subst, ap, ◌∙◌}
-use mathlib.Core.Bool.{Bool, true, false, cond}
+use mathlib.Core.Bool.{Bool, true, false}
 use mathlib.Core.List.{List}
 use Prim.Native.Nat.{ℕ, ◌+◌, ◌*◌, ◌%◌, ◌≤◌, ◌<◌}
 use native.Mathlib.Omega.{arith}
@@ -101,36 +101,3 @@ module _ (s : List ℕ) (bytes : (k : ℕ) → get_or s k 0 < 256) where
       let t = here at h in
       let inner = inner-passed at w t.least t.most i.second i.third i.fourth in
       record { later = omega arith; rest = sym inner.rest ∙ whole.rest }
-
--- ---- the places of a block so far: all are passed where the least of the answers is 1
-
-pub record PlacesTo (s : List ℕ) (at least k : ℕ) : Type 0 where
-  pub within : k ≤ 64
-  pub small : least ≤ 1
-  pub passed : least ≡ 1 → Passed false s at (at + k)
-
-pub places-first : (s : List ℕ) (at : ℕ) → PlacesTo s at 1 0
-places-first s at = record {
-  within = omega arith;
-  small = omega arith;
-  passed = λ _. let e : at ≡ at + 0 = omega arith in subst (λ (j : ℕ). Passed false s at j) e (none_passed s at);
-}
-
-module _ (s : List ℕ) (at least k x : ℕ) (b : Bool) (e : x ≡ cond b 1 0) (p : PlacesTo s at least k) (h : k < 64) where
-  pub places-put : x < least → PlacesTo s at x (k + 1)
-  places-put l = let m = p.small in record { within = omega arith; small = omega arith; passed = λ z. absurd (let y : ⊥ = omega arith in y) }
-
-  pub places-kept : least ≤ x → (b ≡ true → Passed false s (at + k) (at + k + 1)) → PlacesTo s at least (k + 1)
-  places-kept l n = record { within = omega arith; small = p.small; passed = λ z. go b e z n }
-    where
-      go : (t : Bool) → x ≡ cond t 1 0 → least ≡ 1 → (t ≡ true → Passed false s (at + k) (at + k + 1)) → Passed false s at (at + (k + 1))
-      go false f z m = absurd (let y : ⊥ = omega arith in y)
-      go true f z m =
-          let i : at + k + 1 ≡ at + (k + 1) = omega arith in
-          subst (λ (j : ℕ). Passed false s at j) i (passed_on false s at (at + k) (at + k + 1) (p.passed z) (m refl))
-
-pub places-all : (s : List ℕ) (at least k : ℕ) → PlacesTo s at least k → least ≡ 1 → 64 ≤ k → Passed false s at (at + 64)
-places-all s at least k p e h =
-    let m = p.within in
-    let i : at + k ≡ at + 64 = omega arith in
-    subst (λ (j : ℕ). Passed false s at j) i (p.passed e)

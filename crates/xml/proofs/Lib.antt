@@ -1,6 +1,7 @@
 -- The root of the crate's laws.
 pub mod Classes
-pub mod Ranges
+pub mod Sorts
+pub mod Chains
 pub mod Names
 pub mod Ascii
 pub mod SeenChars

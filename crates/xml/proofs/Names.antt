@@ -1,10 +1,11 @@
 -- One turn of the loop over a name, and where it starts and ends.
-use mathlib.Core.Path.{◌≡◌, refl, sym, subst, ap, ◌∙◌}
+use mathlib.Core.Path.{◌≡◌, refl, sym, ap, ◌∙◌}
 use mathlib.Core.Bool.{Bool, true, false, not, ◌&&◌, cond, true≢false}
 use mathlib.Core.List.{List}
-use Prim.Native.Nat.{ℕ, ◌+◌, ◌*◌, ◌/◌, ◌≤◌, ◌<◌}
+use Prim.Native.Nat.{ℕ, suc, ◌+◌, ◌*◌, ◌/◌, ◌≤◌, ◌<◌}
 use native.Mathlib.Omega.{arith}
 use borrow.Author.Tests.{eq-eqb, ne_eqb, eqb-true}
+use denote.Enum.Bare.{sameb}
 use lib.Dec.{eqb}
 use lib.ListN.{length, get_or, drop}
 use Rattle.utf.specs.Text.{step_of, step_value, width_of, sound_of, steps_of, all_sound, is_sound}
@@ -12,9 +13,25 @@ use Rattle.utf.specs.Inner.StepRuns.{Took}
 use Rattle.utf.proofs.Steps.{step_of-is, steps_of-next, steps_of-end}
 use Rattle.utf.proofs.Turns.{took-ascii, turn-sound, end-sound, stops, goes}
 use Rattle.utf.proofs.Units.{took-unit}
-use Rattle.xml.specs.NCName.{is_start, is_char, char_sort, class_of, all_char, is_nc_name, valid_name}
-use Rattle.xml.specs.Inner.NameRun.{sort_by, sort_at, begins, chars_in, Told, Passed, Seen, Went, Reached}
-use Rattle.xml.proofs.Ranges.{char_sort-start, char_sort-char, class_of-ascii, ascii-of-class}
+use Rattle.xml.specs.declared.Sort.{Sort}
+use Rattle.xml.specs.declared.Sort.TheVariants.{Outside, Start, Later}
+use Rattle.xml.specs.contracts.Sort.{the_type}
+use Rattle.xml.specs.NCName.{is_start, is_char, char_sort, all_char, is_nc_name, valid_name}
+use Rattle.xml.specs.Inner.NameRun.{sort_number, sort_by, sort_at, begins, chars_in, Told, Passed, Seen, Went, Reached}
+use Rattle.xml.proofs.Chains.{chain_of}
+use Rattle.xml.proofs.Sorts.{char_sort-start, char_sort-char}
+
+-- ---- a sort that is compared with the one of what is in no name
+
+pub outside-sort : (k : Sort) → sameb the_type k Outside ≡ true → sort_number k ≡ 0
+outside-sort Outside e = refl
+outside-sort Start e = absurd (true≢false (sym e))
+outside-sort Later e = absurd (true≢false (sym e))
+
+pub inside-sort : (k : Sort) → sameb the_type k Outside ≡ false → sort_number k ≡ 0 → ⊥
+inside-sort Outside e z = true≢false e
+inside-sort Start e z = omega arith
+inside-sort Later e z = omega arith
 
 -- ---- what is told of a step
 
@@ -27,17 +44,15 @@ told utf16 s at value width sort sound t e = record {
   most = t.most;
 }
 
-pub told-ascii : (s : List ℕ) (at sort : ℕ) → at < length s → sort ≡ class_of (get_or s at 0) → (sort ≡ 3 → ⊥) → Told false s at sort 1
-told-ascii s at sort h e n =
-    let a : get_or s at 0 < 128 = ascii-of-class (get_or s at 0) (λ f. n (e ∙ f)) in
-    told false s at (get_or s at 0) 1 sort true (took-ascii false s at refl h a) (e ∙ class_of-ascii (get_or s at 0) a)
+pub told-ascii : (s : List ℕ) (at sort : ℕ) → at < length s → get_or s at 0 < 128 → sort ≡ char_sort (get_or s at 0) → Told false s at sort 1
+told-ascii s at sort h a e = told false s at (get_or s at 0) 1 sort true (took-ascii false s at refl h a) e
 
-pub told-unit : (s : List ℕ) (at sort : ℕ) → at + 1 < length s → ((i : ℕ) → get_or s i 0 < 256) → get_or s at 0 + get_or s (at + 1) 0 * 256 < 128
-    → sort ≡ class_of (get_or s at 0 + get_or s (at + 1) 0 * 256) → Told true s at sort 2
-told-unit s at sort h b a e =
+pub told-unit : (s : List ℕ) (at sort : ℕ) → at + 1 < length s → ((i : ℕ) → get_or s i 0 < 256) → get_or s (at + 1) 0 ≡ 0
+    → sort ≡ char_sort (get_or s at 0) → Told true s at sort 2
+told-unit s at sort h b z e =
     let u = get_or s at 0 + get_or s (at + 1) 0 * 256 in
-    let n : get_or s (at + 1) 0 / 8 ≡ 27 → ⊥ = λ f. omega arith in
-    told true s at u 2 sort true (took-unit s at h b n) (e ∙ class_of-ascii u a)
+    let i : get_or s at 0 ≡ u = omega arith in
+    told true s at u 2 sort true (took-unit s at h b (λ f. omega arith)) (e ∙ ap char_sort i)
 
 -- ---- a turn
 
@@ -70,9 +85,6 @@ module _ (utf16 : Bool) (s : List ℕ) (at sort width : ℕ) (h : at < length s)
 
 -- ---- the first char
 
-pub told-begins : (utf16 : Bool) (s : List ℕ) (sort width : ℕ) → Told utf16 s 0 sort width → eqb sort 1 ≡ begins utf16 s
-told-begins utf16 s sort width t = ap (λ (k : ℕ). eqb k 1) t.sort-is
-
 begins-by : (k : ℕ) (x : Bool) → (eqb k 1 && x) ≡ (eqb k 1 && (not (eqb k 0) && x))
 begins-by k x = go (eqb k 1) refl
   where
@@ -103,16 +115,21 @@ passed-more utf16 s at i sort width p h t n = record {
   rest = sym (goes _ _ (not (eqb sort 0)) (turn-char utf16 s i sort width h t) (ap not (ne_eqb sort 0 n))) ∙ p.rest;
 }
 
+pub passed-chain : (s : List ℕ) (f : ℕ → ℕ) (n at to : ℕ) → f 0 ≡ at → f n ≡ to → ((k j : ℕ) → k < n → j ≡ f (suc k) → Passed false s (f k) j)
+    → Passed false s at to
+passed-chain s = chain_of (λ (i j : ℕ). Passed false s i j) (λ i. record { later = omega arith; rest = refl }) (λ i j k. passed_on false s i j k)
+
 -- ---- a run of chars that are sound
 
 pub seen_none : (utf16 : Bool) (s : List ℕ) (at : ℕ) → Seen utf16 s at at
 seen_none utf16 s at = record { passed = record { later = omega arith; rest = refl }; sound = refl }
 
-pub seen_nothing : (utf16 : Bool) (s : List ℕ) (at : ℕ) → Seen utf16 s at (at + 0)
-seen_nothing utf16 s at = let e : at ≡ at + 0 = omega arith in subst (λ (to : ℕ). Seen utf16 s at to) e (seen_none utf16 s at)
-
 pub seen-on : (utf16 : Bool) (s : List ℕ) (at i to : ℕ) → Seen utf16 s at i → Seen utf16 s i to → Seen utf16 s at to
 seen-on utf16 s at i to p q = record { passed = passed_on utf16 s at i to p.passed q.passed; sound = q.sound ∙ p.sound }
+
+pub seen-chain : (utf16 : Bool) (s : List ℕ) (f : ℕ → ℕ) (n at to : ℕ) → f 0 ≡ at → f n ≡ to → ((k j : ℕ) → k < n → j ≡ f (suc k) → Seen utf16 s (f k) j)
+    → Seen utf16 s at to
+seen-chain utf16 s = chain_of (λ (i j : ℕ). Seen utf16 s i j) (seen_none utf16 s) (λ i j k. seen-on utf16 s i j k)
 
 sort-sound : (utf16 : Bool) (v : ℕ) → char_sort v ≡ sort_by utf16 true v
 sort-sound true v = refl
@@ -128,59 +145,38 @@ seen_step utf16 s at value width h t n =
       sound = sym (goes _ _ true (turn-sound utf16 s at value width true h t) refl);
     }
 
-pub seen-ascii : (s : List ℕ) (at sort : ℕ) → at < length s → sort ≡ class_of (get_or s at 0) → (sort ≡ 0 → ⊥) → (sort ≡ 3 → ⊥) → Seen false s at (at + 1)
-seen-ascii s at sort h e n m =
-    let a : get_or s at 0 < 128 = ascii-of-class (get_or s at 0) (λ f. m (e ∙ f)) in
-    seen_step false s at (get_or s at 0) 1 h (took-ascii false s at refl h a) (λ z. n (e ∙ class_of-ascii (get_or s at 0) a ∙ z))
+pub seen-ascii : (s : List ℕ) (at : ℕ) → at < length s → get_or s at 0 < 128 → (char_sort (get_or s at 0) ≡ 0 → ⊥) → Seen false s at (at + 1)
+seen-ascii s at h a n = seen_step false s at (get_or s at 0) 1 h (took-ascii false s at refl h a) n
 
 -- a unit that is no surrogate
 pub seen-char : (s : List ℕ) (at : ℕ) → at + 1 < length s → ((k : ℕ) → get_or s k 0 < 256) → (get_or s (at + 1) 0 / 8 ≡ 27 → ⊥)
     → (char_sort (get_or s at 0 + get_or s (at + 1) 0 * 256) ≡ 0 → ⊥) → Seen true s at (at + 2)
 seen-char s at h b n c = seen_step true s at (get_or s at 0 + get_or s (at + 1) 0 * 256) 2 (omega arith) (took-unit s at h b n) c
 
-pub seen-unit : (s : List ℕ) (at sort : ℕ) → at + 1 < length s → ((k : ℕ) → get_or s k 0 < 256)
-    → get_or s at 0 + get_or s (at + 1) 0 * 256 < 128 → sort ≡ class_of (get_or s at 0 + get_or s (at + 1) 0 * 256) → (sort ≡ 0 → ⊥) → Seen true s at (at + 2)
-seen-unit s at sort h b a e n =
-    let u = get_or s at 0 + get_or s (at + 1) 0 * 256 in
-    seen-char s at h b (λ f. omega arith) (λ z. n (e ∙ class_of-ascii u a ∙ z))
-
 -- ---- as far as a place: no char stands before it, or it is reached
 
-module _ (utf16 : Bool) (s : List ℕ) (at i to : ℕ) (p : Passed utf16 s at i) where
-  pub reached-to : to ≤ i → Reached utf16 s at to i
-  reached-to h = record { passed = p; stuck = λ k. absurd (let z : ⊥ = omega arith in z) }
-
-  pub reached-none : (sort width : ℕ) → i < length s → Told utf16 s i sort width → sort ≡ 0 → Reached utf16 s at to i
-  reached-none sort width h t e = record {
-    passed = p;
-    stuck = λ k. stops _ _ (not (eqb sort 0)) (turn-char utf16 s i sort width h t) (ap not (eq-eqb sort 0 e));
-  }
-
-  pub reached-stuck : chars_in utf16 (drop i s) ≡ false → Reached utf16 s at to i
-  reached-stuck e = record { passed = p; stuck = λ k. e }
+pub reached-none : (utf16 : Bool) (s : List ℕ) (at i to : ℕ) → Passed utf16 s at i → (sort width : ℕ) → i < length s → Told utf16 s i sort width → sort ≡ 0
+    → Reached utf16 s at to i
+reached-none utf16 s at i to p sort width h t e = record {
+  passed = p;
+  stuck = λ k. stops _ _ (not (eqb sort 0)) (turn-char utf16 s i sort width h t) (ap not (eq-eqb sort 0 e));
+}
 
 -- ---- so far from a place in UTF-8
 
 module _ (s : List ℕ) (at sort width : ℕ) (h : at < length s) (t : Told false s at sort width) where
-  pub went-none : sort ≡ 0 → Went false s at 0
-  went-none e = record {
-    passed = (seen_nothing false s at).passed;
-    stuck = λ k. stops _ _ (not (eqb sort 0)) (turn-char false s at sort width h t) (ap not (eq-eqb sort 0 e));
-    most = omega arith;
-  }
+  pub stuck-told : sort ≡ 0 → chars_in false (drop at s) ≡ false
+  stuck-told e = stops _ _ (not (eqb sort 0)) (turn-char false s at sort width h t) (ap not (eq-eqb sort 0 e))
 
   pub went-told : (sort ≡ 0 → ⊥) → Went false s at width
   went-told n = record {
     passed = passed-more false s at at sort width (seen_none false s at).passed h t n;
-    stuck = λ k. let l = t.least in absurd (let z : ⊥ = omega arith in z);
+    least = t.least;
     most = omega (arith, t.most);
   }
 
 pub went-one : (s : List ℕ) (at : ℕ) → at < length s → Passed false s at (at + 1) → Went false s at 1
-went-one s at h p = record { passed = p; stuck = λ k. absurd (let z : ⊥ = omega arith in z); most = omega arith }
-
-pub went-seen : (s : List ℕ) (at width : ℕ) → Seen false s at (at + width) → at + width ≤ length s → (width ≡ 0 → ⊥) → Went false s at width
-went-seen s at width p m n = record { passed = p.passed; stuck = λ k. absurd (n k); most = omega arith }
+went-one s at h p = record { passed = p; least = omega arith; most = omega arith }
 
 -- ---- the ends
 
@@ -228,11 +224,5 @@ pub whole-utf8 : (utf16 : Bool) (s : List ℕ) (r : Bool) → utf16 ≡ false �
 whole-utf8 true s r w e = absurd (true≢false w)
 whole-utf8 false s r w e = e
 
-pub both : (x y : Bool) → x ≡ true → y ≡ true → true ≡ (x && y)
-both x y e f = rw (e, f)
-
 pub not_first : (x y : Bool) → x ≡ false → false ≡ (x && y)
 not_first x y e = rw e
-
-pub then-second : (x y r : Bool) → x ≡ true → r ≡ y → r ≡ (x && y)
-then-second x y r e f = rw e f

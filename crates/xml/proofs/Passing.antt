@@ -1,59 +1,20 @@
--- Laws of a block (specs/Inner/Blocks.antt): what each of its bytes says, and that what it holds is chars of a name, and sound (`seen-block`).
+-- Laws of a block (specs/Inner/Blocks.antt): what each of its bytes says, and that what it holds is chars of a name, and sound (`block-takes`).
 use mathlib.Core.Path.{◌≡◌, refl, sym, subst, ap, ◌∙◌}
-use mathlib.Core.Bool.{Bool, true, false, not, ◌&&◌, ◌||◌, cond}
+use mathlib.Core.Bool.{Bool, true, false, true≢false}
 use mathlib.Core.List.{List}
 use Prim.Native.Nat.{ℕ, zero, suc, ◌+◌, ◌*◌, ◌%◌, ◌≤◌, ◌<◌}
 use native.Mathlib.Omega.{arith}
 use borrow.Author.Tests.{eq-eqb, ne_eqb, eqb-true, eqb-false}
 use lib.Dec.{eqb}
 use lib.ListN.{length, get_or}
-use mir.Val.{bool_byte}
 use Rattle.utf.proofs.Tables.{both_true}
 use Rattle.xml.specs.declared.blocks.Form.{Form}
 use Rattle.xml.specs.declared.blocks.Form.TheVariants.{AsciiUnits, FarUnits, Ascii, Pairs, Triples}
 use Rattle.xml.specs.Inner.SeenChars.{is_pair, is_triple}
 use Rattle.xml.specs.Inner.Blocks.{in_utf16, size_of, is_odd, fits_at, all_fit}
-use Rattle.xml.specs.Inner.NameRun.{Seen}
-use Rattle.xml.proofs.Names.{seen_none, seen-on, seen-char}
+use Rattle.xml.specs.Inner.NameRun.{Seen, Takes}
+use Rattle.xml.proofs.Names.{seen-chain, seen-char}
 use Rattle.xml.proofs.SeenChars.{unit-low, unit-far, seen_low, seen-pair, seen-triple}
-
--- ---- one of two answers, without a branch
-
-pub either : (test x y : Bool) → ((test && x) || (not test && y)) ≡ cond test x y
-either true true y = refl
-either true false y = refl
-either false x y = refl
-
--- ---- the least of the answers so far: 1 where all of them are true
-
-pub bool_byte-is : (b : Bool) → bool_byte b ≡ cond b 1 0
-bool_byte-is true = refl
-bool_byte-is false = refl
-
-module _ (form : Form) (s : List ℕ) (at k least x : ℕ)
-    (e : least ≡ cond (all_fit form s at k) 1 0) (f : x ≡ cond (fits_at form k (get_or s (at + k) 0)) 1 0) where
-  more : all_fit form s at (k + 1) ≡ (fits_at form k (get_or s (at + k) 0) && all_fit form s at k)
-  unfolding all_fit
-  more = let n : k + 1 ≡ suc k = omega arith in rw n
-
-  pub least-put : x < least → x ≡ cond (all_fit form s at (k + 1)) 1 0
-  least-put h = rw more (go (fits_at form k (get_or s (at + k) 0)) (all_fit form s at k) f e)
-    where
-      go : (p q : Bool) → x ≡ cond p 1 0 → least ≡ cond q 1 0 → x ≡ cond (p && q) 1 0
-      go true true i j = i
-      go true false i j = absurd (let z : ⊥ = omega arith in z)
-      go false q i j = i
-
-  pub least_kept : least ≤ x → least ≡ cond (all_fit form s at (k + 1)) 1 0
-  least_kept h = rw more (go (fits_at form k (get_or s (at + k) 0)) (all_fit form s at k) f e)
-    where
-      go : (p q : Bool) → x ≡ cond p 1 0 → least ≡ cond q 1 0 → least ≡ cond (p && q) 1 0
-      go true q i j = j
-      go false q i j = omega arith
-
-pub least-is : (least : ℕ) (q : Bool) → least ≡ cond q 1 0 → eqb least 1 ≡ q
-least-is least true e = eq-eqb least 1 e
-least-is least false e = ne_eqb least 1 (λ z. omega arith)
 
 -- ---- a byte of a block, at its place
 
@@ -73,13 +34,21 @@ all_fit-at form s at (suc n) k t h = go (all_fit-at form s at n k p.1) (eqb k n)
 fit_at : (form : Form) (s : List ℕ) (at n k i : ℕ) → all_fit form s at n ≡ true → k < n → i ≡ at + k → fits_at form k (get_or s i 0) ≡ true
 fit_at form s at n k i t h e = ap (λ (j : ℕ). fits_at form k (get_or s j 0)) e ∙ all_fit-at form s at n k t h
 
--- ---- chars one behind the other, the n-th at the place f n
+-- all of them fit, or one does not
+all_fit-each : (form : Form) (s : List ℕ) (at n : ℕ) → ((k : ℕ) → k < n → fits_at form k (get_or s (at + k) 0) ≡ true) → all_fit form s at n ≡ true
+unfolding all_fit
+all_fit-each form s at zero p = refl
+all_fit-each form s at (suc n) p = rw (p n (omega arith), all_fit-each form s at n (λ k h. p k (omega arith)))
 
-chain : (utf16 : Bool) (s : List ℕ) (f : ℕ → ℕ) (count : ℕ) → ((n : ℕ) → n < count → Seen utf16 s (f n) (f (suc n))) → (n : ℕ) → n ≤ count
-    → Seen utf16 s (f 0) (f n)
-chain utf16 s f count step zero h = seen_none utf16 s (f 0)
-chain utf16 s f count step (suc n) h =
-    seen-on utf16 s (f 0) (f n) (f (suc n)) (chain utf16 s f count step n (omega arith)) (step n (omega arith))
+pub all_fit-is : (form : Form) (s : List ℕ) (at n : ℕ) (r : Bool)
+    → (r ≡ true → (k : ℕ) → k < n → fits_at form k (get_or s (at + k) 0) ≡ true)
+    → (r ≡ false → (k : ℕ) × (k < n) × (fits_at form k (get_or s (at + k) 0) ≡ false)) → r ≡ all_fit form s at n
+all_fit-is form s at n true p q = sym (all_fit-each form s at n (p refl))
+all_fit-is form s at n false p q = go (all_fit form s at n) refl
+  where
+    go : (b : Bool) → all_fit form s at n ≡ b → false ≡ all_fit form s at n
+    go false e = sym e
+    go true e = let f = q refl in absurd (true≢false (sym (all_fit-at form s at n f.0 e f.1) ∙ f.2))
 
 -- ---- a block of each form
 
@@ -96,8 +65,8 @@ module _ (s : List ℕ) (at : ℕ) (h : at + 64 ≤ length s) where
   of_width utf16 width count size e step =
       let first : at + 0 * width ≡ at = omega arith in
       let last : at + count * width ≡ at + size = omega arith in
-      let all = chain utf16 s (λ n. at + n * width) count step count (omega arith) in
-      subst (λ (j : ℕ). Seen utf16 s at j) last (subst (λ (i : ℕ). Seen utf16 s i (at + count * width)) first all)
+      seen-chain utf16 s (λ n. at + n * width) count at (at + size) first last
+      (λ n j h i. subst (λ (x : ℕ). Seen utf16 s (at + n * width) x) (sym i) (step n h))
 
   ascii-units : ((k : ℕ) → get_or s k 0 < 256) → all_fit AsciiUnits s at 64 ≡ true → Seen true s at (at + 64)
   unfolding fits_at
@@ -167,15 +136,23 @@ block_of Ascii s at h b e = ascii-bytes s at h e
 block_of Pairs s at h b e = pairs s at h e
 block_of Triples s at h b e = triples s at h e
 
-pub size_of-le : (form : Form) → size_of form ≤ 64
-size_of-le AsciiUnits = omega arith
-size_of-le FarUnits = omega arith
-size_of-le Ascii = omega arith
-size_of-le Pairs = omega arith
-size_of-le Triples = omega arith
+module _ (form : Form) where
+  size_of-ends : (1 ≤ size_of form) × (size_of form ≤ 64)
+  size_of-ends = go form
+    where
+      go : (f : Form) → (1 ≤ size_of f) × (size_of f ≤ 64)
+      go AsciiUnits = (omega arith, omega arith)
+      go FarUnits = (omega arith, omega arith)
+      go Ascii = (omega arith, omega arith)
+      go Pairs = (omega arith, omega arith)
+      go Triples = (omega arith, omega arith)
 
-pub seen-block : (form : Form) (s : List ℕ) (at n : ℕ) → n ≡ size_of form → at + 64 ≤ length s → ((k : ℕ) → get_or s k 0 < 256) → all_fit form s at n ≡ true
-    → Seen (in_utf16 form) s at (at + n) × (n ≤ 64)
-seen-block form s at n e h b f =
-    let all : all_fit form s at (size_of form) ≡ true = ap (λ (m : ℕ). all_fit form s at m) (sym e) ∙ f in
-    subst (λ (m : ℕ). Seen (in_utf16 form) s at (at + m) × (m ≤ 64)) (sym e) (block_of form s at h b all, size_of-le form)
+  pub size_of-le : size_of form ≤ 64
+  size_of-le = size_of-ends.1
+
+  pub block-takes : (s : List ℕ) (at n : ℕ) → n ≡ size_of form → at + 64 ≤ length s
+      → ((k : ℕ) → get_or s k 0 < 256) → true ≡ all_fit form s at (size_of form)
+      → Takes (in_utf16 form) s at n
+  block-takes s at n e h b f =
+      let m = size_of-ends in
+      subst (λ (m : ℕ). Takes (in_utf16 form) s at m) (sym e) (record { seen = block_of form s at h b (sym f); least = m.0; most = omega arith })

@@ -22,7 +22,7 @@ use Rattle.utf.proofs.Turns.{took-ascii}
 use Rattle.xml.specs.NCName.{in_ranges, name_start, name_more, is_char, char_sort}
 use Rattle.xml.specs.Inner.SeenChars.{ascii_low, far_high, is_trail, pair_lead, latin_pair, is_pair, triple_lead, triple_second, is_triple}
 use Rattle.xml.specs.Inner.NameRun.{Seen}
-use Rattle.xml.proofs.Ranges.{char_sort-char}
+use Rattle.xml.proofs.Sorts.{char_sort-char}
 use Rattle.xml.proofs.Names.{seen_step, seen-char}
 
 -- ---- a byte of ASCII, by ranges: one test, computed once at all 256 bytes

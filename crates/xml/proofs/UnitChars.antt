@@ -1,22 +1,23 @@
 -- Which units of UTF-16 are chars of a name by themselves (`UnitChar`), a law for each test of src/units.rt, and the units of a block so far.
 use mathlib.Core.Path.{◌≡◌, refl, sym, subst, ap, ◌∙◌}
-use mathlib.Core.Bool.{Bool, true, false, cond}
+use mathlib.Core.Bool.{Bool, true, false, not}
 use mathlib.Core.List.{List}
 use Prim.Native.Nat.{ℕ, ◌+◌, ◌*◌, ◌≤◌, ◌<◌}
 use native.Mathlib.Omega.{arith}
-use borrow.Author.Tests.{ltb-true, ltb-false}
-use lib.Dec.{ltb}
+use borrow.Author.Tests.{ltb-true, ltb-false, eqb-false, not-true}
+use lib.Dec.{ltb, eqb}
 use lib.ListN.{length, get_or}
 use Rattle.xml.specs.NCName.{char_sort}
 use Rattle.xml.specs.Inner.SeenChars.{ascii_low, far_high, UnitChar}
-use Rattle.xml.specs.Inner.NameRun.{Seen}
-use Rattle.xml.proofs.Names.{seen_none, seen-on, seen-char}
+use Rattle.xml.specs.Inner.NameRun.{IsTable, Seen}
+use Rattle.xml.proofs.Sorts.{class_of-ascii}
+use Rattle.xml.proofs.Names.{seen-chain, seen-char}
 use Rattle.xml.proofs.SeenChars.{latin-char, char-latin, char-mark, char-near, char-far, char-low, unit-far}
 use Rattle.xml.proofs.ClearBytes.{char-dot, char-greek, char-joiner, char-tie, char-signs, char-2c00, char-f900, char-fdf0}
 
 -- ---- the high byte 00
 
-latin-unit : (b : ℕ) → (char_sort b ≡ 0 → ⊥) → UnitChar b 0
+pub latin-unit : (b : ℕ) → (char_sort b ≡ 0 → ⊥) → UnitChar b 0
 latin-unit b n =
     let e : b + 0 * 256 ≡ b = omega arith in
     record { alone = λ z. omega arith; char = λ z. n (sym (ap char_sort e) ∙ z) }
@@ -30,12 +31,21 @@ unit-dot b e = latin-unit b (λ z. char-dot (sym (ap char_sort e) ∙ z))
 pub unit-letter : (b : ℕ) → b < 256 → 0xc0 ≤ b → (b ≡ 0xd7 → ⊥) → (b ≡ 0xf7 → ⊥) → UnitChar b 0
 unit-letter b h l n m = latin-unit b (latin-char b l h n m)
 
+-- ---- a far unit
+
+pub unit_is_far : {b c : ℕ} → b < 256 → far_high c ≡ true → UnitChar b c
+unit_is_far {b} {c} h e = let u = unit-far b c h e in record { alone = u.0; char = u.1 }
+
+-- ---- a unit of ASCII, by its class in the table
+
+pub unit_plain : {t : List ℕ} {b c u : ℕ} → IsTable t → u ≡ b + c * 256 → u < 128 → not (eqb (get_or t u 0) 0) ≡ true → UnitChar b c
+unit_plain {t} {b} {c} {u} r e h n =
+    let a = r.right u (omega arith) ∙ class_of-ascii u h in
+    record { alone = λ z. omega arith; char = λ z. eqb-false (get_or t u 0) 0 (not-true _ n) (a ∙ ap char_sort e ∙ z) }
+
 -- ---- another one
 
 module _ (b c : ℕ) (h : b < 256) where
-  pub unit-is-far : far_high c ≡ true → UnitChar b c
-  unit-is-far e = let u = unit-far b c h e in record { alone = u.0; char = u.1 }
-
   pub unit-latin : 0x01 ≤ c → c ≤ 0x02 → UnitChar b c
   unit-latin l m = record { alone = λ z. omega arith; char = char-latin (b + c * 256) (omega arith) (omega arith) }
 
@@ -81,39 +91,13 @@ module _ (b c : ℕ) (h : b < 256) where
       go false f true g = let k = ltb-true 0xef b g in unit-fdf0 (omega arith) (omega arith)
       go false f false g = absurd (n (ltb-false b 0xd0 f) (ltb-false 0xef b g))
 
--- ---- the units of a block so far: all are seen where the least of the answers is 1
+-- ---- units one behind the other
 
-pub record UnitsTo (s : List ℕ) (at least k : ℕ) : Type 0 where
-  pub within : k ≤ 32
-  pub small : least ≤ 1
-  pub seen : least ≡ 1 → Seen true s at (at + 2 * k)
-
-pub units-first : (s : List ℕ) (at : ℕ) → UnitsTo s at 1 0
-units-first s at = record {
-  within = omega arith;
-  small = omega arith;
-  seen = λ _. let e : at ≡ at + 2 * 0 = omega arith in subst (λ (j : ℕ). Seen true s at j) e (seen_none true s at);
-}
-
-module _ (s : List ℕ) (at least k x : ℕ) (b : Bool) (e : x ≡ cond b 1 0) (p : UnitsTo s at least k) (h : k < 32) where
-  pub units-put : x < least → UnitsTo s at x (k + 1)
-  units-put l = let m = p.small in record { within = omega arith; small = omega arith; seen = λ z. absurd (let y : ⊥ = omega arith in y) }
-
-  pub units-kept : at + 64 ≤ length s → ((i : ℕ) → get_or s i 0 < 256) → least ≤ x
-      → (b ≡ true → UnitChar (get_or s (at + 2 * k) 0) (get_or s (at + 2 * k + 1) 0)) → UnitsTo s at least (k + 1)
-  units-kept room bytes l n = record { within = omega arith; small = p.small; seen = λ z. go b e z n }
-    where
-      go : (t : Bool) → x ≡ cond t 1 0 → least ≡ 1 → (t ≡ true → UnitChar (get_or s (at + 2 * k) 0) (get_or s (at + 2 * k + 1) 0))
-          → Seen true s at (at + 2 * (k + 1))
-      go false f z m = absurd (let y : ⊥ = omega arith in y)
-      go true f z m =
-          let u = m refl in
-          let i : at + 2 * k + 2 ≡ at + 2 * (k + 1) = omega arith in
-          let one = seen-char s (at + 2 * k) (omega arith) bytes u.alone u.char in
-          subst (λ (j : ℕ). Seen true s at j) i (seen-on true s at (at + 2 * k) (at + 2 * k + 2) (p.seen z) one)
-
-pub units-all : (s : List ℕ) (at least k : ℕ) → UnitsTo s at least k → least ≡ 1 → 32 ≤ k → Seen true s at (at + 64)
-units-all s at least k p e h =
-    let m = p.within in
-    let i : at + 2 * k ≡ at + 64 = omega arith in
-    subst (λ (j : ℕ). Seen true s at j) i (p.seen e)
+pub units-all : (s : List ℕ) (at n to : ℕ) → to ≡ at + 2 * n → ((k : ℕ) → k < n → at + 2 * k + 1 < length s)
+    → ((i : ℕ) → get_or s i 0 < 256) → ((k : ℕ) → k < n → UnitChar (get_or s (at + 2 * k) 0) (get_or s (at + 2 * k + 1) 0)) → Seen true s at to
+units-all s at n to e h b p =
+    seen-chain true s (λ k. at + 2 * k) n at to (omega arith) (sym e)
+    (λ k j l i.
+    let u = p k l in
+    let z : at + 2 * k + 2 ≡ j = omega arith in
+    subst (λ (x : ℕ). Seen true s (at + 2 * k) x) z (seen-char s (at + 2 * k) (h k l) b u.alone u.char))

@@ -3,11 +3,13 @@
 //
 // Mirrors nothing of xml/src/lib.rs (apk-info 13770539b8), whose loop goes by chars. A block is looked at byte by byte, each byte by its place, with no
 // early way out, so that the compiler takes many bytes at once. It holds chars of one form alone, of which the bytes say that they are chars.
-ghost use Rattle.std.specs.Prelude.{◌≡◌, cond, ◌+◌, ◌≤◌, ◌<◌, length};
+ghost use Rattle.std.specs.Prelude.{◌≡◌, true, false, cond, ℕ, ◌+◌, ◌≤◌, ◌<◌, length, IfSome};
 ghost use Rattle.utf.specs.Utf8.{inside};
 ghost use Rattle.xml.specs.Inner.SeenChars.{ascii_low, far_high, is_trail, pair_lead, triple_lead, triple_second};
 ghost use Rattle.xml.specs.Inner.Blocks.{in_utf16, size_of, fits_at, all_fit};
-ghost use Rattle.xml.specs.Inner.NameRun.{Seen, Ahead};
+ghost use Rattle.xml.specs.Inner.NameRun.{Seen, Takes, Ahead};
+
+use std::ops::Range;
 
 // ---- a byte
 
@@ -40,6 +42,7 @@ pub fn ascii_low(b: u8) -> bool
 
 // Whether each unit of UTF-16 with the high byte b is a start, whatever its low byte is.
 // Ruled out: true of 03, which U+037E has; true of D8, which a surrogate has.
+#[tactic(auto, unfolding(crate::specs::Inner::SeenChars::far_high))]
 pub fn far_high(b: u8) -> bool
     ensures { result ≡ far_high b }
 {
@@ -48,6 +51,7 @@ pub fn far_high(b: u8) -> bool
 
 // Whether b may follow the first byte of a char in UTF-8.
 // Ruled out: true of C0, true of 7F.
+#[tactic(auto, unfolding(crate::specs::Inner::SeenChars::is_trail))]
 pub fn is_trail(b: u8) -> bool
     ensures { result ≡ is_trail b }
 {
@@ -56,6 +60,7 @@ pub fn is_trail(b: u8) -> bool
 
 // Whether each char of two bytes in UTF-8 that begins with b is a char of a name.
 // Ruled out: true of CD, which U+037E has; true of C3, which U+00D7 has.
+#[tactic(auto, unfolding(crate::specs::Inner::SeenChars::pair_lead))]
 pub fn pair_lead(b: u8) -> bool
     ensures { result ≡ pair_lead b }
 {
@@ -64,6 +69,7 @@ pub fn pair_lead(b: u8) -> bool
 
 // Whether each char of three bytes in UTF-8 that begins with b is a start, but for those whose second byte is 80.
 // Ruled out: true of E2, which U+2190 has; true of ED, behind which A0 to BF is ill-formed.
+#[tactic(auto, unfolding(crate::specs::Inner::SeenChars::triple_lead))]
 pub fn triple_lead(b: u8) -> bool
     ensures { result ≡ triple_lead b }
 {
@@ -72,6 +78,7 @@ pub fn triple_lead(b: u8) -> bool
 
 // Whether b may be the second byte of such a char.
 // Ruled out: true of 80, which U+3000 has behind E3; true of C0.
+#[tactic(auto, unfolding(crate::specs::Inner::SeenChars::triple_second))]
 pub fn triple_second(b: u8) -> bool
     ensures { result ≡ triple_second b }
 {
@@ -104,6 +111,7 @@ fn size_of(form: Form) -> usize
 }
 
 // Whether b may stand at place k of a block.
+#[tactic(auto, unfolding(crate::specs::Inner::Blocks::fits_at))]
 fn fits(form: Form, k: usize, b: u8) -> bool
     ensures { result ≡ fits_at form k b }
 {
@@ -120,33 +128,60 @@ fn fits(form: Form, k: usize, b: u8) -> bool
     }
 }
 
-// Whether each of the n bytes from `at` on fits. The least of the answers decides, so that the loop has no early way out.
-fn all_fit(form: Form, n: usize, s: &[u8], at: usize) -> bool
-    requires { at + n ≤ length s.now }
-    ensures { result ≡ all_fit form s.now at n }
+// Whether the test passes at each of the n places of a block. The least of the answers decides, so that the loop has no early way out.
+// Ruled out: true where the test fails at one place, false where it passes at all.
+pub(crate) fn all_pass<F: Fn(usize) -> bool>(n: usize, test: F) -> bool
+    requires { (k : ℕ) → k < n → F.pre test k }
+    ensures passes { result ≡ true → (k : ℕ) → k < n → F.post test k true }
+    ensures fails { result ≡ false → (k : ℕ) × (k < n) × F.post test k false }
 {
     let mut least = 1;
-    let mut k = 0;
-    while k < n {
-        let x = fits(form, k, s[at + k]) as u8;
-        if x < least {
-            least = x;
-        }
-        k += 1;
+    for k in 0..n {
+        least = least.min(test(k) as u8);
     }
     least == 1
 }
 
-// How many bytes a block of the form takes at a place with 64 bytes behind it: 0 where none begins there.
-fn block_len(form: Form, s: &[u8], at: usize) -> usize
-    requires { at + 64 ≤ length s.now }
-    ensures { Seen (in_utf16 form) s.now at (at + result) × (result ≤ 64) }
+// How many of n places pass the test, one behind the other from the first on: n, or as many as stand before the first at which it fails.
+// Ruled out: a number that counts a place at which the test fails, and one that stops where it passes.
+pub(crate) fn passing<F: Fn(usize) -> bool>(n: usize, test: F) -> usize
+    requires { (k : ℕ) → k < n → F.pre test k }
+    ensures within { result ≤ n }
+    ensures passes { (k : ℕ) → k < result → F.post test k true }
+    ensures fails { result < n → F.post test result false }
 {
-    let n = size_of(form);
-    if all_fit(form, n, s, at) {
-        return n;
+    for k in 0..n {
+        if !test(k) {
+            return k;
+        }
     }
-    0
+    n
+}
+
+// Whether each of the bytes fits that a block of the form at a place has. Each form has a loop of its own: the compiler takes many bytes at once only
+// where the form is a constant in it.
+fn all_fit(form: Form, s: &[u8], at: usize) -> bool
+    requires { at + size_of form ≤ length s.now }
+    ensures { result ≡ all_fit form s.now at (size_of form) }
+{
+    match form {
+        Form::AsciiUnits => all_pass(64, |k| fits(Form::AsciiUnits, k, s[at + k])),
+        Form::FarUnits => all_pass(64, |k| fits(Form::FarUnits, k, s[at + k])),
+        Form::Ascii => all_pass(64, |k| fits(Form::Ascii, k, s[at + k])),
+        Form::Pairs => all_pass(64, |k| fits(Form::Pairs, k, s[at + k])),
+        Form::Triples => all_pass(48, |k| fits(Form::Triples, k, s[at + k])),
+    }
+}
+
+// How many bytes a block of the form takes at a place with 64 bytes behind it, where one begins there.
+fn block_len(form: Form, s: &[u8], at: usize) -> Option<usize>
+    requires { at + 64 ≤ length s.now }
+    ensures { IfSome result (λ n. Takes (in_utf16 form) s.now at n) }
+{
+    if all_fit(form, s, at) {
+        return Some(size_of(form));
+    }
+    None
 }
 
 // The form that a block at a place can have: the high byte of its first unit tells it, and in UTF-8 its first byte.
@@ -176,10 +211,9 @@ fn blocks_end(utf16: bool, s: &[u8], at: usize) -> usize
 {
     let mut i = at;
     while 64 <= s.len() - i {
-        let n = block_len(form_at(utf16, s, i), s, i);
-        if n == 0 {
+        let Some(n) = block_len(form_at(utf16, s, i), s, i) else {
             return i;
-        }
+        };
         i += n;
     }
     i
@@ -187,28 +221,13 @@ fn blocks_end(utf16: bool, s: &[u8], at: usize) -> usize
 
 // ---- a stretch
 
-// What is looked at next: whole blocks end at `from`, and the chars from there to `to` are looked at one by one.
-#[derive(Clone, Copy)]
-pub struct Stretch {
-    pub from: usize,
-    pub to: usize,
-}
-
-// The stretch at a place inside. Where no block begins, the next is tried 256 bytes on, so that a text of which each block fails loses little.
+// What is looked at next, from a place inside: whole blocks end where it starts, and the chars in it are looked at one by one. Where no block begins, the
+// next is tried 256 bytes on, so that a text of which each block fails loses little.
 // Ruled out: a stretch of no bytes, and one that ends behind the text.
-pub fn stretch_at(utf16: bool, s: &[u8], at: usize) -> Stretch
+pub fn stretch_at(utf16: bool, s: &[u8], at: usize) -> Range<usize>
     requires { at < length s.now }
-    ensures { Ahead utf16 s.now at result.from result.to }
+    ensures { Ahead utf16 s.now at result.start result.end }
 {
     let from = blocks_end(utf16, s, at);
-    if 256 <= s.len() - from {
-        return Stretch {
-            from: from,
-            to: from + 256,
-        };
-    }
-    Stretch {
-        from: from,
-        to: s.len(),
-    }
+    from..from + (s.len() - from).min(256)
 }

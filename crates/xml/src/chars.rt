@@ -3,94 +3,77 @@
 // Mirrors the loop of `is_valid_name` in xml/src/lib.rs (apk-info 13770539b8), over bytes or units in place of chars. Definitions: specs/Inner/NameRun.antt.
 // A byte of ASCII in UTF-8, and a unit of ASCII in UTF-16, is its own value and is looked up; a char of which the bytes, or the unit's high byte, say
 // that it is a char of a name is passed, and in UTF-8 any byte at which no name ends (clear.rt); anything else is decoded first.
-ghost use Rattle.std.specs.Prelude.{◌≡◌, true, false, ◌+◌, ◌≤◌, ◌<◌, length};
+ghost use Rattle.std.specs.Prelude.{◌≡◌, true, false, cond, ◌+◌, ◌*◌, ◌≤◌, ◌<◌, length, drop, IfSome, IsNone};
 ghost use Rattle.utf.specs.Text.{is_sound};
 ghost use Rattle.xml.specs.NCName.{valid_name};
-ghost use Rattle.xml.specs.Inner.SeenChars.{is_pair, is_triple};
-ghost use Rattle.xml.specs.Inner.NameRun.{IsTable, begins, Told, Seen, Went, Reached};
+ghost use Rattle.xml.specs.Inner.SeenChars.{UnitChar, is_pair, is_triple};
+ghost use Rattle.xml.specs.Inner.NameRun.{IsTable, sort_number, begins, chars_in, Told, Seen, Takes, Went, Reached};
 
-use super::blocks::{far_high, is_trail, pair_lead, stretch_at, triple_lead, triple_second};
+use super::blocks::{
+    far_high, is_trail, pair_lead, passing, stretch_at, triple_lead, triple_second,
+};
 use super::clear::{clear_end, lead_clear};
-use super::sort_in;
 use super::units::units_end;
+use super::{Sort, ascii_sort, sort_of};
 use utf::next_of;
 
-// The sort of what stands there, and how many bytes it takes.
+// What a char is in a name, and how many bytes it takes.
 #[derive(Clone, Copy)]
 pub struct Char {
-    pub sort: u8,
+    pub sort: Sort,
     pub width: usize,
 }
 
-// What is damaged is U+FFFD, which is a start.
-fn utf8_decoded(classes: &[u8], s: &[u8], at: usize) -> Char
-    requires { IsTable classes.now × (at < length s.now) }
-    ensures { Told false s.now at result.sort result.width }
+// The value of a unit of UTF-16, of which b is the low byte.
+fn unit_of(b: u8, c: u8) -> u32
+    ensures { result ≡ b + c * 256 }
 {
-    let t = next_of(false, s, at);
-    Char {
-        sort: sort_in(classes, t.value),
-        width: t.width,
-    }
+    u32::from(u16::from_le_bytes([b, c]))
 }
 
-// A unit that is no surrogate is its own value. An unpaired surrogate is in no name.
-fn utf16_decoded(classes: &[u8], s: &[u8], at: usize) -> Char
-    requires { IsTable classes.now × (at < length s.now) }
-    ensures { Told true s.now at result.sort result.width }
+// The char at a place inside. In UTF-8 what is damaged is U+FFFD, which is a start. In UTF-16 a unit that is no surrogate is its own value, and an
+// unpaired surrogate is in no name.
+fn char_at(utf16: bool, s: &[u8], at: usize) -> Char
+    requires { at < length s.now }
+    ensures { Told utf16 s.now at (sort_number result.sort) result.width }
 {
-    if 2 <= s.len() - at {
+    if utf16 & (2 <= s.len() - at) {
         let high = s[at + 1];
         if high / 8 != 27 {
-            let u = s[at] as u32 + high as u32 * 256;
             return Char {
-                sort: sort_in(classes, u),
+                sort: sort_of(unit_of(s[at], high)),
                 width: 2,
             };
         }
     }
-    let t = next_of(true, s, at);
-    if t.sound {
+    let t = next_of(utf16, s, at);
+    if utf16 & !t.sound {
         return Char {
-            sort: sort_in(classes, t.value),
+            sort: Sort::Outside,
             width: t.width,
         };
     }
     Char {
-        sort: 0,
+        sort: sort_of(t.value),
         width: t.width,
     }
 }
 
-// ---- the first char
-
-// UTF-8: a byte of class 3 is decoded.
-fn utf8_begins(classes: &[u8], s: &[u8]) -> bool
-    requires { IsTable classes.now × (0 < length s.now) }
-    ensures { result ≡ begins false s.now }
+// The sort of the char at a place inside, where it is one of ASCII.
+fn ascii_at(classes: &[u8], utf16: bool, s: &[u8], at: usize) -> Option<Sort>
+    requires { IsTable classes.now × (at < length s.now) }
+    ensures { IfSome result (λ sort. Told utf16 s.now at (sort_number sort) (cond utf16 2 1)) }
 {
-    let b = s[0];
-    let k = classes[b as usize];
-    if k != 3 {
-        return k == 1;
+    if !utf16 {
+        return ascii_sort(classes, s[at]);
     }
-    let t = utf8_decoded(classes, s, 0);
-    t.sort == 1
-}
-
-// UTF-16: a unit beyond ASCII, and a byte alone, is decoded.
-fn utf16_begins(classes: &[u8], s: &[u8]) -> bool
-    requires { IsTable classes.now × (0 < length s.now) }
-    ensures { result ≡ begins true s.now }
-{
-    if 2 <= s.len() {
-        let u = s[0] as usize + s[1] as usize * 256;
-        if u < 128 {
-            return classes[u] == 1;
-        }
+    if s.len() - at < 2 {
+        return None;
     }
-    let t = utf16_decoded(classes, s, 0);
-    t.sort == 1
+    if s[at + 1] != 0 {
+        return None;
+    }
+    ascii_sort(classes, s[at])
 }
 
 // Whether a text that is not empty begins with a start. `classes` is the table, which the caller makes once.
@@ -99,15 +82,16 @@ pub fn begins_well(classes: &[u8], utf16: bool, s: &[u8]) -> bool
     requires { IsTable classes.now × (0 < length s.now) }
     ensures { result ≡ begins utf16 s.now }
 {
-    if utf16 {
-        return utf16_begins(classes, s);
+    match ascii_at(classes, utf16, s, 0) {
+        Some(sort) => sort == Sort::Start,
+        None => char_at(utf16, s, 0).sort == Sort::Start,
     }
-    utf8_begins(classes, s)
 }
 
 // ---- a run of chars that need no decoding
 
 // Whether two bytes in UTF-8 are a char of a name: the first byte tells it, and with C3, which U+00D7 and U+00F7 have, the second too. False tells nothing.
+#[tactic(auto, unfolding(crate::specs::Inner::SeenChars::is_pair, crate::specs::Inner::SeenChars::latin_pair))]
 fn is_pair(b: u8, c: u8) -> bool
     ensures { result ≡ is_pair b c }
 {
@@ -115,46 +99,45 @@ fn is_pair(b: u8, c: u8) -> bool
 }
 
 // Whether three bytes in UTF-8 are one. False tells nothing.
+#[tactic(auto, unfolding(crate::specs::Inner::SeenChars::is_triple))]
 fn is_triple(b: u8, c: u8, d: u8) -> bool
     ensures { result ≡ is_triple b c d }
 {
     triple_lead(b) & triple_second(c) & is_trail(d)
 }
 
-// How many bytes the char at a place inside takes, where two or three bytes tell that it is a char of a name; else 0.
-fn wide_width(s: &[u8], at: usize) -> usize
+// How many bytes the char at a place inside takes, where two or three bytes tell that it is a char of a name.
+fn wide_width(s: &[u8], at: usize) -> Option<usize>
     requires { at < length s.now }
-    ensures { Seen false s.now at (at + result) × (at + result ≤ length s.now) }
+    ensures { IfSome result (λ w. Takes false s.now at w) }
 {
     if s.len() - at < 2 {
-        return 0;
+        return None;
     }
     if is_pair(s[at], s[at + 1]) {
-        return 2;
+        return Some(2);
     }
     if s.len() - at < 3 {
-        return 0;
+        return None;
     }
     if is_triple(s[at], s[at + 1], s[at + 2]) {
-        return 3;
+        return Some(3);
     }
-    0
+    None
 }
 
 // The same, and 1 where it is one of ASCII.
-fn seen_width(classes: &[u8], s: &[u8], at: usize) -> usize
+fn seen_width(classes: &[u8], s: &[u8], at: usize) -> Option<usize>
     requires { IsTable classes.now × (at < length s.now) }
-    ensures { Seen false s.now at (at + result) × (at + result ≤ length s.now) }
+    ensures { IfSome result (λ w. Takes false s.now at w) }
 {
-    let b = s[at];
-    let k = classes[b as usize];
-    if k == 3 {
-        return wide_width(s, at);
+    if let Some(sort) = ascii_sort(classes, s[at]) {
+        if sort == Sort::Outside {
+            return None;
+        }
+        return Some(1);
     }
-    if k == 0 {
-        return 0;
-    }
-    1
+    wide_width(s, at)
 }
 
 // Chars in UTF-8 whose bytes tell that they are chars.
@@ -164,73 +147,55 @@ fn utf8_run(classes: &[u8], s: &[u8], at: usize, to: usize) -> usize
 {
     let mut i = at;
     while i < to {
-        let w = seen_width(classes, s, i);
-        if w == 0 {
+        let Some(w) = seen_width(classes, s, i) else {
             return i;
-        }
+        };
         i += w;
     }
     i
 }
 
-// Units of ASCII in UTF-16.
-fn utf16_run(classes: &[u8], s: &[u8], at: usize, to: usize) -> usize
-    requires { IsTable classes.now × (to ≤ length s.now) × (0 < to) }
-    ensures { Seen true s.now at result }
+// Whether a unit of UTF-16 is one of ASCII that is a char of a name.
+#[tactic(auto, using(crate::proofs::UnitChars::unit_plain))]
+fn is_ascii_unit(classes: &[u8], b: u8, c: u8) -> bool
+    requires { IsTable classes.now }
+    ensures { result ≡ true → UnitChar b c }
 {
-    let last = to - 1;
-    let mut i = at;
-    while i < last {
-        let u = s[i] as usize + s[i + 1] as usize * 256;
-        if 128 <= u {
-            return i;
-        }
-        let k = classes[u];
-        if k == 0 {
-            return i;
-        }
-        i += 2;
+    let u = unit_of(b, c);
+    if u < 128 {
+        return classes[u as usize] != 0;
     }
-    i
+    false
 }
 
-// Units whose high byte alone says that they are starts.
-fn far_run(s: &[u8], at: usize, to: usize) -> usize
-    requires { (to ≤ length s.now) × (0 < to) }
-    ensures { Seen true s.now at result }
-{
-    let last = to - 1;
-    let mut i = at;
-    while i < last {
-        if !far_high(s[i + 1]) {
-            return i;
-        }
-        i += 2;
-    }
-    i
-}
-
-// A place from `at` on up to which units stand that need no decoding: those of ASCII and far units behind them. It is not behind `to`.
+// The end of the units one behind the other from `at` on that need no decoding, none of which ends behind `to`: those of ASCII, and then those whose high
+// byte says that they are starts. Each has a loop of its own: the compiler reads the two bytes of a unit at once only where neither is used by itself.
 fn units_run(classes: &[u8], s: &[u8], at: usize, to: usize) -> usize
-    requires { IsTable classes.now × (to ≤ length s.now) × (0 < to) }
+    requires { IsTable classes.now × (to ≤ length s.now) }
     ensures { Seen true s.now at result }
 {
-    let i = utf16_run(classes, s, at, to);
-    far_run(s, i, to)
+    let most = to.saturating_sub(at) / 2;
+    let ascii = passing(
+        most,
+        |k| is_ascii_unit(classes, s[at + 2 * k], s[at + 2 * k + 1]),
+    );
+    let from = at + 2 * ascii;
+    let far = passing(most - ascii, |k| far_high(s[from + 2 * k + 1]));
+    from + 2 * far
 }
 
 // ---- a run of chars, up to one that is in no name
 
 // UTF-16: blocks of units that are chars, and then what a run leaves is decoded, one step and then the next run.
 fn utf16_chars(classes: &[u8], s: &[u8], at: usize, to: usize) -> usize
-    requires { IsTable classes.now × (to ≤ length s.now) × (0 < to) }
+    requires { IsTable classes.now × (to ≤ length s.now) }
     ensures { Reached true s.now at to result }
 {
     let from = units_end(s, at, to);
     let mut i = units_run(classes, s, from, to);
     while i < to {
-        let u = utf16_decoded(classes, s, i);
-        if u.sort == 0 {
+        let u = char_at(true, s, i);
+        if u.sort == Sort::Outside {
             return i;
         }
         i = units_run(classes, s, i + u.width, to);
@@ -238,39 +203,39 @@ fn utf16_chars(classes: &[u8], s: &[u8], at: usize, to: usize) -> usize
     i
 }
 
-// How far to go from a char in UTF-8 that its first byte does not tell: 0 where it is in no name.
-fn wide_step(classes: &[u8], s: &[u8], at: usize) -> usize
-    requires { IsTable classes.now × (at < length s.now) }
-    ensures { Went false s.now at result }
+// How far to go from a char in UTF-8 that its first byte does not tell: nowhere where it is in no name.
+fn wide_step(s: &[u8], at: usize) -> Option<usize>
+    requires { at < length s.now }
+    ensures none { IsNone result → chars_in false (drop at s.now) ≡ false }
+    ensures some { IfSome result (λ w. Went false s.now at w) }
 {
-    let w = wide_width(s, at);
-    if w != 0 {
-        return w;
+    if let Some(w) = wide_width(s, at) {
+        return Some(w);
     }
-    let t = utf8_decoded(classes, s, at);
-    if t.sort == 0 {
-        return 0;
+    let t = char_at(false, s, at);
+    if t.sort == Sort::Outside {
+        return None;
     }
-    t.width
+    Some(t.width)
 }
 
-// How far to go from a place inside of a text in UTF-8: 0 where a char stands there that is in no name. It may be less than a whole char.
-fn utf8_width(classes: &[u8], s: &[u8], at: usize) -> usize
+// How far to go from a place inside of a text in UTF-8: nowhere where a char stands there that is in no name. It may be less than a whole char.
+fn utf8_width(classes: &[u8], s: &[u8], at: usize) -> Option<usize>
     requires { IsTable classes.now × (at < length s.now) }
-    ensures { Went false s.now at result }
+    ensures none { IsNone result → chars_in false (drop at s.now) ≡ false }
+    ensures some { IfSome result (λ w. Went false s.now at w) }
 {
     let b = s[at];
-    let k = classes[b as usize];
-    if k == 0 {
-        return 0;
-    }
-    if k != 3 {
-        return 1;
+    if let Some(sort) = ascii_sort(classes, b) {
+        if sort == Sort::Outside {
+            return None;
+        }
+        return Some(1);
     }
     if lead_clear(b) {
-        return 1;
+        return Some(1);
     }
-    wide_step(classes, s, at)
+    wide_step(s, at)
 }
 
 // UTF-8: blocks that are clear, and then byte by byte.
@@ -280,10 +245,9 @@ fn utf8_chars(classes: &[u8], s: &[u8], at: usize, to: usize) -> usize
 {
     let mut i = clear_end(s, at, to);
     while i < to {
-        let w = utf8_width(classes, s, i);
-        if w == 0 {
+        let Some(w) = utf8_width(classes, s, i) else {
             return i;
-        }
+        };
         i += w;
     }
     i
@@ -310,14 +274,14 @@ pub fn is_seen_name(classes: &[u8], s: &[u8]) -> bool
     requires { IsTable classes.now × (0 < length s.now) }
     ensures { result ≡ true → (valid_name false s.now ≡ true) × (is_sound false s.now ≡ true) }
 {
-    if !utf8_begins(classes, s) {
+    if !begins_well(classes, false, s) {
         return false;
     }
     let mut at = 0;
     while at < s.len() {
         let p = stretch_at(false, s, at);
-        at = utf8_run(classes, s, p.from, p.to);
-        if at < p.to {
+        at = utf8_run(classes, s, p.start, p.end);
+        if at < p.end {
             return false;
         }
     }

@@ -9,7 +9,7 @@ ghost use Rattle.std.specs.Prelude.{◌≡◌, true, false, ℕ, ◌+◌, ◌≤
 ghost use Rattle.xml.specs.Inner.ClearPlaces.{Clear};
 ghost use Rattle.xml.specs.Inner.NameRun.{Passed};
 
-use super::blocks::{ascii_low, between, is_trail};
+use super::blocks::{all_pass, ascii_low, between, is_trail, passing};
 
 // ---- a place, by its byte and those behind it. False tells nothing
 
@@ -89,22 +89,15 @@ fn is_clear(near: bool, b: u8, c: u8, d: u8, e: u8) -> bool
 
 // ---- a block
 
-// Whether each of the 64 places from `at` on is clear. The least of the answers decides, so that the loop has no early way out.
+// Whether each of the 64 places from `at` on is clear.
 fn all_clear(near: bool, s: &[u8], at: usize) -> bool
     requires { at + 67 ≤ length s.now }
     ensures { result ≡ true → Passed false s.now at (at + 64) }
 {
-    let mut least = 1;
-    let mut k = 0;
-    while k < 64 {
-        let i = at + k;
-        let x = is_clear(near, s[i], s[i + 1], s[i + 2], s[i + 3]) as u8;
-        if x < least {
-            least = x;
-        }
-        k += 1;
-    }
-    least == 1
+    all_pass(
+        64,
+        |k| is_clear(near, s[at + k], s[at + k + 1], s[at + k + 2], s[at + k + 3]),
+    )
 }
 
 // The same, first by the bytes alone, which is quick and most often enough.
@@ -122,32 +115,17 @@ fn block_clear(s: &[u8], at: usize) -> bool
 fn past_trails(s: &[u8], at: usize) -> usize
     ensures { Passed false s.now at result }
 {
-    let mut i = at;
-    while i < s.len() {
-        if !is_trail(s[i]) {
-            return i;
-        }
-        i += 1;
-    }
-    i
+    at + passing(s.len().saturating_sub(at), |k| is_trail(s[at + k]))
 }
 
-// A place from `at` on, before which only chars of a name stand: the end of the blocks one behind the other. It is `to` or one soon behind it where a
-// char may begin, or lies before `to`, where a block is not clear or too few bytes are left.
+// A place from `at` on, before which only chars of a name stand, and where a char may begin: behind the blocks that are clear, one behind the other, of
+// which none ends behind `to`, nor has less than three bytes behind it.
 // Ruled out: a place behind U+00D7, C3 97; a place behind U+E000, EE 80 80.
 pub fn clear_end(s: &[u8], at: usize, to: usize) -> usize
     requires { to ≤ length s.now }
     ensures { Passed false s.now at result }
 {
-    let mut i = at;
-    while i < to {
-        if s.len() - i < 67 {
-            return i;
-        }
-        if !block_clear(s, i) {
-            return i;
-        }
-        i += 64;
-    }
-    past_trails(s, i)
+    let end = to.min(s.len().saturating_sub(3));
+    let blocks = passing(end.saturating_sub(at) / 64, |k| block_clear(s, at + 64 * k));
+    past_trails(s, at + 64 * blocks)
 }

@@ -12,17 +12,16 @@ pub mod chars;
 pub mod clear;
 pub mod units;
 
-ghost use Rattle.std.specs.Prelude.{◌≡◌, false, ◌&&◌};
-ghost use Rattle.utf.specs.Utf8.{inside};
+ghost use Rattle.std.specs.Prelude.{◌≡◌, false, ◌<◌, ◌≤◌, ◌&&◌, IfSome, IsNone};
 ghost use Rattle.utf.specs.Text.{is_sound};
-ghost use Rattle.xml.specs.NCName.{in_ranges, char_sort, valid_name};
-ghost use Rattle.xml.specs.Inner.NameRun.{IsTable};
+ghost use Rattle.xml.specs.NCName.{char_sort, valid_name};
+ghost use Rattle.xml.specs.Inner.NameRun.{IsTable, sort_number};
 
 use blocks::stretch_at;
 use chars::{begins_well, chars_run, is_seen_name};
 use utf::is_sound;
 
-// The class of each byte: 0 in no name, 1 first or later, 2 later only, 3 beyond ASCII.
+// The class of each byte: 0 in no name, 1 first or later, 2 later only, 3 beyond ASCII. Numbers here: 256 names of an enum would be no plainer.
 const CLASSES: [u8; 256] = *b"\
     \x00\x00\x00\x00\x00\x00\x00\x00\x00\x00\x00\x00\x00\x00\x00\x00\
     \x00\x00\x00\x00\x00\x00\x00\x00\x00\x00\x00\x00\x00\x00\x00\x00\
@@ -41,50 +40,53 @@ const CLASSES: [u8; 256] = *b"\
     \x03\x03\x03\x03\x03\x03\x03\x03\x03\x03\x03\x03\x03\x03\x03\x03\
     \x03\x03\x03\x03\x03\x03\x03\x03\x03\x03\x03\x03\x03\x03\x03\x03";
 
-// NameStartChar beyond ASCII, a first and a last number each.
-const START_BEYOND: [u32; 24] = [
-    0xc0, 0xd6, 0xd8, 0xf6, 0xf8, 0x2ff, 0x370, 0x37d, 0x37f, 0x1fff, 0x200c, 0x200d, 0x2070,
-    0x218f, 0x2c00, 0x2fef, 0x3001, 0xd7ff, 0xf900, 0xfdcf, 0xfdf0, 0xfffd, 0x10000, 0xeffff,
-];
-
-// What NameChar has besides beyond ASCII.
-const MORE_BEYOND: [u32; 6] = [0xb7, 0xb7, 0x300, 0x36f, 0x203f, 0x2040];
-
-fn within(first: u32, last: u32, v: u32) -> bool
-    ensures { result ≡ inside first last v }
-{
-    first <= v && v <= last
+// What a char is in a name: nothing, or a start, which may come first or later, or one that comes later only.
+#[derive(Clone, Copy, PartialEq, Eq)]
+pub enum Sort {
+    Outside,
+    Start,
+    Later,
 }
 
-// Whether v lies in one of the ranges.
-fn in_ranges(rs: &[u32], v: u32) -> bool
-    ensures { result ≡ in_ranges rs.now v }
-{
-    let mut i = 0;
-    while i + 1 < rs.len() {
-        if within(rs[i], rs[i + 1], v) {
-            return true;
-        }
-        i += 2;
-    }
-    false
-}
-
-// What a value is in a name: 0 in none, 1 first or later, 2 later only. `classes` is the table, which the caller makes once.
-fn sort_in(classes: &[u8], v: u32) -> u8
+// What a byte of ASCII is in a name; nothing of a byte beyond ASCII. `classes` is the table, which the caller makes once.
+fn ascii_sort(classes: &[u8], b: u8) -> Option<Sort>
     requires { IsTable classes.now }
-    ensures { result ≡ char_sort v }
+    ensures ascii { IfSome result (λ sort. (b < 128) × (sort_number sort ≡ char_sort b)) }
+    ensures beyond { IsNone result → 128 ≤ b }
 {
-    if v < 128 {
-        return classes[v as usize];
+    match classes[b as usize] {
+        0 => Some(Sort::Outside),
+        1 => Some(Sort::Start),
+        2 => Some(Sort::Later),
+        _ => None,
     }
-    if in_ranges(&START_BEYOND, v) {
-        return 1;
+}
+
+// What a value is in a name: a start by the ranges of NameStartChar, and later only by those that NameChar has besides.
+// Ruled out: a start for U+00B7, which may only follow; anything but Outside for U+00D7, U+037E and a surrogate.
+#[tactic(auto, using(std::proofs::lemmas::Bool::Decides::nat_tests), unfolding(crate::specs::NCName::char_sort))]
+fn sort_of(v: u32) -> Sort
+    ensures { sort_number result ≡ char_sort v }
+{
+    match v {
+        0x41..=0x5a
+        | 0x5f
+        | 0x61..=0x7a
+        | 0xc0..=0xd6
+        | 0xd8..=0xf6
+        | 0xf8..=0x2ff
+        | 0x370..=0x37d
+        | 0x37f..=0x1fff
+        | 0x200c..=0x200d
+        | 0x2070..=0x218f
+        | 0x2c00..=0x2fef
+        | 0x3001..=0xd7ff
+        | 0xf900..=0xfdcf
+        | 0xfdf0..=0xfffd
+        | 0x10000..=0xeffff => Sort::Start,
+        0x2d..=0x2e | 0x30..=0x39 | 0xb7 | 0x300..=0x36f | 0x203f..=0x2040 => Sort::Later,
+        _ => Sort::Outside,
     }
-    if in_ranges(&MORE_BEYOND, v) {
-        return 2;
-    }
-    0
 }
 
 // Whether the text, in UTF-16 or UTF-8, is an NCName: blocks are passed whole, and what they leave is looked at char by char.
@@ -102,8 +104,8 @@ pub fn valid_name(utf16: bool, s: &[u8]) -> bool
     let mut at = 0;
     while at < s.len() {
         let p = stretch_at(utf16, s, at);
-        at = chars_run(&classes, utf16, s, p.from, p.to);
-        if at < p.to {
+        at = chars_run(&classes, utf16, s, p.start, p.end);
+        if at < p.end {
             return false;
         }
     }

@@ -7,7 +7,7 @@ ghost use Rattle.std.specs.Prelude.{◌≡◌, true, ◌+◌, ◌≤◌, length}
 ghost use Rattle.xml.specs.Inner.SeenChars.{UnitChar};
 ghost use Rattle.xml.specs.Inner.NameRun.{Seen};
 
-use super::blocks::{ascii_low, between, far_high};
+use super::blocks::{all_pass, ascii_low, between, far_high, passing};
 
 // ---- a unit. False tells nothing
 
@@ -54,40 +54,20 @@ fn is_unit(b: u8, c: u8) -> bool
 
 // ---- a block
 
-// Whether each of the 32 units from `at` on is one. The least of the answers decides, so that the loop has no early way out.
+// Whether each of the 32 units from `at` on is one.
 fn all_units(s: &[u8], at: usize) -> bool
     requires { at + 64 ≤ length s.now }
     ensures { result ≡ true → Seen true s.now at (at + 64) }
 {
-    let mut least = 1;
-    let mut k = 0;
-    while k < 32 {
-        let i = at + 2 * k;
-        let x = is_unit(s[i], s[i + 1]) as u8;
-        if x < least {
-            least = x;
-        }
-        k += 1;
-    }
-    least == 1
+    all_pass(32, |k| is_unit(s[at + 2 * k], s[at + 2 * k + 1]))
 }
 
-// The end of such blocks one behind the other: it is `to` or one soon behind it, or lies before `to`, where another unit stands in a block or too few
-// bytes are left.
+// The end of such blocks one behind the other from `at` on, none of which ends behind `to`.
 // Ruled out: a place behind U+3000; a place behind an unpaired surrogate.
 pub fn units_end(s: &[u8], at: usize, to: usize) -> usize
     requires { to ≤ length s.now }
     ensures { Seen true s.now at result }
 {
-    let mut i = at;
-    while i < to {
-        if s.len() - i < 64 {
-            return i;
-        }
-        if !all_units(s, i) {
-            return i;
-        }
-        i += 64;
-    }
-    i
+    let blocks = passing(to.saturating_sub(at) / 64, |k| all_units(s, at + 64 * k));
+    at + 64 * blocks
 }

@@ -8,7 +8,7 @@ use native.Mathlib.Nat.{mul-le-mul}
 use mathlib.Core.Path.{◌≡◌, refl, sym, ◌∙◌}
 use mathlib.Core.List.{List}
 use mathlib.Core.Bool.{Bool, true, false, cond}
-use borrow.Author.Tests.{ltb-true, ltb-false, lt-ltb, le-ltb, eqb-true, eqb-false, eq-eqb, ne_eqb}
+use borrow.Author.Tests.{ltb-true, ltb-false, eqb-true, eqb-false, eq-eqb, ne_eqb}
 use lib.ListN.{length, drop, length-drop}
 use lib.Dec.{ltb, eqb}
 use Rattle.common.specs.Header.{header_of}
@@ -17,9 +17,7 @@ use Rattle.common.proofs.Laws.{header_here, header_of-short, header_of-whole, he
 use Rattle.chunk.specs.Sort.{is_xml, chunk_sort, content_size, foreign_len}
 use Rattle.chunk.specs.Inner.Run.{run_used}
 use Rattle.chunk.proofs.Laws.{foreign_len-le, foreign_len-lt, run_used-short, run_used-same, run_used-other}
-use Rattle.xml_elements.specs.declared.XmlStartElement.{XmlStartElement}
 use Rattle.xml_elements.specs.declared.Chunk.{Chunk}
-use Rattle.xml_elements.specs.declared.Chunk.TheVariants.{Start}
 use Rattle.xml_elements.specs.declared.CutChunk.{CutChunk}
 use Rattle.xml_elements.specs.declared.CutChunk.TheVariants.{CutLine, CutHead, CutGap, CutAttributes, CutTrailing, CutEnd, CutOther}
 use Rattle.xml_elements.specs.declared.Turn.{Turn}
@@ -51,47 +49,6 @@ pub turn_of-foreign : (l : List ℕ) {h : ResChunkHeader} → header_of l ≡ So
     → turn_of l ≡ Foreign (chunk_sort h) (foreign_number h) (foreign_len (length l) h)
 unfolding turn_of
 turn_of-foreign l w e = rw (w, ne_eqb _ _ e)
-
--- a start, by the first of its parts that is not there
-module _ (l : List ℕ) (s : XmlStartElement) (e : s ≡ start_of l) (h : 36 ≤ length l) where
-  pub start_turn-gap : length l < attributes_at s → Cut (CutGap s) ≡ start_turn l
-  unfolding start_turn
-  start_turn-gap p = let q = rw e at p in rw (e, le-ltb (length l) 36 h, lt-ltb (length l) (attributes_at (start_of l)) q)
-
-  pub start_turn-attributes : attributes_at s ≤ length l → length l < attributes_end s → Cut (CutAttributes s) ≡ start_turn l
-  unfolding start_turn
-  start_turn-attributes p₁ p =
-      let q₁ = rw e at p₁ in
-      let q = rw e at p in
-      rw (e, le-ltb (length l) 36 h, le-ltb (length l) (attributes_at (start_of l)) q₁, lt-ltb (length l) (attributes_end (start_of l)) q)
-
-  pub start_turn-trailing : attributes_end s ≤ length l → length l < start_len s → Cut (CutTrailing s) ≡ start_turn l
-  unfolding start_turn
-  start_turn-trailing p₂ p =
-      let q₂ = rw e at p₂ in
-      let q₁ : attributes_at (start_of l) ≤ length l = omega arith in
-      let q = rw e at p in
-      rw (
-        e,
-        le-ltb (length l) 36 h,
-        le-ltb (length l) (attributes_at (start_of l)) q₁,
-        le-ltb (length l) (attributes_end (start_of l)) q₂,
-        lt-ltb (length l) (start_len (start_of l)) q,
-      )
-
-  pub start_turn-whole : start_len s ≤ length l → Met (Start s) ≡ start_turn l
-  unfolding start_turn
-  start_turn-whole p =
-      let q = rw e at p in
-      let q₁ : attributes_at (start_of l) ≤ length l = omega arith in
-      let q₂ : attributes_end (start_of l) ≤ length l = omega arith in
-      rw (
-        e,
-        le-ltb (length l) 36 h,
-        le-ltb (length l) (attributes_at (start_of l)) q₁,
-        le-ltb (length l) (attributes_end (start_of l)) q₂,
-        le-ltb (length l) (start_len (start_of l)) q,
-      )
 
 -- the two foreign turns as `look` makes them
 pub turn_of-foreign-0 : (l : List ℕ) (r : ℕ) {h : ResChunkHeader} → header_of l ≡ Some h → chunk_sort h ≡ 0

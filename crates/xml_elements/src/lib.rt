@@ -82,7 +82,7 @@ pub enum Turn {
 fn less_20(x: u16) -> usize
     ensures { (result ≡ x - 20) × (result < 65536) }
 {
-    if x <= 20 { 0 } else { (x - 20) as usize }
+    usize::from(x.saturating_sub(20))
 }
 
 // The bytes from one attribute to the next.
@@ -113,9 +113,8 @@ fn attributes_end(s: XmlStartElement) -> usize
 pub fn trailing_of(s: XmlStartElement) -> u32
     ensures { result ≡ trailing_of s }
 {
-    let end = attributes_end(s);
     let size = s.size as usize;
-    if size <= end { 0 } else { (size - end) as u32 }
+    size.saturating_sub(attributes_end(s)) as u32
 }
 
 // The bytes of a whole start.
@@ -128,15 +127,15 @@ fn start_len(s: XmlStartElement) -> usize
 // ---- what stands here
 
 // What a start says of itself.
+#[tactic(auto, unfolding(crate::specs::Chunk::start_of))]
 fn start_at(l: &[u8]) -> XmlStartElement
     requires { 36 ≤ length l.now }
     ensures { result ≡ start_of l.now }
 {
-    let name = StringIndex(u32_at(l, 20));
     XmlStartElement {
         size: u32_at(l, 4),
         line: u32_at(l, 8),
-        name,
+        name: StringIndex(u32_at(l, 20)),
         attribute_start: u16_at(l, 24) as u16,
         attribute_size: u16_at(l, 26) as u16,
         attribute_count: u16_at(l, 28) as u16,
@@ -145,21 +144,21 @@ fn start_at(l: &[u8]) -> XmlStartElement
 
 // The attribute at the front.
 // Ruled out: the raw value at 8 for the data at 16, and the two bytes at 12 for the type at 15.
+#[tactic(auto, unfolding(crate::specs::Chunk::attribute_at))]
 pub fn attribute_at(l: &[u8]) -> XmlAttributeElement
     requires { 20 ≤ length l.now }
     ensures { result ≡ attribute_at l.now }
 {
-    let namespace_uri = StringIndex(u32_at(l, 0));
-    let name = StringIndex(u32_at(l, 4));
     XmlAttributeElement {
-        namespace_uri,
-        name,
+        namespace_uri: StringIndex(u32_at(l, 0)),
+        name: StringIndex(u32_at(l, 4)),
         data_type: u8_at(l, 15),
         data: u32_at(l, 16),
     }
 }
 
 // A start whose line and comment are there: whole, or the first of its parts that is cut.
+#[tactic(auto, using(crate::proofs::Tests::tests), unfolding(crate::specs::Chunk::start_turn))]
 fn start_turn(l: &[u8]) -> Turn
     ensures { result ≡ start_turn l.now }
 {
@@ -181,6 +180,7 @@ fn start_turn(l: &[u8]) -> Turn
 }
 
 // An ordinary chunk of the type `kind`.
+#[tactic(auto, using(crate::proofs::Tests::tests), unfolding(crate::specs::Chunk::xml_turn))]
 fn xml_turn(l: &[u8], kind: u32) -> Turn
     ensures { result ≡ xml_turn l.now kind }
 {
@@ -188,28 +188,16 @@ fn xml_turn(l: &[u8], kind: u32) -> Turn
     if n < 16 {
         return Turn::Cut(CutChunk::CutLine);
     }
-    if kind == 0x17f {
-        return Turn::Met(Chunk::Last);
+    match kind {
+        0x17f => Turn::Met(Chunk::Last),
+        0x102 => start_turn(l),
+        0x103 if n < 24 => Turn::Cut(CutChunk::CutEnd),
+        0x103 => Turn::Met(Chunk::End),
+        0x104 if n < 28 => Turn::Cut(CutChunk::CutOther),
+        0x104 => Turn::Met(Chunk::Other(28)),
+        _ if n < 24 => Turn::Cut(CutChunk::CutOther),
+        _ => Turn::Met(Chunk::Other(24)),
     }
-    if kind == 0x102 {
-        return start_turn(l);
-    }
-    if kind == 0x103 {
-        if n < 24 {
-            return Turn::Cut(CutChunk::CutEnd);
-        }
-        return Turn::Met(Chunk::End);
-    }
-    if kind == 0x104 {
-        if n < 28 {
-            return Turn::Cut(CutChunk::CutOther);
-        }
-        return Turn::Met(Chunk::Other(28));
-    }
-    if n < 24 {
-        return Turn::Cut(CutChunk::CutOther);
-    }
-    Turn::Met(Chunk::Other(24))
 }
 
 // What stands at the front of l.
@@ -217,19 +205,17 @@ fn xml_turn(l: &[u8], kind: u32) -> Turn
 pub fn look(l: &[u8]) -> Turn
     ensures { result ≡ turn_of l.now }
 {
-    let read = header_at(l, 0);
-    match read {
-        None => Turn::Stop,
-        Some(h) => {
-            let sort = sort_of(h);
-            if sort == 2 {
-                return xml_turn(l, h.kind);
-            }
-            let used = skip_content(l, 8, h.size);
-            if sort == 0 {
-                return Turn::Foreign(0, h.kind, used);
-            }
-            Turn::Foreign(sort, h.header_size, used)
-        }
+    let Some(h) = header_at(l, 0) else {
+        return Turn::Stop;
+    };
+    let sort = sort_of(h);
+    if sort == 2 {
+        return xml_turn(l, h.kind);
+    }
+    let used = skip_content(l, 8, h.size);
+    if sort == 0 {
+        Turn::Foreign(0, h.kind, used)
+    } else {
+        Turn::Foreign(sort, h.header_size, used)
     }
 }

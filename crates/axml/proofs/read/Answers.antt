@@ -8,18 +8,15 @@ use Rattle.axml.proofs.read.Goals as goal
 pub loop-st-init : goal.loop-st-init
 loop-st-init c = start _ _ _ _ _ _ _ _ c.begin-st.ensures
 
-pub advance-st-requires : goal.advance-st-requires
-advance-st-requires c = c.loop-st.invariant.good
-
-pub offset_bounds-notes-at : goal.offset_bounds-notes-at
-offset_bounds-notes-at c =
+pub offset_bounds-notes-st : goal.offset_bounds-notes-st
+offset_bounds-notes-st c =
     let l = c.loop-st in
     let h : c.advance-st.result.slot < length l.notes =
     in_table _ _ _ _ _ _ _ l.st l.nodes l.attributes l.notes l.invariant c.advance-st.result _ _ c.advance-st.ensures c.if-st.false in
     omega arith
 
-pub bounds-notes-at : goal.bounds-notes-at
-bounds-notes-at c =
+pub bounds-notes-st : goal.bounds-notes-st
+bounds-notes-st c =
     let l = c.loop-st in
     in_table _ _ _ _ _ _ _ l.st l.nodes l.attributes l.notes l.invariant c.advance-st.result _ _ c.advance-st.ensures c.if-st.false
 
@@ -33,8 +30,8 @@ loop-st-preserved c =
     let l = c.loop-st in
     onward _ _ _ _ _ _ _ l.st l.nodes l.attributes l.notes l.invariant c.advance-st.result _ _ c.advance-st.ensures c.if-st.false
 
-pub returns : goal.returns
-returns c =
+pub returns-then-st : goal.returns-then-st
+returns-then-st c =
     let l = c.loop-st in
     leaves _ _ _ _ _ _ _ l.st l.nodes l.attributes l.notes l.invariant c.advance-st.result _ _ c.advance-st.ensures c.if-st.true c.answer_of.result
     c.answer_of.ensures

@@ -8,5 +8,5 @@ use Rattle.chunk.proofs.doubt_at.Goals as goal
 pub returns : goal.returns
 returns c =
     let a = c.args in
-    let low : get_or a.s.now a.at 0 < 256 = omega (arith, c.shared_slice_known-2-1.given a.at) in
+    let low : get_or a.s.now a.at 0 < 256 = omega (arith, c.type_inv.s a.at) in
     doubt-here a.s.now a.at c.u32_at.result low c.u32_at.ensures

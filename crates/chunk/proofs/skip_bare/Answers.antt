@@ -1,12 +1,9 @@
 -- `chunk::skip_bare` meets its contract. Invariant: the run from `at` ends where the run from p does. Measure: the bytes behind p.
 use native.Mathlib.Omega.{arith}
-use mathlib.Core.Path.{refl, sym, ◌∙◌}
+use mathlib.Core.Path.{sym, ◌∙◌}
 use borrow.Author.Rules.{rules}
 use Rattle.chunk.proofs.HeaderOnly.{skip_run-bare}
 use Rattle.chunk.proofs.skip_bare.Goals as goal
-
-pub loop-p-init : goal.loop-p-init
-loop-p-init c = (search rules, refl, search rules)
 
 pub loop-p-preserved : goal.loop-p-preserved
 loop-p-preserved c =

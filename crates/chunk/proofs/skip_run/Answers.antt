@@ -2,7 +2,7 @@
 -- Where blocks are tried again is no matter of the contract: `retry` stands in no invariant.
 use Prim.Native.Nat.{ℕ, ◌+◌, ◌<◌}
 use native.Mathlib.Omega.{arith}
-use mathlib.Core.Path.{◌≡◌, refl, sym, ◌∙◌}
+use mathlib.Core.Path.{◌≡◌, sym, ◌∙◌}
 use borrow.Author.Rules.{rules}
 use lib.Dec.{leb, eqb}
 use Rattle.chunk.proofs.Laws.{skip_run-stop, skip_run-step}
@@ -11,9 +11,6 @@ use Rattle.chunk.proofs.skip_run.Goals as goal
 
 ne-pos : {n : ℕ} → (n ≡ 0 → ⊥) → 0 < n
 ne-pos h = omega arith
-
-pub loop-at-init : goal.loop-at-init
-loop-at-init c = (search rules, refl, search rules)
 
 pub returns-then-n-eq0 : goal.returns-then-n-eq0
 returns-then-n-eq0 c =
@@ -24,12 +21,6 @@ returns-then-n-eq0 c =
       search rules,
       search rules,
     )
-
-pub loop-at-smaller-then-n-sort : goal.loop-at-smaller-then-n-sort
-loop-at-smaller-then-n-sort c =
-    let used = c.run_used-n in
-    let h : 0 < used.result = ne-pos c.if-n-eq0.false in
-    omega arith
 
 pub loop-at-preserved-then-n-sort : goal.loop-at-preserved-then-n-sort
 loop-at-preserved-then-n-sort c =
@@ -42,10 +33,6 @@ loop-at-preserved-then-n-sort c =
     let blocks = skip_run-tested a.s.now (p + n) c.skip_bare-p.result a.sort (eqb n 8) (leb at-loop.loop-at.retry (p + n))
     c.if-n-sort.true c.skip_bare-p.ensures.0 in
     (search rules, at-loop.loop-at.invariant.1 ∙ one ∙ blocks, search rules)
-
-pub loop-at-smaller : goal.loop-at-smaller
-loop-at-smaller c =
-    let h : 0 < c.run_used-n.result = ne-pos c.if-n-eq0.false in omega arith
 
 pub loop-at-preserved : goal.loop-at-preserved
 loop-at-preserved c =

@@ -21,6 +21,7 @@ use Rattle.errors.specs.declared.Refusal.{Refusal}
 use Rattle.errors.specs.declared.Refusal.TheVariants.{TextShort}
 use Rattle.errors.specs.declared.ReadCounts.{ReadCounts}
 use Rattle.errors.specs.declared.TextState.{TextState}
+use Rattle.errors.specs.declared.TextWritten.{TextWritten}
 use Rattle.errors.proofs.Laws.{numbers_of-unique, text_numbers_of-unique}
 use Rattle.head.specs.Head.{opened_of}
 use Rattle.head.specs.Entry.{reading_at, Check, passes, fails, first_of, entry_checks}
@@ -112,11 +113,16 @@ module _ (f : List ℕ) (lent : Lent) (before : List ℕ) (i : ℕ) where
 
   -- a text that is answered is as long as the answer says, and fits
   fits_by : (n k : ℕ) (s t : TextState) (text : List ℕ) (b : Bool) → leb (length text) n ≡ b
-      → Ok (record { length = k; state = s }) ≡ cond b (Ok (record { length = (length text); state = t })) (Err (TextShort (length text))) → (k ≡ length text) × (k ≤ n)
-  fits_by n k s t text true e q = let w : k ≡ length text = cc in (w, omega (arith, leb-true (length text) n e))
+      → ◌≡◌ {A = Result TextWritten Refusal} (Ok (record { length = k; state = s }))
+      (cond b (Ok (record { length = length text; state = t })) (Err (TextShort (length text)))) → (k ≡ length text) × (k ≤ n)
+  fits_by n k s t text true e q =
+      let told : ◌≡◌ {A = TextWritten} (record { length = k; state = s }) (record { length = length text; state = t }) = cc in
+      let w : k ≡ length text = ap (λ (x : TextWritten). x.length) told in
+      (w, omega (arith, leb-true (length text) n e))
   fits_by n k s t text false e q = let z : ◌≡◌ {A = ℕ} 0 1 = cc in absurd (let y : ⊥ = omega arith in y)
 
-  answer-fits : (n k : ℕ) (s : TextState) (c : Content) (o : Result Head Refusal) → Ok (record { length = k; state = s }) ≡ text_answer_by n c o → (k ≡ length (text_in c)) × (k ≤ n)
+  answer-fits : (n k : ℕ) (s : TextState) (c : Content) (o : Result Head Refusal)
+      → ◌≡◌ {A = Result TextWritten Refusal} (Ok (record { length = k; state = s })) (text_answer_by n c o) → (k ≡ length (text_in c)) × (k ≤ n)
   answer-fits n k s c (Err r) q = let z : ◌≡◌ {A = ℕ} 0 1 = cc in absurd (let y : ⊥ = omega arith in y)
   answer-fits n k s none (Ok h) q = let z : ◌≡◌ {A = ℕ} 0 1 = cc in absurd (let y : ⊥ = omega arith in y)
   answer-fits n k s cut (Ok h) q = fits_by n k s (state_told (damage_in cut)) (text_in cut) (leb (length (text_in cut)) n) refl q

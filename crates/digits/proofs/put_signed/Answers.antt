@@ -1,21 +1,22 @@
 -- `digits::put_signed` meets its contract: the number, or `-` and the number without its sign.
-use mathlib.Core.Path.{sym}
-use native.Mathlib.Omega.{arith}
-use Rattle.digits.proofs.Laws.{signed_text-below, signed_text-above}
+use Rattle.std.proofs.Common.{arith, rules}
+use mir.Syntax.{w32}
+use mir.Val.{SFits}
+use Rattle.digits.proofs.Laws.{signed_text-minus, signed_text-plain}
 use Rattle.digits.proofs.Written.{wrote-more, wrote-append}
 use Rattle.digits.proofs.put_signed.Goals as goal
-
-pub returns-then-n-lt2147483648 : goal.returns-then-n-lt2147483648
-returns-then-n-lt2147483648 c =
-    let call = c in
-    let test = call in
-    wrote-more call.put_word.ensures (sym (signed_text-below test.args.n test.if-n-lt2147483648.true)) (omega arith)
+use Rattle.digits.proofs.put_signed.Goals.{then-z-lt0, else-z-lt0}
 
 pub returns : goal.returns
 returns c =
-    let number = c in
-    let sign = number in
-    let test = sign in
-    wrote-more (wrote-append sign.put_byte-at.ensures number.put_word-2.ensures)
-    (sym (signed_text-above test.args.n test.if-n-lt2147483648.false (omega arith)))
-    (omega arith)
+    let fits : SFits w32 c.cast_signed-z.result = search rules in
+    elim c.if-z-lt0.branch [
+      | then-z-lt0 w ↦
+          wrote-more (wrote-append w.put_byte-at.ensures (rw (w.at-is, w.out-is) at c.put_word.ensures))
+          (signed_text-minus _ c.cast_signed-z.ensures fits w.if-z-lt0.true c.unsigned_abs.ensures.value)
+          (omega arith)
+      | else-z-lt0 w ↦
+          wrote-more (rw (w.at-is, w.out-is) at c.put_word.ensures)
+          (signed_text-plain _ c.cast_signed-z.ensures fits w.if-z-lt0.false c.unsigned_abs.ensures.value)
+          (omega arith)
+    ]

@@ -14,12 +14,12 @@ use Rattle.first_value.proofs.value_of.Goals as goal
 
 -- the attributes of the node end in the table
 inside
-    : (ats : List ℕ) (node : Option (ℕ × ℕ)) (first number place : ℕ)
-    → RunFits ats node
-    → node ≡ Some (first, number)
+    : (ats : List ℕ) (run : Option (ℕ × ℕ)) (first number place : ℕ)
+    → RunFits ats run
+    → run ≡ Some (first, number)
     → place ≡ attribute_width * first
     → place + attribute_width * number ≤ length ats
-inside ats node first number place f e i = omega (arith, f.inside first number e)
+inside ats run first number place f e i = omega (arith, f.inside first number e)
 
 pub slice_bounds-find_value-count : goal.slice_bounds-find_value-count
 slice_bounds-find_value-count c =
@@ -36,11 +36,8 @@ find_value-requires c = (
       (inside c.args.attributes.now c.args.node _ _ _ c.requires.1 c.in-Some.is c.attribute_place.ensures),
 )
 
-pub returns-in-Some : goal.returns-in-Some
-returns-in-Some c =
+pub returns : goal.returns
+returns c =
     let a = c.args in
     value-run a.h a.t.now (lends a.names.now a.area.now) a.name.now a.attributes.now
     c.in-Some.is c.attribute_place.ensures c.find_value.ensures
-
-pub returns-in-None : goal.returns-in-None
-returns-in-None c = rw c.in-None.is

@@ -9,5 +9,5 @@ pub returns : goal.returns
 returns c =
     let s = c in
     let a = s.args in
-    c.outside_of.ensures ∙ outside_in-by a.t.now a.h (a.h.offsets + 4 * c.to_usize-n.result - a.h.offsets) s.requires
+    c.outside_of.ensures ∙ outside_in-by a.t.now a.h (a.h.offsets + 4 * a.h.count - a.h.offsets) s.requires
     (omega arith)

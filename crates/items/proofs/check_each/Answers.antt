@@ -1,7 +1,6 @@
--- `items::check_each` meets its contract. Invariant: the items from k on say what all of them say. Measure: the items left.
-use Rattle.std.specs.Prelude.{Err}
+-- `items::check_each` meets its contract. Invariant: the items from k on say what all of them say.
 use Prim.Native.Nat.{◌/◌}
-use mathlib.Core.Path.{◌≡◌, sym, ap, ◌∙◌}
+use mathlib.Core.Path.{sym, ◌∙◌}
 use native.Mathlib.Omega.{arith}
 use lib.ListN.{length}
 use Rattle.records.specs.Words.{item_width}
@@ -12,10 +11,7 @@ use Rattle.items.proofs.check_each.Goals as goal
 pub loop-k-init : goal.loop-k-init
 loop-k-init c =
     let a = c.args in
-    (omega arith, table-first a.area.now a.items.now)
-
-pub is_good-requires : goal.is_good-requires
-is_good-requires c = (c.requires.0, omega arith, c.requires.1)
+    table-first a.area.now a.items.now
 
 pub returns-then-not-is_good : goal.returns-then-not-is_good
 returns-then-not-is_good c =
@@ -23,30 +19,26 @@ returns-then-not-is_good c =
     let l = c.loop-k in
     let w = a.items.now in
     rule-bad a.area.now w (end_of w) (length w / item_width) l.k (omega arith) c.item_at.ensures c.is_good.ensures
-    c.if-not-is_good.true ∙ sym l.invariant.1
+    c.if-not-is_good.true ∙ sym l.invariant
 
 pub loop-k-preserved : goal.loop-k-preserved
 loop-k-preserved c =
     let a = c.args in
     let l = c.loop-k in
-    let w = a.items.now in (
-      omega arith,
-      l.invariant.1 ∙ rule-next a.area.now w (end_of w) (length w / item_width) l.k (omega arith) c.item_at.ensures
-          c.is_good.ensures c.if-not-is_good.false,
-    )
+    let w = a.items.now in
+    l.invariant ∙ rule-next a.area.now w (end_of w) (length w / item_width) l.k (omega arith) c.item_at.ensures
+    c.is_good.ensures c.if-not-is_good.false
 
 pub returns-then-items-ne0 : goal.returns-then-items-ne0
 returns-then-items-ne0 c =
     let a = c.args in
     let l = c.loop-k in
     let w = a.items.now in
-    let k : l.k ≡ length w / item_width = omega arith in
-    sym (l.invariant.1 ∙ rule_end a.area.now w (end_of w) (length w / item_width) l.k (omega arith) ∙ table-rest a.area.now w c.if-items-ne0.true ∙ ap Err
-    (sym k))
+    sym (l.invariant ∙ rule_end a.area.now w (end_of w) (length w / item_width) l.k (omega arith) ∙ table-rest a.area.now w c.if-items-ne0.true)
 
 pub returns : goal.returns
 returns c =
     let a = c.args in
     let l = c.loop-k in
     let w = a.items.now in
-    sym (l.invariant.1 ∙ rule_end a.area.now w (end_of w) (length w / item_width) l.k (omega arith) ∙ table-whole a.area.now w c.if-items-ne0.false)
+    sym (l.invariant ∙ rule_end a.area.now w (end_of w) (length w / item_width) l.k (omega arith) ∙ table-whole a.area.now w c.if-items-ne0.false)

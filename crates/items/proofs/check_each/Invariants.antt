@@ -1,5 +1,5 @@
--- `items::check_each` meets its contract. Invariant: the items from k on say what all of them say. Measure: the items left.
-use Prim.Native.Nat.{◌-◌, ◌/◌, ◌≤◌}
+-- `items::check_each` meets its contract. Invariant: the items from k on say what all of them say.
+use Prim.Native.Nat.{◌/◌}
 use mathlib.Core.Path.{◌≡◌}
 use lib.ListN.{length}
 use Rattle.records.specs.Words.{item_width}
@@ -8,7 +8,4 @@ use Rattle.items.proofs.Laws.{said_from}
 use Rattle.items.proofs.check_each.Given as goal
 
 abbrev pub invariant-loop-k : goal.invariant-loop-k
-invariant-loop-k l = (l.k ≤ l.whole) × (table_of l.area l.items ≡ said_from l.area l.items (end_of l.items) (length l.items / item_width) l.k)
-
-abbrev pub decreases-loop-k : goal.decreases-loop-k
-decreases-loop-k l = l.whole - l.k
+invariant-loop-k l = table_of l.area l.items ≡ said_from l.area l.items (end_of l.items) (length l.items / item_width) l.k

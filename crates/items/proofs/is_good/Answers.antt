@@ -4,16 +4,10 @@ use Rattle.items.specs.Inner.Back.{back_to}
 use Rattle.items.proofs.Laws.{is_good-attribute, is_good-name, is_good-kind, is_good-stands}
 use Rattle.items.proofs.is_good.Goals as goal
 
-pub is_name-requires : goal.is_name-requires
-is_name-requires c = c.requires.0
-
 pub returns-then-not-is_name : goal.returns-then-not-is_name
 returns-then-not-is_name c =
     let a = c.args in
     sym (is_good-attribute a.area.now (back_to a.items.now a.k) a.i (sym c.is_name.ensures ∙ c.if-not-is_name.true))
-
-pub is_name-requires-2 : goal.is_name-requires-2
-is_name-requires-2 c = c.requires.0
 
 pub returns-then-not-is_name-2 : goal.returns-then-not-is_name-2
 returns-then-not-is_name-2 c =
@@ -27,9 +21,6 @@ returns-then-i-gt1 c =
     let p = sym c.is_name.ensures ∙ c.if-not-is_name.false in
     let q = sym c.is_name-2.ensures ∙ c.if-not-is_name-2.false in
     sym (is_good-kind a.area.now (back_to a.items.now a.k) a.i p q c.if-i-gt1.true)
-
-pub may_stand-requires : goal.may_stand-requires
-may_stand-requires c = (c.requires.1, c.requires.2)
 
 pub returns : goal.returns
 returns c =

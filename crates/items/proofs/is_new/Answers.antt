@@ -1,5 +1,5 @@
--- `items::is_new` meets its contract. Invariant: what the items before j say is what all of them say. Measure: j.
-use mathlib.Core.Path.{refl, sym, ◌∙◌}
+-- `items::is_new` meets its contract. Invariant: what the items before j say is what all of them say.
+use mathlib.Core.Path.{sym, ◌∙◌}
 use native.Mathlib.Omega.{arith}
 use Rattle.items.proofs.Laws.{is_new-same, is_new-other}
 use Rattle.items.proofs.RunLaws.{place-lt, new_told}
@@ -10,9 +10,6 @@ offset_bounds-firsts-place_of c = omega (arith, c.place_of.ensures, place-lt c.p
 
 pub bounds-firsts-place_of : goal.bounds-firsts-place_of
 bounds-firsts-place_of c = omega (arith, c.place_of.ensures, place-lt c.part_of.result.now, c.requires.1.long)
-
-pub loop-j-init : goal.loop-j-init
-loop-j-init c = (omega arith, refl)
 
 pub returns-then-same_attribute : goal.returns-then-same_attribute
 returns-then-same_attribute c =

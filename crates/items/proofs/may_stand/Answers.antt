@@ -15,9 +15,6 @@ returns-then-same_attribute c =
     sym (Stands-same a.area.now a.items.now a.i a.k (omega arith) c.item_at-p.ensures
     c.same_attribute.ensures c.if-same_attribute.true)
 
-pub is_new-requires : goal.is_new-requires
-is_new-requires c = (omega arith, c.requires.1)
-
 pub returns : goal.returns
 returns c =
     let a = c.args in

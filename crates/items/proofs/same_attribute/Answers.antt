@@ -5,6 +5,3 @@ use Rattle.items.proofs.same_attribute.Goals as goal
 pub returns-then-i-j : goal.returns-then-i-j
 returns-then-i-j c = same_parts c.args.area.now c.args.i
     c.args.j c.if-i-j.true
-
-pub returns : goal.returns
-returns c = rw (← c.part_of-2.ensures, ← c.part_of.ensures) c.same_bytes.ensures

@@ -1,7 +1,7 @@
 -- `listing_text::put_attribute` meets its contract: a line as two times three fields, and one.
 use native.Mathlib.Omega.{arith}
 use Rattle.digits.proofs.Written.{wrote-more, wrote-append}
-use Rattle.listing_text.proofs.Laws.{attribute_line-drop}
+use Rattle.listing_text.proofs.Laws.{attribute_line-words}
 use borrow.Author.Rules.{rules}
 use Rattle.listing_text.proofs.put_attribute.Goals as goal
 
@@ -26,6 +26,6 @@ returns c =
     let start = w1 in
     let a = start.args in
     wrote-more (wrote-append first.put_three-a.ensures (wrote-append second.put_three-b.ensures third.put_field.ensures))
-    (attribute_line-drop a.k a.i a.attributes.now w1.word-owner.ensures w2.word-prefix.ensures w3.word-name.ensures
+    (attribute_line-words a.k a.attributes.now w1.word-owner.ensures w2.word-prefix.ensures w3.word-name.ensures
     w4.word-kind.ensures w5.word-data.ensures w6.word-ns.ensures)
     (omega arith)

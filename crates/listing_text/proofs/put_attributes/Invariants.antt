@@ -1,14 +1,11 @@
--- `listing_text::put_attributes` meets its contract. Invariant: the lines from the k-th attribute on are left. Measure: those left. A turn: proofs/Turns.antt.
+-- `listing_text::put_attributes` meets its contract. Invariant: the lines from the k-th attribute on are left. A turn: proofs/Turns.antt.
 use mathlib.Core.Path.{◌≡◌}
 use Prim.Native.Nat.{◌≤◌, ◌+◌, ◌*◌, ◌-◌}
-use lib.ListN.{length, drop}
+use lib.ListN.{length}
 use Rattle.digits.proofs.Written.{Left}
 use Rattle.listing_text.specs.Listing.{lines_text, attribute_lines}
 use Rattle.listing_text.proofs.put_attributes.Given as goal
 
 abbrev pub invariant-loop-k : goal.invariant-loop-k
-invariant-loop-k l = (l.i ≤ length l.attributes) × (l.k ≤ l.count) × (l.at ≤ l.p + 224 * l.k) × (length l.out ≡ length l.initial.out) ×
-    Left l.p (lines_text (attribute_lines 0 l.count l.attributes)) l.initial.out l.at (lines_text (attribute_lines l.k (l.count - l.k) (drop l.i l.attributes))) l.out
-
-abbrev pub decreases-loop-k : goal.decreases-loop-k
-decreases-loop-k l = l.count - l.k
+invariant-loop-k l = (l.at ≤ l.p + 224 * l.k) × (length l.out ≡ length l.initial.out) ×
+    Left l.p (lines_text (attribute_lines 0 l.count l.attributes)) l.initial.out l.at (lines_text (attribute_lines l.k (l.count - l.k) l.rest)) l.out

@@ -1,7 +1,7 @@
 -- `listing_text::put_node` meets its contract: a line as two times three fields, and one.
 use native.Mathlib.Omega.{arith}
 use Rattle.digits.proofs.Written.{wrote-more, wrote-append}
-use Rattle.listing_text.proofs.Laws.{node_line-drop}
+use Rattle.listing_text.proofs.Laws.{node_line-words}
 use borrow.Author.Rules.{rules}
 use Rattle.listing_text.proofs.put_node.Goals as goal
 
@@ -26,6 +26,6 @@ returns c =
     let start = w1 in
     let a = start.args in
     wrote-more (wrote-append first.put_three-a.ensures (wrote-append second.put_three-b.ensures third.put_field.ensures))
-    (node_line-drop a.k a.i a.nodes.now w1.word-name.ensures w2.word-fixed.ensures w3.word-parent.ensures
+    (node_line-words a.k a.nodes.now w1.word-name.ensures w2.word-fixed.ensures w3.word-parent.ensures
     w4.word-first.ensures w5.word-count.ensures w6.word-line.ensures)
     (omega arith)

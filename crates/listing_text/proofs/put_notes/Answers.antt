@@ -1,4 +1,4 @@
--- `listing_text::put_notes` meets its contract. Invariant: the lines from the k-th note on are left. Measure: the notes left. A turn: proofs/Turns.antt.
+-- `listing_text::put_notes` meets its contract. Invariant: the lines from the k-th note on are left. A turn: proofs/Turns.antt.
 use mathlib.Core.Path.{refl}
 use Prim.Native.Nat.{◌*◌}
 use native.Mathlib.Omega.{arith}
@@ -10,25 +10,20 @@ use Rattle.listing_text.proofs.Turns.{note_lines-stop, note_lines-short, note_li
 use Rattle.listing_text.proofs.put_notes.Goals as goal
 
 pub loop-k-init : goal.loop-k-init
-loop-k-init c = (search rules, search rules, search rules, refl, rw sub-zero (left-first _ _ _))
+loop-k-init c = (search rules, search rules, refl, rw sub-zero (left-first _ _ _))
 
 pub returns-then-i-ge-LISTED_NOTES : goal.returns-then-i-ge-LISTED_NOTES
 returns-then-i-ge-LISTED_NOTES c =
     let l = c.loop-k in
-    left-none (128 * listed_notes) l.invariant.4 (note_lines-short l.k _ l.i _ (omega arith)) (omega arith)
+    left-none (128 * listed_notes) l.invariant.3 (note_lines-short l.k _ l.k _ (omega arith)) (omega arith)
 
 pub loop-k-preserved : goal.loop-k-preserved
 loop-k-preserved c =
-    let call = c in
-    let at-loop = call in
-    let start = at-loop in
-    let a = start.args in
-    let l = at-loop.loop-k in
-    let turn = note_lines-step l.k a.count l.i a.notes (record { kind = 0; a = 0; b = 0 }) (search rules) (omega arith) in
-    (search rules, search rules, search rules, search rules, left-piece l.invariant.4 turn call.put_note-at.ensures)
+    let l = c.loop-k in
+    let turn = note_lines-step l.k c.args.count l.k c.args.notes (record { kind = 0; a = 0; b = 0 }) c.loop-k-test.true (omega arith) in
+    (search rules, search rules, search rules, left-piece l.invariant.3 turn c.put_note-at.ensures)
 
 pub returns : goal.returns
 returns c =
-    let a = c.args in
     let l = c.loop-k in
-    left-none (128 * listed_notes) l.invariant.4 (note_lines-stop l.k a.count l.i a.notes (search rules)) (omega arith)
+    left-none (128 * listed_notes) l.invariant.3 (note_lines-stop l.k c.args.count l.k c.args.notes c.loop-k-test.false) (omega arith)

@@ -1,4 +1,4 @@
--- `listing_text::put_notes` meets its contract. Invariant: the lines from the k-th note on are left. Measure: the notes left. A turn: proofs/Turns.antt.
+-- `listing_text::put_notes` meets its contract. Invariant: the lines from the k-th note on are left. A turn: proofs/Turns.antt.
 use mathlib.Core.Path.{◌≡◌}
 use Prim.Native.Nat.{◌≤◌, ◌+◌, ◌*◌, ◌-◌}
 use lib.ListN.{length, drop}
@@ -8,8 +8,5 @@ use Rattle.listing_text.specs.Listing.{lines_text, note_lines}
 use Rattle.listing_text.proofs.put_notes.Given as goal
 
 abbrev pub invariant-loop-k : goal.invariant-loop-k
-invariant-loop-k l = (l.i ≤ listed_notes) × (l.k ≤ l.count) × (l.at ≤ l.p + 128 * l.i) × (length l.out ≡ length l.initial.out) ×
-    Left l.p (lines_text (note_lines 0 l.count l.notes)) l.initial.out l.at (lines_text (note_lines l.k (l.count - l.k) (drop l.i l.notes))) l.out
-
-abbrev pub decreases-loop-k : goal.decreases-loop-k
-decreases-loop-k l = l.count - l.k
+invariant-loop-k l = (l.k ≤ listed_notes) × (l.at ≤ l.p + 128 * l.k) × (length l.out ≡ length l.initial.out) ×
+    Left l.p (lines_text (note_lines 0 l.count l.notes)) l.initial.out l.at (lines_text (note_lines l.k (l.count - l.k) (drop l.k l.notes))) l.out

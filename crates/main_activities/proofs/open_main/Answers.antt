@@ -1,27 +1,24 @@
 -- `main_activities::open_main` meets its contract: by whether the file is open (`open_in`, `open-out`).
-use mathlib.Core.Path.{sym, ◌∙◌}
+use Rattle.std.specs.Prelude.{Result, Err}
+use mathlib.Core.Path.{◌≡◌, sym, ◌∙◌}
+use borrow.Author.Rules.{rules}
+use Rattle.errors.specs.declared.Refusal.{Refusal}
+use Rattle.text.specs.declared.Head.{Head}
 use Rattle.system_types.specs.Names.{lends}
 use Rattle.main_activities.proofs.Opening.{open_in, open-out}
 use Rattle.main_activities.proofs.open_main.Goals as goal
 
-pub returns-in-Ok : goal.returns-in-Ok
-returns-in-Ok c =
+pub returns : goal.returns
+returns c =
     let a = c.args in
-    let at-open-value = c.open_value-opened in
-    let at-opened = c.in-Ok in
-    let at-fit-of = c.fit_of in
-    let at-fitted = c.fitted in
-    let e = sym at-open-value.ensures ∙ at-opened.is in
+    let e = sym c.open_value.ensures ∙ c.in_ok-h.was in
     open_in a.file.now (lends a.names.now a.area.now) a.items.now a.item_area.now a.nodes.now
-    a.attributes.now a.node_count
-    a.attribute_count e at-fit-of.ensures at-fitted.ensures
+    a.attributes.now a.node_count a.attribute_count e c.fit_of.ensures c.fitted.ensures
 
-pub returns-in-Err : goal.returns-in-Err
-returns-in-Err c =
+pub returns-in_err-h : goal.returns-in_err-h
+returns-in_err-h c =
     let a = c.args in
-    let at-open-value = c.open_value-opened in
-    let at-opened2 = c.in-Err in
-    let e = sym at-open-value.ensures ∙ at-opened2.is in
-    open-out a.file.now (lends a.names.now a.area.now) a.items.now a.item_area.now a.nodes.now
-    a.attributes.now a.node_count
-    a.attribute_count e
+    let e = sym c.open_value.ensures ∙ c.in_err-h.was in
+    let r : ◌≡◌ {A = Result Head Refusal} c.from_residual.result (Err c.in_err-h.field-0.0) = search rules in
+    r ∙ open-out a.file.now (lends a.names.now a.area.now) a.items.now a.item_area.now a.nodes.now
+    a.attributes.now a.node_count a.attribute_count e

@@ -8,15 +8,12 @@
 --   Gives      what is answered and left behind, for the numbers z
 --   Fits       a text to compare with: not empty, and no longer than the buffer
 --   said_is     whether a text is there and is these bytes
---   is_pool     whether a value of the form is a string of the pool
-use Rattle.std.specs.Prelude.{ℕ, ◌+◌, ◌-◌, ◌*◌, ◌≤◌, ◌<◌, ◌≡◌, Bool, true, false, ◌||◌, List, ◌++◌, length, take, get_or, Result, Ok}
+use Rattle.std.specs.Prelude.{ℕ, ◌+◌, ◌-◌, ◌*◌, ◌≤◌, ◌<◌, ◌≡◌, Bool, false, ◌||◌, List, ◌++◌, length, take, get_or, Result, Ok}
 use Rattle.utf.specs.Text.{eq_bytes}
 use Rattle.records.specs.Words.{node_width, node_first, node_count, attribute_width}
 use Rattle.text.specs.Inner.Found.{Asks}
 use Rattle.items.specs.Items.{table_of}
 use Rattle.items.specs.Values.{Text, nothing, says}
-use Rattle.value_text.specs.declared.plain.Form.{Form}
-use Rattle.value_text.specs.declared.plain.Form.TheVariants.{Reference, Attribute, Pool, Number, Word, Truth, Color, Other}
 use Rattle.main_activities.specs.Activities.{Tree, children_from, children_of, any_of, is_main, is_launcher, is_filter, answer_by, list_by}
 use Rattle.errors.specs.declared.Refusal.{Refusal}
 
@@ -63,13 +60,3 @@ pub record Fits (expected out : List ℕ) : Type 0 where
 abbrev pub said_is : List ℕ → Text → Bool
 said_is s nothing = false
 said_is s (says x) = eq_bytes x s
-
-abbrev pub is_pool : Form → Bool
-is_pool Reference = false
-is_pool Attribute = false
-is_pool Pool = true
-is_pool Number = false
-is_pool Word = false
-is_pool Truth = false
-is_pool Color = false
-is_pool Other = false

@@ -5,4 +5,4 @@ use Rattle.many_texts.proofs.index_at.Goals as goal
 pub returns : goal.returns
 returns c =
     let a = c.args in
-    tells_at a.at c.within-from.result a.out.now _ c.within-from.ensures c.index_into.ensures
+    tells_at a.at c.min-from.result a.out.now _ c.min-from.ensures c.index_into.ensures

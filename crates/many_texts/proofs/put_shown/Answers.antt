@@ -20,11 +20,11 @@ returns-then-is_word c =
     let s = c in
     let a = s.args in
     λ l e.
-    puts-shown a.k a.at a.n _ l a.answers.now _ s.requires refl e c.behind-next.ensures
+    puts-shown a.k a.at a.n _ l a.answers.now _ s.requires refl e c.saturating_add-next.ensures
     c.state_number.ensures c.replaced_number.ensures c.put_answer.ensures
 
-pub returns : goal.returns
-returns c =
+pub returns-else-is_word : goal.returns-else-is_word
+returns-else-is_word c =
     let a = c.args in
     let past = leb-false (a.at + a.n) most_bytes (sym c.is_word.ensures ∙ c.if-is_word.false) in
-    λ s e. puts-past a.k a.at a.n _ s a.answers.now past e c.behind-next.ensures
+    λ s e. puts-past a.k a.at a.n _ s a.answers.now past e c.saturating_add-next.ensures

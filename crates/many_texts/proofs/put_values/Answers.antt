@@ -1,4 +1,4 @@
--- `many_texts::put_values` meets its contract. Invariant: the first k texts and answers (`Done`), and what is known. Measure: the records left.
+-- `many_texts::put_values` meets its contract. Invariant: the first k texts and answers (`Done`), and what is known.
 use native.Mathlib.Omega.{arith}
 use Rattle.system_types.specs.Names.{lends}
 use Rattle.many_texts.specs.Inner.Going.{record_value}
@@ -9,7 +9,6 @@ use Rattle.many_texts.proofs.put_values.Goals as goal
 pub loop-k-init : goal.loop-k-init
 loop-k-init c =
     let a = c.args in (
-      (omega arith, omega arith),
       omega arith,
       done_first (record_value a.h a.t.now (lends a.names.now a.area.now) a.items.now a.item_area.now a.attributes.now)
           a.out.now a.answers.now,
@@ -20,7 +19,6 @@ pub attribute_at-requires : goal.attribute_at-requires
 attribute_at-requires c = omega (
   arith,
   c.requires.3,
-  c.loop-k-test.true,
 )
 
 pub value_at-told-requires : goal.value_at-told-requires
@@ -28,26 +26,15 @@ value_at-told-requires c = (
   c.requires.0,
   c.requires.1,
   c.requires.2,
-  c.loop-k.invariant.3,
+  c.loop-k.invariant.2,
 )
 
 pub put_told-at-requires : goal.put_told-at-requires
 put_told-at-requires c = omega (
   arith,
-  c.loop-k.invariant.2.utf16,
+  c.loop-k.invariant.1.utf16,
   c.requires.4,
-  c.loop-k-test.true,
 )
-
-pub overflow_add-k : goal.overflow_add-k
-overflow_add-k c = omega (
-  arith,
-  c.loop-k-test.true,
-  c.loop-k.invariant.0,
-)
-
-pub loop-k-smaller : goal.loop-k-smaller
-loop-k-smaller c = omega (arith, c.loop-k-test.true)
 
 pub loop-k-preserved : goal.loop-k-preserved
 loop-k-preserved c =
@@ -56,16 +43,12 @@ loop-k-preserved c =
     c.loop-k.k
     c.attribute_at.ensures
     c.value_at-told.ensures.0 in (
-      (
-        omega (arith, c.loop-k-test.true),
-        c.loop-k.invariant.0.1,
-      ),
-      c.loop-k.invariant.1,
-      done-step c.loop-k.invariant.1
-          c.loop-k.invariant.2 t
+      c.loop-k.invariant.0,
+      done-step c.loop-k.invariant.0
+          c.loop-k.invariant.1 t
           (c.put_told-at.ensures _ t.told),
       c.value_at-told.ensures.1,
     )
 
 pub returns : goal.returns
-returns c = done_all (omega (arith, c.loop-k-test.false, c.loop-k.invariant.0)) c.loop-k.invariant.2
+returns c = done_all (omega arith) c.loop-k.invariant.1

@@ -3,16 +3,16 @@ use native.Mathlib.Omega.{arith}
 use Rattle.many_texts.proofs.Going.{gives-refused, gives-short, gives_all}
 use Rattle.many_texts.proofs.settle.Goals as goal
 
-pub returns-then-within-at : goal.returns-then-within-at
-returns-then-within-at c =
-    let w = c.within.ensures in
-    let taken = c.if-within-at.true in
+pub returns-then-min-at : goal.returns-then-min-at
+returns-then-min-at c =
+    let w = c.min.ensures in
+    let taken = c.if-min-at.true in
     λ one d. gives-refused (gives-short d c.requires
     (omega arith) (omega arith)) c.refuse.ensures
 
 pub returns : goal.returns
 returns c =
-    let w = c.within.ensures in
-    let left = c.if-within-at.false in
+    let w = c.min.ensures in
+    let left = c.if-min-at.false in
     λ one d. gives_all d c.requires (omega arith)
     (omega arith) c.zero_behind.ensures c.zero_from.ensures

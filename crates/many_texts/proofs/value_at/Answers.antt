@@ -8,8 +8,8 @@ value_by-requires c = c.requires
 pub returns : goal.returns
 returns c =
     let a = c.args in (
-      tells_at a.at c.within-from.result a.out.now _
-          c.within-from.ensures
+      tells_at a.at c.min-from.result a.out.now _
+          c.min-from.ensures
           c.value_by.ensures.0,
       c.value_by.ensures.1,
     )

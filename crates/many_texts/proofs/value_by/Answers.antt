@@ -2,7 +2,7 @@
 use mathlib.Core.Path.{refl}
 use Rattle.system_types.specs.Names.{lends}
 use Rattle.text.specs.Content.{content_of, text_in}
-use Rattle.value_text.proofs.Looking.{value-uri, value-no-name, value-run}
+use Rattle.value_text.proofs.Looking.{none_by, value-uri, value-no-name, value-run}
 use Rattle.many_texts.proofs.KnownLaws.{looks-same}
 use Rattle.many_texts.proofs.value_by.Goals as goal
 
@@ -15,8 +15,8 @@ returns-then-a-eq2 c =
       c.requires.3,
     )
 
-pub look_up-looked-requires : goal.look_up-looked-requires
-look_up-looked-requires c = (
+pub look_up-requires : goal.look_up-requires
+look_up-requires c = (
   c.requires.0,
   c.requires.1,
   c.requires.2,
@@ -28,32 +28,32 @@ named_into-requires c =
     let a = c.args in
     let lent = lends a.names.now a.area.now in
     let g = looks-same a.h a.t.now lent a.items.now a.item_area.now a.a.name.0 c.in-Some.is
-    c.look_up-looked.ensures.0 in (
+    c.look_up.ensures.0 in (
       c.requires.0,
       g.run.fits,
     )
 
-pub returns-in-None : goal.returns-in-None
-returns-in-None c =
+pub returns-in_default : goal.returns-in_default
+returns-in_default c =
     let a = c.args in
     let lent = lends a.names.now a.area.now in
-    let g = looks-same a.h a.t.now lent a.items.now a.item_area.now a.a.name.0 c.in-None.is
-    c.look_up-looked.ensures.0 in (
+    let g = looks-same a.h a.t.now lent a.items.now a.item_area.now a.a.name.0 (none_by c.look_up.result c.in_default.not-Some)
+    c.look_up.ensures.0 in (
       value-no-name a.h a.t.now lent a.items.now a.item_area.now a.a
           c.if-a-eq2.false g refl refl,
-      c.look_up-looked.ensures.1,
+      c.look_up.ensures.1,
     )
 
-pub returns-in-Some : goal.returns-in-Some
-returns-in-Some c =
+pub returns : goal.returns
+returns c =
     let a = c.args in
     let lent = lends a.names.now a.area.now in
     let g = looks-same a.h a.t.now lent a.items.now a.item_area.now a.a.name.0
     c.in-Some.is
-    c.look_up-looked.ensures.0 in
+    c.look_up.ensures.0 in
     let name = text_in (content_of a.h a.t.now lent a.a.name.0) in (
       value-run a.h a.t.now lent a.items.now a.item_area.now a.a
           c.if-a-eq2.false g.named
           (c.named_into.ensures name g.run),
-      c.look_up-looked.ensures.1,
+      c.look_up.ensures.1,
     )

@@ -1,9 +1,10 @@
 -- `res_string_pool::behind_garbage` meets its contract: the chunk is cut, or what follows it begins with the second header.
 use Prim.Native.Nat.{◌-◌}
-use mathlib.Core.Path.{sym, ap, ◌∙◌}
+use mathlib.Core.Path.{◌≡◌, sym, ap, ◌∙◌}
 use native.Mathlib.Omega.{arith}
+use borrow.Author.Rules.{rules}
 use lib.ListN.{length}
-use Rattle.res_string_pool.specs.Pool.{unread}
+use Rattle.res_string_pool.specs.Pool.{no_garbage, unread}
 use Rattle.res_string_pool.specs.declared.Garbage.{Garbage}
 use Rattle.res_string_pool.specs.declared.PoolEnd.TheVariants.{GarbageShort}
 use Rattle.res_string_pool.proofs.Ends.{behind_garbage-short, behind_garbage-by}
@@ -13,13 +14,13 @@ pub returns-then-s-n : goal.returns-then-s-n
 returns-then-s-n c =
     let a = c.args in
     let s = a.s.now in
-    let no_garbage = ap (λ (g : Garbage). unread g (GarbageShort (length s - 8))) c.no_garbage.ensures in
-    c.short.ensures ∙ (no_garbage ∙ sym (behind_garbage-short a.h s (omega arith)))
+    let none : c.default.result ≡ no_garbage = search rules in
+    c.short.ensures
+    ∙ ap (λ (g : Garbage). unread g (GarbageShort (length s - 8))) none
+    ∙ sym (behind_garbage-short a.h s (omega arith))
 
 pub returns : goal.returns
 returns c =
     let a = c.args in
     let skipped = c.content_size-skipped in
-    let n = c.to_usize-n in
-    let by = behind_garbage-by a.h a.s.now skipped.result n.result skipped.ensures n.ensures (omega arith) in
-    c.second.ensures ∙ by
+    c.second.ensures ∙ behind_garbage-by a.h a.s.now skipped.result skipped.ensures (omega arith)

@@ -1,17 +1,14 @@
--- `res_string_pool::outside_of` meets its contract. Invariant: k counts the offsets outside among the first i. Measure: n - i.
-use Prim.Native.Nat.{◌/◌}
-use mathlib.Core.Path.{◌≡◌, refl}
+-- `res_string_pool::outside_of` meets its contract. Invariant: k counts the offsets outside among the first i.
+use mathlib.Core.Path.{refl}
 use native.Mathlib.Omega.{arith}
-use lib.ListN.{length}
 use Rattle.res_string_pool.specs.Pool.{outside_of, offset_of}
 use Rattle.res_string_pool.proofs.Offsets.{outside_of-out, outside_of-in, outside_of-le}
 use Rattle.res_string_pool.proofs.outside_of.Goals as goal
-use Rattle.res_string_pool.proofs.outside_of.Goals.{then-size-to_usize, else-size-to_usize}
+use Rattle.res_string_pool.proofs.outside_of.Goals.{then-size-u32_at, else-size-u32_at}
 
--- ---- entering
 pub loop-i-init : goal.loop-i-init
 unfolding outside_of
-loop-i-init c = (omega arith, refl)
+loop-i-init c = refl
 
 pub overflow_add-k : goal.overflow_add-k
 overflow_add-k c =
@@ -22,17 +19,8 @@ pub loop-i-preserved : goal.loop-i-preserved
 unfolding offset_of
 loop-i-preserved c =
     let a = c.args in
-    let l = c.loop-i in (
-      omega arith,
-      elim c.if-size-to_usize.branch [
-        | then-size-to_usize w ↦ omega (arith, outside_of-out a.o.now a.size l.i (omega arith))
-        | else-size-to_usize w ↦ omega (arith, outside_of-in a.o.now a.size l.i (omega arith))
-      ],
-    )
-
--- ---- leaving
-pub returns : goal.returns
-returns c =
     let l = c.loop-i in
-    let e : l.i ≡ length c.args.o.now / 4 = omega arith in
-    rw (← e) l.invariant.1
+    elim c.if-size-u32_at.branch [
+      | then-size-u32_at w ↦ omega (arith, outside_of-out a.o.now a.size l.i (omega arith))
+      | else-size-u32_at w ↦ omega (arith, outside_of-in a.o.now a.size l.i (omega arith))
+    ]

@@ -1,11 +1,7 @@
--- `res_string_pool::outside_of` meets its contract. Invariant: k counts the offsets outside among the first i. Measure: n - i.
-use Prim.Native.Nat.{◌≤◌, ◌-◌}
+-- `res_string_pool::outside_of` meets its contract. Invariant: k counts the offsets outside among the first i.
 use mathlib.Core.Path.{◌≡◌}
 use Rattle.res_string_pool.specs.Pool.{outside_of}
 use Rattle.res_string_pool.proofs.outside_of.Given as goal
 
 abbrev pub invariant-loop-i : goal.invariant-loop-i
-invariant-loop-i l = (l.i ≤ l.n) × (l.k ≡ outside_of l.o l.size l.i)
-
-abbrev pub decreases-loop-i : goal.decreases-loop-i
-decreases-loop-i l = l.n - l.i
+invariant-loop-i l = l.k ≡ outside_of l.o l.size l.i

@@ -1,5 +1,5 @@
 -- `res_string_pool::pool_from` meets its contract: the five numbers are there or not (`pool_from-short`, `pool_from-by`).
-use mathlib.Core.Path.{sym, ◌∙◌}
+use mathlib.Core.Path.{refl, sym, ◌∙◌}
 use Rattle.res_string_pool.proofs.Ends.{pool_from-short, pool_from-by}
 use Rattle.res_string_pool.proofs.pool_from.Goals as goal
 
@@ -12,7 +12,6 @@ pub returns : goal.returns
 returns c =
     let a = c.args in
     let p = c.numbers_of-pool in
-    let styles = c.to_usize-2.ensures ∙ c.u32_at.ensures in
     pool_from-by
     a.garbage
     a.at
@@ -20,10 +19,10 @@ returns c =
     a.m.now
     p.result
     c.end_of-end.result
-    c.to_usize.result
-    c.to_usize-2.result
+    p.result.count
+    c.u32_at.result
     c.if-m-lt28.false
     p.ensures
-    c.to_usize.ensures
-    styles
+    refl
+    c.u32_at.ensures
     c.end_of-end.ensures

@@ -1,25 +1,14 @@
 -- `resource_map::map_of` meets its contract: by the case of the header (`map_of-of-short`, `map_of-of-whole`).
 use mathlib.Core.Path.{sym, ◌∙◌}
-use Prim.Native.Nat.{◌≤◌}
-use native.Mathlib.Omega.{arith}
-use lib.ListN.{length}
 use Rattle.common.proofs.Laws.{header_of-long}
 use Rattle.resource_map.proofs.Laws.{map_of-of-short, map_of-of-whole}
 use Rattle.resource_map.proofs.map_of.Goals as goal
 
 pub overflow_sub-s : goal.overflow_sub-s
-overflow_sub-s c =
-    let s = c.args.s.now in
-    let whole = sym c.header_at-read.ensures ∙ c.in-Some.is in
-    let long : 8 ≤ length s = header_of-long s whole in
-    omega arith
+overflow_sub-s c = header_of-long c.args.s.now (sym c.header_at.ensures ∙ c.in-Some.is)
 
-pub returns-in-None : goal.returns-in-None
-returns-in-None c =
-    let short = sym c.header_at-read.ensures ∙ c.in-None.is in
-    sym (map_of-of-short c.args.s.now short)
+pub returns-in_default : goal.returns-in_default
+returns-in_default c = sym (map_of-of-short c.args.s.now (sym c.header_at.ensures ∙ c.in_default.is))
 
-pub returns-in-Some : goal.returns-in-Some
-returns-in-Some c =
-    let whole = sym c.header_at-read.ensures ∙ c.in-Some.is in
-    c.ids_of.ensures ∙ sym (map_of-of-whole c.args.s.now whole)
+pub returns : goal.returns
+returns c = c.ids_of.ensures ∙ sym (map_of-of-whole c.args.s.now (sym c.header_at.ensures ∙ c.in-Some.is))

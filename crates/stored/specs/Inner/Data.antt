@@ -11,7 +11,8 @@
 --   Leads       a text at the front of a buffer, and the rest as it was
 --
 -- Every definition says what comes of any number, also outside. Laws: proofs/Laws.antt.
-use Rattle.std.specs.Prelude.{◌≡◌, ℕ, zero, suc, ◌+◌, ◌*◌, ◌/◌, ◌%◌, ◌≤◌, min, Bool, cond, List, [], ◌∷◌, ◌++◌, length, take, drop, nat_le, nat_lt, slice_index, slice_set}
+use Rattle.std.specs.Prelude.{◌≡◌, ℕ, zero, suc, ◌+◌, ◌*◌, ◌/◌, ◌%◌, ◌≤◌, min, nat_le, nat_lt, Bool, cond, List, [], ◌∷◌, ◌++◌}
+use Rattle.std.specs.Prelude.{length, take, drop, slice_index, slice_set}
 use Rattle.field.specs.Le.{u32le}
 use Rattle.digits.specs.Digits.{decimal}
 

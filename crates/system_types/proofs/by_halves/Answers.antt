@@ -1,11 +1,8 @@
 -- `system_types::by_halves` meets its contract. Invariant: the entries before `low` are below the id and those from `high` on
 -- above it (proofs/Search.antt, `Between`). Measure: the entries between.
 use Rattle.std.proofs.Common.{◌+◌, ◌-◌, ◌/◌, sym, arith}
-use Rattle.system_types.proofs.Search.{rising-found, between_first, between-low, between-high, between-missing}
+use Rattle.system_types.proofs.Search.{rising-found, between-missing}
 use Rattle.system_types.proofs.by_halves.Goals as goal
-
-pub loop-low-init : goal.loop-low-init
-loop-low-init c = between_first c.args.names.now c.args.wanted.0
 
 pub returns-then-found-wanted : goal.returns-then-found-wanted
 returns-then-found-wanted c =
@@ -15,22 +12,6 @@ returns-then-found-wanted c =
     let rising = c.requires in
     let fits = l.invariant.fits in
     sym (rising-found a.wanted.0 a.names.now m rising (omega arith) c.if-found-wanted.true)
-
-pub loop-low-preserved-then-found-wanted-2 : goal.loop-low-preserved-then-found-wanted-2
-loop-low-preserved-then-found-wanted-2 c =
-    let a = c.args in
-    let l = c.loop-low in
-    let m = l.low + (l.high - l.low) / 2 in
-    let rising = c.requires in
-    between-low a.names.now a.wanted.0 l.low l.high m rising l.invariant (omega arith) (omega arith) (omega arith)
-
-pub loop-low-preserved : goal.loop-low-preserved
-loop-low-preserved c =
-    let a = c.args in
-    let l = c.loop-low in
-    let m = l.low + (l.high - l.low) / 2 in
-    let rising = c.requires in
-    between-high a.names.now a.wanted.0 l.low l.high m rising l.invariant (omega arith) (omega arith) (omega arith)
 
 pub returns : goal.returns
 returns c =

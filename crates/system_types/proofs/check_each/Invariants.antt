@@ -1,11 +1,7 @@
--- `system_types::check_each` meets its contract. Invariant: what the entries left say is what all of them say. Measure: the
--- entries left.
-use Rattle.std.proofs.Common.{◌≡◌, ◌-◌, ◌*◌, ◌≤◌, drop}
+-- `system_types::check_each` meets its contract. Invariant: what the entries left say is what all of them say.
+use Rattle.std.proofs.Common.{◌≡◌, ◌*◌, drop}
 use Rattle.system_types.specs.Names.{names_from}
 use Rattle.system_types.proofs.check_each.Given as goal
 
 abbrev pub invariant-loop-k : goal.invariant-loop-k
-invariant-loop-k l = (l.k ≤ l.whole) × (names_from l.area l.last l.k (drop (3 * l.k) l.names) ≡ names_from l.area 0 0 l.names)
-
-abbrev pub decreases-loop-k : goal.decreases-loop-k
-decreases-loop-k l = l.whole - l.k
+invariant-loop-k l = names_from l.area l.last l.k (drop (3 * l.k) l.names) ≡ names_from l.area 0 0 l.names

@@ -60,4 +60,5 @@ key_by h t lent p n ns =
 
 abbrev pub keys_of : Key → List ℕ → ℕ → ℕ
 keys_of key w i =
-    key (get_or w (attribute_width * i + attribute_prefix) 0) (get_or w (attribute_width * i + attribute_name) 0) (get_or w (attribute_width * i + attribute_namespace) 0)
+    key (get_or w (attribute_width * i + attribute_prefix) 0) (get_or w (attribute_width * i + attribute_name) 0)
+    (get_or w (attribute_width * i + attribute_namespace) 0)

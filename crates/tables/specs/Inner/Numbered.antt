@@ -8,15 +8,13 @@
 --   Numbered   256 places of two words: what stands at a place is true of the index that it names, and two places of one text name one index for it
 --   met_at      whether an index has the same text as the one that stands at a place
 --   FirstOf    an index that stands for the text of i and for those at the places that have the same
---   ToldBy     what is told of two texts: nothing, that they are the same, or that they are not
-use Rattle.std.specs.Prelude.{ℕ, ◌+◌, ◌-◌, ◌*◌, ◌/◌, ◌%◌, ◌<◌, ◌≡◌, List, Bool, true, false, cond, length, get_or, eqb}
+--   ToldBy     what is told of two texts: nothing, or whether they are the same
+use Rattle.std.specs.Prelude.{ℕ, ◌+◌, ◌-◌, ◌*◌, ◌/◌, ◌%◌, ◌<◌, ◌≡◌, List, Option, IfSome, Bool, true, false, cond, length, get_or, eqb}
 use Rattle.system_types.specs.Names.{Lent}
 use Rattle.text.specs.Content.{content_of, same_name}
 use Rattle.text.specs.declared.Found.{Found}
 use Rattle.text.specs.declared.Found.TheVariants.{Nothing, Cut, System, Pool}
 use Rattle.text.specs.declared.Head.{Head}
-use Rattle.tables.specs.declared.numbers.Told.{Told}
-use Rattle.tables.specs.declared.numbers.Told.TheVariants.{Unknown, Same, Other}
 use Rattle.tables.specs.Inner.Keys.{hash_in}
 
 -- how many indices are kept, and how many words they take
@@ -69,7 +67,5 @@ pub record FirstOf (same : ℕ → ℕ → Bool) (m : List ℕ) (i r : ℕ) : Ty
   pub own : same i r ≡ true
   pub others : (k b : ℕ) → k < place_count → seen_at m k ≡ b + 1 → same i b ≡ true → r ≡ first_at m k
 
-abbrev pub ToldBy : Bool → Told → Type 0
-ToldBy same Unknown = Unit {0}
-ToldBy same Same = same ≡ true
-ToldBy same Other = same ≡ false
+abbrev pub ToldBy : Bool → Option Bool → Type 0
+ToldBy same told = IfSome told (λ known. known ≡ same)

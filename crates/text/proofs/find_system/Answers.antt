@@ -11,8 +11,8 @@ returns-then-h-index c =
     let a = s.args in
     system-past a.h a.t.now (lends a.names.now a.area.now) a.index.0 c.if-h-index.true
 
-pub get_type_name-name-requires : goal.get_type_name-name-requires
-get_type_name-name-requires c =
+pub get_type_name-requires : goal.get_type_name-requires
+get_type_name-requires c =
     let s = c in
     let a = s.args in
     rising-of-good (lends a.names.now a.area.now) s.requires.good
@@ -22,25 +22,25 @@ stripped-requires c =
     let s = c in
     let a = s.args in
     let q = system_name-of-good (lends a.names.now a.area.now) c.id_at-id.result.0 _ _ s.requires.good
-    (sym c.get_type_name-name.ensures ∙ c.in-Some.is) in
+    (sym c.get_type_name.ensures ∙ c.in-Some.is) in
     (q.0, q.2)
 
-pub returns-in-None : goal.returns-in-None
-returns-in-None c =
+pub returns-in_default : goal.returns-in_default
+returns-in_default c =
     let s = c in
     let p5 = c in
     let a = s.args in
     let id = map-slice a.h a.t.now a.index.0 s.requires.fits c.id_at-id.ensures in
     system-missing a.h a.t.now (lends a.names.now a.area.now) a.index.0 p5.if-h-index.false id
-    (sym c.get_type_name-name.ensures ∙ c.in-None.is)
+    (sym c.get_type_name.ensures ∙ c.in_default.is)
 
-pub returns-in-Some : goal.returns-in-Some
-returns-in-Some c =
+pub returns : goal.returns
+returns c =
     let s = c in
     let p7 = c in
     let p5 = c in
     let a = s.args in
     let id = map-slice a.h a.t.now a.index.0 s.requires.fits p5.id_at-id.ensures in
     system-name a.h a.t.now (lends a.names.now a.area.now) a.index.0 p7.if-h-index.false id
-    (sym c.get_type_name-name.ensures ∙ c.in-Some.is)
+    (sym c.get_type_name.ensures ∙ c.in-Some.is)
     (c.stripped.ensures a.h.utf16 a.t.now)

@@ -3,7 +3,6 @@ use mathlib.Core.Path.{sym, ap, ◌∙◌}
 use Rattle.text.specs.Inner.Found.{part_of}
 use Rattle.text.specs.Content.{Content, is_text}
 use Rattle.text.proofs.Read.{is_text-sound, is_text-unsound}
-use Rattle.text.proofs.Plains.{known-none}
 use Rattle.text.proofs.is_index_text.Goals as goal
 
 pub returns-then-not-is_sound : goal.returns-then-not-is_sound
@@ -15,9 +14,6 @@ returns-then-not-is_sound c =
     sym (is_text-unsound a.h.utf16 a.t.now a.area.now c.find-f.result a.bytes.now
     (λ i. (p6.shared_slice_known-1.given i).fits) (λ i. (c.shared_slice_known-3-1.given i).fits) e) ∙ ap
     (λ (p : Content). is_text p a.bytes.now) c.find-f.ensures.same
-
-pub same_part-requires : goal.same_part-requires
-same_part-requires c = (c.find-f.ensures.inside, known-none _)
 
 pub returns : goal.returns
 returns c =

@@ -12,6 +12,3 @@ returns-then-i-j c =
     let a = s.args in
     let at-index = content_of a.h a.t.now (lends a.names.now a.area.now) in
     c.has_text.ensures ∙ sym (same_text-self (at-index a.i.0)) ∙ ap (λ (x : Content). same_text (at-index a.i.0) x) (ap at-index c.if-i-j.true)
-
-pub returns : goal.returns
-returns c = rw (← c.find-f.ensures.same, ← c.find-g.ensures.same) c.same_found.ensures

@@ -15,7 +15,7 @@ overflow_add-result-in-Some c =
     let s = c in
     let p5 = c in
     let a = s.args in
-    let e = sym c.split_string-split.ensures ∙ c.in-Some.is in
+    let e = sym c.split_string.ensures ∙ c.in-Some.is in
     let q = string-pool-le a.utf16 a.t.now a.strings a.size a.o s.requires p5.if-size-o.false
     (data-slice a.utf16 a.t.now a.strings a.size a.o e) in
     omega arith
@@ -24,7 +24,7 @@ pub returns-in-None : goal.returns-in-None
 returns-in-None c =
     let s = c in
     let a = s.args in
-    let e = sym c.split_string-split.ensures ∙ c.in-None.is in
+    let e = sym c.split_string.ensures ∙ c.in-None.is in
     λ area. string-cut a.utf16 a.t.now a.strings a.size a.o s.requires area c.if-size-o.false
     (data-slice a.utf16 a.t.now a.strings a.size a.o e)
 
@@ -33,6 +33,6 @@ returns-in-Some c =
     let s = c in
     let p5 = c in
     let a = s.args in
-    let e = sym c.split_string-split.ensures ∙ c.in-Some.is in
+    let e = sym c.split_string.ensures ∙ c.in-Some.is in
     λ area. string-pool a.utf16 a.t.now a.strings a.size a.o s.requires area _ _ p5.if-size-o.false
     (data-slice a.utf16 a.t.now a.strings a.size a.o e)

@@ -2,16 +2,8 @@
 use mathlib.Core.Path.{ap, ◌∙◌}
 use lib.ListN.{length, take, drop}
 use Rattle.system_types.specs.Names.{without, android_attr}
-use Rattle.text.proofs.Parts.{stripped-stands, stripped-le, slice_of}
+use Rattle.text.proofs.Parts.{stripped-stands, slice_of}
 use Rattle.text.proofs.stripped.Goals as goal
-
-pub overflow_sub-result : goal.overflow_sub-result
-overflow_sub-result c =
-    let s = c in
-    let a = s.args in
-    let e = c.without_attr-rest.ensures in
-    stripped-le a.area.now a.start a.n (length c.without_attr-rest.result.now) s.requires.0 (ap length e ∙ ap
-    (λ (k : _). length (without android_attr (take k (drop a.start a.area.now)))) (slice_of a.start a.n))
 
 pub returns : goal.returns
 returns c =

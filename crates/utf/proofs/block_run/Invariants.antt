@@ -1,11 +1,7 @@
--- `utf::block_run` meets its contract. Invariant: what was passed is sound (`Ran`), and lies inside. Measure: the bytes left.
-use Prim.Native.Nat.{◌-◌, ◌≤◌}
-use lib.ListN.{length}
-use Rattle.utf.specs.Inner.StepRuns.{Ran}
+-- `utf::block_run` meets its contract. Invariant: what was passed is sound, and what is left is cut into blocks (`Passed`).
+use Rattle.std.specs.Slice.Iter.{chunks_exact_rest, chunks_exact_size}
+use Rattle.utf.proofs.Blocks.{Passed}
 use Rattle.utf.proofs.block_run.Given as goal
 
-abbrev pub invariant-loop-i : goal.invariant-loop-i
-invariant-loop-i l = Ran l.utf16 l.s l.at l.i × (l.i ≤ length l.s)
-
-abbrev pub decreases-loop-i : goal.decreases-loop-i
-decreases-loop-i l = length l.s - l.i
+abbrev pub invariant-loop-block : goal.invariant-loop-block
+invariant-loop-block l = Passed l.utf16 l.s l.at l.i (chunks_exact_size l.block-iterator) (chunks_exact_rest l.block-iterator)

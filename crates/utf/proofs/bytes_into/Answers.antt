@@ -1,22 +1,12 @@
 -- `utf::bytes_into` meets its contract. Invariant: what is written and what is left make the whole (`Written`). Measure: the bytes left.
-use native.Mathlib.Omega.{arith}
-use Rattle.utf.proofs.Filled.{none_written, fitting, written, all-written}
+use Rattle.utf.proofs.Filled.{fitting, written, all-written}
 use Rattle.utf.proofs.bytes_into.Goals as goal
-
-pub loop-at-init : goal.loop-at-init
-loop-at-init c = none_written _ _ _
 
 pub put_scalar-o-requires : goal.put_scalar-o-requires
 put_scalar-o-requires c =
     let k = c.next_of-t.ensures in
     let at-loop = c in
     (k.small, fitting _ _ _ _ _ _ _ _ _ at-loop.loop-at.invariant c.loop-at-test.true k at-loop.requires)
-
-pub overflow_add-at : goal.overflow_add-at
-overflow_add-at c = omega (arith, c.next_of-t.ensures)
-
-pub loop-at-smaller : goal.loop-at-smaller
-loop-at-smaller c = omega (arith, c.next_of-t.ensures)
 
 pub loop-at-preserved : goal.loop-at-preserved
 loop-at-preserved c =
@@ -27,9 +17,6 @@ loop-at-preserved c =
     let h = q.loop-at-test.true in
     let fits = fitting _ _ _ _ _ _ _ _ _ w h k q.requires in
     rw p.put_scalar-o.ensures.0 (written _ _ _ _ _ _ _ _ _ _ w h k fits p.put_scalar-o.ensures.1)
-
-pub shape_of-out : goal.shape_of-out
-shape_of-out c = c.loop-at.invariant.same
 
 pub returns : goal.returns
 returns c = all-written _ _ _ _ _ _ c.loop-at.invariant c.loop-at-test.false

@@ -34,5 +34,5 @@ returns c =
     let kept = p4 in
     let a = kept.args in
     rw (text_of-kept _ _ (sym kept.is_refused.ensures ∙ kept.if-is_refused.false))
-    (put_text-fits _ a.out.now _ _ (omega (arith, p4.bytes_len-n.ensures, p4.if-out-n.false)) (omega arith)
+    (put_text-fits _ a.out.now _ _ (omega (arith, p4.bytes_len-n.ensures)) (omega arith)
     c.bytes_into-2.ensures)

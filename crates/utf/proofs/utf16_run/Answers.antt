@@ -1,24 +1,16 @@
--- `utf::utf16_run` meets its contract. Invariant: what was passed is sound (`Ran`), and a byte more is counted. Measure: the bytes left before `end`.
-use Prim.Native.Nat.{ℕ, ◌<◌}
+-- `utf::utf16_run` meets its contract (Invariants.antt).
+use Prim.Native.Nat.{ℕ, ◌+◌, ◌*◌, ◌<◌}
+use mathlib.Core.Bool.{true}
+use mathlib.Core.Path.{subst}
 use native.Mathlib.Omega.{arith}
 use lib.ListN.{get_or}
-use Rattle.utf.proofs.Units.{ran-none, ran-unit}
+use Rattle.utf.specs.Inner.StepRuns.{Ran}
+use Rattle.utf.proofs.Units.{ran-unit}
 use Rattle.utf.proofs.utf16_run.Goals as goal
 
-pub loop-i-init : goal.loop-i-init
-loop-i-init c = (ran-none _ _ _, c.requires.0)
-
-pub overflow_add-i : goal.overflow_add-i
-overflow_add-i c = omega (arith, c.loop-i.invariant.1)
-
-pub returns-then-s-i-eq27 : goal.returns-then-s-i-eq27
-returns-then-s-i-eq27 c = c.loop-i.invariant.0
-
-pub loop-i-preserved : goal.loop-i-preserved
-loop-i-preserved c =
-    let l = c.loop-i in
-    let bytes : (i : ℕ) → get_or c.args.s.now i 0 < 256 = λ i. (c.type_inv.s i).fits in
-    (ran-unit _ _ _ l.invariant.0 (omega arith) bytes c.if-s-i-eq27.false, omega arith)
-
-pub returns : goal.returns
-returns c = c.loop-i.invariant.0
+pub loop-k-preserved : goal.loop-k-preserved
+loop-k-preserved c =
+    let a = c.args in
+    let i = a.at + 2 * c.loop-k.k in
+    let bytes : (n : ℕ) → get_or a.s.now n 0 < 256 = λ n. (c.type_inv.s n).fits in
+    subst (λ (n : ℕ). Ran true a.s.now a.at n) (omega arith) (ran-unit a.s.now a.at i c.loop-k.invariant (omega arith) bytes (λ e. omega arith))

@@ -12,8 +12,7 @@
 --   is_single   each step is a single unit: in UTF-8 ASCII, and in UTF-16 no surrogate
 --   ascii_units each unit of UTF-16 is ASCII, its low byte below 80 hexadecimal and its high byte 0, and no byte stands alone at the end
 --   low_bytes   the low bytes of the units; is_ascii_text: ASCII in either encoding
---   Agree      two lists have the same bytes from one place up to another
---   Paired     the steps at two places: whether they stand for the same, and the places after them; the texts from there on decide the rest
+--   Paired     the steps at two places stand for the same, and the texts from the places after them on decide the rest
 use Rattle.std.specs.Prelude.{◌≡◌, ℕ, ◌/◌, ◌≤◌, ◌<◌, Bool, true, false, not, ◌&&◌, List, [], ◌∷◌, eqb, ltb, drop, get_or}
 use Rattle.utf.specs.Text.{step_of, step_value, width_of, sound_of, steps_of, bytes_of, all_sound, eq_bytes}
 use Rattle.utf.specs.Plain.{is_ascii}
@@ -84,10 +83,7 @@ abbrev pub is_ascii_text : Bool → List ℕ → Bool
 is_ascii_text true s = ascii_units s
 is_ascii_text false s = is_ascii s
 
-pub record Agree (a b : List ℕ) (from to : ℕ) : Type 0 where
-  pub same : (k : ℕ) → from ≤ k → k < to → get_or a k 0 ≡ get_or b k 0
-
-pub record Paired (wa : Bool) (a : List ℕ) (i : ℕ) (wb : Bool) (b : List ℕ) (j : ℕ) (same : Bool) (i' j' : ℕ) : Type 0 where
+pub record Paired (wa : Bool) (a : List ℕ) (i : ℕ) (wb : Bool) (b : List ℕ) (j : ℕ) (i' j' : ℕ) : Type 0 where
   pub bytes : eq_bytes (bytes_of (steps_of wa (drop i a))) (bytes_of (steps_of wb (drop j b)))
-      ≡ same && eq_bytes (bytes_of (steps_of wa (drop i' a))) (bytes_of (steps_of wb (drop j' b)))
+      ≡ eq_bytes (bytes_of (steps_of wa (drop i' a))) (bytes_of (steps_of wb (drop j' b)))
   pub later : i < i'

@@ -5,11 +5,5 @@ use Rattle.walk.proofs.advance.Goals as goal
 
 pub advance_knowing-requires : goal.advance_knowing-requires
 advance_knowing-requires c =
-    let at-start = c in
-    let a = at-start.args in
-    (at-start.requires, knows-none a.file.now (lends a.names.now a.area.now) a.st)
-
-pub returns : goal.returns
-returns c =
-    let at-advance-knowing = c in
-    at-advance-knowing.advance_knowing.ensures.0
+    let a = c.args in
+    (c.requires, knows-none a.file.now (lends a.names.now a.area.now) a.st)

@@ -6,12 +6,10 @@ use Rattle.walk.proofs.advance_knowing.Goals as goal
 
 pub returns-in-Clearing : goal.returns-in-Clearing
 returns-in-Clearing c =
-    let at-start = c in
-    let at_stage = c in
-    let a = at-start.args in
+    let a = c.args in
     let r = c.clear_next in (
       (λ g.
           rw r.ensures
           (goes-clearing a.file.now (lends a.names.now a.area.now) a.nodes.now a.attributes.now a.st g _ c.in-Clearing.is)),
-      knows-cleared a.file.now (lends a.names.now a.area.now) _ _ at-start.requires.1.looks-room at-start.requires.1.texts-room a.st _ _ r.ensures,
+      knows-cleared a.file.now (lends a.names.now a.area.now) _ _ c.requires.1.looks-room c.requires.1.texts-room a.st _ _ r.ensures,
     )

@@ -13,10 +13,15 @@ use Rattle.walk.proofs.Advancing.{ReadHead}
 use Rattle.walk.proofs.read_on.Given as goal
 
 abbrev pub invariant-loop-x : goal.invariant-loop-x
-invariant-loop-x l = (length l.nodes ≡ length l.initial.nodes) × (length l.attributes ≡ length l.initial.attributes) × (length l.memory ≡ length l.initial.memory) × (length l.numbers ≡ length l.initial.numbers) ×
-    ((g : StateOk l.file (lends l.names l.area) l.initial.nodes l.initial.attributes l.st) → ReadHead l.file (lends l.names l.area) l.initial.nodes l.initial.attributes l.st g l.nodes l.attributes l.cur l.tree) ×
-    Remembers l.st.opened.head (tables_in l.file l.st.opened.head) (lends l.names l.area) l.memory ×
-    Numbered l.st.opened.head (tables_in l.file l.st.opened.head) (lends l.names l.area) l.numbers
+invariant-loop-x l =
+    let i = l.initial in
+    let lent = lends l.names l.area in
+    let h = l.st.opened.head in
+    (length l.nodes ≡ length i.nodes) × (length l.attributes ≡ length i.attributes)
+    × (length l.memory ≡ length i.memory) × (length l.numbers ≡ length i.numbers)
+    × ((g : StateOk l.file lent i.nodes i.attributes l.st)
+    → ReadHead l.file lent i.nodes i.attributes l.st g l.nodes l.attributes l.cur l.tree)
+    × Remembers h (tables_in l.file h) lent l.memory × Numbered h (tables_in l.file h) lent l.numbers
 
 abbrev pub decreases-loop-x : goal.decreases-loop-x
 decreases-loop-x l = steps (body_in l.file l.st.opened.head) l.cur

@@ -7,44 +7,35 @@ use Rattle.walk.proofs.start.Goals as goal
 
 pub read_on-requires : goal.read_on-requires
 read_on-requires c =
-    let at-enter = c in
-    let at-entered2 = c in
-    let at-started = c in
-    let at-start = c in
-    let a = at-start.args in
-    let s = at-started.started in
-    let e = sym at-enter.enter-entered.ensures ∙ c.in-Ok.is in
-    let p = started-asks a.file.now (lends a.names.now a.area.now) a.nodes.now a.attributes.now a.st at-start.requires.0 at-start.requires.1 e
-    s.result s.ensures in
-    (p.0, p.1, knows-started a.file.now (lends a.names.now a.area.now) _ _ at-start.requires.2.looks-room at-start.requires.2.texts-room a.st at-start.requires.1 at-start.requires.2 _ s.result s.ensures)
+    let a = c.args in
+    let s = c.started in
+    let e = sym c.enter.ensures ∙ c.in-Ok.is in
+    let p = started-asks a.file.now (lends a.names.now a.area.now) a.nodes.now a.attributes.now a.st c.requires.0 c.requires.1 e
+    s.result s.ensures in (
+      p.0,
+      p.1,
+      knows-started a.file.now (lends a.names.now a.area.now) _ _ c.requires.2.looks-room c.requires.2.texts-room a.st c.requires.1 c.requires.2 _
+          s.result s.ensures,
+    )
 
 pub returns-in-Err : goal.returns-in-Err
 returns-in-Err c =
-    let at-refuse = c in
-    let at-enter = c in
-    let at-entered = c in
-    let at-start = c in
-    let a = at-start.args in
-    let r = at-refuse.refuse in
-    let e = sym at-enter.enter-entered.ensures ∙ c.in-Err.is in (
+    let a = c.args in
+    let r = c.refuse in
+    let e = sym c.enter.ensures ∙ c.in-Err.is in (
       (λ g.
-          fresh-out a.file.now (lends a.names.now a.area.now) a.nodes.now a.attributes.now a.st g at-start.requires.1 e
+          fresh-out a.file.now (lends a.names.now a.area.now) a.nodes.now a.attributes.now a.st g c.requires.1 e
           r.result r.new.nodes r.new.attributes r.ensures),
-      knows-refused a.file.now (lends a.names.now a.area.now) _ _ at-start.requires.2.looks-room at-start.requires.2.texts-room _ _ _ _ _ _ _ r.ensures,
+      knows-refused a.file.now (lends a.names.now a.area.now) _ _ c.requires.2.looks-room c.requires.2.texts-room _ _ _ _ _ _ _ r.ensures,
     )
 
 pub returns-in-Ok : goal.returns-in-Ok
 returns-in-Ok c =
-    let at-read-on = c in
-    let at-started = c in
-    let at-enter = c in
-    let at-entered2 = c in
-    let at-start = c in
-    let a = at-start.args in
-    let q = at-read-on.read_on in
-    let e = sym at-enter.enter-entered.ensures ∙ c.in-Ok.is in (
+    let a = c.args in
+    let q = c.read_on in
+    let e = sym c.enter.ensures ∙ c.in-Ok.is in (
       (λ g.
-          advanced-started a.file.now (lends a.names.now a.area.now) a.nodes.now a.attributes.now a.st g at-start.requires.1 e
-          at-started.started.result at-started.started.ensures q.result q.new.nodes q.new.attributes q.ensures.0),
+          advanced-started a.file.now (lends a.names.now a.area.now) a.nodes.now a.attributes.now a.st g c.requires.1 e
+          c.started.result c.started.ensures q.result q.new.nodes q.new.attributes q.ensures.0),
       q.ensures.1,
     )

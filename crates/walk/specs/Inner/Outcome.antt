@@ -57,50 +57,22 @@ first room cap mode = record {
 
 -- the head o is opened
 abbrev pub started_by : State → Opened → State
-started_by st o = record {
-  done = false;
-  slot = 0;
-  note = zero_note;
-  room = st.room;
-  cap = st.cap;
-  mode = st.mode;
-  stage = InBody;
-  opened = o;
-  cur = first_cursor;
-  tree = no_tree;
-  notes = no_notes;
-}
+started_by st o = record (first st.room st.cap st.mode) { stage = InBody; opened = o }
 
 -- the answer is a; the note table is to be cleared from the place c on
 abbrev pub clearing_at : State → ℕ → Result ReadCounts Refusal → State
-clearing_at st c a = record {
-  done = cond (ltb c st.room) false true;
-  slot = c;
-  note = zero_note;
-  room = st.room;
-  cap = st.cap;
-  mode = st.mode;
-  stage = Clearing a;
-  opened = st.opened;
-  cur = st.cur;
-  tree = st.tree;
-  notes = st.notes;
-}
+clearing_at st c a = record st { done = cond (ltb c st.room) false true; slot = c; note = zero_note; stage = Clearing a }
 
 abbrev pub clear_next : State → Result ReadCounts Refusal → State
 clear_next st a = clearing_at st (cond (ltb st.slot st.room) (st.slot + 1) st.slot) a
 
 -- a note is to be written
 abbrev pub noted_by : State → Cursor → Tree → ResAnomaly → State
-noted_by st c t x = record {
+noted_by st c t x = record st {
   done = false;
   slot = st.notes.used;
   note = note_of x;
-  room = st.room;
-  cap = st.cap;
-  mode = st.mode;
   stage = InBody;
-  opened = st.opened;
   cur = c;
   tree = t;
   notes = stored_in st.notes (kind_index x);
@@ -206,5 +178,6 @@ AdvanceKeeps f lent ns ats st r ns' ats' = (g : StateOk f lent ns ats st) → Ad
 -- ---- the whole
 
 -- what a call of `read` leaves, as one equation
-pub record Leaves (f : List ℕ) (lent : Lent) (ns ats : List ℕ) (os : List NoteOf) (cap mode : ℕ) (r : Result ReadCounts Refusal) (ns' ats' : List ℕ) (os' : List NoteOf) : Type 0 where
+pub record Leaves (f : List ℕ) (lent : Lent) (ns ats : List ℕ) (os : List NoteOf) (cap mode : ℕ) (r : Result ReadCounts Refusal) (ns' ats' : List ℕ)
+    (os' : List NoteOf) : Type 0 where
   pub whole : record { answer = r; nodes = ns'; attributes = ats'; notes = os' } ≡ reading (room_in ns ats os cap mode) f lent

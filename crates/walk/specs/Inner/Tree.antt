@@ -4,11 +4,15 @@
 --   Sized, Fit   the numbers fit the tables, and more fit a u32
 --   Tied         the numbers tell the tables: the open elements are the list o, linked by the parent words
 --   Chained      the last node's attributes behind the first 32 are linked, in the words behind the nodes; Far where the next one is to be linked
---   Keeps        what `keep` does with an attribute: it Repeats one, Lacks a place, or `keep` Stores it; KeepsIn where those before it are Chained
---   Places       what `place` does with an event: it is PutAway, one push of specs/Settle.antt; or it is refused, or Passes to the caller
+--   Keeps        what `keep` does with an attribute: it Repeats one (None), `keep` Stores it, or it Lacks a place (refused); KeepsIn where those
+--               before it are Chained
+--   Places       what `place` does with an event: it is PutAway (Ok), one push of specs/Settle.antt; or it is refused, or Passes to the caller
 --   AsksFor      an attribute asks for texts, and its name is valid but for the leading one's; no other event asks
-use Rattle.std.specs.Prelude.{ℕ, ◌+◌, ◌-◌, ◌*◌, ◌≤◌, ◌<◌, ◌≡◌, List, [], ◌∷◌, ◌++◌, true, false, cond, length, take, drop, set, get_or, eqb}
+use Rattle.std.specs.Prelude.{ℕ, ◌+◌, ◌-◌, ◌*◌, ◌≤◌, ◌<◌, ◌≡◌, List, [], ◌∷◌, ◌++◌, true, false, cond}
+use Rattle.std.specs.Prelude.{length, take, drop, set, get_or, eqb, ◌/◌, Option, Some, None, Result, Ok, Err}
 use Rattle.anomaly.specs.declared.Note.{Note as NoteOf}
+use Rattle.errors.specs.declared.Refusal.{Refusal}
+use Rattle.errors.specs.declared.Refusal.TheVariants.{AttributesFull}
 use Rattle.text.specs.Content.{content_of, is_name}
 use Rattle.text.specs.Inner.Found.{Asks}
 use Rattle.text.specs.declared.Head.{Head}
@@ -21,10 +25,8 @@ use Rattle.events.specs.declared.Event.TheVariants.{Nothing, Open, Attribute, Le
 use Rattle.tables.specs.Inner.Keys.{Key, keys_of}
 use Rattle.tables.specs.Inner.Ways.{link_width, front_words, Hung}
 use Rattle.walk.specs.declared.tree.Tree.{Tree}
-use Rattle.walk.specs.declared.tree.Put.{Put}
-use Rattle.walk.specs.declared.tree.Put.TheVariants.{NotStored, Full as NoPlace, Stored}
-use Rattle.walk.specs.declared.placing.Placed.{Placed}
-use Rattle.walk.specs.declared.placing.Placed.TheVariants.{Done, Full, Due, Finished}
+use Rattle.walk.specs.declared.placing.Stop.{Stop}
+use Rattle.walk.specs.declared.placing.Stop.TheVariants.{Full, Due, Finished}
 use Rattle.walk.specs.Settle.{Room, Tables, going, refused, push}
 use Rattle.walk.specs.Reading.{Dropped, none_dropped, dropped_from, dropped_in}
 
@@ -35,18 +37,18 @@ parent_of t = cond (eqb t.nodes 0) no_parent t.inner
 
 abbrev pub opened_tree : Tree → Tree
 opened_tree t =
-    cond (eqb t.nodes 0) (record { nodes = 1; attributes = t.attributes; first = t.attributes; inner = 0; above_root = 0; attributes_before_it = 0 })
+    cond (eqb t.nodes 0) (record t { nodes = 1; first = t.attributes; inner = 0; above_root = 0; attributes_before_it = 0 })
     (cond (eqb t.inner 0)
-    (record { nodes = t.nodes + 1; attributes = t.attributes; first = t.attributes; inner = t.nodes; above_root = t.nodes; attributes_before_it = t.attributes })
-    (record { nodes = t.nodes + 1; attributes = t.attributes; first = t.attributes; inner = t.nodes; above_root = t.above_root; attributes_before_it = t.attributes_before_it }))
+    (record t { nodes = t.nodes + 1; first = t.attributes; inner = t.nodes; above_root = t.nodes; attributes_before_it = t.attributes })
+    (record t { nodes = t.nodes + 1; first = t.attributes; inner = t.nodes }))
 
 abbrev pub closed_tree : Tree → ℕ → Tree
 closed_tree t p =
-    cond (eqb p 0) (record { nodes = t.nodes; attributes = t.attributes; first = t.first; inner = 0; above_root = 0; attributes_before_it = 0 })
-    (record { nodes = t.nodes; attributes = t.attributes; first = t.first; inner = p; above_root = t.above_root; attributes_before_it = t.attributes_before_it })
+    cond (eqb p 0) (record t { inner = 0; above_root = 0; attributes_before_it = 0 })
+    (record t { inner = p })
 
 abbrev pub kept_tree : Tree → Tree
-kept_tree t = record { nodes = t.nodes; attributes = t.attributes + 1; first = t.first; inner = t.inner; above_root = t.above_root; attributes_before_it = t.attributes_before_it }
+kept_tree t = record t { attributes = t.attributes + 1 }
 
 -- the words of the node that opens
 abbrev pub opened_words : Tree → ℕ → ℕ → ℕ → List ℕ
@@ -90,13 +92,20 @@ pub record Tied (ns ats : List ℕ) (t : Tree) (o : List ℕ) : Type 0 where
   pub linked : Linked (take (node_width * t.nodes) ns) o
   pub top : top_of o ≡ t.inner
   pub above_root : above_root_of (dropped_in o) ≡ t.above_root
-  pub attributes_before_it : (t.above_root ≡ 0 → ⊥) → get_or (take (node_width * t.nodes) ns) (node_width * t.above_root + node_first) 0 ≡ t.attributes_before_it
+  pub attributes_before_it : (t.above_root ≡ 0 → ⊥)
+      → get_or (take (node_width * t.nodes) ns) (node_width * t.above_root + node_first) 0 ≡ t.attributes_before_it
   pub below : t.attributes_before_it ≤ t.attributes
 
 -- with the notes os and the counts cs
 abbrev pub tables_of : List ℕ → List ℕ → Tree → List ℕ → List NoteOf → List ℕ → Tables
-tables_of ns ats t o os cs =
-    record { nodes = take (node_width * t.nodes) ns; attributes = take (attribute_width * t.attributes) ats; first = attribute_width * t.first; stack = o; notes = os; counts = cs }
+tables_of ns ats t o os cs = record {
+  nodes = take (node_width * t.nodes) ns;
+  attributes = take (attribute_width * t.attributes) ats;
+  first = attribute_width * t.first;
+  stack = o;
+  notes = os;
+  counts = cs;
+}
 
 -- ---- an attribute
 
@@ -132,6 +141,12 @@ pub record Puts (u t : Tree) (p : ℕ) (a : XmlAttributeElement) (ns ats ns' ats
   pub attributes : ats' ≡ take (attribute_width * t.attributes) ats ++ new_words t p a ++ drop (attribute_width * t.attributes + attribute_width) ats
   pub nodes : ns' ≡ set ns (node_width * (t.nodes - 1) + node_count) (t.attributes + 1 - t.first)
 
+-- or it has no place
+abbrev pub PutsIn : Result Tree Refusal → Tree → ℕ → XmlAttributeElement → List ℕ → List ℕ → List ℕ → List ℕ → Type 0
+PutsIn (Ok u) t p a ns ats ns' ats' = (attribute_width * t.attributes + attribute_width ≤ length ats) × Puts u t p a ns ats ns' ats'
+PutsIn (Err x) t p a ns ats ns' ats' =
+    (x ≡ AttributesFull (length ats / attribute_width)) × (length ats < attribute_width * t.attributes + attribute_width)
+
 -- it repeats one of its element, or there is no element
 pub record Repeats (rule : Rule) (t : Tree) (p : ℕ) (a : XmlAttributeElement) (ns ats ns' ats' : List ℕ) : Type 0 where
   pub there : (t.nodes ≡ 0 → ⊥) → is_repeat rule (new_words t p a) (own_words t ats) ≡ true
@@ -154,12 +169,12 @@ pub record Stores (rule : Rule) (key : Key) (u t : Tree) (p : ℕ) (a : XmlAttri
   pub nodes : take (node_width * t.nodes) ns' ≡ set (take (node_width * t.nodes) ns) (node_width * (t.nodes - 1) + node_count) (t.attributes + 1 - t.first)
   pub chained : Chained key ns' ats' u
 
-abbrev pub Keeps : Rule → Key → Put → Tree → ℕ → XmlAttributeElement → List ℕ → List ℕ → List ℕ → List ℕ → Type 0
-Keeps rule key NotStored t p a ns ats ns' ats' = Repeats rule t p a ns ats ns' ats'
-Keeps rule key NoPlace t p a ns ats ns' ats' = Lacks rule t p a ats
-Keeps rule key (Stored u) t p a ns ats ns' ats' = Stores rule key u t p a ns ats ns' ats'
+abbrev pub Keeps : Rule → Key → Result (Option Tree) Refusal → Tree → ℕ → XmlAttributeElement → List ℕ → List ℕ → List ℕ → List ℕ → Type 0
+Keeps rule key (Ok None) t p a ns ats ns' ats' = Repeats rule t p a ns ats ns' ats'
+Keeps rule key (Ok (Some u)) t p a ns ats ns' ats' = Stores rule key u t p a ns ats ns' ats'
+Keeps rule key (Err x) t p a ns ats ns' ats' = (x ≡ AttributesFull (length ats / attribute_width)) × Lacks rule t p a ats
 
-abbrev pub KeepsIn : Rule → Key → Put → Tree → ℕ → XmlAttributeElement → List ℕ → List ℕ → List ℕ → List ℕ → Type 0
+abbrev pub KeepsIn : Rule → Key → Result (Option Tree) Refusal → Tree → ℕ → XmlAttributeElement → List ℕ → List ℕ → List ℕ → List ℕ → Type 0
 KeepsIn rule key r t p a ns ats ns' ats' = Chained key ns ats t → Keeps rule key r t p a ns ats ns' ats'
 
 -- ---- an event
@@ -179,23 +194,23 @@ pub record Passes (e e' : Event) (ns ats ns' ats' : List ℕ) : Type 0 where
   pub nodes : ns' ≡ ns
   pub attributes : ats' ≡ ats
 
-abbrev pub PlacesBy : Rule → Key → Placed → List ℕ → List ℕ → Tree → List ℕ → Event → List ℕ → List ℕ → Type 0
-PlacesBy rule key (Done u) ns ats t o e ns' ats' = PutAway rule key u ns ats t o e ns' ats'
-PlacesBy rule key (Full x) ns ats t o e ns' ats' =
+abbrev pub PlacesBy : Rule → Key → Result Tree Stop → List ℕ → List ℕ → Tree → List ℕ → Event → List ℕ → List ℕ → Type 0
+PlacesBy rule key (Ok u) ns ats t o e ns' ats' = PutAway rule key u ns ats t o e ns' ats'
+PlacesBy rule key (Err (Full x)) ns ats t o e ns' ats' =
     (r : Room) (os : List NoteOf) (cs : List ℕ) → r.nodes ≡ length ns → r.attributes ≡ length ats
     → push rule r (going (tables_of ns ats t o os cs)) e ≡ refused x
-PlacesBy rule key (Due x) ns ats t o e ns' ats' = Passes e (Note x) ns ats ns' ats'
-PlacesBy rule key Finished ns ats t o e ns' ats' = Passes e Finish ns ats ns' ats'
+PlacesBy rule key (Err (Due x)) ns ats t o e ns' ats' = Passes e (Note x) ns ats ns' ats'
+PlacesBy rule key (Err Finished) ns ats t o e ns' ats' = Passes e Finish ns ats ns' ats'
 
-abbrev pub Places : Rule → Key → Placed → List ℕ → List ℕ → Tree → Event → List ℕ → List ℕ → Type 0
+abbrev pub Places : Rule → Key → Result Tree Stop → List ℕ → List ℕ → Tree → Event → List ℕ → List ℕ → Type 0
 Places rule key p ns ats t e ns' ats' = (o : List ℕ) → Tied ns ats t o → Chained key ns ats t → PlacesBy rule key p ns ats t o e ns' ats'
 
 -- what is put away is not the end
-abbrev pub NotEnd : Placed → Event → Type 0
-NotEnd (Done u) e = e ≡ Finish → ⊥
-NotEnd (Full x) e = Unit {0}
-NotEnd (Due x) e = Unit {0}
-NotEnd Finished e = Unit {0}
+abbrev pub NotEnd : Result Tree Stop → Event → Type 0
+NotEnd (Ok u) e = e ≡ Finish → ⊥
+NotEnd (Err (Full x)) e = Unit {0}
+NotEnd (Err (Due x)) e = Unit {0}
+NotEnd (Err Finished) e = Unit {0}
 
 abbrev pub AsksFor : Event → List ℕ → Lent → Head → Type 0
 AsksFor (Attribute p a) t lent h = Asks t lent h × ((p ≡ 2 → ⊥) → is_name (content_of h t lent a.name.0) ≡ true)

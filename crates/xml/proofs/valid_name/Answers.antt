@@ -28,29 +28,10 @@ loop-at-init c =
     let begun = valid_name-begins a.utf16 a.s.now (omega arith) bytes in
     sym (goes _ _ _ begun (sym c.begins_well.ensures ∙ c.if-not-begins_well.false))
 
-pub stretch_at-p-requires : goal.stretch_at-p-requires
-stretch_at-p-requires c = c.loop-at-test.true
-
 pub chars_run-at-requires : goal.chars_run-at-requires
 chars_run-at-requires c =
     let p = c.stretch_at-p.ensures in
     (classes-right, p.ends, omega (arith, p.farther))
-
-pub returns-then-at-p : goal.returns-then-at-p
-returns-then-at-p c =
-    let q = c in
-    let r = c.chars_run-at.ensures in
-    sym (r.stuck c.if-at-p.true) ∙ r.passed.rest ∙ q.stretch_at-p.ensures.seen.passed.rest ∙ q.loop-at.invariant
-
-pub loop-at-smaller : goal.loop-at-smaller
-loop-at-smaller c =
-    let q = c in
-    omega (arith, q.stretch_at-p.ensures.farther, c.if-at-p.false, q.loop-at-test.true)
-
-pub loop-at-preserved : goal.loop-at-preserved
-loop-at-preserved c =
-    let q = c in
-    c.chars_run-at.ensures.passed.rest ∙ q.stretch_at-p.ensures.seen.passed.rest ∙ q.loop-at.invariant
 
 pub returns : goal.returns
 returns c =

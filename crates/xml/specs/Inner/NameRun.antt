@@ -1,16 +1,20 @@
 -- What the code is told while it goes through a name. Only the contracts of inner functions cite this file.
 --
 --   IsTable    a table that has the class of each byte
+--   sort_number  the number of a sort (src/lib.rt): 1 first or later in a name, 2 later only, 0 in none
 --   sort_at     what a step is in a name: the sort of its value, and in none where it is bad in UTF-16, whose text is then refused
 --   begins     the first step is a start
 --   chars_in    what is left of a name, from a place on: each value is a char, and nothing is refused
 --   Told       the step at a place inside: what it is in a name, and how far it goes
 --   Passed     what lies between two places is chars of a name
 --   Seen       the same, and it is sound: no U+FFFD stands for a part of it
---   Went       from a place on so many bytes are chars of a name; where they are none, what is left from there on is no part of one
+--   Takes      from a place inside on so many bytes, one at least, are chars of a name, and sound
+--   Went       from a place on so many bytes, one at least, are chars of a name
 --   Reached    what lies between two places is chars of a name, and where the second lies before `to`, what is left from there on is no part of one
 --   Ahead      what lies before `from` is chars of a name, and sound; `to` is a place inside or the end, behind `at`
 use Rattle.std.specs.Prelude.{◌≡◌, ℕ, ◌+◌, ◌≤◌, ◌<◌, Bool, false, not, ◌&&◌, cond, List, eqb, length, get_or, drop}
+use Rattle.xml.specs.declared.Sort.{Sort}
+use Rattle.xml.specs.declared.Sort.TheVariants.{Outside, Start, Later}
 use Rattle.utf.specs.declared.Step.{Step}
 use Rattle.utf.specs.Text.{step_of, step_value, width_of, sound_of, steps_of, is_sound, refused}
 use Rattle.xml.specs.NCName.{char_sort, class_of, all_char}
@@ -18,6 +22,11 @@ use Rattle.xml.specs.NCName.{char_sort, class_of, all_char}
 pub record IsTable (t : List ℕ) : Type 0 where
   pub size : length t ≡ 256
   pub right : (b : ℕ) → b < 256 → get_or t b 0 ≡ class_of b
+
+abbrev pub sort_number : Sort → ℕ
+sort_number Outside = 0
+sort_number Start = 1
+sort_number Later = 2
 
 abbrev pub sort_by : Bool → Bool → ℕ → ℕ
 sort_by utf16 sound v = cond (utf16 && not sound) 0 (char_sort v)
@@ -45,9 +54,14 @@ pub record Seen (utf16 : Bool) (s : List ℕ) (at to : ℕ) : Type 0 where
   pub passed : Passed utf16 s at to
   pub sound : is_sound utf16 (drop to s) ≡ is_sound utf16 (drop at s)
 
+pub record Takes (utf16 : Bool) (s : List ℕ) (at width : ℕ) : Type 0 where
+  pub seen : Seen utf16 s at (at + width)
+  pub least : 1 ≤ width
+  pub most : at + width ≤ length s
+
 pub record Went (utf16 : Bool) (s : List ℕ) (at width : ℕ) : Type 0 where
   pub passed : Passed utf16 s at (at + width)
-  pub stuck : width ≡ 0 → chars_in utf16 (drop at s) ≡ false
+  pub least : 1 ≤ width
   pub most : at + width ≤ length s + 4
 
 pub record Reached (utf16 : Bool) (s : List ℕ) (at to r : ℕ) : Type 0 where

@@ -3,7 +3,6 @@ use Rattle.xml_elements.specs.Chunk.{turn_of}
 use Rattle.events.proofs.Model.{rest}
 use native.Mathlib.Omega.{arith}
 use Rattle.xml_elements.proofs.Laws.{foreign-there, met-there}
-use Rattle.events.specs.Inner.Steps.{turn_step}
 use mathlib.Core.Path.{◌∙◌, sym, ap}
 use Rattle.events.proofs.turns.turn_step.Goals as goal
 
@@ -12,7 +11,7 @@ foreign_step-requires c =
     let start = c in
     let a = start.args in
     let v = c.in-Foreign in
-    let e = c.look-turn.ensures ∙ ap turn_of (rest a.b.now a.c.at) in
+    let e = c.look.ensures ∙ ap turn_of (rest a.b.now a.c.at) in
     let q = foreign-there a.b.now a.c.at v.sort v.number v.used (sym e ∙ v.is) start.requires.0 in
     (q.2, start.requires.1)
 
@@ -21,30 +20,6 @@ chunk_step-requires c =
     let start = c in
     let a = start.args in
     let v = c.in-Met in
-    let e = c.look-turn.ensures ∙ ap turn_of (rest a.b.now a.c.at) in
+    let e = c.look.ensures ∙ ap turn_of (rest a.b.now a.c.at) in
     let q = met-there a.b.now a.c.at v.x (sym e ∙ v.is) start.requires.0 in
     omega (arith, q.1, start.requires.1)
-
-pub returns-in-Stop : goal.returns-in-Stop
-returns-in-Stop c =
-    let a = c.args in
-    let e = c.look-turn.ensures ∙ ap turn_of (rest a.b.now a.c.at) in
-    c.quiet_step.ensures ∙ ap (turn_step a.b.now a.c) (sym c.in-Stop.is ∙ e)
-
-pub returns-in-Foreign : goal.returns-in-Foreign
-returns-in-Foreign c =
-    let a = c.args in
-    let e = c.look-turn.ensures ∙ ap turn_of (rest a.b.now a.c.at) in
-    c.foreign_step.ensures ∙ ap (turn_step a.b.now a.c) (sym c.in-Foreign.is ∙ e)
-
-pub returns-in-Met : goal.returns-in-Met
-returns-in-Met c =
-    let a = c.args in
-    let e = c.look-turn.ensures ∙ ap turn_of (rest a.b.now a.c.at) in
-    c.chunk_step.ensures ∙ ap (turn_step a.b.now a.c) (sym c.in-Met.is ∙ e)
-
-pub returns-in-Cut : goal.returns-in-Cut
-returns-in-Cut c =
-    let a = c.args in
-    let e = c.look-turn.ensures ∙ ap turn_of (rest a.b.now a.c.at) in
-    c.cut_step.ensures ∙ ap (turn_step a.b.now a.c) (sym c.in-Cut.is ∙ e)

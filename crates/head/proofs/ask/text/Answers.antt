@@ -10,7 +10,7 @@ text_in-requires c =
     let s = c in
     let p5 = c in
     let a = s.args in
-    let e = sym p5.open_file-opened.ensures ∙ c.in-Ok.is in
+    let e = sym p5.open_file.ensures ∙ c.in-Ok.is in
     rw c.tables_of.ensures (open_of-asks a.file.now (lends a.names.now a.area.now) e)
 
 pub returns-in-Ok : goal.returns-in-Ok
@@ -19,7 +19,7 @@ returns-in-Ok c =
     let p8 = c in
     let p6 = c in
     let a = s.args in
-    let e = sym p8.open_file-opened.ensures ∙ c.in-Ok.is in
+    let e = sym p8.open_file.ensures ∙ c.in-Ok.is in
     reads-open a.file.now (lends a.names.now a.area.now) a.out.now _ a.index.0 e
     c.tables_of.ensures c.text_in.ensures
 
@@ -29,5 +29,5 @@ returns-in-Err c =
     let p7 = c in
     let p5 = c in
     let a = s.args in
-    let e = sym p7.open_file-opened.ensures ∙ c.in-Err.is in
+    let e = sym p7.open_file.ensures ∙ c.in-Err.is in
     reads-closed a.file.now (lends a.names.now a.area.now) a.out.now _ a.index.0 e (c.refuse.ensures [])

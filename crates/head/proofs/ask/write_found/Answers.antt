@@ -2,16 +2,9 @@
 use Rattle.text.specs.Inner.Found.{part_of}
 use Rattle.text.specs.Content.{text_in, damage_in}
 use Rattle.head.specs.Ask.{state_told}
-use Rattle.head.proofs.Questions.{gives-short, gives-text}
+use Rattle.head.proofs.Zeros.{zero-tail}
+use Rattle.head.proofs.Questions.{gives-text}
 use Rattle.head.proofs.ask.write_found.Goals as goal
-
-pub returns-then-out-n : goal.returns-then-out-n
-returns-then-out-n c =
-    let p4 = c in
-    let p7 = p4 in
-    let a = p7.args in
-    gives-short (text_in (part_of a.utf16 a.t.now a.area.now a.f)) a.out.now _ _ p7.found_into-n.result p7.found_into-n.ensures
-    (state_told (damage_in (part_of a.utf16 a.t.now a.area.now a.f))) p4.if-out-n.true c.zero_from.ensures
 
 pub returns : goal.returns
 returns c =
@@ -19,4 +12,4 @@ returns c =
     let p7 = p4 in
     let a = p7.args in
     gives-text (text_in (part_of a.utf16 a.t.now a.area.now a.f)) a.out.now _ _ p7.found_into-n.result p7.found_into-n.ensures
-    (state_told (damage_in (part_of a.utf16 a.t.now a.area.now a.f))) p4.if-out-n.false c.zero_from-2.ensures c.found_told-state.ensures
+    (state_told (damage_in (part_of a.utf16 a.t.now a.area.now a.f))) p4.if-out-n.false (zero-tail _ c.zero-2.new.out p7.found_into-n.result c.zero-2.ensures) c.found_told-state.ensures

@@ -1,12 +1,7 @@
--- `items::looking::end_of` meets its contract. Invariant: all items from the first up to k have its attribute. Measure: the items left.
+-- `items::looking::end_of` meets its contract. Invariant: all items from the first up to k have its attribute.
 use native.Mathlib.Omega.{arith}
-use Rattle.items.proofs.RunLaws.{same_first, same_next, end-here, end-last}
+use Rattle.items.proofs.RunLaws.{same_next, end-here}
 use Rattle.items.proofs.looking.end_of.Goals as goal
-
-pub loop-k-init : goal.loop-k-init
-loop-k-init c =
-    let a = c.args in
-    (omega arith, omega arith, same_first a.area.now a.items.now a.first)
 
 pub returns-then-not-same_attribute : goal.returns-then-not-same_attribute
 returns-then-not-same_attribute c =
@@ -26,9 +21,3 @@ loop-k-preserved c =
           c.item_at-head.ensures c.same_attribute.ensures
           c.if-not-same_attribute.false l.invariant.2,
     )
-
-pub returns : goal.returns
-returns c =
-    let a = c.args in
-    let l = c.loop-k in
-    end-last a.area.now a.items.now a.first l.k l.invariant.1 l.invariant.0 c.loop-k-test.false l.invariant.2

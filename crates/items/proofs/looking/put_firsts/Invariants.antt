@@ -1,4 +1,4 @@
--- `items::looking::put_firsts` meets its contract. Invariant: the first item of each place, of those from k on. Measure: k.
+-- `items::looking::put_firsts` meets its contract. Invariant: the first item of each place, of those from k on.
 use Prim.Native.Nat.{◌≤◌, ◌/◌}
 use lib.ListN.{length}
 use Rattle.records.specs.Words.{item_width}
@@ -7,6 +7,3 @@ use Rattle.items.proofs.looking.put_firsts.Given as goal
 
 abbrev pub invariant-loop-k : goal.invariant-loop-k
 invariant-loop-k l = (l.k ≤ length l.items / item_width) × FirstsFrom l.area l.items l.k l.firsts
-
-abbrev pub decreases-loop-k : goal.decreases-loop-k
-decreases-loop-k l = l.k

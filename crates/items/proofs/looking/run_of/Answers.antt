@@ -9,9 +9,6 @@ returns-then-whole-first c =
     let a = c.args in
     λ name found. run_none a.area.now name a.items.now found c.if-whole-first.true (omega arith) (omega arith)
 
-pub end_of-end-requires : goal.end_of-end-requires
-end_of-end-requires c = omega (arith, c.if-whole-first.false)
-
 pub returns : goal.returns
 returns c =
     let a = c.args in

@@ -2,9 +2,6 @@
 use Rattle.digits.proofs.Written.{wrote_none}
 use Rattle.items.proofs.taking.put_bar.Goals as goal
 
-pub returns-then-some : goal.returns-then-some
-returns-then-some c = rw c.if-some.true c.put_byte.ensures
-
 pub returns : goal.returns
 returns c =
     let a = c.args in

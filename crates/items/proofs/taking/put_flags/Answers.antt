@@ -1,33 +1,16 @@
--- `items::taking::put_flags` meets its contract. Invariant: `Going`, what the items from k on still do. Measure: the items left.
+-- `items::taking::put_flags` meets its contract. Invariant: `Going`, what the items from k on still do.
 use Prim.Native.Nat.{◌-◌, ◌+◌}
-use mathlib.Core.Path.{refl}
 use native.Mathlib.Omega.{arith}
 use Rattle.items.specs.Items.{item_at, items_from}
-use Rattle.items.proofs.TurnLaws.{run_step, run_end, going-first, going-near, going_step, going_done}
+use Rattle.items.proofs.TurnLaws.{run_step, run_end, going-near, going_step, going_done}
 use borrow.Author.Rules.{rules}
 use Rattle.items.proofs.taking.put_flags.Goals as goal
-
-pub loop-k-init : goal.loop-k-init
-loop-k-init c =
-    let a = c.args in (
-      refl,
-      going-first a.area.now a.flags (items_from a.items.now a.first (a.end - a.first)) a.p a.out.now refl (omega arith),
-    )
-
-pub item_at-i-requires : goal.item_at-i-requires
-item_at-i-requires c = omega (arith, c.loop-k-test.true, c.requires.1)
 
 pub put_turn-st-requires : goal.put_turn-st-requires
 put_turn-st-requires c =
     let a = c.args in
     let l = c.loop-k in
     omega (arith, going-near a.area.now a.flags (items_from a.items.now a.first (a.end - a.first)) a.p a.out.now l.invariant.1)
-
-pub overflow_add-k : goal.overflow_add-k
-overflow_add-k c = omega (arith, c.loop-k-test.true)
-
-pub loop-k-smaller : goal.loop-k-smaller
-loop-k-smaller c = omega (arith, c.loop-k-test.true)
 
 pub loop-k-preserved : goal.loop-k-preserved
 loop-k-preserved c =

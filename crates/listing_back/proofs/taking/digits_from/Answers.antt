@@ -8,8 +8,8 @@ pub loop-p-init : goal.loop-p-init
 loop-p-init c = digits-first c.args.text.now c.args.from c.requires
 
 pub returns-then-not-is_digit : goal.returns-then-not-is_digit
-returns-then-not-is_digit c = digits-stop c.args.text.now c.loop-p.invariant _
-    c.figure_of.ensures (omega arith) (sym c.is_digit.ensures ∙ c.if-not-is_digit.true)
+returns-then-not-is_digit c = digits-stop c.args.text.now c.loop-p.invariant (omega arith)
+    (sym c.is_digit.ensures ∙ c.if-not-is_digit.true)
 
 pub more-v-requires : goal.more-v-requires
 more-v-requires c =
@@ -21,4 +21,4 @@ loop-p-preserved c = digits_more c.args.text.now
     (sym c.is_digit.ensures ∙ c.if-not-is_digit.false) c.more-v.ensures
 
 pub returns : goal.returns
-returns c = digits-end c.args.text.now c.loop-p.invariant _ c.figure_of-2.ensures (omega arith)
+returns c = digits-end c.args.text.now c.loop-p.invariant (omega arith)

@@ -6,11 +6,10 @@ use Rattle.listing_back.proofs.Figures.{zero-padded, zero-alone}
 use Rattle.listing_back.proofs.taking.zero_at.Goals as goal
 
 pub returns-then-is_digit : goal.returns-then-is_digit
-returns-then-is_digit c = zero-padded c.args.text.now c.args.p _
-    c.no_figure.ensures (sym (c.is_digit.ensures ∙ ap (λ (x : ℕ). is_digit x) c.byte_at-b.ensures)
+returns-then-is_digit c = zero-padded c.args.text.now c.args.p
+    (sym (c.is_digit.ensures ∙ ap (λ (x : ℕ). is_digit x) c.byte_at-b.ensures)
     ∙ c.if-is_digit.true)
 
 pub returns : goal.returns
-returns c = zero-alone c.args.text.now c.args.p _
-    c.figure_of.ensures c.requires
+returns c = zero-alone c.args.text.now c.args.p c.requires
     (sym (c.is_digit.ensures ∙ ap (λ (x : ℕ). is_digit x) c.byte_at-b.ensures) ∙ c.if-is_digit.false)

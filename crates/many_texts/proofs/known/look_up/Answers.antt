@@ -1,5 +1,9 @@
 -- `many_texts::known::look_up` meets its contract: a name past those that are kept, one that is known, and one that is kept now (`knows_more`).
+use Rattle.std.specs.Prelude.{Option, None}
+use mathlib.Core.Path.{◌≡◌}
 use native.Mathlib.Omega.{arith}
+use borrow.Author.Rules.{rules}
+use Rattle.items.specs.declared.Run.{Run}
 use Rattle.system_types.specs.Names.{lends}
 use Rattle.many_texts.proofs.KnownLaws.{knows_more, looks-same}
 use Rattle.many_texts.proofs.known.look_up.Goals as goal
@@ -47,18 +51,27 @@ returns-then-ends-place-gt0 c = (
   c.requires.3,
 )
 
-pub look-looked-requires : goal.look-looked-requires
-look-looked-requires c = (
+pub look-requires-2 : goal.look-requires-2
+look-requires-2 c = (
   c.requires.0,
   c.requires.1,
   c.requires.2,
 )
 
-pub offset_bounds-starts-place-in-Some : goal.offset_bounds-starts-place-in-Some
-offset_bounds-starts-place-in-Some c = omega (arith, c.if-place-ge-KNOWN.false)
+pub returns-in_err-run : goal.returns-in_err-run
+returns-in_err-run c =
+    let a = c.args in
+    let lent = lends a.names.now a.area.now in
+    let r : ◌≡◌ {A = Option Run} c.from_residual.result None = search rules in (
+      rw r (looks-same a.h a.t.now lent a.items.now a.item_area.now a.index.0 c.in_err-run.was c.look-2.ensures),
+      c.requires.3,
+    )
 
-pub bounds-starts-place-in-Some : goal.bounds-starts-place-in-Some
-bounds-starts-place-in-Some c = omega (
+pub offset_bounds-starts-place-2 : goal.offset_bounds-starts-place-2
+offset_bounds-starts-place-2 c = omega (arith, c.if-place-ge-KNOWN.false)
+
+pub bounds-starts-place-2 : goal.bounds-starts-place-2
+bounds-starts-place-2 c = omega (
   arith,
   c.if-place-ge-KNOWN.false,
   c.requires.3.first,
@@ -68,33 +81,24 @@ pub overflow_add-ends : goal.overflow_add-ends
 overflow_add-ends c =
     let a = c.args in
     let lent = lends a.names.now a.area.now in
-    let g = looks-same a.h a.t.now lent a.items.now a.item_area.now a.index.0 c.in-Some.is c.look-looked.ensures in
+    let g = looks-same a.h a.t.now lent a.items.now a.item_area.now a.index.0 c.in_ok-run.was c.look-2.ensures in
     omega (arith, g.run.fits)
 
-pub offset_bounds-ends-place-in-Some : goal.offset_bounds-ends-place-in-Some
-offset_bounds-ends-place-in-Some c = omega (arith, c.if-place-ge-KNOWN.false)
+pub offset_bounds-ends-place-2 : goal.offset_bounds-ends-place-2
+offset_bounds-ends-place-2 c = omega (arith, c.if-place-ge-KNOWN.false)
 
-pub bounds-ends-place-in-Some : goal.bounds-ends-place-in-Some
-bounds-ends-place-in-Some c = omega (
+pub bounds-ends-place-2 : goal.bounds-ends-place-2
+bounds-ends-place-2 c = omega (
   arith,
   c.if-place-ge-KNOWN.false,
   c.requires.3.last,
 )
 
-pub returns-in-None : goal.returns-in-None
-returns-in-None c =
-    let a = c.args in
-    let lent = lends a.names.now a.area.now in (
-      looks-same a.h a.t.now lent a.items.now a.item_area.now a.index.0 c.in-None.is
-          c.look-looked.ensures,
-      c.requires.3,
-    )
-
-pub returns-in-Some : goal.returns-in-Some
-returns-in-Some c =
+pub returns : goal.returns
+returns c =
     let a = c.args in
     let lent = lends a.names.now a.area.now in
-    let g = looks-same a.h a.t.now lent a.items.now a.item_area.now a.index.0 c.in-Some.is c.look-looked.ensures in (
+    let g = looks-same a.h a.t.now lent a.items.now a.item_area.now a.index.0 c.in_ok-run.was c.look-2.ensures in (
       g,
       knows_more a.h a.t.now lent a.items.now a.item_area.now a.starts.now a.ends.now a.index.0 _
           (omega (arith, c.if-place-ge-KNOWN.false)) g

@@ -1,36 +1,12 @@
 -- `text::apart::alike_apart` meets its contract: another byte in the same place of a string of the same length (`other-alike`).
 use Prim.Native.Nat.{◌+◌}
-use native.Mathlib.Omega.{arith}
 use mathlib.Core.Path.{sym, ◌∙◌}
-use mathlib.Core.Bool.{true≢false}
-use Rattle.text.proofs.Marking.{other-alike, alike-room}
+use borrow.Author.Tests.{eqb-false, not-true}
+use Rattle.text.proofs.Marking.{other-alike}
 use Rattle.text.proofs.apart.alike_apart.Goals as goal
 
-pub returns-then-k-p : goal.returns-then-k-p
-returns-then-k-p c = λ e. absurd (true≢false (sym e))
-
-pub u16_at-requires : goal.u16_at-requires
-u16_at-requires c =
-    let s = c in
-    let a = s.args in
-    omega (arith, (alike-room a.h.utf16 a.t.now (a.h.strings + a.h.size) a.p a.k s.requires.1 c.if-k-p.false).0)
-
 pub returns-then-u16_at-k : goal.returns-then-u16_at-k
-returns-then-u16_at-k c = λ e. absurd (true≢false (sym e))
-
-pub bounds-t-p : goal.bounds-t-p
-bounds-t-p c =
-    let at-if1 = c in
-    let s = at-if1 in
-    let a = s.args in
-    let end = a.h.strings + a.h.size in
-    omega (arith, (alike-room a.h.utf16 a.t.now end a.p a.k s.requires.1 at-if1.if-k-p.false).1)
-
-pub returns-then-t-p : goal.returns-then-t-p
-returns-then-t-p c = λ e. absurd (true≢false (sym e))
-
-pub returns : goal.returns
-returns c =
+returns-then-u16_at-k c =
     let at-if2 = c in
     let at_unit = at-if2 in
     let at-if1 = at_unit in
@@ -38,6 +14,6 @@ returns c =
     let s = bytes in
     let a = s.args in
     let end = a.h.strings + a.h.size in
-    let unit = sym at_unit.u16_at.ensures.0 ∙ at-if2.if-u16_at-k.false in
-    λ _. other-alike a.h.utf16 a.t.now end a.p a.k s.requires.0.strings (λ i. (bytes.shared_slice_known-1.given i).fits) s.requires.1
-    at-if1.if-k-p.false unit c.if-t-p.false
+    let unit = sym at_unit.u16_at.ensures.0 ∙ at-if2.if-u16_at-k.true in
+    λ e. other-alike a.h.utf16 a.t.now end a.p a.k s.requires.0.strings (λ i. (bytes.shared_slice_known-1.given i).fits) s.requires.1
+    at-if1.if-k-p.false unit (eqb-false _ _ (not-true _ e))

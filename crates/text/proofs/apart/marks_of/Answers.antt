@@ -1,38 +1,11 @@
 -- `text::apart::marks_of` meets its contract: what is plain and of the pool has marks (`marked-pool`), all else none (`marked-none`).
-use Rattle.text.proofs.Read.{inside-pool}
-use Rattle.text.proofs.Marking.{marked-none, marked-pool}
+use Rattle.text.proofs.Marking.{marked-pool}
 use Rattle.system_types.specs.Names.{lends}
 use Rattle.text.proofs.apart.marks_of.Goals as goal
-
-pub returns-then-not-plain : goal.returns-then-not-plain
-returns-then-not-plain c =
-    let a = c.args in
-    marked-none a.t.now (lends a.names.now a.area.now) a.h a.g _ c.no_marks.ensures
-
-pub pool_marks-requires : goal.pool_marks-requires
-pool_marks-requires c =
-    let s = c in
-    let a = s.args in
-    (s.requires.0, inside-pool a.t.now a.area.now s.requires.1 c.in-Pool.is)
-
-pub returns-in-Nothing : goal.returns-in-Nothing
-returns-in-Nothing c =
-    let a = c.args in
-    marked-none a.t.now (lends a.names.now a.area.now) a.h a.g _ c.no_marks-in-Nothing.ensures
-
-pub returns-in-Cut : goal.returns-in-Cut
-returns-in-Cut c =
-    let a = c.args in
-    marked-none a.t.now (lends a.names.now a.area.now) a.h a.g _ c.no_marks-in-Cut.ensures
-
-pub returns-in-System : goal.returns-in-System
-returns-in-System c =
-    let a = c.args in
-    marked-none a.t.now (lends a.names.now a.area.now) a.h a.g _ c.no_marks-in-System.ensures
 
 pub returns-in-Pool : goal.returns-in-Pool
 returns-in-Pool c =
     let s = c in
     let a = s.args in
-    marked-pool a.t.now (lends a.names.now a.area.now) a.h a.g _ (c.if-not-plain.false) s.requires.2
+    marked-pool a.t.now (lends a.names.now a.area.now) a.h a.g _ c.if-plain.true s.requires.2
     c.in-Pool.is c.pool_marks.ensures

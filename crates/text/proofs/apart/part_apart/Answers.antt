@@ -1,30 +1,9 @@
 -- `text::apart::part_apart` meets its contract: other bytes than those of a plain text are another text (`other_text`).
-use native.Mathlib.Omega.{arith}
-use mathlib.Core.Path.{refl, sym}
-use mathlib.Core.Bool.{true≢false}
+use mathlib.Core.Path.{refl}
 use lib.ListN.{take, drop}
 use Rattle.text.specs.Content.{some}
-use Rattle.text.proofs.Read.{inside-pool}
 use Rattle.text.proofs.Others.{other_text}
 use Rattle.text.proofs.apart.part_apart.Goals as goal
-
-pub bytes_apart-requires : goal.bytes_apart-requires
-bytes_apart-requires c =
-    let a = c.args in (
-      c.requires.0,
-      inside-pool a.t.now a.area.now c.requires.1
-          c.in-Pool.is,
-      omega arith,
-    )
-
-pub returns-in-Nothing : goal.returns-in-Nothing
-returns-in-Nothing c = λ e. absurd (true≢false (sym e))
-
-pub returns-in-Cut : goal.returns-in-Cut
-returns-in-Cut c = λ e. absurd (true≢false (sym e))
-
-pub returns-in-System : goal.returns-in-System
-returns-in-System c = λ e. absurd (true≢false (sym e))
 
 pub returns-in-Pool : goal.returns-in-Pool
 returns-in-Pool c =

@@ -1,25 +1,8 @@
 -- `text::apart::surely_differs` meets its contract: other bytes than those of a plain text are another text (`other-index`, `other_text`).
 use native.Mathlib.Omega.{arith}
-use mathlib.Core.Path.{sym}
-use mathlib.Core.Bool.{true≢false}
 use Rattle.text.proofs.Others.{other-index, other_text}
-use borrow.Author.Rules.{rules}
 use Rattle.system_types.specs.Names.{lends}
 use Rattle.text.proofs.apart.surely_differs.Goals as goal
-
-pub returns-then-index-k : goal.returns-then-index-k
-returns-then-index-k c = λ e. absurd (true≢false (sym e))
-
-pub returns-then-h-index : goal.returns-then-h-index
-returns-then-h-index c = λ e. absurd (true≢false (sym e))
-
-pub place_apart-requires : goal.place_apart-requires
-place_apart-requires c =
-    let at-if2 = c in
-    let at-if1 = at-if2 in
-    let s = at-if1 in
-    let l = s.requires.1.ends (omega (arith, at-if2.if-h-index.false, at-if1.if-index-k.false)) in
-    (s.requires.0.fits, l.2, search rules)
 
 pub returns : goal.returns
 returns c =

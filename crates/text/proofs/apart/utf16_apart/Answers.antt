@@ -1,17 +1,6 @@
 -- `text::apart::utf16_apart` meets its contract: a head of one unit (`utf16-in`); else it says nothing.
-use mathlib.Core.Path.{sym}
-use mathlib.Core.Bool.{true≢false}
 use Rattle.text.proofs.Others.{utf16-in}
 use Rattle.text.proofs.apart.utf16_apart.Goals as goal
-
-pub returns-then-end-p : goal.returns-then-end-p
-returns-then-end-p c = λ e. absurd (true≢false (sym e))
-
-pub returns-then-u-ge32768 : goal.returns-then-u-ge32768
-returns-then-u-ge32768 c = λ e. absurd (true≢false (sym e))
-
-pub returns-then-end-p-2 : goal.returns-then-end-p-2
-returns-then-end-p-2 c = λ e. absurd (true≢false (sym e))
 
 pub returns : goal.returns
 returns c =

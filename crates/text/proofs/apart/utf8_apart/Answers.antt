@@ -1,20 +1,7 @@
 -- `text::apart::utf8_apart` meets its contract: a head of two bytes (`utf8-in`); else it says nothing.
-use mathlib.Core.Path.{refl, sym}
-use mathlib.Core.Bool.{true≢false}
+use mathlib.Core.Path.{refl}
 use Rattle.text.proofs.Others.{utf8-in}
 use Rattle.text.proofs.apart.utf8_apart.Goals as goal
-
-pub returns-then-end-p : goal.returns-then-end-p
-returns-then-end-p c = λ e. absurd (true≢false (sym e))
-
-pub returns-then-t-p-ge128 : goal.returns-then-t-p-ge128
-returns-then-t-p-ge128 c = λ e. absurd (true≢false (sym e))
-
-pub returns-then-m-ge128 : goal.returns-then-m-ge128
-returns-then-m-ge128 c = λ e. absurd (true≢false (sym e))
-
-pub returns-then-end-p-2 : goal.returns-then-end-p-2
-returns-then-end-p-2 c = λ e. absurd (true≢false (sym e))
 
 pub returns : goal.returns
 returns c =

@@ -7,6 +7,3 @@ pub overflow_cast-result : goal.overflow_cast-result
 overflow_cast-result c =
     let s = c in
     omega (arith, c.replaced_of.ensures, s.requires, replaced_count-le s.args.utf16 s.args.s.now)
-
-pub returns : goal.returns
-returns c = c.replaced_of.ensures

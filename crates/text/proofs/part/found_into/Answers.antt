@@ -5,46 +5,18 @@ use lib.ListN.{length-take, length-drop}
 use Rattle.text.specs.declared.Found.{Found}
 use Rattle.text.specs.Content.{text_in}
 use Rattle.text.specs.Inner.Found.{part_of}
-use Rattle.text.proofs.Read.{inside-system, inside-pool, part_of-system, part_of-pool, text_in-system, Wrote-by, wrote_none, text_of-held}
+use Rattle.text.proofs.Read.{inside-system, part_of-system, part_of-pool, text_in-system, Wrote-by, wrote_none, text_of-held}
+use mathlib.Core.Logic.{inl, inr}
 use Rattle.text.proofs.part.found_into.Goals as goal
-
-pub overflow_add-at : goal.overflow_add-at
-overflow_add-at c =
-    let s = c in
-    let a = s.args in
-    let q = inside-system a.t.now a.area.now s.requires.0 c.in-System.is in
-    omega arith
-
-pub slice_bounds-text_into-end : goal.slice_bounds-text_into-end
-slice_bounds-text_into-end c =
-    let s = c in
-    let a = s.args in
-    inside-system a.t.now a.area.now s.requires.0 c.in-System.is
-
-pub overflow_add-at-in-Pool : goal.overflow_add-at-in-Pool
-overflow_add-at-in-Pool c =
-    let s = c in
-    let a = s.args in
-    let q = inside-pool a.t.now a.area.now s.requires.0 c.in-Pool.is in
-    omega arith
-
-pub slice_bounds-text_into-end-in-Pool : goal.slice_bounds-text_into-end-in-Pool
-slice_bounds-text_into-end-in-Pool c =
-    let s = c in
-    let a = s.args in
-    inside-pool a.t.now a.area.now s.requires.0 c.in-Pool.is
 
 pub returns-in-Nothing : goal.returns-in-Nothing
 returns-in-Nothing c =
     let s = c in
     let a = s.args in
-    wrote_none a.out.now (sym (ap (λ (g : Found). text_in (part_of a.utf16 a.t.now a.area.now g)) c.in-Nothing.is))
-
-pub returns-in-Cut : goal.returns-in-Cut
-returns-in-Cut c =
-    let s = c in
-    let a = s.args in
-    wrote_none a.out.now (sym (ap (λ (g : Found). text_in (part_of a.utf16 a.t.now a.area.now g)) c.in-Cut.is))
+    elim c.in-Nothing.is [
+      | inl e ↦ wrote_none a.out.now (sym (ap (λ (g : Found). text_in (part_of a.utf16 a.t.now a.area.now g)) e))
+      | inr e ↦ wrote_none a.out.now (sym (ap (λ (g : Found). text_in (part_of a.utf16 a.t.now a.area.now g)) e))
+    ]
 
 pub returns-in-System : goal.returns-in-System
 returns-in-System c =

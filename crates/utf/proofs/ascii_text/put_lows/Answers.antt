@@ -1,24 +1,7 @@
--- `utf::ascii_text::put_lows` meets its contract. Invariant: the low bytes of the first i units stand in the buffer (`Copied`).
--- Measure: the units left.
+-- `utf::ascii_text::put_lows` meets its contract (Invariants.antt).
 use native.Mathlib.Omega.{arith}
-use Rattle.utf.proofs.AsciiText.{low_bytes-length, none-copied, copied-low, all-copied}
+use Rattle.utf.proofs.AsciiText.{copied_low}
 use Rattle.utf.proofs.ascii_text.put_lows.Goals as goal
 
-pub loop-i-init : goal.loop-i-init
-loop-i-init c = (omega arith, none-copied _ _)
-
-pub bounds-out-i : goal.bounds-out-i
-bounds-out-i c = omega (arith, c.loop-i.invariant.1.same, c.requires)
-
 pub loop-i-preserved : goal.loop-i-preserved
-loop-i-preserved c =
-    let l = c.loop-i in
-    (omega arith, copied-low c.args.s.now _ _ l.i l.invariant.1 c.loop-i-test.true (omega (arith, l.invariant.1.same, c.requires)))
-
-pub shape_of-out : goal.shape_of-out
-shape_of-out c = c.loop-i.invariant.1.same
-
-pub returns : goal.returns
-returns c =
-    let l = c.loop-i in
-    all-copied _ _ _ l.i l.invariant.1 (omega (arith, low_bytes-length c.args.s.now))
+loop-i-preserved c = copied_low _ _ _ _ c.loop-i.invariant (omega arith) (omega arith)

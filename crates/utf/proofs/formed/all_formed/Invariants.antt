@@ -1,10 +1,6 @@
--- `utf::formed::all_formed` meets its contract. Invariant: where the least answer so far is 1, the steps up to the next char are sound. Measure: the places left.
-use Prim.Native.Nat.{◌-◌}
+-- `utf::formed::all_formed` meets its contract. Invariant: where the least answer so far is 1, the steps up to the next char are sound.
 use Rattle.utf.proofs.FormedRuns.{FormedTo}
 use Rattle.utf.proofs.formed.all_formed.Given as goal
 
 abbrev pub invariant-loop-k : goal.invariant-loop-k
 invariant-loop-k l = FormedTo l.n l.s l.at l.least l.k
-
-abbrev pub decreases-loop-k : goal.decreases-loop-k
-decreases-loop-k l = l.n - l.k

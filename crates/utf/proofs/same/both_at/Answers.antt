@@ -7,12 +7,12 @@ pub returns-then-y-lt128 : goal.returns-then-y-lt128
 returns-then-y-lt128 c =
     let a = c.args in
     let p = c.requires in
-    paired a.utf16_a a.a.now a.i _ 1 true a.utf16_b a.b.now a.j _ 1 true p.0 p.1
-    (took-ascii _ _ _ (c.if-not-utf16_a.true) p.0 c.if-x-lt128.true)
-    (took-ascii _ _ _ (c.if-not-utf16_b.true) p.1 c.if-y-lt128.true)
+    rw c.then_some.ensures
+    (paired a.utf16_a a.a.now a.i _ 1 true a.utf16_b a.b.now a.j _ 1 true p.0 p.1
+    (took-ascii _ _ _ c.if-not-utf16_a.true p.0 c.if-x-lt128.true)
+    (took-ascii _ _ _ c.if-not-utf16_b.true p.1 c.if-y-lt128.true))
 
 pub returns : goal.returns
 returns c =
     let p = c.requires in
-    let q = c in
-    paired _ _ _ _ _ _ _ _ _ _ _ _ p.0 p.1 q.next_of-t.ensures q.next_of-u.ensures
+    rw c.then_some-2.ensures (paired _ _ _ _ _ _ _ _ _ _ _ _ p.0 p.1 c.next_of-t.ensures c.next_of-u.ensures)

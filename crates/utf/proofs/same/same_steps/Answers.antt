@@ -1,35 +1,14 @@
 -- `utf::same::same_steps` meets its contract. Invariant: what is left of the two texts is the same or not as they are. Measure: what is left of a.
-use mathlib.Core.Path.{refl, sym, ap, ◌∙◌}
+use mathlib.Core.Path.{sym, ap, ◌∙◌}
 use mathlib.Core.List.{List}
 use Prim.Native.Nat.{ℕ}
-use native.Mathlib.Omega.{arith}
-use borrow.Author.Tests.{not-true, not-false}
 use lib.ListN.{drop}
 use Rattle.utf.specs.Text.{steps_of, bytes_of, eq_bytes}
-use Rattle.utf.proofs.Turns.{stops, goes, end-bytes, left-some, left-none}
+use Rattle.utf.proofs.Turns.{end-bytes, left-some, left-none}
 use Rattle.utf.proofs.same.same_steps.Goals as goal
-
-pub loop-i-init : goal.loop-i-init
-loop-i-init c = refl
 
 pub returns-then-b-j : goal.returns-then-b-j
 returns-then-b-j c = sym (left-some _ _ _ _ _ _ c.loop-i-test.true c.if-b-j.true) ∙ c.loop-i.invariant
-
-pub both_at-t-requires : goal.both_at-t-requires
-both_at-t-requires c = (c.loop-i-test.true, c.if-b-j.false)
-
-pub returns-then-not-t : goal.returns-then-not-t
-returns-then-not-t c =
-    let q = c in
-    sym (stops _ _ q.both_at-t.result.same q.both_at-t.ensures.bytes (not-true _ c.if-not-t.true)) ∙ q.loop-i.invariant
-
-pub loop-i-smaller : goal.loop-i-smaller
-loop-i-smaller c = omega (arith, c.both_at-t.ensures.later)
-
-pub loop-i-preserved : goal.loop-i-preserved
-loop-i-preserved c =
-    let q = c in
-    sym (goes _ _ q.both_at-t.result.same q.both_at-t.ensures.bytes (not-false _ c.if-not-t.false)) ∙ q.loop-i.invariant
 
 pub returns : goal.returns
 returns c =

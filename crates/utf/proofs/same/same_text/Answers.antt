@@ -1,38 +1,19 @@
 -- `utf::same::same_text` meets its contract: a text that is refused is empty, and two that are not are compared step by step.
 use mathlib.Core.Path.{sym, ◌∙◌}
-use Rattle.utf.specs.Text.{eq_bytes}
 use Rattle.utf.proofs.Turns.{text_of-refused, text_of-kept, text_of-empty}
 use Rattle.utf.proofs.same.same_text.Goals as goal
-
-pub returns-then-utf16_b : goal.returns-then-utf16_b
-returns-then-utf16_b c = rw (c.if-utf16_a.true, c.if-utf16_b.true) c.same_utf16.ensures
-
-pub returns-then-is_far_longer : goal.returns-then-is_far_longer
-returns-then-is_far_longer c = sym (c.is_far_longer.ensures c.if-is_far_longer.true c.args.utf16_a).0
-
-pub returns-then-is_far_longer-2 : goal.returns-then-is_far_longer-2
-returns-then-is_far_longer-2 c = sym (c.is_far_longer-2.ensures c.if-is_far_longer-2.true c.args.utf16_b).1
-
-pub returns-then-no_b : goal.returns-then-no_b
-unfolding eq_bytes
-returns-then-no_b c =
-    let a = c.args in
-    rw (
-      text_of-refused a.utf16_a a.a.now (sym c.is_refused.ensures ∙ c.if-is_refused.true),
-      text_of-refused a.utf16_b a.b.now (sym c.is_refused-no_b.ensures ∙ c.if-no_b.true),
-    ) c.if-no_b.true
 
 pub returns-else-no_b : goal.returns-else-no_b
 returns-else-no_b c =
     let a = c.args in
     rw (text_of-refused a.utf16_a a.a.now (sym c.is_refused.ensures ∙ c.if-is_refused.true))
-    (text_of-empty a.utf16_b a.b.now (sym c.is_refused-no_b.ensures ∙ c.if-no_b.false)).1
+    (c.is_empty.ensures ∙ (text_of-empty a.utf16_b a.b.now (sym c.is_refused-no_b.ensures ∙ c.if-no_b.false)).1)
 
 pub returns-then-no_b-2 : goal.returns-then-no_b-2
 returns-then-no_b-2 c =
     let a = c.args in
     rw (text_of-refused a.utf16_b a.b.now (sym c.is_refused-no_b.ensures ∙ c.if-no_b-2.true))
-    (text_of-empty a.utf16_a a.a.now (sym c.is_refused.ensures ∙ c.if-is_refused.false)).0
+    (c.is_empty-then-no_b-2.ensures ∙ (text_of-empty a.utf16_a a.a.now (sym c.is_refused.ensures ∙ c.if-is_refused.false)).0)
 
 pub returns : goal.returns
 returns c =

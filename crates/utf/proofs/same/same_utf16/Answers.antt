@@ -12,7 +12,8 @@ use Rattle.utf.proofs.same.same_utf16.Goals as goal
 pub returns-then-same_bytes : goal.returns-then-same_bytes
 returns-then-same_bytes c =
     let a = c.args in
-    sym (same_bytes true a.a.now a.b.now (sym c.same_bytes.ensures ∙ c.if-same_bytes.true))
+    c.if-same_bytes.true
+    ∙ sym (same_bytes true a.a.now a.b.now (sym c.same_bytes.ensures ∙ c.if-same_bytes.true))
 
 pub returns-then-is_blank : goal.returns-then-is_blank
 returns-then-is_blank c =
@@ -21,11 +22,12 @@ returns-then-is_blank c =
     let blank : [] ≡ text_of true a.a.now = eq_bytes-true [] (text_of true a.a.now) said in
     c.is_blank-then-is_blank.ensures ∙ ap (λ (l : List ℕ). eq_bytes l (text_of true a.b.now)) blank
 
-pub returns : goal.returns
-returns c =
+pub returns-else-is_blank : goal.returns-else-is_blank
+returns-else-is_blank c =
     let q = c in
     let a = q.args in
     let in-a : (i : ℕ) → get_or a.a.now i 0 < 256 = λ i. (c.type_inv.a i).fits in
     let in_b : (i : ℕ) → get_or a.b.now i 0 < 256 = λ i. (c.type_inv.b i).fits in
-    sym (differ-utf16 a.a.now a.b.now in-a in_b (sym q.same_bytes.ensures ∙ c.if-same_bytes.false)
+    c.if-is_blank.false
+    ∙ sym (differ-utf16 a.a.now a.b.now in-a in_b (sym q.same_bytes.ensures ∙ c.if-same_bytes.false)
     (sym c.is_blank.ensures ∙ c.if-is_blank.false))

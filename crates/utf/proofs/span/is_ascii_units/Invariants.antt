@@ -1,14 +1,8 @@
--- `utf::span::is_ascii_units` meets its contract. Invariant: the greatest low byte and the greatest high byte so far, and the units left, say
--- what all the units say (proofs/AsciiText.antt). Measure: the units left.
-use Prim.Native.Nat.{◌≤◌, ◌-◌, ◌*◌, ◌/◌}
-use mathlib.Core.Path.{◌≡◌}
-use lib.ListN.{length, drop}
-use Rattle.utf.specs.Inner.StepRuns.{ascii_units}
-use Rattle.utf.proofs.AsciiText.{seen_units}
+-- `utf::span::is_ascii_units` meets its contract. Invariant: whole units are left, and the greatest low byte and the greatest high byte so far say
+-- with them what all the units say (`UnitsLeft`, proofs/AsciiText.antt).
+use Rattle.std.specs.Slice.Iter.{chunks_exact_rest, chunks_exact_size}
+use Rattle.utf.proofs.AsciiText.{UnitsLeft}
 use Rattle.utf.proofs.span.is_ascii_units.Given as goal
 
-abbrev pub invariant-loop-i : goal.invariant-loop-i
-invariant-loop-i l = (l.i ≤ length l.s / 2) × (seen_units l.low l.high (drop (2 * l.i) l.s) ≡ ascii_units l.s)
-
-abbrev pub decreases-loop-i : goal.decreases-loop-i
-decreases-loop-i l = length l.s / 2 - l.i
+abbrev pub invariant-loop-unit : goal.invariant-loop-unit
+invariant-loop-unit l = UnitsLeft l.low l.high (chunks_exact_size l.unit-iterator) (chunks_exact_rest l.unit-iterator) l.s

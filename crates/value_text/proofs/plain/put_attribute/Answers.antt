@@ -5,7 +5,7 @@ use mathlib.Core.List.{◌∷◌}
 use native.Mathlib.Omega.{arith}
 use Rattle.digits.specs.Digits.{hex_text}
 use Rattle.digits.proofs.Written.{wrote-more}
-use Rattle.value_text.proofs.Front.{wrote-part, wrote-attribute}
+use Rattle.value_text.proofs.Front.{wrote-attribute}
 use Rattle.value_text.proofs.plain.put_attribute.Goals as goal
 
 pub returns-in-Some : goal.returns-in-Some
@@ -13,7 +13,7 @@ returns-in-Some c =
     let a = c.args in
     wrote-attribute a.area.now a.v (sym c.get_type_name-name.ensures
     ∙ c.in-Some.is)
-    (wrote-part a.area.now c.in-Some.start c.in-Some.n (omega arith) c.part_of.ensures c.put_bytes.ensures)
+    c.put_name.ensures
 
 pub returns-in-None : goal.returns-in-None
 returns-in-None c =

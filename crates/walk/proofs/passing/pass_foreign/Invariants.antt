@@ -4,8 +4,8 @@ use lib.ListN.{length}
 use Rattle.walk.specs.Inner.Pass.{Reaches}
 use Rattle.walk.proofs.passing.pass_foreign.Given as goal
 
-abbrev pub invariant-loop-at : goal.invariant-loop-at
-invariant-loop-at l = Reaches l.b l.from l.before l.at l.run
+abbrev pub invariant-loop-next : goal.invariant-loop-next
+invariant-loop-next l = Reaches l.b l.from l.before l.reach.at l.reach.run
 
-abbrev pub decreases-loop-at : goal.decreases-loop-at
-decreases-loop-at l = length l.b - l.at
+abbrev pub decreases-loop-next : goal.decreases-loop-next
+decreases-loop-next l = length l.b - l.reach.at

@@ -8,5 +8,4 @@ close_node-requires c = λ n. omega (arith, c.requires.sized.nodes, c.requires.s
 
 pub returns : goal.returns
 returns c =
-    let at-start = c in
-    let a = at-start.args in λ rule key o h l. rw c.close_node.ensures (node-closes rule key a.nodes.now a.attributes.now a.tree o h l)
+    let a = c.args in λ rule key o h l. rw c.close_node.ensures (node-closes rule key a.nodes.now a.attributes.now a.tree o h l)

@@ -1,24 +1,13 @@
 -- `walk::placing::open_place` meets its contract: the node is pushed where it has a place (proofs/Trees.antt).
 use native.Mathlib.Omega.{arith}
-use Rattle.walk.proofs.Trees.{node_opens, node-full}
+use Rattle.walk.proofs.Trees.{node_opens}
 use Rattle.walk.proofs.placing.open_place.Goals as goal
-
-pub returns-then-nodes-node_place-lt-NODE_WORDS : goal.returns-then-nodes-node_place-lt-NODE_WORDS
-returns-then-nodes-node_place-lt-NODE_WORDS c =
-    let at-start = c in
-    let a = at-start.args in
-    λ rule key o h l.
-    node-full rule key a.nodes.now a.attributes.now a.nodes.now a.tree a.name a.fixed a.line o h
-    (omega (arith, c.if-nodes-node_place-lt-NODE_WORDS.true, c.node_place.ensures))
 
 pub returns : goal.returns
 returns c =
-    let at-if1 = c in
-    let at_place = at-if1 in
-    let at-start = at_place in
-    let a = at-start.args in
+    let a = c.args in
     let q = c.open_node in
     λ rule key o h l.
     rw q.ensures.0
     (node_opens rule key a.nodes.now a.attributes.now q.new.nodes a.tree a.name a.fixed a.line
-    (omega (arith, at-if1.if-nodes-node_place-lt-NODE_WORDS.false, at_place.node_place.ensures)) q.auto.nodes q.ensures.1 o h)
+    (omega (arith, c.if-nodes-node_place-lt-NODE_WORDS.false, c.node_place.ensures)) q.auto.nodes q.ensures.1 o h)

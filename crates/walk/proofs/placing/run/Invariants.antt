@@ -12,9 +12,13 @@ use Rattle.walk.proofs.Running.{RunHead}
 use Rattle.walk.proofs.placing.run.Given as goal
 
 abbrev pub invariant-loop-u : goal.invariant-loop-u
-invariant-loop-u l = (length l.nodes ≡ length l.initial.nodes) × (length l.attributes ≡ length l.initial.attributes)
-    × ((g : Running l.t (lends l.names l.area) l.b l.o l.initial.nodes l.initial.attributes l.initial.cur l.initial.grown) → RunHead l.mode l.t (lends l.names l.area) l.b l.o l.initial.nodes l.initial.attributes l.initial.cur l.initial.grown g l.nodes l.attributes l.cur l.grown)
-    × Remembers l.o.head l.t (lends l.names l.area) l.memory × Numbered l.o.head l.t (lends l.names l.area) l.numbers
+invariant-loop-u l =
+    let i = l.initial in
+    let lent = lends l.names l.area in
+    (length l.nodes ≡ length i.nodes) × (length l.attributes ≡ length i.attributes)
+    × ((g : Running l.t lent l.b l.o i.nodes i.attributes i.cur i.grown)
+    → RunHead l.mode l.t lent l.b l.o i.nodes i.attributes i.cur i.grown g l.nodes l.attributes l.cur l.grown)
+    × Remembers l.o.head l.t lent l.memory × Numbered l.o.head l.t lent l.numbers
 
 abbrev pub decreases-loop-u : goal.decreases-loop-u
 decreases-loop-u l = steps l.b l.cur

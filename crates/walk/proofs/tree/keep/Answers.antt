@@ -1,131 +1,33 @@
 -- `walk::tree::keep` meets its contract: a repeat changes nothing, a new attribute is stored where it has a place; many are linked (proofs/Chains.antt).
-use Prim.Native.Nat.{◌+◌, ◌-◌, ◌*◌, ◌≤◌}
+use Rattle.core.proofs.result.Match.{err_is}
+use Prim.Native.Nat.{◌-◌}
 use native.Mathlib.Omega.{arith}
 use native.Mathlib.Nat.{pos_of_ne-zero}
 use mathlib.Core.Path.{refl, sym, ◌∙◌}
 use mathlib.Core.Bool.{false}
 use lib.ListN.{length}
-use Rattle.records.specs.Words.{attribute_width}
 use Rattle.records.specs.Repeats.{by_prefix}
 use Rattle.system_types.specs.Names.{lends}
 use Rattle.text.specs.Content.{same_name}
 use Rattle.tables.specs.Inner.Keys.{key_by}
 use Rattle.walk.specs.Inner.Tree.{new_words}
-use Rattle.walk.proofs.Chains.{far-of, front-le, front-found, front-near, front-first, counted-nodes, chained-near}
+use Rattle.walk.proofs.Chains.{far-of, front-found, front-near, front-first, counted-nodes, chained-near}
 use Rattle.walk.proofs.tree.keep.Goals as goal
 
-pub returns-then-n-eq0 : goal.returns-then-n-eq0
-returns-then-n-eq0 c =
-    let at-start = c in
-    ((λ l. record { there = λ n. absurd (n c.if-n-eq0.true); nodes = refl; attributes = refl }), at-start.requires.2)
-
-pub overflow_sub-used : goal.overflow_sub-used
-overflow_sub-used c = omega (
-  arith,
-  c.attribute_place-used.ensures,
-  c.attribute_place-from.ensures,
-  c.requires.1.sized.first,
-)
-
-pub overflow_sub-nodes : goal.overflow_sub-nodes
-overflow_sub-nodes c = omega (arith, c.node_place.ensures, c.requires.1.sized.nodes)
-
-pub overflow_sub-used-2 : goal.overflow_sub-used-2
-overflow_sub-used-2 c = omega (
-  arith,
-  c.attribute_place-used.ensures,
-  c.attribute_place-from.ensures,
-  c.requires.1.sized.first,
-)
-
-pub overflow_add-from : goal.overflow_add-from
-overflow_add-from c = omega (
-  arith,
-  front-le c.is_far-far.result _ _ c.front_of-front.result c.is_far-far.ensures c.front_of-front.ensures,
-  c.attribute_place-used.ensures,
-  c.attribute_place-from.ensures,
-  c.requires.1.sized.first,
-  c.requires.1.sized.attributes,
-  c.requires.1.many,
-)
-
-pub offset_bounds-attributes-from : goal.offset_bounds-attributes-from
-offset_bounds-attributes-from c = omega (
-  arith,
-  front-le c.is_far-far.result _ _ c.front_of-front.result c.is_far-far.ensures c.front_of-front.ensures,
-  c.attribute_place-used.ensures,
-  c.attribute_place-from.ensures,
-  c.requires.1.sized.first,
-  c.requires.1.sized.attributes,
-  c.requires.1.many,
-)
-
-pub slice_bounds-has-count : goal.slice_bounds-has-count
-slice_bounds-has-count c = omega (
-  arith,
-  front-le c.is_far-far.result _ _ c.front_of-front.result c.is_far-far.ensures c.front_of-front.ensures,
-  c.attribute_place-used.ensures,
-  c.attribute_place-from.ensures,
-  c.requires.1.sized.first,
-  c.requires.1.sized.attributes,
-  c.requires.1.many,
-)
-
-pub slice_bounds-has-start : goal.slice_bounds-has-start
-slice_bounds-has-start c = omega (
-  arith,
-  front-le c.is_far-far.result _ _ c.front_of-front.result c.is_far-far.ensures
-      c.front_of-front.ensures,
-  c.attribute_place-used.ensures,
-  c.attribute_place-from.ensures,
-  c.requires.1.sized.first,
-  c.requires.1.sized.attributes,
-  c.requires.1.many,
-)
-
-pub slice_bounds-has-end : goal.slice_bounds-has-end
-slice_bounds-has-end c = omega (
-  arith,
-  front-le c.is_far-far.result _ _ c.front_of-front.result c.is_far-far.ensures
-      c.front_of-front.ensures,
-  c.attribute_place-used.ensures,
-  c.attribute_place-from.ensures,
-  c.requires.1.sized.first,
-  c.requires.1.sized.attributes,
-  c.requires.1.many,
-)
-
-pub has-requires : goal.has-requires
-has-requires c =
-    let at-start = c in
-    let p = at-start.requires in (p.0.0, p.0.1, p.2)
-
-pub shape_of-numbers-then-has : goal.shape_of-numbers-then-has
-shape_of-numbers-then-has c =
-    let at_has = c in
-    let at-start = c in
-    at_has.has.ensures.1.room ∙ sym at-start.requires.2.room
-
 pub returns-then-has : goal.returns-then-has
-returns-then-has c =
-    let at_has = c in
-    let at-front-of = c in
-    let at-is-far = c in
-    let at-attribute-place2 = c in
-    let at-attribute-place = c in
-    let at-start = c in (
-      (let s = at-start in let a = s.args in let lent = lends a.names.now a.area.now in let same = same_name a.h a.t.now lent in let
-          key = key_by a.h a.t.now lent in λ l. record {
-            there = λ _. front-found a.nodes.now a.attributes.now a.tree s.requires.1.sized (by_prefix same)
-                (new_words a.tree a.prefix a.a) _ _ _ _ _ at-attribute-place.attribute_place-from.ensures
-                at-attribute-place2.attribute_place-used.ensures refl at-is-far.is_far-far.result at_has.has.result at-is-far.is_far-far.ensures
-                at-front-of.front_of-front.ensures (at_has.has.ensures.0 (a.tree.nodes - 1) a.a.data_type a.a.«data») c.if-has.true;
-            nodes =
-                refl;
-            attributes = refl;
-          }),
-      at_has.has.ensures.1,
-    )
+returns-then-has c = (
+  (let s = c in let a = s.args in let lent = lends a.names.now a.area.now in let same = same_name a.h a.t.now lent in let
+      key = key_by a.h a.t.now lent in λ l. record {
+        there = λ _. front-found a.nodes.now a.attributes.now a.tree s.requires.1.sized (by_prefix same)
+            (new_words a.tree a.prefix a.a) _ _ _ _ _ c.attribute_place-from.ensures
+            c.attribute_place-used.ensures refl c.is_far-far.result c.has.result c.is_far-far.ensures
+            c.front_of-front.ensures (c.has.ensures.0 (a.tree.nodes - 1) a.a.data_type a.a.«data») c.if-has.true;
+        nodes =
+            refl;
+        attributes = refl;
+      }),
+  c.has.ensures.1,
+)
 
 pub keep_far-requires : goal.keep_far-requires
 keep_far-requires c =
@@ -149,93 +51,48 @@ keep_far-requires c =
       c.has.ensures.1,
     )
 
-pub shape_of-numbers-then-far : goal.shape_of-numbers-then-far
-shape_of-numbers-then-far c =
-    let at-keep-far = c in
-    let at-start = c in
-    at-keep-far.keep_far.ensures.1.room ∙ sym at-start.requires.2.room
-
 pub returns-then-far : goal.returns-then-far
 returns-then-far c =
-    let at-keep-far = c in
     let then3 = c in
-    let else2 = c in
-    let at_has = c in
-    let at-front-of = c in
-    let at-is-far = c in
-    let at-attribute-place2 = c in
-    let at-attribute-place = c in
-    let at-start = c in (
-      (let s = at-start in let a = s.args in let lent = lends a.names.now a.area.now in let same = same_name a.h a.t.now lent in let
-          key = key_by a.h a.t.now lent in at-keep-far.keep_far.ensures.0
+    let else2 = c in (
+      (let s = c in let a = s.args in let lent = lends a.names.now a.area.now in let same = same_name a.h a.t.now lent in let
+          key = key_by a.h a.t.now lent in c.keep_far.ensures.0
           (front-first a.nodes.now a.attributes.now a.tree s.requires.1.sized (by_prefix same) (new_words a.tree a.prefix a.a) _ _ _ 0
-          _ at-attribute-place.attribute_place-from.ensures at-attribute-place2.attribute_place-used.ensures refl at-is-far.is_far-far.result
-          at_has.has.result false then3.if-far.true at-front-of.front_of-front.ensures
-          (at_has.has.ensures.0 (a.tree.nodes - 1) a.a.data_type a.a.«data») else2.if-has.false)),
-      at-keep-far.keep_far.ensures.1,
+          _ c.attribute_place-from.ensures c.attribute_place-used.ensures refl c.is_far-far.result
+          c.has.result false then3.if-far.true c.front_of-front.ensures
+          (c.has.ensures.0 (a.tree.nodes - 1) a.a.data_type a.a.«data») else2.if-has.false)),
+      c.keep_far.ensures.1,
     )
 
-pub overflow_sub-attributes : goal.overflow_sub-attributes
-overflow_sub-attributes c = omega (
-  arith,
-  c.attribute_place-used.ensures,
-  c.requires.1.sized.attributes,
-)
-
-pub shape_of-numbers-then-attributes-used-lt-ATTRIBUTE_WORDS : goal.shape_of-numbers-then-attributes-used-lt-ATTRIBUTE_WORDS
-shape_of-numbers-then-attributes-used-lt-ATTRIBUTE_WORDS c =
-    let at_has = c in
-    let at-start = c in
-    at_has.has.ensures.1.room ∙ sym at-start.requires.2.room
-
-pub returns-then-attributes-used-lt-ATTRIBUTE_WORDS : goal.returns-then-attributes-used-lt-ATTRIBUTE_WORDS
-returns-then-attributes-used-lt-ATTRIBUTE_WORDS c = (
+pub returns-in_err-u : goal.returns-in_err-u
+returns-in_err-u c = (
   (let s = c in let a = s.args in let lent = lends a.names.now a.area.now in let same =
-      same_name a.h a.t.now lent in let key = key_by a.h a.t.now lent in λ l. record {
-        some = c.if-n-eq0.false;
-        new = front-near a.nodes.now a.attributes.now a.tree s.requires.1.sized (by_prefix same)
-            (new_words a.tree a.prefix a.a) _ _ _ 0 _
-            c.attribute_place-from.ensures c.attribute_place-used.ensures refl c.is_far-far.result
-            c.has.result false c.if-far.false
-            c.front_of-front.ensures
-            (c.has.ensures.0 (a.tree.nodes - 1) a.a.data_type a.a.«data»)
-            c.if-has.false;
-        full = omega (
-          arith,
-          c.if-attributes-used-lt-ATTRIBUTE_WORDS.true,
-          c.attribute_place-used.ensures,
-        );
-      }),
+      same_name a.h a.t.now lent in let key =
+      key_by a.h a.t.now lent in let w =
+      rw c.in_err-u.was at c.store.ensures in λ l. rw (err_is c.from_residual.result c.in_err-u.field-0.0 c.from_residual.ensures.1) (
+        w.0,
+        record {
+          some = c.if-n-eq0.false;
+          new = front-near a.nodes.now a.attributes.now a.tree s.requires.1.sized (by_prefix same)
+              (new_words a.tree a.prefix a.a) _ _ _ 0 _
+              c.attribute_place-from.ensures c.attribute_place-used.ensures refl c.is_far-far.result
+              c.has.result false c.if-far.false
+              c.front_of-front.ensures
+              (c.has.ensures.0 (a.tree.nodes - 1) a.a.data_type a.a.«data»)
+              c.if-has.false;
+          full = w.1;
+        },
+      )),
   c.has.ensures.1,
 )
-
-pub store-requires : goal.store-requires
-store-requires c = (
-  c.requires.1,
-  pos_of_ne-zero
-      c.if-n-eq0.false,
-  omega (
-    arith,
-    c.if-attributes-used-lt-ATTRIBUTE_WORDS.false,
-    c.attribute_place-used.ensures,
-  ),
-)
-
-pub shape_of-numbers : goal.shape_of-numbers
-shape_of-numbers c =
-    let at_has = c in
-    let at-start = c in
-    at_has.has.ensures.1.room ∙ sym at-start.requires.2.room
 
 pub returns : goal.returns
 returns c = (
   (let s = c in let a = s.args in let
-      lent = lends a.names.now a.area.now in let same = same_name a.h a.t.now lent in let key = key_by a.h a.t.now lent in let
-      room : attribute_width * a.tree.attributes + attribute_width ≤ length a.attributes.now = omega (
-        arith,
-        c.if-attributes-used-lt-ATTRIBUTE_WORDS.false,
-        c.attribute_place-used.ensures,
-      ) in let q = c.store in let w = q.ensures in λ l.
+      lent =
+      lends a.names.now a.area.now in let same =
+      same_name a.h a.t.now lent in let key =
+      key_by a.h a.t.now lent in let q = c.store in let p = rw c.in_ok-u.was at q.ensures in let room = p.0 in let w = p.1 in λ l.
       record {
         some = c.if-n-eq0.false;
         new = front-near a.nodes.now a.attributes.now a.tree
@@ -251,11 +108,11 @@ returns c = (
         tree = w.tree;
         attributes =
             w.attributes;
-        nodes = counted-nodes a.nodes.now a.attributes.now q.new.nodes q.new.attributes a.tree q.result a.prefix
+        nodes = counted-nodes a.nodes.now a.attributes.now q.new.nodes q.new.attributes a.tree c.in_ok-u.u a.prefix
             a.a s.requires.1.sized (pos_of_ne-zero
             c.if-n-eq0.false) room w;
         chained = chained-near a.nodes.now a.attributes.now q.new.nodes
-            q.new.attributes a.tree q.result a.prefix a.a s.requires.1.sized
+            q.new.attributes a.tree c.in_ok-u.u a.prefix a.a s.requires.1.sized
             (pos_of_ne-zero c.if-n-eq0.false) room w key
             (c.attribute_place-used.result -
             c.attribute_place-from.result) (length a.nodes.now -

@@ -1,10 +1,9 @@
 -- `walk::tree::keep_far` meets its contract: the attributes behind the first 32 are sought along their links, and a new one is linked (proofs/Chains.antt).
-use Prim.Native.Nat.{ℕ, ◌+◌, ◌*◌, ◌≤◌}
+use Rattle.core.proofs.result.Match.{err_is}
+use Prim.Native.Nat.{ℕ, ◌+◌}
 use native.Mathlib.Omega.{arith}
-use mathlib.Core.Path.{refl, sym, ap, ◌∙◌}
+use mathlib.Core.Path.{refl, ap}
 use mathlib.Core.Bool.{true, false}
-use lib.ListN.{length}
-use Rattle.records.specs.Words.{attribute_width}
 use Rattle.system_types.specs.Names.{lends}
 use Rattle.text.specs.Content.{same_name}
 use Rattle.tables.specs.Inner.Keys.{key_by}
@@ -12,155 +11,56 @@ use Rattle.tables.specs.Inner.Ways.{front_words}
 use Rattle.walk.proofs.Chains.{behind-room, count-is, count-seen, link-room, far-repeat, linked-nodes, ends-here, chained-far}
 use Rattle.walk.proofs.tree.keep_far.Goals as goal
 
-pub key_of-key-requires : goal.key_of-key-requires
-key_of-key-requires c =
-    let at-start = c in
-    (at-start.requires.0, c.find-g.ensures, at-start.requires.3)
-
-pub slice_bounds-seek-count : goal.slice_bounds-seek-count
-slice_bounds-seek-count c = omega (
-  arith,
-  c.attribute_place-from.ensures,
-  c.attribute_place-used.ensures,
-  c.requires.2.many,
-)
-
-pub slice_bounds-seek-start : goal.slice_bounds-seek-start
-slice_bounds-seek-start c = omega (
-  arith,
-  c.attribute_place-from.ensures,
-  c.attribute_place-used.ensures,
-  c.requires.2.many,
-)
-
-pub slice_bounds-seek-end : goal.slice_bounds-seek-end
-slice_bounds-seek-end c = omega (
-  arith,
-  c.attribute_place-used.ensures,
-  c.requires.1.sized.attributes,
-)
-
 pub seek-e-requires : goal.seek-e-requires
 seek-e-requires c =
-    let at-key-of = c in
-    let at-find = c in
-    let at-node-place = c in
-    let at-attribute-place2 = c in
-    let at-attribute-place = c in
-    let at-start = c in
-    let s = at-start in
+    let s = c in
     let a = s.args in (
       s.requires.0,
-      at-find.find-g.ensures,
-      at-key-of.key_of-key.ensures.1,
+      c.find-g.ensures,
+      c.key_of-key.ensures.1,
       behind-room a.nodes.now a.attributes.now a.tree s.requires.1.sized
-          s.requires.2 _ _ _ (ap (λ (k : ℕ). k + front_words) at-attribute-place.attribute_place-from.ensures)
-          at-attribute-place2.attribute_place-used.ensures at-node-place.node_place-free.ensures,
+          s.requires.2 _ _ _ (ap (λ (k : ℕ). k + front_words) c.attribute_place-from.ensures)
+          c.attribute_place-used.ensures c.node_place-free.ensures,
     )
-
-pub shape_of-numbers-then-e : goal.shape_of-numbers-then-e
-shape_of-numbers-then-e c =
-    let at-seek = c in
-    let at-start = c in
-    at-seek.seek-e.ensures.1.room ∙ sym at-start.requires.3.room
 
 pub returns-then-e : goal.returns-then-e
-returns-then-e c =
-    let at-seek = c in
-    let at-key-of = c in
-    let at-node-place = c in
-    let at-attribute-place2 = c in
-    let at-attribute-place = c in
-    let at-start = c in (
-      (let s = at-start in let a = s.args in let lent = lends a.names.now a.area.now in let same = same_name a.h a.t.now lent in let
-          key = key_by a.h a.t.now lent in λ none l. record {
-            there = λ _. far-repeat a.nodes.now a.attributes.now a.tree s.requires.1.sized s.requires.2 key same a.prefix a.a _ _ _
-                at-key-of.key_of-key.result at-seek.seek-e.result true (ap (λ (k : ℕ). k + front_words) at-attribute-place.attribute_place-from.ensures)
-                at-attribute-place2.attribute_place-used.ensures at-node-place.node_place-free.ensures l at-seek.seek-e.ensures.0
-                at-key-of.key_of-key.ensures.0 none c.if-e.true;
-            nodes = refl;
-            attributes = refl;
-          }),
-      at-seek.seek-e.ensures.1,
-    )
-
-pub overflow_sub-attributes : goal.overflow_sub-attributes
-overflow_sub-attributes c = omega (
-  arith,
-  c.attribute_place-used.ensures,
-  c.requires.1.sized.attributes,
-)
-
-pub shape_of-numbers-then-attributes-used-lt-ATTRIBUTE_WORDS : goal.shape_of-numbers-then-attributes-used-lt-ATTRIBUTE_WORDS
-shape_of-numbers-then-attributes-used-lt-ATTRIBUTE_WORDS c =
-    let at-seek = c in
-    let at-start = c in
-    at-seek.seek-e.ensures.1.room ∙ sym at-start.requires.3.room
-
-pub returns-then-attributes-used-lt-ATTRIBUTE_WORDS : goal.returns-then-attributes-used-lt-ATTRIBUTE_WORDS
-returns-then-attributes-used-lt-ATTRIBUTE_WORDS c = (
-  (let s = c in let a = s.args in let lent = lends a.names.now
-      a.area.now in let same = same_name a.h a.t.now lent in let key = key_by a.h a.t.now lent in λ none l. record {
-        some = λ z. omega (arith, s.requires.2.some);
-        new = far-repeat a.nodes.now a.attributes.now a.tree s.requires.1.sized s.requires.2
-            key same a.prefix a.a _ _ _
-            c.key_of-key.result
-            c.seek-e.result false
-            (ap (λ (k : ℕ). k + front_words)
-            c.attribute_place-from.ensures)
-            c.attribute_place-used.ensures
-            c.node_place-free.ensures l c.seek-e.ensures.0
-            c.key_of-key.ensures.0 none
-            c.if-e.false;
-        full = omega (
-          arith,
-          c.if-attributes-used-lt-ATTRIBUTE_WORDS.true,
-          c.attribute_place-used.ensures,
-        );
+returns-then-e c = (
+  (let s = c in let a = s.args in let lent = lends a.names.now a.area.now in let same = same_name a.h a.t.now lent in let
+      key = key_by a.h a.t.now lent in λ none l. record {
+        there = λ _. far-repeat a.nodes.now a.attributes.now a.tree s.requires.1.sized s.requires.2 key same a.prefix a.a _ _ _
+            c.key_of-key.result c.seek-e.result true (ap (λ (k : ℕ). k + front_words) c.attribute_place-from.ensures)
+            c.attribute_place-used.ensures c.node_place-free.ensures l c.seek-e.ensures.0
+            c.key_of-key.ensures.0 none c.if-e.true;
+        nodes = refl;
+        attributes = refl;
       }),
   c.seek-e.ensures.1,
 )
 
-pub store-u-requires : goal.store-u-requires
-store-u-requires c = (
-  c.requires.1,
-  c.requires.2.some,
-  omega (
-    arith,
-    c.if-attributes-used-lt-ATTRIBUTE_WORDS.false,
-    c.attribute_place-used.ensures,
-  ),
-)
-
-pub offset_bounds-nodes-free-2 : goal.offset_bounds-nodes-free-2
-offset_bounds-nodes-free-2 c = omega (
-  arith,
-  c.node_place-free.ensures,
-  c.requires.1.many,
-)
-
-pub slice_bounds-link-count : goal.slice_bounds-link-count
-slice_bounds-link-count c = omega (
-  arith,
-  c.node_place-free.ensures,
-  c.requires.1.sized.nodes,
-  c.store-u.auto.nodes,
-)
-
-pub slice_bounds-link-start : goal.slice_bounds-link-start
-slice_bounds-link-start c = omega (
-  arith,
-  c.node_place-free.ensures,
-  c.requires.1.sized.nodes,
-  c.store-u.auto.nodes,
-)
-
-pub overflow_sub-used : goal.overflow_sub-used
-overflow_sub-used c = omega (
-  arith,
-  c.attribute_place-from.ensures,
-  c.attribute_place-used.ensures,
-  c.requires.2.many,
+pub returns-in_err-u : goal.returns-in_err-u
+returns-in_err-u c = (
+  (let s = c in let a = s.args in let lent = lends a.names.now
+      a.area.now in let same =
+      same_name a.h a.t.now lent in let key =
+      key_by a.h a.t.now lent in let w =
+      rw c.in_err-u.was at c.store.ensures in λ none l. rw (err_is c.from_residual.result c.in_err-u.field-0.0 c.from_residual.ensures.1) (
+        w.0,
+        record {
+          some = λ z. omega (arith, s.requires.2.some);
+          new = far-repeat a.nodes.now a.attributes.now a.tree s.requires.1.sized s.requires.2
+              key same a.prefix a.a _ _ _
+              c.key_of-key.result
+              c.seek-e.result false
+              (ap (λ (k : ℕ). k + front_words)
+              c.attribute_place-from.ensures)
+              c.attribute_place-used.ensures
+              c.node_place-free.ensures l c.seek-e.ensures.0
+              c.key_of-key.ensures.0 none
+              c.if-e.false;
+          full = w.1;
+        },
+      )),
+  c.seek-e.ensures.1,
 )
 
 pub link-requires : goal.link-requires
@@ -173,8 +73,8 @@ link-requires c =
     c.attribute_place-from.ensures in
     let eu = c.attribute_place-used.ensures in
     let seen = count-seen a.nodes.now a.attributes.now a.tree h far _ _ ef eu in (
-      link-room a.nodes.now a.attributes.now a.tree h far c.store-u.new.nodes _ _ _
-          c.store-u.auto.nodes ef eu
+      link-room a.nodes.now a.attributes.now a.tree h far c.store.new.nodes _ _ _
+          c.store.auto.nodes ef eu
           c.node_place-free.ensures,
       omega (
         arith,
@@ -188,25 +88,14 @@ link-requires c =
           (arith, seen, n)),
     )
 
-pub shape_of-numbers : goal.shape_of-numbers
-shape_of-numbers c =
-    let at-seek = c in
-    let at-start = c in
-    at-seek.seek-e.ensures.1.room ∙ sym at-start.requires.3.room
-
 pub returns : goal.returns
 returns c = (
   (let s = c in let a = s.args in let lent = lends a.names.now a.area.now in let same = same_name a.h
       a.t.now lent in let key = key_by a.h a.t.now lent in let h = s.requires.1.sized in let far = s.requires.2 in let ef = ap
       (λ (k : ℕ). k + front_words) c.attribute_place-from.ensures in let eu =
-      c.attribute_place-used.ensures in let room :
-      attribute_width * a.tree.attributes + attribute_width ≤ length a.attributes.now = omega (
-        arith,
-        c.if-attributes-used-lt-ATTRIBUTE_WORDS.false,
-        c.attribute_place-used.ensures,
-      ) in let q =
-      c.store-u in let seen = count-seen a.nodes.now a.attributes.now
-      a.tree h far _ _ ef eu in let w = q.ensures in λ none l. record {
+      c.attribute_place-used.ensures in let q =
+      c.store in let p = rw c.in_ok-u.was at q.ensures in let room = p.0 in let seen = count-seen a.nodes.now a.attributes.now
+      a.tree h far _ _ ef eu in let w = p.1 in λ none l. record {
         some = λ z. omega (arith, far.some);
         new = far-repeat a.nodes.now a.attributes.now a.tree s.requires.1.sized s.requires.2 key
             same a.prefix a.a _ _ _ c.key_of-key.result
@@ -221,16 +110,16 @@ returns c = (
         room = room;
         tree = w.tree;
         attributes = w.attributes;
-        nodes = linked-nodes a.nodes.now a.attributes.now q.new.nodes q.new.attributes a.tree q.result
+        nodes = linked-nodes a.nodes.now a.attributes.now q.new.nodes q.new.attributes a.tree c.in_ok-u.u
             a.prefix a.a h far.some room w far key _ c.link.new.links
             c.node_place-free.ensures;
         chained = chained-far
-            a.nodes.now a.attributes.now q.new.nodes q.new.attributes a.tree q.result a.prefix a.a h far.some room w far key _
+            a.nodes.now a.attributes.now q.new.nodes q.new.attributes a.tree c.in_ok-u.u a.prefix a.a h far.some room w far key _
             c.link.new.links
             c.node_place-free.ensures _ _ l (count-is a.nodes.now
             a.attributes.now a.tree h far _ _ ef eu)
             c.key_of-key.ensures.0 (c.link.ensures
-            (λ pos. ends-here a.nodes.now a.attributes.now q.new.nodes q.new.attributes a.tree q.result a.prefix a.a h far.some
+            (λ pos. ends-here a.nodes.now a.attributes.now q.new.nodes q.new.attributes a.tree c.in_ok-u.u a.prefix a.a h far.some
             room w far key _ c.link.new.links
             c.node_place-free.ensures _ _ _ _ _ seen
             (c.seek-e.ensures.0.ends c.if-e.false

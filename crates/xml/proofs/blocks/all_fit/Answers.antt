@@ -1,34 +1,40 @@
--- `xml::blocks::all_fit` meets its contract. Invariant: the least answer so far is 1 where each byte so far fits. Measure: the bytes left.
-use mathlib.Core.Path.{◌≡◌, refl, ap, ◌∙◌}
-use mathlib.Core.Bool.{Bool, cond}
-use Prim.Native.Nat.{ℕ}
-use Rattle.xml.specs.Inner.Blocks.{all_fit}
-use Rattle.xml.proofs.Passing.{bool_byte-is, least-put, least_kept, least-is}
-use native.Mathlib.Omega.{arith}
+-- `xml::blocks::all_fit` meets its contract, by the form of the block: each byte fits, or one does not.
+use Rattle.std.proofs.Common.{rules}
+use Rattle.xml.specs.declared.blocks.Form.TheVariants.{AsciiUnits, FarUnits, Ascii, Pairs, Triples}
+use Rattle.xml.proofs.Passing.{all_fit-is}
 use Rattle.xml.proofs.blocks.all_fit.Goals as goal
-use Rattle.xml.proofs.blocks.all_fit.Goals.{then-x-least, else-x-least}
 
-pub loop-k-init : goal.loop-k-init
-unfolding all_fit
-loop-k-init c = (omega arith, refl)
-
-pub loop-k-preserved : goal.loop-k-preserved
-loop-k-preserved c =
-    let l = c.loop-k in
+pub returns-in-AsciiUnits : goal.returns-in-AsciiUnits
+returns-in-AsciiUnits c =
     let a = c.args in
-    let s = a.s.now in
-    let x = bool_byte-is c.fits-x.result ∙ ap (λ (b : Bool). cond {A = ℕ} b 1 0) c.fits-x.ensures in (
-      omega arith,
-      elim c.if-x-least.branch [
-        | then-x-least w ↦ rw w.least-is (least-put a.form s a.at l.k l.least _ l.invariant.1 x w.if-x-least.true)
-        | else-x-least w ↦ rw w.least-is (least_kept a.form s a.at l.k l.least _ l.invariant.1 x w.if-x-least.false)
-      ],
-    )
+    let p = c.all_pass.ensures in
+    rw c.in-AsciiUnits.is
+    (all_fit-is AsciiUnits a.s.now a.at 64 _ (λ t k h. let f = p.passes t k h in search rules) (λ t. let f = p.fails t in (f.0, f.1, search rules)))
 
-pub returns : goal.returns
-returns c =
+pub returns-in-FarUnits : goal.returns-in-FarUnits
+returns-in-FarUnits c =
     let a = c.args in
-    let l = c.loop-k in
-    let k : l.k ≡ a.n = omega arith in
-    let s = a.s.now in
-    least-is l.least (all_fit a.form s a.at a.n) (l.invariant.1 ∙ ap (λ (n : ℕ). cond {A = ℕ} (all_fit a.form s a.at n) 1 0) k)
+    let p = c.all_pass-in-FarUnits.ensures in
+    rw c.in-FarUnits.is
+    (all_fit-is FarUnits a.s.now a.at 64 _ (λ t k h. let f = p.passes t k h in search rules) (λ t. let f = p.fails t in (f.0, f.1, search rules)))
+
+pub returns-in-Ascii : goal.returns-in-Ascii
+returns-in-Ascii c =
+    let a = c.args in
+    let p = c.all_pass-in-Ascii.ensures in
+    rw c.in-Ascii.is
+    (all_fit-is Ascii a.s.now a.at 64 _ (λ t k h. let f = p.passes t k h in search rules) (λ t. let f = p.fails t in (f.0, f.1, search rules)))
+
+pub returns-in-Pairs : goal.returns-in-Pairs
+returns-in-Pairs c =
+    let a = c.args in
+    let p = c.all_pass-in-Pairs.ensures in
+    rw c.in-Pairs.is
+    (all_fit-is Pairs a.s.now a.at 64 _ (λ t k h. let f = p.passes t k h in search rules) (λ t. let f = p.fails t in (f.0, f.1, search rules)))
+
+pub returns-in-Triples : goal.returns-in-Triples
+returns-in-Triples c =
+    let a = c.args in
+    let p = c.all_pass-in-Triples.ensures in
+    rw c.in-Triples.is
+    (all_fit-is Triples a.s.now a.at 48 _ (λ t k h. let f = p.passes t k h in search rules) (λ t. let f = p.fails t in (f.0, f.1, search rules)))

@@ -5,7 +5,7 @@ use Rattle.xml.specs.Inner.NameRun.{Seen}
 use Rattle.xml.proofs.blocks.blocks_end.Given as goal
 
 abbrev pub invariant-loop-i : goal.invariant-loop-i
-invariant-loop-i l = Seen l.utf16 l.s l.at l.i × (l.i ≤ length l.s)
+invariant-loop-i l = record { seen : Seen l.utf16 l.s l.at l.i; within : l.i ≤ length l.s }
 
 abbrev pub decreases-loop-i : goal.decreases-loop-i
 decreases-loop-i l = length l.s - l.i

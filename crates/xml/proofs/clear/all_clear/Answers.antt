@@ -1,37 +1,22 @@
--- `xml::clear::all_clear` meets its contract. Invariant: where the least answer so far is 1, the places so far are passed. Measure: the places left.
+-- `xml::clear::all_clear` meets its contract, by each of its places.
+use mathlib.Core.Path.{◌≡◌, subst}
+use mathlib.Core.Bool.{false}
 use Prim.Native.Nat.{ℕ, ◌+◌, ◌<◌}
-use lib.ListN.{length, get_or}
-use borrow.Author.Tests.{eqb-true}
-use Rattle.xml.proofs.Passing.{bool_byte-is}
-use Rattle.xml.proofs.ClearPlaces.{places-first, places-put, places-kept, places-all, clear-passes}
 use native.Mathlib.Omega.{arith}
+use lib.ListN.{get_or}
+use borrow.Author.Rules.{rules}
+use Rattle.xml.specs.Inner.NameRun.{Passed}
+use Rattle.xml.proofs.Names.{passed-chain}
+use Rattle.xml.proofs.ClearPlaces.{clear-passes}
 use Rattle.xml.proofs.clear.all_clear.Goals as goal
-use Rattle.xml.proofs.clear.all_clear.Goals.{then-x-least, else-x-least}
-
-pub loop-k-init : goal.loop-k-init
-loop-k-init c = places-first _ _
-
-pub loop-k-preserved : goal.loop-k-preserved
-loop-k-preserved c =
-    let start = c in
-    let l = c.loop-k in
-    let s = start.args.s.now in
-    let at = start.args.at in
-    let bytes : (i : ℕ) → get_or s i 0 < 256 = λ i. (c.type_inv.s i).fits in
-    let turn : l.k < 64 = omega (arith, c.loop-k-test.true) in
-    let inside : at + l.k < length s = omega (arith, start.requires, turn) in
-    let x = c.is_clear-x in
-    elim c.if-x-least.branch [
-      | then-x-least w ↦
-          rw w.least-is (places-put s at l.least l.k _ x.result (bool_byte-is x.result) l.invariant turn w.if-x-least.true)
-      | else-x-least w ↦
-          rw w.least-is
-          (places-kept s at l.least l.k _ x.result (bool_byte-is x.result) l.invariant turn w.if-x-least.false
-          (λ t. clear-passes s bytes (at + l.k) inside (x.ensures t)))
-    ]
 
 pub returns : goal.returns
-returns c =
+returns c = λ t.
     let a = c.args in
-    let l = c.loop-k in
-    λ t. places-all a.s.now a.at l.least l.k l.invariant (eqb-true l.least 1 t) (omega arith)
+    let s = a.s.now in
+    let bytes : (i : ℕ) → get_or s i 0 < 256 = λ i. (c.type_inv.s i).fits in
+    passed-chain s (λ k. a.at + k) 64 a.at _ (omega arith) (omega arith)
+    (λ k j h i.
+    let f = c.all_pass.ensures.passes t k (omega arith) in
+    let e : a.at + k + 1 ≡ j = omega arith in
+    subst (λ (x : ℕ). Passed false s (a.at + k) x) e (clear-passes s bytes (a.at + k) (omega arith) (search rules)))

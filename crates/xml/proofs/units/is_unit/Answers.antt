@@ -6,7 +6,7 @@ use Prim.Native.Nat.{◌<◌}
 use Rattle.utf.proofs.Tables.{both_true}
 use Rattle.utf.proofs.Either.{or5}
 use Rattle.xml.specs.Inner.SeenChars.{far_high}
-use Rattle.xml.proofs.UnitChars.{unit-is-far, unit-kana}
+use Rattle.xml.proofs.UnitChars.{unit_is_far, unit-kana}
 use borrow.Author.Rules.{rules}
 use native.Mathlib.Omega.{arith}
 use Rattle.xml.proofs.units.is_unit.Goals as goal
@@ -18,7 +18,7 @@ returns c =
     let byte : b < 256 = search rules in
     λ t.
     or5 (far_high x) c.low_unit.result c.sign_unit.result (eqb x _ && not (eqb b _)) c.last_unit.result (rw c.far_high.ensures at t)
-    (λ f. unit-is-far b x byte f)
+    (λ f. unit_is_far byte f)
     (λ f. c.low_unit.ensures f)
     (λ f. c.sign_unit.ensures f)
     (λ f.

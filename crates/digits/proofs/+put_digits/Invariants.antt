@@ -1,5 +1,0 @@
--- `digits::put_digits` calls itself with one digit less.
-use Rattle.digits.proofs.+put_digits.Given as goal
-
-abbrev pub decreases-put_digits : goal.decreases-put_digits
-decreases-put_digits l = l.k

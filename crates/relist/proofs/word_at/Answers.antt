@@ -1,7 +1,0 @@
--- `relist::word_at` meets its contract: a word that is there, or 0.
-use mathlib.Core.Path.{sym}
-use lib.ListN.{get_or-eq_default}
-use Rattle.relist.proofs.word_at.Goals as goal
-
-pub returns-then-words-i : goal.returns-then-words-i
-returns-then-words-i c = sym (get_or-eq_default c.args.words.now 0 c.if-words-i.true)

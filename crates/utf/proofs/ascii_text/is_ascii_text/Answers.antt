@@ -1,8 +1,0 @@
--- `utf::ascii_text::is_ascii_text` meets its contract, by the test of either encoding.
-use Rattle.utf.proofs.ascii_text.is_ascii_text.Goals as goal
-
-pub returns-then-utf16 : goal.returns-then-utf16
-returns-then-utf16 c = rw c.if-utf16.true c.is_ascii_units.ensures
-
-pub returns : goal.returns
-returns c = rw c.if-utf16.false c.is_ascii.ensures

@@ -1,9 +1,0 @@
--- `walk::tree::kept_attributes` meets its contract: all, or those before the second open element's.
-use Rattle.walk.proofs.Tests.{tests}
-use Rattle.walk.proofs.tree.kept_attributes.Goals as goal
-
-pub returns-then-tree-eq0 : goal.returns-then-tree-eq0
-returns-then-tree-eq0 c = search tests
-
-pub returns : goal.returns
-returns c = search tests
