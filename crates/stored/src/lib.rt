@@ -1,4 +1,5 @@
-// What the programs with stored cases share (replay, text_cases): words and parts of the data, how many answers were right, and the text of that.
+// What programs share: the bytes of an input (listing, relist, replay, text_cases); and of those with stored cases (replay, text_cases) words and
+// parts of the data, how many answers were right, and the text of that.
 //
 // Mirrors nothing of the Rust. The data are made by oracle/cases.py; every number in them is a word of 4 bytes. Definitions: specs/Inner/Data.antt.
 #![tactic(auto)]
