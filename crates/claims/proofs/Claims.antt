@@ -513,7 +513,8 @@ module _ (f : List ℕ) (lent : Lent) (before : List ℕ) (i : ℕ) (a : AxmlTex
   pub c-text-done-zeros : AsksText f lent before i a after → a.refusal ≡ 0 → TextDoneInC a before after
   c-text-done-zeros = in_c.text-done-zeros f lent before i a after
 
-pub c-first-refused-zeros : (b : Result FirstValue Refusal) (a : AxmlFirstAnswer) → a ≡ first_answer_of (first_numbers_of b) → (a.refusal ≡ 0 → ⊥) → FirstRefusedInC a
+pub c-first-refused-zeros : (b : Result FirstValue Refusal) (a : AxmlFirstAnswer) → a ≡ first_answer_of (first_numbers_of b) → (a.refusal ≡ 0 → ⊥)
+    → FirstRefusedInC a
 c-first-refused-zeros = in_c.first-refused-zeros
 
 -- ---- the listing's function
@@ -556,7 +557,8 @@ relist-printed = relisted.listed_back
 
 -- The same of any two calls, of the listing's function in a listing's room and of `read_listing` with what it printed, whatever stood in the tables of either:
 -- the answer of the reading, the cap of a listing, and every word of nodes and attributes as the first call left it; notes are the reading's.
-pub relist-calls : (f ns ats before : List ℕ) → all_below 256 f ≡ true → Roomy (length ns) (length ats) (length before) → (a : Result ℕ Refusal) (ns₁ ats₁ after : List ℕ)
+pub relist-calls : (f ns ats before : List ℕ) → all_below 256 f ≡ true → Roomy (length ns) (length ats) (length before)
+    → (a : Result ℕ Refusal) (ns₁ ats₁ after : List ℕ)
     → Lists f ns ats before a ns₁ ats₁ after → (ns₂ ats₂ os : List ℕ) → length ns₂ ≡ length ns → length ats₂ ≡ length ats → length os ≡ note_width * listed_notes
     → (r : Relisted) (ns₃ ats₃ os₃ : List ℕ) → Relists (take (lines_numbers_of a).length after) ns₂ ats₂ os r ns₃ ats₃ os₃
     → (r.answer ≡ (listed f (length ns) (length ats)).answer) × (r.cap ≡ listed_cap) × (ns₃ ≡ ns₁) × (ats₃ ≡ ats₁)
@@ -704,7 +706,8 @@ module _ (f : List ℕ) (lent : Lent) (items area before : List ℕ) (a : Attrib
   pub value-refused-zeros : (x : Refusal) (after : List ℕ) → ValueReads f lent items area before a (Err x) after → after ≡ replicate (length before) 0
   value-refused-zeros x after h = valued.value-refused-zeros f lent items area before after a x h
 
-  pub value-done-zeros : (k u : ℕ) (d : TextState) (after : List ℕ) → ValueReads f lent items area before a (Ok (record { length = k; uncovered = u; state = d })) after
+  pub value-done-zeros : (k u : ℕ) (d : TextState) (after : List ℕ)
+      → ValueReads f lent items area before a (Ok (record { length = k; uncovered = u; state = d })) after
       → drop k after ≡ replicate (length before - k) 0
   value-done-zeros k u d after h = valued.value-done-zeros f lent items area before after a k u d h
 

@@ -10,7 +10,8 @@
 --   with_notes      the reading s with the counts c, in tables of other room, with these notes and no other: all that it kept, word for word
 --
 -- A place is said by the walk itself: `used_of` of `turn_of`, the bytes that it takes. The theorem: `insertion` of proofs/Claims.antt.
-use Rattle.std.specs.Prelude.{ℕ, ◌+◌, ◌-◌, ◌*◌, ◌≡◌, List, [], ◌∷◌, ◌++◌, map, Bool, true, false, cond, ◌&&◌, length, take, drop, replicate, eqb, Some, Result, Ok}
+use Rattle.std.specs.Prelude.{ℕ, ◌+◌, ◌-◌, ◌*◌, ◌≡◌, List, [], ◌∷◌, ◌++◌, map, Bool, true, false, cond, ◌&&◌, length, take, drop, replicate, eqb}
+use Rattle.std.specs.Prelude.{Some, Result, Ok}
 use Rattle.common.specs.Header.{header_of}
 use Rattle.common.specs.declared.ResChunkHeader.{ResChunkHeader}
 use Rattle.chunk.specs.Sort.{chunk_sort}

@@ -30,7 +30,7 @@ use text::Head;
 
 // ---- the search
 
-// The first node of that tag. A name that was found to be another is not looked up again (once.rt).
+// The attributes of the first node of that tag: the first one's number, and how many. A name that was found to be another is not looked up again (once.rt).
 // Ruled out: a later node where the first has no attributes.
 pub fn find_node(
     t: &[u8],

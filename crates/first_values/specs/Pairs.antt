@@ -8,7 +8,8 @@
 --
 -- The answer to a pair IS `first_answer` of first_value/specs/Question, for its tag and its name. A table of words is those left; no pairs at all
 -- are fine. Laws: proofs/Laws.antt. Computed on small tables: proofs/Cases.antt.
-use Rattle.std.specs.Prelude.{ℕ, zero, suc, ◌+◌, ◌-◌, ◌*◌, ◌/◌, ◌%◌, ◌≡◌, List, [], ◌++◌, Bool, cond, ◌&&◌, length, drop, get_or, replicate, leb, eqb, Result, Ok, Err}
+use Rattle.std.specs.Prelude.{ℕ, zero, suc, ◌+◌, ◌-◌, ◌*◌, ◌/◌, ◌%◌, ◌≡◌, List, [], ◌++◌, Bool, cond, ◌&&◌, length, drop, get_or, replicate, leb, eqb}
+use Rattle.std.specs.Prelude.{Result, Ok, Err}
 use Rattle.errors.specs.declared.Refusal.TheVariants.{PairsError, AnswersFull}
 use Rattle.errors.specs.Refusal.{first_numbers_of, pair_numbers_of}
 use Rattle.errors.specs.declared.FirstNumbers.{FirstNumbers}
@@ -91,6 +92,7 @@ module _ (f : List ℕ) (lent : Lent) (ns ats : List ℕ) (nodes attributes : �
   unfoldable pub answers_after : List ℕ → List ℕ → ℕ → List ℕ
   answers_after pairs area m = list_by m (answers_from asks area (length pairs / pair_width) pairs) (many_answer pairs area m)
 
-pub record ManyReads (f : List ℕ) (lent : Lent) (ns ats pairs area before : List ℕ) (nodes attributes : ℕ) (r : Result ℕ Refusal) (after : List ℕ) : Type 0 where
+pub record ManyReads
+    (f : List ℕ) (lent : Lent) (ns ats pairs area before : List ℕ) (nodes attributes : ℕ) (r : Result ℕ Refusal) (after : List ℕ) : Type 0 where
   pub answer : pair_numbers_of r ≡ pair_numbers_of (many_answer f lent ns ats nodes attributes pairs area (length before))
   pub list : after ≡ answers_after f lent ns ats nodes attributes pairs area (length before)

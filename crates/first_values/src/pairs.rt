@@ -30,7 +30,8 @@ fn is_pair_inside(pairs: &[u32], area: &[u8], k: usize) -> bool
     is_inside(area, pairs[at + PAIR_NAME], pairs[at + PAIR_NAME_LENGTH])
 }
 
-// All pairs in turn, and then the words that are left.
+// All pairs in turn, and then the words that are left: how many pairs there are, or the first that does not lie in the area, or how many whole
+// ones there are where words remain.
 // Ruled out: a pair refused that ends with the area, and words left over told where a pair before them does not lie inside.
 pub fn read_pairs(pairs: &[u32], area: &[u8]) -> Result<usize, usize>
     ensures { result ≡ pairs_of pairs.now area.now }

@@ -10,7 +10,8 @@
 -- attribute stand together and have one kind: behind an item of the same attribute comes the same kind, behind one of another
 -- attribute an attribute that no earlier item has. Names are compared by their bytes, not by where they stand. No words at all are
 -- `Ok`. Laws: proofs/Laws.antt, proofs/Together.antt.
-use Rattle.std.specs.Prelude.{ℕ, zero, suc, ◌+◌, ◌*◌, ◌/◌, ◌%◌, List, [], ◌∷◌, Bool, true, false, cond, not, ◌&&◌, length, take, drop, get_or, leb, eqb, Option, Some, None, Result, Ok, Err}
+use Rattle.std.specs.Prelude.{ℕ, zero, suc, ◌+◌, ◌*◌, ◌/◌, ◌%◌, List, [], ◌∷◌, Bool, true, false, cond, not, ◌&&◌, length, take, drop, get_or, leb, eqb}
+use Rattle.std.specs.Prelude.{Option, Some, None, Result, Ok, Err}
 use Rattle.records.specs.Words.{item_width, item_attribute, item_attribute_length, item_kind, item_name, item_name_length, item_value}
 use Rattle.utf.specs.Text.{eq_bytes}
 use Rattle.utf.specs.Plain.{is_ascii}

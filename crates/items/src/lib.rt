@@ -202,7 +202,8 @@ fn check_each(items: &[u32], area: &[u8], plain: bool, firsts: &[usize]) -> Resu
 }
 
 // Whether the lent items keep their rule, where the first item at each place of a name is known. All of them are looked at, each time; the first
-// item of an attribute is compared with those before it only from the first on that stands at the same place by its name (looking.rt).
+// item of an attribute is compared with those before it only from the first on that stands at the same place by its name (looking.rt). `Err` has
+// the first item that breaks the rule, or how many whole items there are where words remain.
 // Ruled out: `Ok` for items of one attribute apart, and the earlier of two items whose kinds differ.
 pub fn check_known(items: &[u32], area: &[u8], firsts: &[usize]) -> Result<(), usize>
     requires { Firsts area.now items.now firsts.now }

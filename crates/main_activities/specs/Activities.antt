@@ -11,7 +11,8 @@
 --
 -- The tables may be any words: nothing is asked of them but that they fit their counts (13). A record is read where it stands.
 -- Laws: proofs/Laws.antt. On the tables of a reading a child is a record whose parent word says so: claims/proofs/Claims, `main-children`.
-use Rattle.std.specs.Prelude.{ℕ, zero, suc, ◌+◌, ◌-◌, ◌*◌, ◌≡◌, Bool, false, cond, not, ◌&&◌, ◌||◌, length, get_or, replicate, ltb, leb, eqb, Option, Some, None, Result, Ok, Err}
+use Rattle.std.specs.Prelude.{ℕ, zero, suc, ◌+◌, ◌-◌, ◌*◌, ◌≡◌, Bool, false, cond, not, ◌&&◌, ◌||◌, length, get_or, replicate, ltb, leb, eqb}
+use Rattle.std.specs.Prelude.{Option, Some, None, Result, Ok, Err}
 use mathlib.Core.List.{List, [], ◌∷◌, ◌++◌, flat_map}
 use Rattle.utf.specs.Text.{eq_bytes}
 use Rattle.errors.specs.Refusal.{refusal_number, refusal_value as value_number}

@@ -73,8 +73,8 @@ fn notes_of(words: &[u32]) -> [Note; LISTED_NOTES]
     notes
 }
 
-// How long the listing is; what it says is printed from its records, and is the text that came in. Or why the text is none. Ruled out: a listing of a refusal taken
-// for a fault, a fault taken for a listing, and records printed that are not those of the text.
+// How long the listing is; what it says is printed from its records, and is the text that came in. Or why the text is none.
+// Ruled out: a listing of a refusal taken for a fault, a fault taken for a listing, and records printed that are not those of the text.
 fn judge(
     text: &[u8],
     nodes: &mut [u32],

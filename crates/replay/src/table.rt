@@ -38,5 +38,6 @@ pub(crate) fn notes_hold(notes: [Note; LISTED_NOTES], want: &[u8]) -> bool {
             return false;
         }
     }
-    want.len() % 4 == 0 && want.len() <= 4 * NOTE_WORDS * LISTED_NOTES
+    // 104 notes, by which the stored rows have been judged from the first: the program tells what it told.
+    want.len() % 4 == 0 && want.len() <= 1248
 }

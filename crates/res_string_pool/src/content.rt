@@ -77,7 +77,8 @@ fn split_utf16(s: &[u8]) -> Option<(usize, usize)>
     content_in(s, 2, 2 * (u as usize), 2)
 }
 
-// The string at the front of s, which is the pool's data from an offset on.
+// The content of the string at the front of s, which is the pool's data from an offset on: the place of its first byte, and how many bytes it
+// has; none where the string is cut.
 // Ruled out: the character length of a UTF-8 string for its byte length, and a length of two parts with the low part first.
 pub fn split_string(utf16: bool, s: &[u8]) -> Option<(usize, usize)>
     ensures { result ≡ split_of utf16 s.now }

@@ -36,7 +36,7 @@ fn ids_of(h: ResChunkHeader, left: usize) -> Result<u32, MapShort>
     Ok(n)
 }
 
-// The map at the front of s, the bytes behind the pool.
+// How many ids the map at the front of s has, the bytes behind the pool; or the part that ran out.
 // Ruled out: one id for size 12 and header size 12 (the ids are counted from the header size, not from 8), and a map whose last
 // id is cut.
 pub fn map_of(s: &[u8]) -> Result<u32, MapShort>

@@ -112,7 +112,8 @@ fn check_each(names: &[u32], area: &[u8], plain: bool) -> Result<(), usize>
 }
 
 // Whether the lent names keep their rule. All of them are looked at, each time: a caller who asks often pays for each question. Where
-// the one pass finds all good, no entry is asked by itself.
+// the one pass finds all good, no entry is asked by itself. `Err` has the first entry that breaks the rule, or how many whole entries there are
+// where words remain.
 // Ruled out: Ok for a table with a word too many, and the earlier of two entries whose ids do not rise.
 pub fn check_names(names: &[u32], area: &[u8]) -> Result<(), usize>
     ensures { result ≡ names_of (lends names.now area.now) }
@@ -126,8 +127,8 @@ pub fn check_names(names: &[u32], area: &[u8]) -> Result<(), usize>
 
 // ---- looking a name up
 
-// A guess at the entry with an id. Without gaps the entry is as far from the first as its
-// id is; the id at that place is too high by the gaps before it, and the guess lies as much before the place.
+// A guess at the entry with an id. Without gaps the entry is as far from the first as its id is; the id at that place is too high by the gaps
+// before it, and the guess lies as much before the place.
 fn guess(names: &[u32], wanted: ResourceId) -> Option<usize>
     requires { Rising names.now }
     ensures { IfSome result (λ place. place < length names.now / 3) }
@@ -163,7 +164,7 @@ fn by_halves(names: &[u32], wanted: ResourceId) -> Option<(u32, u32)>
     None
 }
 
-// The name of an id: where it is guessed, if it is there, and else by halves.
+// The name of an id, as start and length of the whole name in the area: where it is guessed, if it is there, and else by halves.
 // Ruled out: the name of another id with the same low bytes, and None for the first or the last entry.
 pub fn get_type_name(names: &[u32], id: ResourceId) -> Option<(u32, u32)>
     requires { Rising names.now }

@@ -1,13 +1,13 @@
 -- What an element that opens or closes does to the tables, as one push of specs/Settle.antt. No contract cites this file.
 -- In order: words put at a place, the list of open elements, a node opens (`node_opens`), an element closes (`node-closes`).
 -- Not here: attributes (Attributes.antt).
-use Rattle.std.specs.Prelude.{Ok}
+use Rattle.std.specs.Prelude.{Ok, Err}
 use Prim.Native.Nat.{ℕ, ◌+◌, ◌*◌, ◌/◌, ◌≤◌, ◌<◌}
 use native.Mathlib.Omega.{arith}
 use mathlib.Core.Path.{◌≡◌, refl, sym, ◌∙◌, ap, subst}
 use mathlib.Core.List.{List, [], ◌∷◌, ◌++◌}
 use mathlib.Core.Bool.{cond}
-use borrow.Author.Tests.{le-leb, eq-eqb, ne_eqb}
+use borrow.Author.Tests.{le-leb, lt-leb, eq-eqb, ne_eqb}
 use lib.ListN.{length, take, drop, set, get_or, length-append, length-set, get_or-append}
 use lib.Seq.{take_at, length-take-le, get_or-set_other, get_or-append-add, get_or-take}
 use lib.Dec.{eqb}
@@ -15,10 +15,12 @@ use Rattle.common.specs.declared.StringIndex.{StringIndex}
 use Rattle.anomaly.specs.declared.Note.{Note as NoteOf}
 use Rattle.records.specs.Words.{node_width, node_parent, node_first, node_count, attribute_width}
 use Rattle.records.specs.Repeats.{Rule}
+use Rattle.errors.specs.declared.Refusal.TheVariants.{NodesFull}
 use Rattle.events.specs.declared.Event.TheVariants.{Open, Close}
 use Rattle.tables.specs.Inner.Keys.{Key, keys_of}
 use Rattle.tables.specs.Inner.Ways.{front_words}
 use Rattle.tables.proofs.Ways.{hung-none}
+use Rattle.walk.specs.declared.placing.Stop.TheVariants.{Full}
 use Rattle.walk.specs.declared.tree.Tree.{Tree}
 use Rattle.walk.specs.Settle.{Room, going, push, parent_in, closed_in}
 use Rattle.walk.specs.Reading.{Dropped, none_dropped, dropped_from, dropped_in}
@@ -162,6 +164,14 @@ module _ (rule : Rule) (key : Key) (ns ats ns' : List ℕ) (t : Tree) (name : St
       (record t { nodes = t.nodes + 1; first = t.attributes; inner = t.nodes })
       refl refl refl refl h.above_root
       (λ n. get_or-append w opening 0 (node_width * t.above_root + node_first) (omega (arith, b n)) ∙ h.attributes_before_it n) h.below)
+
+-- no place for it
+pub node-full : (rule : Rule) (key : Key) (ns ats ns' : List ℕ) (t : Tree) (name : StringIndex) (fixed line : ℕ) (o : List ℕ) → Tied ns ats t o
+    → length ns < node_width * t.nodes + node_width → PlacesBy rule key (Err (Full (NodesFull (length ns / node_width)))) ns ats t o (Open name fixed line) ns' ats
+node-full rule key ns ats ns' t name fixed line o h none r os cs rn ra =
+    let lw : length (take (node_width * t.nodes) ns) ≡ node_width * t.nodes = length-take-le (node_width * t.nodes) ns h.sized.nodes in
+    let over : r.nodes < length (take (node_width * t.nodes) ns) + node_width = omega (arith, lw) in
+    rw (lt-leb _ _ over, rn)
 
 -- ---- an element closes
 

@@ -8,7 +8,7 @@ use native.Mathlib.Nat.{mul-le-mul}
 use mathlib.Core.Path.{◌≡◌, refl, sym, ◌∙◌}
 use mathlib.Core.List.{List}
 use mathlib.Core.Bool.{Bool, true, false, cond}
-use borrow.Author.Tests.{ltb-true, ltb-false, eqb-true, eqb-false, eq-eqb, ne_eqb}
+use borrow.Author.Tests.{ltb-true, ltb-false, lt-ltb, le-ltb, eqb-true, eqb-false, eq-eqb, ne_eqb}
 use lib.ListN.{length, drop, length-drop}
 use lib.Dec.{ltb, eqb}
 use Rattle.common.specs.Header.{header_of}
@@ -17,6 +17,7 @@ use Rattle.common.proofs.Laws.{header_here, header_of-short, header_of-whole, he
 use Rattle.chunk.specs.Sort.{is_xml, chunk_sort, content_size, foreign_len}
 use Rattle.chunk.specs.Inner.Run.{run_used}
 use Rattle.chunk.proofs.Laws.{foreign_len-le, foreign_len-lt, run_used-short, run_used-same, run_used-other}
+use Rattle.xml_elements.specs.declared.XmlStartElement.{XmlStartElement}
 use Rattle.xml_elements.specs.declared.Chunk.{Chunk}
 use Rattle.xml_elements.specs.declared.CutChunk.{CutChunk}
 use Rattle.xml_elements.specs.declared.CutChunk.TheVariants.{CutLine, CutHead, CutGap, CutAttributes, CutTrailing, CutEnd, CutOther}
@@ -69,6 +70,22 @@ unfolding chunk_sort
 sort_of-lt h =
     cond-by (λ (k : ℕ). (k ≡ 2 → ⊥) → k < 2) (is_xml h.kind)
     (λ _. cond-by (λ (k : ℕ). (k ≡ 2 → ⊥) → k < 2) (eqb h.header_size 16) (λ _ n. absurd (n refl)) (λ _ n. omega arith)) (λ _ n. omega arith)
+
+-- a start whose last bytes are not there
+pub start_turn-trailing : (l : List ℕ) (s : XmlStartElement) → s ≡ start_of l → 36 ≤ length l → attributes_end s ≤ length l → length l < start_len s
+    → Cut (CutTrailing s) ≡ start_turn l
+unfolding start_turn
+start_turn-trailing l s e h p₂ p =
+    let q₂ = rw e at p₂ in
+    let q₁ : attributes_at (start_of l) ≤ length l = omega arith in
+    let q = rw e at p in
+    rw (
+      e,
+      le-ltb (length l) 36 h,
+      le-ltb (length l) (attributes_at (start_of l)) q₁,
+      le-ltb (length l) (attributes_end (start_of l)) q₂,
+      lt-ltb (length l) (start_len (start_of l)) q,
+    )
 
 -- ---- what a turn tells
 
