@@ -1,7 +1,8 @@
 -- What an element that opens or closes does to the tables, as one push of specs/Settle.antt. No contract cites this file.
 -- In order: words put at a place, the list of open elements, a node opens (`node_opens`), an element closes (`node-closes`).
 -- Not here: attributes (Attributes.antt).
-use Rattle.std.specs.Prelude.{Ok, Err}
+use Rattle.std.specs.Prelude.{Result, Ok, Err, IsErrAnd}
+use Rattle.std.proofs.lemmas.Result.{err_from_is_err_and}
 use Prim.Native.Nat.{ℕ, ◌+◌, ◌*◌, ◌/◌, ◌≤◌, ◌<◌}
 use native.Mathlib.Omega.{arith}
 use mathlib.Core.Path.{◌≡◌, refl, sym, ◌∙◌, ap, subst}
@@ -31,6 +32,10 @@ take_put l l' w i j h e q = rw (q, take_at (take i l ++ w) (drop j l) j (length-
 
 get_d-behind : (w v : List ℕ) (n m : ℕ) → length w ≡ n → get_or (w ++ v) (n + m) 0 ≡ get_or v m 0
 get_d-behind w v n m e = ap (λ (i : ℕ). get_or (w ++ v) (i + m) 0) (sym e) ∙ get_or-append-add w v m 0
+
+-- what the exit of a `?` answers, where the refusal is known
+pub err_is : {T E : Type 0} (r : Result T E) (x : E) → IsErrAnd r (λ y. y ≡ x) → r ≡ Err x
+err_is r x h = let e = err_from_is_err_and r h in e.1 ∙ ap Err e.2
 
 -- ---- the list of open elements
 

@@ -1,9 +1,9 @@
 -- `walk::placing::keep_place` meets its contract: the three answers of `keep`, each one push (proofs/Attributes.antt).
-use Rattle.core.proofs.result.Match.{err_is}
 use Rattle.records.specs.Repeats.{by_prefix}
 use Rattle.text.specs.Content.{same_name}
 use Rattle.tables.specs.Inner.Keys.{key_by}
 use Rattle.walk.specs.declared.placing.Stop.TheVariants.{Full}
+use Rattle.walk.proofs.Trees.{err_is}
 use Rattle.walk.proofs.Attributes.{keep-full, keep-kept}
 use Rattle.system_types.specs.Names.{lends}
 use Rattle.walk.proofs.placing.keep_place.Goals as goal

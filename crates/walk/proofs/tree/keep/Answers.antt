@@ -1,5 +1,4 @@
 -- `walk::tree::keep` meets its contract: a repeat changes nothing, a new attribute is stored where it has a place; many are linked (proofs/Chains.antt).
-use Rattle.core.proofs.result.Match.{err_is}
 use Prim.Native.Nat.{◌-◌}
 use native.Mathlib.Omega.{arith}
 use native.Mathlib.Nat.{pos_of_ne-zero}
@@ -11,6 +10,7 @@ use Rattle.system_types.specs.Names.{lends}
 use Rattle.text.specs.Content.{same_name}
 use Rattle.tables.specs.Inner.Keys.{key_by}
 use Rattle.walk.specs.Inner.Tree.{new_words}
+use Rattle.walk.proofs.Trees.{err_is}
 use Rattle.walk.proofs.Chains.{far-of, front-found, front-near, front-first, counted-nodes, chained-near}
 use Rattle.walk.proofs.tree.keep.Goals as goal
 

@@ -1,5 +1,4 @@
 -- `walk::tree::keep_far` meets its contract: the attributes behind the first 32 are sought along their links, and a new one is linked (proofs/Chains.antt).
-use Rattle.core.proofs.result.Match.{err_is}
 use Prim.Native.Nat.{ℕ, ◌+◌}
 use native.Mathlib.Omega.{arith}
 use mathlib.Core.Path.{refl, ap}
@@ -8,6 +7,7 @@ use Rattle.system_types.specs.Names.{lends}
 use Rattle.text.specs.Content.{same_name}
 use Rattle.tables.specs.Inner.Keys.{key_by}
 use Rattle.tables.specs.Inner.Ways.{front_words}
+use Rattle.walk.proofs.Trees.{err_is}
 use Rattle.walk.proofs.Chains.{behind-room, count-is, count-seen, link-room, far-repeat, linked-nodes, ends-here, chained-far}
 use Rattle.walk.proofs.tree.keep_far.Goals as goal
 
