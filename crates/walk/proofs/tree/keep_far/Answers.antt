@@ -1,13 +1,14 @@
 -- `walk::tree::keep_far` meets its contract: the attributes behind the first 32 are sought along their links, and a new one is linked (proofs/Chains.antt).
-use Prim.Native.Nat.{ℕ, ◌+◌}
+use Prim.Native.Nat.{ℕ, ◌+◌, ◌*◌, ◌≤◌}
 use native.Mathlib.Omega.{arith}
 use mathlib.Core.Path.{refl, ap}
 use mathlib.Core.Bool.{true, false}
+use lib.ListN.{length}
+use Rattle.records.specs.Words.{attribute_width}
 use Rattle.system_types.specs.Names.{lends}
 use Rattle.text.specs.Content.{same_name}
 use Rattle.tables.specs.Inner.Keys.{key_by}
 use Rattle.tables.specs.Inner.Ways.{front_words}
-use Rattle.walk.proofs.Trees.{err_is}
 use Rattle.walk.proofs.Chains.{behind-room, count-is, count-seen, link-room, far-repeat, linked-nodes, ends-here, chained-far}
 use Rattle.walk.proofs.tree.keep_far.Goals as goal
 
@@ -37,14 +38,11 @@ returns-then-e c = (
   c.seek-e.ensures.1,
 )
 
-pub returns-in_err-u : goal.returns-in_err-u
-returns-in_err-u c = (
+pub returns-then-attributes-used-lt-ATTRIBUTE_WORDS : goal.returns-then-attributes-used-lt-ATTRIBUTE_WORDS
+returns-then-attributes-used-lt-ATTRIBUTE_WORDS c = (
   (let s = c in let a = s.args in let lent = lends a.names.now
-      a.area.now in let same =
-      same_name a.h a.t.now lent in let key =
-      key_by a.h a.t.now lent in let w =
-      rw c.in_err-u.was at c.store.ensures in λ none l. rw (err_is c.from_residual.result c.in_err-u.field-0.0 c.from_residual.ensures.1) (
-        w.0,
+      a.area.now in let same = same_name a.h a.t.now lent in let key = key_by a.h a.t.now lent in λ none l. (
+        refl,
         record {
           some = λ z. omega (arith, s.requires.2.some);
           new = far-repeat a.nodes.now a.attributes.now a.tree s.requires.1.sized s.requires.2
@@ -57,7 +55,11 @@ returns-in_err-u c = (
               c.node_place-free.ensures l c.seek-e.ensures.0
               c.key_of-key.ensures.0 none
               c.if-e.false;
-          full = w.1;
+          full = omega (
+            arith,
+            c.if-attributes-used-lt-ATTRIBUTE_WORDS.true,
+            c.attribute_place-used.ensures,
+          );
         },
       )),
   c.seek-e.ensures.1,
@@ -73,8 +75,8 @@ link-requires c =
     c.attribute_place-from.ensures in
     let eu = c.attribute_place-used.ensures in
     let seen = count-seen a.nodes.now a.attributes.now a.tree h far _ _ ef eu in (
-      link-room a.nodes.now a.attributes.now a.tree h far c.store.new.nodes _ _ _
-          c.store.auto.nodes ef eu
+      link-room a.nodes.now a.attributes.now a.tree h far c.store-u.new.nodes _ _ _
+          c.store-u.auto.nodes ef eu
           c.node_place-free.ensures,
       omega (
         arith,
@@ -93,9 +95,14 @@ returns c = (
   (let s = c in let a = s.args in let lent = lends a.names.now a.area.now in let same = same_name a.h
       a.t.now lent in let key = key_by a.h a.t.now lent in let h = s.requires.1.sized in let far = s.requires.2 in let ef = ap
       (λ (k : ℕ). k + front_words) c.attribute_place-from.ensures in let eu =
-      c.attribute_place-used.ensures in let q =
-      c.store in let p = rw c.in_ok-u.was at q.ensures in let room = p.0 in let seen = count-seen a.nodes.now a.attributes.now
-      a.tree h far _ _ ef eu in let w = p.1 in λ none l. record {
+      c.attribute_place-used.ensures in let room :
+      attribute_width * a.tree.attributes + attribute_width ≤ length a.attributes.now = omega (
+        arith,
+        c.if-attributes-used-lt-ATTRIBUTE_WORDS.false,
+        c.attribute_place-used.ensures,
+      ) in let q =
+      c.store-u in let seen = count-seen a.nodes.now a.attributes.now
+      a.tree h far _ _ ef eu in let w = q.ensures in λ none l. record {
         some = λ z. omega (arith, far.some);
         new = far-repeat a.nodes.now a.attributes.now a.tree s.requires.1.sized s.requires.2 key
             same a.prefix a.a _ _ _ c.key_of-key.result
@@ -110,16 +117,16 @@ returns c = (
         room = room;
         tree = w.tree;
         attributes = w.attributes;
-        nodes = linked-nodes a.nodes.now a.attributes.now q.new.nodes q.new.attributes a.tree c.in_ok-u.u
+        nodes = linked-nodes a.nodes.now a.attributes.now q.new.nodes q.new.attributes a.tree q.result
             a.prefix a.a h far.some room w far key _ c.link.new.links
             c.node_place-free.ensures;
         chained = chained-far
-            a.nodes.now a.attributes.now q.new.nodes q.new.attributes a.tree c.in_ok-u.u a.prefix a.a h far.some room w far key _
+            a.nodes.now a.attributes.now q.new.nodes q.new.attributes a.tree q.result a.prefix a.a h far.some room w far key _
             c.link.new.links
             c.node_place-free.ensures _ _ l (count-is a.nodes.now
             a.attributes.now a.tree h far _ _ ef eu)
             c.key_of-key.ensures.0 (c.link.ensures
-            (λ pos. ends-here a.nodes.now a.attributes.now q.new.nodes q.new.attributes a.tree c.in_ok-u.u a.prefix a.a h far.some
+            (λ pos. ends-here a.nodes.now a.attributes.now q.new.nodes q.new.attributes a.tree q.result a.prefix a.a h far.some
             room w far key _ c.link.new.links
             c.node_place-free.ensures _ _ _ _ _ seen
             (c.seek-e.ensures.0.ends c.if-e.false
