@@ -1,7 +1,7 @@
 -- The cases of specs/Head.antt, and the parts of a file by a head. No contract cites this file.
 -- In order: the map (`mapped_by-of`), the pool (`tables_of-complete`, `tables_of-cut`), the file's header (`opened_of-small`, `-size`,
 -- `-tables`); as many bytes as are there (`take_min`, `drop_min`, `tables_in-by`, `body_in-by`); the offsets (`outside_in-by`).
-use Rattle.std.specs.Prelude.{Result}
+use Rattle.std.specs.Prelude.{Result, Option}
 use Prim.Native.Nat.{ℕ, ◌+◌, ◌-◌, ◌*◌, ◌/◌, ◌≤◌, ◌<◌, min}
 use native.Mathlib.Omega.{arith}
 use native.Mathlib.Nat.{le_of_eq}
@@ -36,7 +36,7 @@ rest_all at l = take_all (length l - at) (drop at l) (le_of_eq (length-drop at l
 -- ---- the map
 
 pub mapped_by-of
-    : (g : Garbage) (p : Pool) (at : ℕ) (t : List ℕ) {r m : Result ℕ MapShort}
+    : (g : Option Garbage) (p : Pool) (at : ℕ) (t : List ℕ) {r m : Result ℕ MapShort}
     → r ≡ map_of (take (length t - at) (drop at t))
     → r ≡ m
     → mapped_by t g p m ≡ mapped_by t g p (map_of (drop at t))

@@ -1,7 +1,7 @@
 -- Laws of specs/Head.antt, for the crates above. No contract cites this file.
 -- In order: the file's header by its header size alone (`opened_of-same`); where the pool is there, the head's places lie in its
 -- tables (`opened_of-fits`); a whole head looks at nothing behind its map (`opened_of-append`, `tables_in-append`, `body_in-append`).
-use Rattle.std.specs.Prelude.{Result, Ok, Err}
+use Rattle.std.specs.Prelude.{Result, Ok, Err, Option}
 use Prim.Native.Nat.{ℕ, ◌+◌, ◌-◌, ◌*◌, ◌≤◌}
 use native.Mathlib.Omega.{arith}
 use native.Mathlib.Nat.{le_trans}
@@ -62,7 +62,7 @@ abbrev FitsIn : List ℕ → Opened → Type 0
 FitsIn t o = PoolThere o.end → Fits (take (head_len o.head) t) o.head
 
 mapped_by-fits
-    : (t : List ℕ) (g : Garbage) (p : Pool)
+    : (t : List ℕ) (g : Option Garbage) (p : Pool)
     → length t ≤ file_limit
     → Parts p 0 (length t)
     → (m : Result ℕ MapShort)
@@ -80,7 +80,7 @@ tables_of-fits : (t : List ℕ) → length t ≤ file_limit → FitsIn t (tables
 unfolding tables_of
 tables_of-fits t short = go (pool_of t).end refl
   where
-    g : Garbage
+    g : Option Garbage
     g = (pool_of t).garbage
 
     p : Pool
@@ -116,7 +116,7 @@ opened_of-fits f short there = go (ltb (length f) 8) refl (eqb (u16le f 2) 8) re
 -- ---- a whole head looks at nothing behind its map
 
 mapped_by-behind
-    : (t : List ℕ) (g : Garbage) (p : Pool) (r : Result ℕ MapShort)
+    : (t : List ℕ) (g : Option Garbage) (p : Pool) (r : Result ℕ MapShort)
     → (mapped_by t g p r).end ≡ Whole
     → p.strings + p.size ≤ head_len (mapped_by t g p r).head
 mapped_by-behind t g p (Ok n) w = omega arith
@@ -125,7 +125,7 @@ mapped_by-behind t g p (Err (map_short.Ids k)) w = omega arith
 
 module _ (c m m' : List ℕ) where
   mapped_by-append
-      : (g : Garbage) (p : Pool) (at : ℕ) (r : Result ℕ MapShort)
+      : (g : Option Garbage) (p : Pool) (at : ℕ) (r : Result ℕ MapShort)
       → at ≡ p.strings + p.size
       → map_of (drop at (c ++ m)) ≡ r
       → (mapped_by (c ++ m) g p r).end ≡ Whole
@@ -146,7 +146,7 @@ module _ (c m m' : List ℕ) where
   unfolding tables_of
   tables_of-append = go (pool_of (c ++ m)).end refl
     where
-      g : Garbage
+      g : Option Garbage
       g = (pool_of (c ++ m)).garbage
 
       p : Pool

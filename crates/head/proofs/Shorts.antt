@@ -1,7 +1,7 @@
 -- Laws of a head of which a part is short (41 to 45, 51, 52): its refusal's value is where the part should begin, and what stands behind that place can go. No
 -- contract cites this file.
 -- In order: the pool (`pool-cut`), the map (`map-cut`), the head of a file (`opened-cut`).
-use Rattle.std.specs.Prelude.{Result, Ok, Err}
+use Rattle.std.specs.Prelude.{Result, Ok, Err, Option}
 use Prim.Native.Nat.{ℕ, ◌+◌, ◌-◌, ◌≤◌}
 use native.Mathlib.Omega.{arith}
 use mathlib.Core.Path.{◌≡◌, refl, sym, ap, ◌∙◌}
@@ -60,7 +60,7 @@ pub record TablesCut (t : List ℕ) (v : ℕ) : Type 0 where
 
 -- none left, of fewer bytes: the offset is the same
 pooled_by-none
-    : (c t : List ℕ) (g : Garbage) (p : Pool) (e : PoolEnd)
+    : (c t : List ℕ) (g : Option Garbage) (p : Pool) (e : PoolEnd)
     → IsShort e
     → 8 + length c - 0 ≡ 8 + length t - left_of e
     → pooled_by c g p (emptied e) ≡ pooled_by t g p e
@@ -72,7 +72,7 @@ pooled_by-none c t g p (StylesShort k) s q = ap (λ (v : ℕ). cut_pool g p (Sty
 pooled_by-none c t g p (DataShort k) s q = ap (λ (v : ℕ). cut_pool g p (Data v)) q
 
 -- a short pool leaves no tables to read from
-pooled_by-bare : (t : List ℕ) (g : Garbage) (p : Pool) (e : PoolEnd) → IsShort e → head_len (pooled_by t g p e).head ≡ 0
+pooled_by-bare : (t : List ℕ) (g : Option Garbage) (p : Pool) (e : PoolEnd) → IsShort e → head_len (pooled_by t g p e).head ≡ 0
 pooled_by-bare t g p Complete s = absurd s
 pooled_by-bare t g p (GarbageShort k) s = refl
 pooled_by-bare t g p (HeaderShort k) s = refl
@@ -106,7 +106,7 @@ pool-cut t short =
 -- ---- the map
 
 mapped_by-none
-    : (c t : List ℕ) (g : Garbage) (p : Pool) (r : Result ℕ MapMissing)
+    : (c t : List ℕ) (g : Option Garbage) (p : Pool) (r : Result ℕ MapMissing)
     → MapIsShort r
     → 8 + length c - 0 ≡ 8 + length t - map_left r
     → mapped_by c g p (map_none r) ≡ mapped_by t g p r
@@ -115,7 +115,7 @@ mapped_by-none c t g p (Err (map_short.Header k)) s q = ap (λ (v : ℕ). cut_ma
 mapped_by-none c t g p (Err (map_short.Ids k)) s q = ap (λ (v : ℕ). cut_map g p (p.strings + p.size) (MapIds v)) q
 
 -- a short map leaves the pool to read from
-mapped_by-bare : (t : List ℕ) (g : Garbage) (p : Pool) (r : Result ℕ MapMissing) → MapIsShort r → head_len (mapped_by t g p r).head ≡ p.strings + p.size
+mapped_by-bare : (t : List ℕ) (g : Option Garbage) (p : Pool) (r : Result ℕ MapMissing) → MapIsShort r → head_len (mapped_by t g p r).head ≡ p.strings + p.size
 mapped_by-bare t g p (Ok n) s = absurd s
 mapped_by-bare t g p (Err (map_short.Header k)) s = omega arith
 mapped_by-bare t g p (Err (map_short.Ids k)) s = omega arith

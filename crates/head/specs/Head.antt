@@ -9,14 +9,14 @@
 --
 -- The type and the total size of the file's header are not looked at. A number that the bytes do not reach is 0. A place is counted
 -- from the first byte behind the file's header, a file offset from the file's first. Laws: proofs/Laws.antt, proofs/Shorts.antt.
-use Rattle.std.specs.Prelude.{ℕ, ◌+◌, ◌-◌, ◌*◌, List, [], ◌∷◌, Bool, true, false, cond, not, length, take, drop, ltb, eqb, Result, Ok, Err}
+use Rattle.std.specs.Prelude.{ℕ, ◌+◌, ◌-◌, ◌*◌, List, [], ◌∷◌, Bool, true, false, cond, not, length, take, drop, ltb, eqb, Result, Ok, Err, Option, Some, None}
 use Rattle.field.specs.Le.{u16le}
 use Rattle.errors.specs.declared.Refusal.{Refusal}
 use Rattle.errors.specs.declared.Refusal.TheVariants.{TooSmallError, HeaderSizeError, MissingRoot, StringPoolGarbage, StringPoolHeader}
 use Rattle.errors.specs.declared.Refusal.TheVariants.{StringPoolOffsets, StringPoolStyles, StringPoolData, ResourceMapHeader, ResourceMapIds}
 use Rattle.anomaly.specs.declared.ResAnomaly.{ResAnomaly}
 use Rattle.anomaly.specs.declared.ResAnomaly.TheVariants.{StringPoolGarbageChunk, StringCountMismatch, StringOffsetsOutOfBounds}
-use Rattle.res_string_pool.specs.Pool.{pool_of, no_garbage, outside_of}
+use Rattle.res_string_pool.specs.Pool.{pool_of, outside_of}
 use Rattle.res_string_pool.specs.declared.Garbage.{Garbage}
 use Rattle.res_string_pool.specs.declared.Pool.{Pool}
 use Rattle.res_string_pool.specs.declared.PoolEnd.{PoolEnd}
@@ -42,16 +42,16 @@ abbrev pub no_head : Head
 no_head = record { utf16 = false; count = 0; offsets = 0; strings = 0; size = 0; map = 0; ids = 0 }
 
 abbrev pub unopened : HeadEnd → Opened
-unopened e = record { garbage = no_garbage; declared = 0; end = e; head = no_head }
+unopened e = record { garbage = None; declared = 0; end = e; head = no_head }
 
-abbrev pub whole_head : Garbage → Pool → ℕ → ℕ → Opened
+abbrev pub whole_head : Option Garbage → Pool → ℕ → ℕ → Opened
 whole_head g p map ids = record { garbage = g; declared = p.declared; end = Whole; head = head_by p map ids }
 
 -- a pool or a map of which a part ran out, with the file offset at which it should begin; the map begins at the place `at`
-abbrev pub cut_pool : Garbage → Pool → PoolPart → Opened
+abbrev pub cut_pool : Option Garbage → Pool → PoolPart → Opened
 cut_pool g p e = record { garbage = g; declared = p.declared; end = PoolShort e; head = head_by p 0 0 }
 
-abbrev pub cut_map : Garbage → Pool → ℕ → MapPart → Opened
+abbrev pub cut_map : Option Garbage → Pool → ℕ → MapPart → Opened
 cut_map g p at e = record { garbage = g; declared = p.declared; end = MapShort e; head = head_by p at 0 }
 
 -- t: the bytes behind the file's header
@@ -61,12 +61,12 @@ abbrev pub begins_at : List ℕ → ℕ → ℕ
 begins_at t left = 8 + length t - left
 
 -- behind a whole pool the map
-abbrev pub mapped_by : List ℕ → Garbage → Pool → Result ℕ MapMissing → Opened
+abbrev pub mapped_by : List ℕ → Option Garbage → Pool → Result ℕ MapMissing → Opened
 mapped_by t g p (Ok n) = whole_head g p (p.strings + p.size + 8) n
 mapped_by t g p (Err (map_short.Header left)) = cut_map g p (p.strings + p.size) (MapHeader (begins_at t left))
 mapped_by t g p (Err (map_short.Ids left)) = cut_map g p (p.strings + p.size) (MapIds (begins_at t left))
 
-abbrev pub pooled_by : List ℕ → Garbage → Pool → PoolEnd → Opened
+abbrev pub pooled_by : List ℕ → Option Garbage → Pool → PoolEnd → Opened
 pooled_by t g p Complete = mapped_by t g p (map_of (drop (p.strings + p.size) t))
 pooled_by t g p (GarbageShort left) = cut_pool g p (Skipped (begins_at t left))
 pooled_by t g p (HeaderShort left) = cut_pool g p (Header (begins_at t left))
@@ -132,8 +132,12 @@ when_note true a = a ∷ []
 when_note false a = []
 
 -- note 0: a chunk in the pool's place was skipped
+abbrev pub garbage_note : Option Garbage → List ResAnomaly
+garbage_note None = []
+garbage_note (Some g) = StringPoolGarbageChunk g.kind g.skipped ∷ []
+
 abbrev pub garbage_notes : Opened → List ResAnomaly
-garbage_notes o = when_note o.garbage.found (StringPoolGarbageChunk o.garbage.kind o.garbage.skipped)
+garbage_notes o = garbage_note o.garbage
 
 -- note 1: the declared count is not the count that holds
 abbrev pub count_notes : Opened → List ResAnomaly

@@ -60,7 +60,7 @@ pub enum HeadEnd {
 // What the head says: the chunk in the pool's place, the declared count, what is amiss, what texts are read by.
 #[derive(Clone, Copy)]
 pub struct Opened {
-    pub garbage: Garbage,
+    pub garbage: Option<Garbage>,
     pub declared: u32,
     pub end: HeadEnd,
     pub head: Head,
@@ -94,11 +94,7 @@ fn not_opened(end: HeadEnd) -> Opened
     ensures { result ≡ unopened end }
 {
     Opened {
-        garbage: Garbage {
-            found: false,
-            kind: 0,
-            skipped: 0,
-        },
+        garbage: None,
         declared: 0,
         end,
         head: Head {
@@ -113,7 +109,7 @@ fn not_opened(end: HeadEnd) -> Opened
     }
 }
 
-fn pool_short(garbage: Garbage, p: Pool, e: PoolPart) -> Opened
+fn pool_short(garbage: Option<Garbage>, p: Pool, e: PoolPart) -> Opened
     ensures { result ≡ cut_pool garbage p e }
 {
     Opened {
@@ -124,7 +120,7 @@ fn pool_short(garbage: Garbage, p: Pool, e: PoolPart) -> Opened
     }
 }
 
-fn map_short(garbage: Garbage, p: Pool, at: usize, e: MapPart) -> Opened
+fn map_short(garbage: Option<Garbage>, p: Pool, at: usize, e: MapPart) -> Opened
     ensures { result ≡ cut_map garbage p at e }
 {
     Opened {
@@ -135,7 +131,7 @@ fn map_short(garbage: Garbage, p: Pool, at: usize, e: MapPart) -> Opened
     }
 }
 
-fn whole(garbage: Garbage, p: Pool, map: usize, ids: u32) -> Opened
+fn whole(garbage: Option<Garbage>, p: Pool, map: usize, ids: u32) -> Opened
     ensures { result ≡ whole_head garbage p map ids }
 {
     Opened {
@@ -155,7 +151,7 @@ fn begins_at(n: usize, left: usize) -> usize
 }
 
 // Behind a whole pool the map.
-fn mapped(t: &[u8], garbage: Garbage, p: Pool) -> Opened
+fn mapped(t: &[u8], garbage: Option<Garbage>, p: Pool) -> Opened
     requires { (p.strings + p.size ≤ length t.now) × (length t.now ≤ file_limit) }
     ensures { result ≡ mapped_by t.now garbage p (map_of (drop (p.strings + p.size) t.now)) }
 {

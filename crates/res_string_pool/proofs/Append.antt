@@ -1,6 +1,6 @@
 -- Laws of specs/Pool.antt: a complete pool looks at nothing behind itself. No contract cites this file.
 -- In order: the numbers, the pool from its header on, behind garbage, the whole (`pool_of-append`).
-use Rattle.std.specs.Prelude.{Some}
+use Rattle.std.specs.Prelude.{Option, Some, None}
 use Prim.Native.Nat.{ℕ, ◌+◌, ◌-◌, ◌*◌, ◌≤◌}
 use native.Mathlib.Omega.{arith}
 use mathlib.Core.Path.{◌≡◌, refl, sym, ◌∙◌}
@@ -15,7 +15,7 @@ use Rattle.field.proofs.Laws.{u16le-append, u32le-append}
 use Rattle.common.specs.Header.{header_of, content_size}
 use Rattle.common.proofs.Laws.{header_here, header_of-whole, header_of-append}
 use Rattle.common.specs.declared.ResChunkHeader.{ResChunkHeader}
-use Rattle.res_string_pool.specs.Pool.{count_of, no_garbage, numbered, pool_from, behind_garbage, pool_of}
+use Rattle.res_string_pool.specs.Pool.{count_of, numbered, pool_from, behind_garbage, pool_of}
 use Rattle.res_string_pool.specs.declared.Garbage.{Garbage}
 use Rattle.res_string_pool.specs.declared.PoolEnd.TheVariants.{Complete}
 use Rattle.res_string_pool.proofs.Ends.{end_of-complete, end_from, pool_from-whole, garbage_in, pool_of-pool, pool_of-garbage}
@@ -38,7 +38,7 @@ abbrev Room : ResChunkHeader → List ℕ → Type 0
 Room h c = 28 + 4 * count_of (u32le c 20) (u32le c 12) + 4 * u32le c 12 + (h.size - u32le c 20) ≤ length c
 
 pool_from-room-append
-    : (g : Garbage) (at : ℕ) (h : ResChunkHeader) (c m : List ℕ)
+    : (g : Option Garbage) (at : ℕ) (h : ResChunkHeader) (c m : List ℕ)
     → Room h c
     → pool_from g at h (c ++ m) ≡ record { garbage = g; pool = numbered at h c; end = Complete }
 pool_from-room-append g at h c m room =
@@ -55,7 +55,7 @@ pool_from-room-append g at h c m room =
 
 -- where the pool ends in c, all of it lies in c
 pool_from-room-of
-    : (g : Garbage) (at : ℕ) (h : ResChunkHeader) (c m : List ℕ)
+    : (g : Option Garbage) (at : ℕ) (h : ResChunkHeader) (c m : List ℕ)
     → (pool_from g at h (c ++ m)).end ≡ Complete
     → (pool_from g at h (c ++ m)).pool.strings + (pool_from g at h (c ++ m)).pool.size ≤ at + length c
     → Room h c
@@ -68,7 +68,7 @@ pool_from-room-of g at h c m all p =
     omega arith
 
 pool_from-append
-    : (g : Garbage) (at : ℕ) (h : ResChunkHeader) (c m m' : List ℕ)
+    : (g : Option Garbage) (at : ℕ) (h : ResChunkHeader) (c m m' : List ℕ)
     → (pool_from g at h (c ++ m)).end ≡ Complete
     → (pool_from g at h (c ++ m)).pool.strings + (pool_from g at h (c ++ m)).pool.size ≤ at + length c
     → pool_from g at h (c ++ m') ≡ pool_from g at h (c ++ m)
@@ -134,7 +134,7 @@ pool_of-append c m m' all p = go (eqb (header_here c).kind 1) refl
         let e = pool_of-pool (c ++ m) (whole m) k in
         let all' = rw e at all in
         let p' = rw e at p in
-        pool_of-pool (c ++ m') (whole m') k ∙ (pool_from-append no_garbage 0 (header_here c) c m m' all' (omega arith) ∙ sym e)
+        pool_of-pool (c ++ m') (whole m') k ∙ (pool_from-append None 0 (header_here c) c m m' all' (omega arith) ∙ sym e)
     go false t =
         let k : (header_here c).kind ≡ 1 → ⊥ = eqb-false (header_here c).kind 1 t in
         let e = pool_of-garbage (c ++ m) (whole m) k in

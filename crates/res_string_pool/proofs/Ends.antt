@@ -1,7 +1,7 @@
 -- The cases of specs/Pool.antt, one law for each, for the functions and for proofs/Laws.antt. No contract cites this file.
 -- In order: which part runs out (`endOf-..`), and when none does; the pool from its header on (`poolFrom-..`); garbage
 -- (`behindGarbage-..`); the whole (`poolOf-..`).
-use Rattle.std.specs.Prelude.{Some, None}
+use Rattle.std.specs.Prelude.{Option, Some, None}
 use Prim.Native.Nat.{ℕ, ◌+◌, ◌-◌, ◌*◌, ◌≤◌, ◌<◌}
 use native.Mathlib.Omega.{arith}
 use mathlib.Core.Path.{◌≡◌, refl, sym}
@@ -15,7 +15,7 @@ use lib.Dec.{ltb}
 use Rattle.field.specs.Le.{u32le}
 use Rattle.common.specs.Header.{header_of, content_size}
 use Rattle.common.specs.declared.ResChunkHeader.{ResChunkHeader}
-use Rattle.res_string_pool.specs.Pool.{count_of, no_garbage, unread, numbered, end_of, pool_from, second_by, behind_garbage, pool_of}
+use Rattle.res_string_pool.specs.Pool.{count_of, unread, numbered, end_of, pool_from, second_by, behind_garbage, pool_of}
 use Rattle.res_string_pool.specs.declared.Garbage.{Garbage}
 use Rattle.res_string_pool.specs.declared.Pool.{Pool}
 use Rattle.res_string_pool.specs.declared.PoolEnd.{PoolEnd}
@@ -81,7 +81,7 @@ module _ (n count styles size : ℕ) where
 abbrev pub end_from : ResChunkHeader → List ℕ → PoolEnd
 end_from h m = end_of (length m - 28) (count_of (u32le m 20) (u32le m 12)) (u32le m 12) (h.size - u32le m 20)
 
-module _ (g : Garbage) (at : ℕ) (h : ResChunkHeader) (m : List ℕ) where
+module _ (g : Option Garbage) (at : ℕ) (h : ResChunkHeader) (m : List ℕ) where
   pub pool_from-short : length m < 28 → pool_from g at h m ≡ unread g (HeaderShort (length m - 8))
   unfolding pool_from
   pool_from-short p = rw (lt-ltb (length m) 28 p)
@@ -104,7 +104,7 @@ module _ (g : Garbage) (at : ℕ) (h : ResChunkHeader) (m : List ℕ) where
 
 -- ---- the second header
 
-module _ (g : Garbage) (at : ℕ) (m : List ℕ) where
+module _ (g : Option Garbage) (at : ℕ) (m : List ℕ) where
   pub second_by-short : header_of m ≡ None → second_by g at m (header_of m) ≡ unread g (HeaderShort (length m))
   second_by-short w = rw w
 
@@ -114,11 +114,11 @@ module _ (g : Garbage) (at : ℕ) (m : List ℕ) where
 -- ---- garbage
 
 -- what is told of a chunk with the header h that was skipped whole
-abbrev pub garbage_in : ResChunkHeader → Garbage
-garbage_in h = record { found = true; kind = h.kind; skipped = content_size h }
+abbrev pub garbage_in : ResChunkHeader → Option Garbage
+garbage_in h = Some (record { kind = h.kind; skipped = content_size h })
 
 module _ (h : ResChunkHeader) (l : List ℕ) where
-  pub behind_garbage-short : length l - 8 < content_size h → behind_garbage h l ≡ unread no_garbage (GarbageShort (length l - 8))
+  pub behind_garbage-short : length l - 8 < content_size h → behind_garbage h l ≡ unread None (GarbageShort (length l - 8))
   unfolding behind_garbage
   behind_garbage-short p = rw (lt-ltb (length l - 8) (content_size h) p)
 
@@ -134,7 +134,7 @@ module _ (h : ResChunkHeader) (l : List ℕ) where
       → n ≡ content_size h
       → n ≤ length l - 8
       → second_by
-      (record { found = true; kind = h.kind; skipped = n })
+      (Some (record { kind = h.kind; skipped = n }))
       (8 + n)
       (take (length l - (8 + n)) (drop (8 + n) l))
       (header_of (take (length l - (8 + n)) (drop (8 + n) l)))
@@ -146,11 +146,11 @@ module _ (h : ResChunkHeader) (l : List ℕ) where
 -- ---- the whole
 
 module _ (l : List ℕ) where
-  pub pool_of-short : header_of l ≡ None → pool_of l ≡ unread no_garbage (HeaderShort (length l))
+  pub pool_of-short : header_of l ≡ None → pool_of l ≡ unread None (HeaderShort (length l))
   unfolding pool_of
   pool_of-short w = rw w
 
-  pub pool_of-pool : {h : ResChunkHeader} → header_of l ≡ Some h → h.kind ≡ 1 → pool_of l ≡ pool_from no_garbage 0 h l
+  pub pool_of-pool : {h : ResChunkHeader} → header_of l ≡ Some h → h.kind ≡ 1 → pool_of l ≡ pool_from None 0 h l
   unfolding pool_of
   pool_of-pool {h} w k = rw (w, eq-eqb h.kind 1 k)
 

@@ -2,6 +2,7 @@
 -- In order: the pool from its header on (`pool_from-parts`), behind garbage (`behind_garbage-parts`), the whole (`pool_of-parts`,
 -- `pool_of-fits`, `pool_of-behind`). Not here: the cases (proofs/Ends.antt), the offsets (proofs/Offsets.antt), that a complete
 -- pool looks at nothing behind itself (proofs/Append.antt).
+use Rattle.std.specs.Prelude.{Option, None}
 use Prim.Native.Nat.{ℕ, ◌+◌, ◌-◌, ◌*◌, ◌≤◌}
 use native.Mathlib.Omega.{arith}
 use mathlib.Core.Path.{◌≡◌, refl, sym, ap, ◌∙◌}
@@ -14,7 +15,7 @@ use Rattle.field.specs.Le.{u32le}
 use Rattle.common.specs.Header.{content_size}
 use Rattle.common.proofs.Laws.{header_here, header_of-whole, header_of-short}
 use Rattle.common.specs.declared.ResChunkHeader.{ResChunkHeader}
-use Rattle.res_string_pool.specs.Pool.{count_of, unread, no_garbage, numbered, pool_from, behind_garbage, pool_of}
+use Rattle.res_string_pool.specs.Pool.{count_of, unread, numbered, pool_from, behind_garbage, pool_of}
 use Rattle.res_string_pool.specs.declared.Garbage.{Garbage}
 use Rattle.res_string_pool.specs.declared.Pool.{Pool}
 use Rattle.res_string_pool.specs.declared.PoolEnd.{PoolEnd}
@@ -32,10 +33,10 @@ pub record Parts (p : Pool) (at n : ℕ) : Type 0 where
   pub fits : p.strings + p.size ≤ n
 
 -- no refusal is complete
-unread-short : (g : Garbage) (e : PoolEnd) {r : PoolRead} → r ≡ unread g e → r.end ≡ e
+unread-short : (g : Option Garbage) (e : PoolEnd) {r : PoolRead} → r ≡ unread g e → r.end ≡ e
 unread-short g e q = ap (λ (r : PoolRead). r.end) q
 
-module _ (g : Garbage) (at : ℕ) (h : ResChunkHeader) (m : List ℕ) (all : (pool_from g at h m).end ≡ Complete) where
+module _ (g : Option Garbage) (at : ℕ) (h : ResChunkHeader) (m : List ℕ) (all : (pool_from g at h m).end ≡ Complete) where
   pub pool_from-long : 28 ≤ length m
   pool_from-long = go (ltb (length m) 28) refl
     where
@@ -70,7 +71,7 @@ module _ (h : ResChunkHeader) (l : List ℕ) (all : (behind_garbage h l).end ≡
     where
       go : (b : Bool) → ltb (length l - 8) (content_size h) ≡ b → content_size h ≤ length l - 8
       go true t =
-          let s = unread-short no_garbage (GarbageShort (length l - 8)) (behind_garbage-short h l (ltb-true (length l - 8) (content_size h) t)) in
+          let s = unread-short None (GarbageShort (length l - 8)) (behind_garbage-short h l (ltb-true (length l - 8) (content_size h) t)) in
           let z : ◌≡◌ {A = ℕ} 0 1 = cc in
           omega arith
       go false t = ltb-false (length l - 8) (content_size h) t
@@ -119,7 +120,7 @@ pool_of-long l all = go (ltb (length l) 8) refl
   where
     go : (b : Bool) → ltb (length l) 8 ≡ b → 8 ≤ length l
     go true t =
-        let s = unread-short no_garbage (HeaderShort (length l)) (pool_of-short l (header_of-short l (ltb-true (length l) 8 t))) in
+        let s = unread-short None (HeaderShort (length l)) (pool_of-short l (header_of-short l (ltb-true (length l) 8 t))) in
         let z : ◌≡◌ {A = ℕ} 0 1 = cc in
         omega arith
     go false t = ltb-false (length l) 8 t
@@ -130,7 +131,7 @@ pool_of-parts l all = go (eqb (header_here l).kind 1) refl
     go : (b : Bool) → eqb (header_here l).kind 1 ≡ b → Parts (pool_of l).pool 0 (length l)
     go true t =
         let e = pool_of-pool l (header_of-whole l (pool_of-long l all)) (eqb-true (header_here l).kind 1 t) in
-        let r = pool_from-parts no_garbage 0 (header_here l) l (rw (← e) all) in
+        let r = pool_from-parts None 0 (header_here l) l (rw (← e) all) in
         rw e (record { low = r.low; behind = r.behind; fits = omega arith })
     go false t =
         let e = pool_of-garbage l (header_of-whole l (pool_of-long l all)) (eqb-false (header_here l).kind 1 t) in

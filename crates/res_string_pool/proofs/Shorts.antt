@@ -16,7 +16,7 @@ use Rattle.field.proofs.Laws.{u32le-append}
 use Rattle.common.specs.Header.{header_of, content_size}
 use Rattle.common.proofs.Laws.{header_here, header_of-whole, header_of-long, header_of-short}
 use Rattle.common.specs.declared.ResChunkHeader.{ResChunkHeader}
-use Rattle.res_string_pool.specs.Pool.{count_of, no_garbage, unread, end_of, pool_from, behind_garbage, pool_of}
+use Rattle.res_string_pool.specs.Pool.{count_of, unread, end_of, pool_from, behind_garbage, pool_of}
 use Rattle.res_string_pool.specs.declared.Garbage.{Garbage}
 use Rattle.res_string_pool.specs.declared.PoolEnd.{PoolEnd}
 use Rattle.res_string_pool.specs.declared.PoolEnd.TheVariants.{Complete, GarbageShort, HeaderShort, OffsetsShort, StylesShort, DataShort}
@@ -104,7 +104,7 @@ end_of-cut n count styles size short = go (ltb n (4 * count)) refl
 
 -- ---- the pool from its header on, c being what stands before the short part
 
-module _ (g : Garbage) (at : ℕ) (h : ResChunkHeader) where
+module _ (g : Option Garbage) (at : ℕ) (h : ResChunkHeader) where
   pub pool_from-left : (m : List ℕ) → 8 ≤ length m → IsShort (pool_from g at h m).end → left_of (pool_from g at h m).end ≤ length m - 8
   pool_from-left m p short = go (ltb (length m) 28) refl
     where
@@ -244,7 +244,7 @@ pool_of-left l short = go (header_of l) refl
     kind h w true t =
         let e = pool_of-pool l w (eqb-true h.kind 1 t) in
         let short' = rw e at short in
-        rw e (omega (arith, pool_from-left no_garbage 0 h l (header_of-long l w) short'))
+        rw e (omega (arith, pool_from-left None 0 h l (header_of-long l w) short'))
     kind h w false t =
         let e = pool_of-garbage l w (eqb-false h.kind 1 t) in
         let short' = rw e at short in
@@ -279,8 +279,8 @@ pool_of-cut c m short left = go (header_of (c ++ m)) refl
         let short' = rw e at short in
         let left' = rw e at left in
         let long = header_of-long (c ++ m) w in
-        let p : 8 ≤ length c = omega (arith, sum, long, left', pool_from-left no_garbage 0 h (c ++ m) long short') in
-        rw (e, pool_of-pool c (same h w p) one) (pool_from-cut no_garbage 0 h c m p short' left')
+        let p : 8 ≤ length c = omega (arith, sum, long, left', pool_from-left None 0 h (c ++ m) long short') in
+        rw (e, pool_of-pool c (same h w p) one) (pool_from-cut None 0 h c m p short' left')
     kind h w false t =
         let other = eqb-false h.kind 1 t in
         let e = pool_of-garbage (c ++ m) w other in
@@ -290,8 +290,8 @@ pool_of-cut c m short left = go (header_of (c ++ m)) refl
         let p : 8 ≤ length c = omega (arith, sum, long, left', behind_garbage-left h (c ++ m) long short') in
         rw (e, pool_of-garbage c (same h w p) other) (behind_garbage-cut h c m p short' left')
 
-    empty : (l : List ℕ) → length l ≡ 0 → pool_of l ≡ unread no_garbage (HeaderShort 0)
-    empty l e = pool_of-short l (header_of-short l (omega (arith, e))) ∙ ap (λ (n : ℕ). unread no_garbage (HeaderShort n)) e
+    empty : (l : List ℕ) → length l ≡ 0 → pool_of l ≡ unread None (HeaderShort 0)
+    empty l e = pool_of-short l (header_of-short l (omega (arith, e))) ∙ ap (λ (n : ℕ). unread None (HeaderShort n)) e
 
     go : (r : Option ResChunkHeader) → header_of (c ++ m) ≡ r → pool_of c ≡ none_left (pool_of (c ++ m))
     go None w =

@@ -32,17 +32,13 @@ is_utf16 flags = eqb (flags / 256 % 2) 0
 
 -- ---- the parts, each behind the one before
 
--- no chunk stood in the pool's place
-abbrev pub no_garbage : Garbage
-no_garbage = record { found = false; kind = 0; skipped = 0 }
-
 abbrev pub no_pool : Pool
 no_pool = record { declared = 0; count = 0; utf16 = false; offsets = 0; strings = 0; size = 0 }
 
-abbrev pub unread : Garbage → PoolEnd → PoolRead
+abbrev pub unread : Option Garbage → PoolEnd → PoolRead
 unread g e = record { garbage = g; pool = no_pool; end = e }
 
--- With m the bytes from the pool's header h on, at the place `at`: five numbers, then the offsets, the styles, the data.
+-- g is the chunk that stood in the pool's place, `None` where none did. With m the bytes from the pool's header h on, at the place `at`: five numbers, then the offsets, the styles, the data.
 unfoldable pub numbered : ℕ → ResChunkHeader → List ℕ → Pool
 numbered at h m =
     let count = count_of (u32le m 20) (u32le m 12) in
@@ -62,14 +58,14 @@ end_of n count styles size =
     (cond (ltb (n - 4 * count) (4 * styles)) (StylesShort (n - 4 * count))
     (cond (ltb (n - 4 * count - 4 * styles) size) (DataShort (n - 4 * count - 4 * styles)) Complete))
 
-unfoldable pub pool_from : Garbage → ℕ → ResChunkHeader → List ℕ → PoolRead
+unfoldable pub pool_from : Option Garbage → ℕ → ResChunkHeader → List ℕ → PoolRead
 pool_from g at h m =
     let pool = numbered at h m in
     cond (ltb (length m) 28) (unread g (HeaderShort (length m - 8)))
     (record { garbage = g; pool = pool; end = end_of (length m - 28) pool.count (u32le m 12) pool.size })
 
 -- the second header, behind a chunk that was skipped: its type is not tested
-abbrev pub second_by : Garbage → ℕ → List ℕ → Option ResChunkHeader → PoolRead
+abbrev pub second_by : Option Garbage → ℕ → List ℕ → Option ResChunkHeader → PoolRead
 second_by g at m None = unread g (HeaderShort (length m))
 second_by g at m (Some h) = pool_from g at h m
 
@@ -78,12 +74,12 @@ unfoldable pub behind_garbage : ResChunkHeader → List ℕ → PoolRead
 behind_garbage h l =
     let skipped = content_size h in
     let m = drop (8 + skipped) l in
-    cond (ltb (length l - 8) skipped) (unread no_garbage (GarbageShort (length l - 8)))
-    (second_by (record { found = true; kind = h.kind; skipped = skipped }) (8 + skipped) m (header_of m))
+    cond (ltb (length l - 8) skipped) (unread None (GarbageShort (length l - 8)))
+    (second_by (Some (record { kind = h.kind; skipped = skipped })) (8 + skipped) m (header_of m))
 
 abbrev pub pool_by : List ℕ → Option ResChunkHeader → PoolRead
-pool_by l None = unread no_garbage (HeaderShort (length l))
-pool_by l (Some h) = cond (eqb h.kind 1) (pool_from no_garbage 0 h l) (behind_garbage h l)
+pool_by l None = unread None (HeaderShort (length l))
+pool_by l (Some h) = cond (eqb h.kind 1) (pool_from None 0 h l) (behind_garbage h l)
 
 unfoldable pub pool_of : List ℕ → PoolRead
 pool_of l = pool_by l (header_of l)

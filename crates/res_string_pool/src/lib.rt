@@ -18,10 +18,9 @@ pub mod content;
 
 pub use content::split_string;
 
-// The chunk that stood in the pool's place and was skipped whole: note 0 where there was one.
-#[derive(Clone, Copy, Debug, Default, PartialEq, Eq)]
+// A chunk that stood in the pool's place and was skipped whole: note 0 tells its type and its size.
+#[derive(Clone, Copy, Debug, PartialEq, Eq)]
 pub struct Garbage {
-    pub found: bool,
     pub kind: u32,
     pub skipped: u32,
 }
@@ -51,7 +50,7 @@ pub enum PoolEnd {
 
 #[derive(Clone, Copy, Debug, PartialEq, Eq)]
 pub struct PoolRead {
-    pub garbage: Garbage,
+    pub garbage: Option<Garbage>,
     pub pool: Pool,
     pub end: PoolEnd,
 }
@@ -88,7 +87,7 @@ fn end_of(n: usize, count: usize, styles: usize, size: usize) -> PoolEnd
 }
 
 // A pool of which no number was read.
-fn short(garbage: Garbage, end: PoolEnd) -> PoolRead
+fn short(garbage: Option<Garbage>, end: PoolEnd) -> PoolRead
     ensures { result ≡ unread garbage end }
 {
     PoolRead {
@@ -120,7 +119,7 @@ fn numbers_of(at: usize, h: ResChunkHeader, m: &[u8]) -> Pool
 }
 
 // The pool whose header h stands at the front of m, which begins at the place `at`.
-fn pool_from(garbage: Garbage, at: usize, h: ResChunkHeader, m: &[u8]) -> PoolRead
+fn pool_from(garbage: Option<Garbage>, at: usize, h: ResChunkHeader, m: &[u8]) -> PoolRead
     requires { (8 ≤ length m.now) × (at ≤ file_limit) }
     ensures { result ≡ pool_from garbage at h m.now }
 {
@@ -138,7 +137,7 @@ fn pool_from(garbage: Garbage, at: usize, h: ResChunkHeader, m: &[u8]) -> PoolRe
 }
 
 // The second header, behind a chunk that was skipped: its type is not tested.
-fn second(garbage: Garbage, at: usize, m: &[u8]) -> PoolRead
+fn second(garbage: Option<Garbage>, at: usize, m: &[u8]) -> PoolRead
     requires { at ≤ file_limit }
     ensures { result ≡ second_by garbage at m.now (header_of m.now) }
 {
@@ -156,14 +155,13 @@ fn behind_garbage(h: ResChunkHeader, s: &[u8]) -> PoolRead
     let skipped = h.content_size();
     let n = skipped as usize;
     if s.len() - 8 < n {
-        return short(Garbage::default(), PoolEnd::GarbageShort(s.len() - 8));
+        return short(None, PoolEnd::GarbageShort(s.len() - 8));
     }
     let garbage = Garbage {
-        found: true,
         kind: h.kind,
         skipped,
     };
-    second(garbage, 8 + n, &s[8 + n..])
+    second(Some(garbage), 8 + n, &s[8 + n..])
 }
 
 // The pool at the front of s, the bytes behind the file's header.
@@ -173,10 +171,10 @@ pub fn pool_of(s: &[u8]) -> PoolRead
     ensures { result ≡ pool_of s.now }
 {
     let Some(h) = header_at(s, 0) else {
-        return short(Garbage::default(), PoolEnd::HeaderShort(s.len()));
+        return short(None, PoolEnd::HeaderShort(s.len()));
     };
     if h.kind == 1 {
-        pool_from(Garbage::default(), 0, h, s)
+        pool_from(None, 0, h, s)
     } else {
         behind_garbage(h, s)
     }

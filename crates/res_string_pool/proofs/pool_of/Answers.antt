@@ -1,9 +1,10 @@
 -- `res_string_pool::pool_of` meets its contract: by the header in front and its type (`pool_of-short`, `pool_of-pool`, `pool_of-garbage`).
+use Rattle.std.specs.Prelude.{Option, None}
 use borrow.Author.Rules.{rules}
 use mathlib.Core.Path.{◌≡◌, sym, ap, ◌∙◌}
 use lib.ListN.{length}
 use Rattle.common.proofs.Laws.{header_of-long}
-use Rattle.res_string_pool.specs.Pool.{no_garbage, unread, pool_from}
+use Rattle.res_string_pool.specs.Pool.{unread, pool_from}
 use Rattle.res_string_pool.specs.declared.Garbage.{Garbage}
 use Rattle.res_string_pool.specs.declared.PoolEnd.TheVariants.{HeaderShort}
 use Rattle.res_string_pool.proofs.Ends.{pool_of-short, pool_of-pool, pool_of-garbage}
@@ -18,18 +19,12 @@ behind_garbage-requires c = (header_of-long c.args.s.now (sym c.header_at.ensure
 pub returns-in_default : goal.returns-in_default
 returns-in_default c =
     let s = c.args.s.now in
-    let none : c.default.result ≡ no_garbage = search rules in
-    c.short.ensures
-    ∙ ap (λ (g : Garbage). unread g (HeaderShort (length s))) none
-    ∙ sym (pool_of-short s (sym c.header_at.ensures ∙ c.in_default.is))
+    c.short.ensures ∙ sym (pool_of-short s (sym c.header_at.ensures ∙ c.in_default.is))
 
 pub returns-then-h-eq1 : goal.returns-then-h-eq1
 returns-then-h-eq1 c =
     let s = c.args.s.now in
-    let none : c.default-then-h-eq1.result ≡ no_garbage = search rules in
-    c.pool_from.ensures
-    ∙ ap (λ (g : Garbage). pool_from g 0 c.in-Some.h s) none
-    ∙ sym (pool_of-pool s (sym c.header_at.ensures ∙ c.in-Some.is) c.if-h-eq1.true)
+    c.pool_from.ensures ∙ sym (pool_of-pool s (sym c.header_at.ensures ∙ c.in-Some.is) c.if-h-eq1.true)
 
 pub returns-else-h-eq1 : goal.returns-else-h-eq1
 returns-else-h-eq1 c = c.behind_garbage.ensures ∙ sym (pool_of-garbage c.args.s.now (sym c.header_at.ensures ∙ c.in-Some.is) c.if-h-eq1.false)
