@@ -1,5 +1,6 @@
 -- Steps in the head, and behind the walk: each makes the first of what is pending. No contract cites this file.
 -- In order: garbage, count, offsets, the refusal of a head that is not whole; a start cut short, the walk's end, no start at all, nothing left.
+use Rattle.std.specs.Prelude.{Option, Some, None}
 use Prim.Native.Nat.{ℕ}
 use native.Mathlib.Omega.{arith}
 use mathlib.Core.Path.{◌≡◌, refl, sym, ◌∙◌, ap}
@@ -9,23 +10,32 @@ use lib.ListN.{drop}
 use lib.Dec.{eqb}
 use Rattle.errors.specs.declared.Refusal.TheVariants.{MissingRoot}
 use Rattle.anomaly.specs.declared.ResAnomaly.{ResAnomaly}
-use Rattle.anomaly.specs.declared.ResAnomaly.TheVariants.{StringPoolGarbageChunk, StringCountMismatch, StringOffsetsOutOfBounds}
+use Rattle.anomaly.specs.declared.ResAnomaly.TheVariants.{StringCountMismatch, StringOffsetsOutOfBounds}
 use Rattle.anomaly.specs.declared.ResAnomaly.TheVariants.{TruncatedXml, UnclosedElements}
+use Rattle.res_string_pool.specs.declared.Garbage.{Garbage}
 use Rattle.head.specs.declared.HeadEnd.{HeadEnd}
 use Rattle.head.specs.declared.HeadEnd.TheVariants.{Whole, TooSmall, HeaderSize, PoolShort, MapShort}
 use Rattle.head.specs.declared.Opened.{Opened}
-use Rattle.head.specs.Head.{refusal_of, when_note, outside_in}
+use Rattle.head.specs.Head.{refusal_of, when_note, garbage_note, outside_in}
 use Rattle.events.specs.declared.Event.{Event}
 use Rattle.events.specs.declared.Event.TheVariants.{Note, Refuse, Finish}
 use Rattle.events.specs.declared.Phase.TheVariants.{AtGarbage, AtCount, AtOffsets, AtRefuse, AtChunk, AtShort, AtLast, AtRoot, Over}
 use Rattle.events.specs.declared.Cursor.{Cursor}
 use Rattle.events.specs.Events.{Names, from_root, events_on, body_events, notes_of, file_events}
-use Rattle.events.specs.Inner.Steps.{to_step, note_if, garbage_step, pool_next, count_step, map_next, offsets_step, last_step, root_step}
+use Rattle.events.specs.Inner.Steps.{to_step, note_if, garbage_event, garbage_step, pool_next, count_step, map_next, offsets_step, last_step, root_step}
 use Rattle.events.specs.Inner.Pending.{Unmoved, spot_of, pending, event_list}
 use Rattle.events.proofs.Model.{event_list-if, Goes, goes, goes-if}
 use Rattle.events.proofs.Here.{Here, SteppedBy, made, stays, unmoved}
 
 -- a note of the head, as an event and as a list
+event_list-garbage : (g : Option Garbage) → event_list (garbage_event g) ≡ notes_of (garbage_note g)
+event_list-garbage None = refl
+event_list-garbage (Some g) = refl
+
+goes-garbage : (g : Option Garbage) → Goes (garbage_event g)
+goes-garbage None = goes refl
+goes-garbage (Some g) = goes refl
+
 pub event_list-note : (b : Bool) (a : ResAnomaly) → event_list (note_if b (Note a)) ≡ notes_of (when_note b a)
 event_list-note true a = refl
 event_list-note false a = refl
@@ -46,8 +56,7 @@ module _ (N : Names) (o : Opened) (t b : List ℕ) (c : Cursor) where
   pub garbage-step : Here o b c AtGarbage → SteppedBy N o t b c AtGarbage (garbage_step o c)
   unfolding pending file_events
   garbage-step w =
-      let e = Note (StringPoolGarbageChunk o.garbage.kind o.garbage.skipped) in
-      made N o t b c AtGarbage _ (goes-if o.garbage.found e refl) (rw event_list-note)
+      made N o t b c AtGarbage _ (goes-garbage o.garbage) (rw event_list-garbage)
       (stays N o t b c AtGarbage AtCount w (unmoved N o t b c AtCount w.held)) (omega arith)
 
   pub count-step : Here o b c AtCount → SteppedBy N o t b c AtCount (count_step o c)

@@ -3,7 +3,7 @@
 ghost use Rattle.std.specs.Prelude.{◌≡◌, cond, ◌&&◌, not, ltb, eqb};
 ghost use Rattle.text.specs.Inner.Found.{Fits};
 ghost use Rattle.head.specs.Head.{refusal_of};
-ghost use Rattle.events.specs.Inner.Steps.{to_step, note_if, garbage_step, pool_next, count_step, map_next, offsets_step};
+ghost use Rattle.events.specs.Inner.Steps.{to_step, note_if, garbage_event, garbage_step, pool_next, count_step, map_next, offsets_step};
 ghost use Rattle.events.specs.Inner.Steps.{gap_step, size_step, trailing_step, last_step, root_step};
 ghost use Rattle.events.specs.declared.Event.TheVariants.{Note, Refuse};
 ghost use Rattle.events.specs.declared.Phase.TheVariants.{AtShort, AtSize, AtTrailing, AtName, AtLast, Over};
@@ -17,6 +17,7 @@ use crate::{Cursor, Event, Phase, Step};
 use anomaly::ResAnomaly;
 use errors::Refusal;
 use head::{HeadEnd, Opened, outside_in, refusal_of};
+use res_string_pool::Garbage;
 use xml_elements::trailing_of;
 
 // A note where a test says so.
@@ -32,12 +33,19 @@ fn note_if(test: bool, note: ResAnomaly) -> Event
 
 // ---- the head
 
+fn garbage_event(garbage: Option<Garbage>) -> Event
+    ensures { result ≡ garbage_event garbage }
+{
+    match garbage {
+        Some(g) => Event::Note(ResAnomaly::StringPoolGarbageChunk(g.kind, g.skipped)),
+        None => Event::Nothing,
+    }
+}
+
 pub fn garbage_step(o: Opened, c: Cursor) -> Step
     ensures { result ≡ garbage_step o c }
 {
-    let g = o.garbage;
-    let note = ResAnomaly::StringPoolGarbageChunk(g.kind, g.skipped);
-    to_step(c, note_if(g.found, note), Phase::AtCount)
+    to_step(c, garbage_event(o.garbage), Phase::AtCount)
 }
 
 fn pool_next(e: HeadEnd) -> Phase

@@ -1,6 +1,6 @@
 -- What an event asks and does, by its case: which ask for texts, and that their names are valid (`asks-for`), which are not the end, and what
 -- `place` does with an event whose case is known (`place-as`). No contract cites this file.
-use Rattle.std.specs.Prelude.{Result, Ok, Err}
+use Rattle.std.specs.Prelude.{Result, Ok, Err, Option, Some, None}
 use Prim.Native.Nat.{ℕ}
 use mathlib.Core.Path.{◌≡◌, refl, sym, ◌∙◌, ap, subst}
 use mathlib.Core.List.{List}
@@ -16,6 +16,7 @@ use Rattle.text.specs.declared.NameState.TheVariants.{NoText, Invalid, Valid}
 use Rattle.xml.specs.NCName.{valid_name}
 use Rattle.text.specs.Content.{Content, none, cut, some, content_of, is_name, valid_by, state_in}
 use Rattle.text.specs.Inner.Found.{Asks}
+use Rattle.res_string_pool.specs.declared.Garbage.{Garbage}
 use Rattle.head.specs.declared.Opened.{Opened}
 use Rattle.head.specs.Head.{PoolThere, outside_in}
 use Rattle.xml_elements.specs.declared.XmlAttributeElement.{XmlAttributeElement}
@@ -36,7 +37,7 @@ use Rattle.events.specs.declared.Phase.TheVariants.{AtShort, AtName, AtNamed, At
 use Rattle.events.specs.declared.Event.{Event}
 use Rattle.events.specs.declared.Event.TheVariants.{Nothing, Open, Attribute, LeftOut, Close, Note, Refuse, Finish}
 use Rattle.events.specs.Events.{Names, names_in, leading, foreign_note, attribute_by, attribute_event}
-use Rattle.events.specs.Inner.Steps.{note_if, to_step, named_step, name_step, chunk_step, cut_step, turn_step, step_by, step_of}
+use Rattle.events.specs.Inner.Steps.{note_if, garbage_event, to_step, named_step, name_step, chunk_step, cut_step, turn_step, step_by, step_of}
 use Rattle.events.specs.Inner.Pending.{Held, Ready, Within}
 use Rattle.tables.specs.Inner.Keys.{Key}
 use Rattle.walk.specs.declared.tree.Tree.{Tree}
@@ -66,10 +67,14 @@ refuse_if-not : (q : Bool) (x : Refusal) (p : ℕ) (a : XmlAttributeElement) →
 refuse_if-not true x p a e = refuse-not x p a e
 refuse_if-not false x p a e = nothing-not p a e
 
+garbage-not : (g : Option Garbage) (p : ℕ) (a : XmlAttributeElement) → garbage_event g ≡ Attribute p a → ⊥
+garbage-not (Some g) p a e = note-not _ p a e
+garbage-not None p a e = nothing-not p a e
+
 -- no attribute comes of a head whose pool is short
 attribute-pool : (N : Names) (o : Opened) (t b : List ℕ) (c : Cursor) (p : ℕ) (a : XmlAttributeElement) (ph : Phase) → Held o.end (length b) c ph
     → (step_by N o t b c ph).event ≡ Attribute p a → PoolThere o.end
-attribute-pool N o t b c p a AtGarbage h e = absurd (note_if-not o.garbage.found _ p a e)
+attribute-pool N o t b c p a AtGarbage h e = absurd (garbage-not o.garbage p a e)
 attribute-pool N o t b c p a AtCount h e = absurd (note_if-not (not (eqb o.declared o.head.count)) _ p a e)
 attribute-pool N o t b c p a AtOffsets h e = h.1
 attribute-pool N o t b c p a AtRefuse h e = absurd (refuse-not _ p a e)
@@ -153,7 +158,7 @@ lead_is p a e = cc
 
 attribute-valid : (N : Names) (o : Opened) (t b : List ℕ) (c : Cursor) (p : ℕ) (a : XmlAttributeElement) (ph : Phase)
     → (step_by N o t b c ph).event ≡ Attribute p a → (p ≡ 2 → ⊥) → N.state a.name.0 ≡ Valid
-attribute-valid N o t b c p a AtGarbage e n = absurd (note_if-not o.garbage.found _ p a e)
+attribute-valid N o t b c p a AtGarbage e n = absurd (garbage-not o.garbage p a e)
 attribute-valid N o t b c p a AtCount e n = absurd (note_if-not (not (eqb o.declared o.head.count)) _ p a e)
 attribute-valid N o t b c p a AtOffsets e n = absurd (note_if-not (not (eqb (outside_in t o.head) 0)) _ p a e)
 attribute-valid N o t b c p a AtRefuse e n = absurd (refuse-not _ p a e)

@@ -25,7 +25,6 @@ use events::{Cursor, first_cursor};
 use head::{Asker, HeadEnd, Opened, enter};
 use passing::pass_in;
 use placing::{Stop, run_in};
-use res_string_pool::Garbage;
 pub use tables::numbers::NUMBERS;
 use text::Head;
 use tree::Tree;
@@ -71,11 +70,7 @@ pub fn begin(room: usize, cap: u32, mode: u32) -> State
     ensures { result ≡ first room cap mode }
 {
     let opened = Opened {
-        garbage: Garbage {
-            found: false,
-            kind: 0,
-            skipped: 0,
-        },
+        garbage: None,
         declared: 0,
         end: HeadEnd::Whole,
         head: Head {

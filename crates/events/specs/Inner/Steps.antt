@@ -7,7 +7,7 @@
 --   foreign_step   passes a whole stretch of chunks of one sort (docs/FORMAT.md, W4); no event where the chunk before was of that sort
 --   cut_step       what is cut takes all that is left, n bytes being the body; an end closes all the same
 --   step_of        the step from a cursor, by its phase; `Finish`, and nothing moves, once all is made
-use Rattle.std.specs.Prelude.{ℕ, ◌+◌, ◌-◌, List, Bool, cond, ◌&&◌, not, length, drop, ltb, leb, eqb}
+use Rattle.std.specs.Prelude.{ℕ, ◌+◌, ◌-◌, List, Bool, cond, ◌&&◌, not, length, drop, ltb, leb, eqb, Option, Some, None}
 use Rattle.chunk.specs.Inner.Run.{skip_run}
 use Rattle.errors.specs.declared.Refusal.TheVariants.{MissingRoot}
 use Rattle.anomaly.specs.declared.ResAnomaly.TheVariants.{StringPoolGarbageChunk, StringCountMismatch, StringOffsetsOutOfBounds, UnknownChunk, TruncatedXml}
@@ -15,6 +15,7 @@ use Rattle.anomaly.specs.declared.ResAnomaly.TheVariants.{AttributeStartShifted,
 use Rattle.anomaly.specs.declared.ResAnomaly.TheVariants.{InvalidElementName, UnclosedElements, DamagedElementName}
 use Rattle.text.specs.declared.NameState.{NameState}
 use Rattle.text.specs.declared.NameState.TheVariants.{NoText, Invalid, Valid}
+use Rattle.res_string_pool.specs.declared.Garbage.{Garbage}
 use Rattle.head.specs.declared.HeadEnd.{HeadEnd}
 use Rattle.head.specs.declared.HeadEnd.TheVariants.{Whole, TooSmall, HeaderSize, PoolShort, MapShort}
 use Rattle.head.specs.declared.Opened.{Opened}
@@ -109,8 +110,12 @@ to_step c e p = record { event = e; cur = to_phase c p }
 abbrev pub note_if : Bool → Event → Event
 note_if b e = cond b e Nothing
 
+abbrev pub garbage_event : Option Garbage → Event
+garbage_event None = Nothing
+garbage_event (Some g) = Note (StringPoolGarbageChunk g.kind g.skipped)
+
 abbrev pub garbage_step : Opened → Cursor → Step
-garbage_step o c = to_step c (note_if o.garbage.found (Note (StringPoolGarbageChunk o.garbage.kind o.garbage.skipped))) AtCount
+garbage_step o c = to_step c (garbage_event o.garbage) AtCount
 
 -- behind the count: a pool that is short is refused, else the offsets are looked at
 abbrev pub pool_next : HeadEnd → Phase
