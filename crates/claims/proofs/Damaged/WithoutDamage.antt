@@ -6,6 +6,7 @@
 --   damages_of       the notes 32 of the elements that open among some events; damages-others: notes play no part
 --   Undamaged       events without a note 32 and without an element
 --   DamageApart     what is said of both lists; file-apart: so it is with the events of a file
+use Rattle.std.specs.Prelude.{Option, Some, None}
 use Prim.Native.Nat.{ℕ, zero, suc}
 use mathlib.Core.Path.{◌≡◌, refl, sym, ◌∙◌, ap}
 use mathlib.Core.List.{List, [], ◌∷◌, ◌++◌, append_assoc}
@@ -22,6 +23,7 @@ use Rattle.anomaly.specs.declared.ResAnomaly.TheVariants.{DamagedElementName, Tr
 use Rattle.errors.specs.declared.Refusal.TheVariants.{MissingRoot}
 use Rattle.text.specs.declared.NameState.{NameState}
 use Rattle.text.specs.declared.NameState.TheVariants.{NoText, Invalid, Valid}
+use Rattle.res_string_pool.specs.declared.Garbage.{Garbage}
 use Rattle.head.specs.declared.Opened.{Opened}
 use Rattle.head.specs.Head.{refusal_of}
 use Rattle.xml_elements.specs.declared.XmlStartElement.{XmlStartElement}
@@ -44,7 +46,7 @@ use Rattle.claims.specs.Counts.{event_note, event_notes}
 use Rattle.claims.specs.Damaged.{damage_place, besides}
 use Rattle.claims.proofs.Events.NotesAndOthers.{others_in, others_in-append, event_notes-append}
 use Rattle.claims.proofs.Events.EventCases.{StartNote, shifted, sized, trailing, start_note, start-whole, cut-gap, cut-attributes, cut-trailing}
-use Rattle.claims.proofs.Events.EventCases.{body-by, HeadNote, garbage, count, offsets, head_note, file-by}
+use Rattle.claims.proofs.Events.EventCases.{body-by, HeadNote, garbage_told, garbage, count, offsets, head_note, file-by}
 
 -- ---- lists by kind
 
@@ -352,9 +354,14 @@ module _ (N : Names) where
 
   -- ---- the file
 
+  garbage-other : (g : Option Garbage) → eqb (kind_index (garbage_told g)) damage_place ≡ false
+  unfolding kind_index
+  garbage-other None = refl
+  garbage-other (Some g) = refl
+
   head-other : (o : Opened) (t : List ℕ) (n : HeadNote) → eqb (kind_index (head_note o t n)) damage_place ≡ false
   unfolding kind_index
-  head-other o t garbage = refl
+  head-other o t garbage = garbage-other o.garbage
   head-other o t count = refl
   head-other o t offsets = refl
 

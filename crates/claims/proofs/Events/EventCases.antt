@@ -8,6 +8,7 @@
 --   file-by      a file: what goes on behind such a note, and holds of a refusal and of the body, holds of all its events
 --
 -- Each speaks of two lists, made with the names N and N': where R looks at the first list alone, it is a law of one file.
+use Rattle.std.specs.Prelude.{Option, Some, None}
 use Prim.Native.Nat.{ℕ, suc, ◌≤◌}
 use native.Mathlib.Omega.{arith}
 use mathlib.Core.Path.{◌≡◌, refl, ◌∙◌, ap}
@@ -19,10 +20,11 @@ use Rattle.anomaly.specs.declared.ResAnomaly.{ResAnomaly}
 use Rattle.anomaly.specs.declared.ResAnomaly.TheVariants.{AttributeStartShifted, AttributeSizeMismatch, ElementTrailingBytes, InvalidElementName}
 use Rattle.anomaly.specs.declared.ResAnomaly.TheVariants.{StringPoolGarbageChunk, StringCountMismatch, StringOffsetsOutOfBounds, DamagedElementName}
 use Rattle.chunk.proofs.Walk.{walk-ind, trace-stop, trace-step}
+use Rattle.res_string_pool.specs.declared.Garbage.{Garbage}
 use Rattle.head.specs.declared.HeadEnd.{HeadEnd}
 use Rattle.head.specs.declared.HeadEnd.TheVariants.{Whole, TooSmall, HeaderSize, PoolShort, MapShort}
 use Rattle.head.specs.declared.Opened.{Opened}
-use Rattle.head.specs.Head.{outside_in, refusal_of, when_note, count_notes, offset_notes}
+use Rattle.head.specs.Head.{outside_in, refusal_of, when_note, garbage_note, count_notes, offset_notes}
 use Rattle.xml_elements.specs.declared.XmlStartElement.{XmlStartElement}
 use Rattle.xml_elements.specs.declared.Turn.{Turn}
 use Rattle.xml_elements.specs.declared.Turn.TheVariants.{Stop, Foreign, Met, Cut}
@@ -138,8 +140,13 @@ pub data HeadNote : Type 0 where
   count : HeadNote
   offsets : HeadNote
 
+-- note 0; where no chunk was skipped it is not made, whatever it says
+abbrev pub garbage_told : Option Garbage → ResAnomaly
+garbage_told (Some g) = StringPoolGarbageChunk g.kind g.skipped
+garbage_told None = StringPoolGarbageChunk 0 0
+
 abbrev pub head_note : Opened → List ℕ → HeadNote → ResAnomaly
-head_note o t garbage = StringPoolGarbageChunk o.garbage.kind o.garbage.skipped
+head_note o t garbage = garbage_told o.garbage
 head_note o t count = StringCountMismatch o.declared o.head.count
 head_note o t offsets = StringOffsetsOutOfBounds (outside_in t o.head)
 
@@ -154,6 +161,12 @@ module _ (N N' : Names) (o : Opened) (t b : List ℕ) (R : List Event → List E
   noted : (c : Bool) (n : HeadNote) (ds es : List Event) → R ds es → R (notes_of (when_note c (head_note o t n)) ++ ds) (notes_of (when_note c (head_note o t n)) ++ es)
   noted c n ds es h = rw (← one-note c (head_note o t n)) (behind c n ds es h)
 
+  skipped : (g : Option Garbage) → o.garbage ≡ g → (ds es : List Event) → R ds es → R (notes_of (garbage_note g) ++ ds) (notes_of (garbage_note g) ++ es)
+  skipped None q ds es h = h
+  skipped (Some g) q ds es h =
+      let r : R (Note (garbage_told o.garbage) ∷ ds) (Note (garbage_told o.garbage) ∷ es) = behind true garbage ds es h in
+      rw q at r
+
   outside : (ds es : List Event) → R ds es → R (notes_of (offset_notes t o) ++ ds) (notes_of (offset_notes t o) ++ es)
   outside ds es h = noted (not (eqb (outside_in t o.head) 0)) offsets ds es h
 
@@ -167,5 +180,5 @@ module _ (N N' : Names) (o : Opened) (t b : List ℕ) (R : List Event → List E
   pub file-by : R (file_events N o t b) (file_events N' o t b)
   unfolding file_events
   file-by =
-      noted o.garbage.found garbage (notes_of (count_notes o) ++ after_pool N o t b o.end) (notes_of (count_notes o) ++ after_pool N' o t b o.end)
+      skipped o.garbage refl (notes_of (count_notes o) ++ after_pool N o t b o.end) (notes_of (count_notes o) ++ after_pool N' o t b o.end)
       (noted (not (eqb o.declared o.head.count)) count (after_pool N o t b o.end) (after_pool N' o t b o.end) (after o.end refl))

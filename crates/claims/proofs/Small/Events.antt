@@ -3,6 +3,7 @@
 --   Small        each number of some events fits: words of nodes and attributes, numbers of notes, values of refusals
 --   body-small   the events of a body: numbers that were read, and the depth, which grows by one for a chunk at most
 --   file-small   those of a file, with what its head says: counts and offsets that were read, and places in the file
+use Rattle.std.specs.Prelude.{Option, Some, None}
 use Prim.Native.Nat.{ℕ, zero, suc, ◌+◌, ◌≤◌}
 use native.Mathlib.Omega.{arith}
 use mathlib.Core.List.{List, [], ◌∷◌, ◌++◌}
@@ -20,6 +21,7 @@ use Rattle.errors.specs.declared.Refusal.TheVariants.{MissingRoot}
 use Rattle.res_string_pool.specs.Pool.{offset_of, outside_of}
 use Rattle.text.specs.declared.NameState.{NameState}
 use Rattle.text.specs.declared.NameState.TheVariants.{NoText, Invalid, Valid}
+use Rattle.res_string_pool.specs.declared.Garbage.{Garbage}
 use Rattle.head.specs.declared.Opened.{Opened}
 use Rattle.head.specs.Head.{outside_in}
 use Rattle.xml_elements.specs.declared.XmlStartElement.{XmlStartElement}
@@ -40,10 +42,10 @@ use Rattle.events.specs.Events.{events_on, body_events, file_events}
 use Rattle.events.specs.Inner.Starts.{from_lead, from_open, from_name}
 use mathlib.Core.Path.{refl}
 use Rattle.claims.proofs.Events.EventCases.{StartNote, shifted, sized, trailing, start_note, start-whole, cut-gap, cut-attributes, cut-trailing}
-use Rattle.claims.proofs.Events.EventCases.{body-by, HeadNote, garbage, count, offsets, head_note, file-by, NameNote, damaged, invalid}
+use Rattle.claims.proofs.Events.EventCases.{body-by, HeadNote, garbage_told, garbage, count, offsets, head_note, file-by, NameNote, damaged, invalid}
 use Rattle.claims.proofs.Small.Bytes.{Fits, InBytes, drop-bytes, SmallAttribute, SmallStart, attribute-small, SmallChunk, SmallCut, SmallTurn}
 use Rattle.claims.proofs.Small.Bytes.{turn_small}
-use Rattle.claims.proofs.Small.Head.{SmallOpened}
+use Rattle.claims.proofs.Small.Head.{SmallOpened, SmallSkipped}
 use Rattle.claims.proofs.Events.EventCases.{name_note, name_by}
 
 -- ---- events
@@ -237,10 +239,15 @@ outside-le o size (suc n) =
     let one : cond (leb size (offset_of o n)) 1 0 ≤ 1 = cond-by (λ (x : ℕ). x ≤ 1) (leb size (offset_of o n)) (λ e. omega arith) (λ e. omega arith) in
     omega (arith, one, outside-le o size n)
 
+garbage-note : (g : Option Garbage) → SmallSkipped g → SmallNote (note_of (garbage_told g))
+unfolding note_of
+garbage-note None w = record { kind = omega arith; first = omega arith; second = omega arith }
+garbage-note (Some g) w = record { kind = omega arith; first = w.kind; second = w.skipped }
+
 module _ (o : Opened) (w : SmallOpened o) (t : List ℕ) where
   head-note : (n : HeadNote) → SmallNote (note_of (head_note o t n))
   unfolding note_of outside_in
-  head-note garbage = record { kind = omega arith; first = w.garbage.kind; second = w.garbage.skipped }
+  head-note garbage = garbage-note o.garbage w.garbage
   head-note count = record { kind = omega arith; first = w.declared; second = w.count }
   head-note offsets = record {
     kind = omega arith;

@@ -18,7 +18,7 @@ use Rattle.res_string_pool.specs.declared.Pool.{Pool}
 use Rattle.res_string_pool.specs.declared.PoolRead.{PoolRead}
 use Rattle.res_string_pool.specs.declared.PoolEnd.{PoolEnd}
 use Rattle.res_string_pool.specs.declared.PoolEnd.TheVariants.{Complete, GarbageShort, HeaderShort, OffsetsShort, StylesShort, DataShort}
-use Rattle.res_string_pool.specs.Pool.{count_of, no_garbage, unread, numbered, pool_from, second_by, behind_garbage, pool_by, pool_of}
+use Rattle.res_string_pool.specs.Pool.{count_of, unread, numbered, pool_from, second_by, behind_garbage, pool_by, pool_of}
 use Rattle.resource_map.specs.Map.{map_of}
 use Rattle.head.specs.declared.Opened.{Opened}
 use Rattle.head.specs.Head.{mapped_by, pooled_by, tables_of, opened_of, refusal_of}
@@ -32,18 +32,19 @@ pub record SmallGarbage (g : Garbage) : Type 0 where
   pub kind : Fits g.kind
   pub skipped : Fits g.skipped
 
+abbrev pub SmallSkipped : Option Garbage → Type 0
+SmallSkipped None = Unit {0}
+SmallSkipped (Some g) = SmallGarbage g
+
 record SmallPool (p : Pool) : Type 0 where
   declared : Fits p.declared
   count : Fits p.count
 
 record SmallPoolRead (r : PoolRead) : Type 0 where
-  garbage : SmallGarbage r.garbage
+  garbage : SmallSkipped r.garbage
   pool : SmallPool r.pool
 
-no_garbage_lem : SmallGarbage no_garbage
-no_garbage_lem = record { kind = omega arith; skipped = omega arith }
-
-unread-small : (g : Garbage) (e : PoolEnd) → SmallGarbage g → SmallPoolRead (unread g e)
+unread-small : (g : Option Garbage) (e : PoolEnd) → SmallSkipped g → SmallPoolRead (unread g e)
 unread-small g e w = record { garbage = w; pool = record { declared = omega arith; count = omega arith } }
 
 count_small : (start styles : ℕ) → Fits start → Fits (count_of start styles)
@@ -54,13 +55,13 @@ numbered-small : (at : ℕ) (x : ResChunkHeader) (m : List ℕ) → InBytes m �
 unfolding numbered
 numbered-small at x m h = record { declared = u32-fits m h 8; count = count_small (u32le m 20) (u32le m 12) (u32-fits m h 20) }
 
-from-small : (g : Garbage) → SmallGarbage g → (at : ℕ) (x : ResChunkHeader) (m : List ℕ) → InBytes m → SmallPoolRead (pool_from g at x m)
+from-small : (g : Option Garbage) → SmallSkipped g → (at : ℕ) (x : ResChunkHeader) (m : List ℕ) → InBytes m → SmallPoolRead (pool_from g at x m)
 unfolding pool_from
 from-small g w at x m h =
     cond-by SmallPoolRead (ltb (length m) 28) (λ e. unread-small g (HeaderShort (length m - 8)) w)
     (λ e. record { garbage = w; pool = numbered-small at x m h })
 
-second-small : (g : Garbage) → SmallGarbage g → (at : ℕ) (m : List ℕ) → InBytes m → (x : Option ResChunkHeader) → SmallPoolRead (second_by g at m x)
+second-small : (g : Option Garbage) → SmallSkipped g → (at : ℕ) (m : List ℕ) → InBytes m → (x : Option ResChunkHeader) → SmallPoolRead (second_by g at m x)
 second-small g w at m h None = unread-small g (HeaderShort (length m)) w
 second-small g w at m h (Some x) = from-small g w at x m h
 
@@ -68,26 +69,26 @@ garbage-small : (x : ResChunkHeader) → SmallHeader x → (l : List ℕ) → In
 unfolding behind_garbage
 garbage-small x w l h =
     let m = drop (8 + content_size x) l in
-    cond-by SmallPoolRead (ltb (length l - 8) (content_size x)) (λ e. unread-small no_garbage (GarbageShort (length l - 8)) no_garbage_lem)
-    (λ e. second-small (record { found = true; kind = x.kind; skipped = content_size x }) (record { kind = w.kind; skipped = omega (arith, w.size) })
+    cond-by SmallPoolRead (ltb (length l - 8) (content_size x)) (λ e. unread-small None (GarbageShort (length l - 8)) tt)
+    (λ e. second-small (Some (record { kind = x.kind; skipped = content_size x })) (record { kind = w.kind; skipped = omega (arith, w.size) })
     (8 + content_size x) m (drop-bytes (8 + content_size x) l h) (header_of m))
 
 pool-by : (l : List ℕ) → InBytes l → (x : Option ResChunkHeader) → SmallRead x → SmallPoolRead (pool_by l x)
-pool-by l h None w = unread-small no_garbage (HeaderShort (length l)) no_garbage_lem
+pool-by l h None w = unread-small None (HeaderShort (length l)) tt
 pool-by l h (Some x) w =
-    cond-by SmallPoolRead (eqb x.kind 1) (λ e. from-small no_garbage no_garbage_lem 0 x l h) (λ e. garbage-small x w l h)
+    cond-by SmallPoolRead (eqb x.kind 1) (λ e. from-small None tt 0 x l h) (λ e. garbage-small x w l h)
 
 pool-small : (l : List ℕ) → InBytes l → SmallPoolRead (pool_of l)
 unfolding pool_of
 pool-small l h = pool-by l h (header_of l) (header-small l h)
 
 pub record SmallOpened (o : Opened) : Type 0 where
-  pub garbage : SmallGarbage o.garbage
+  pub garbage : SmallSkipped o.garbage
   pub declared : Fits o.declared
   pub count : Fits o.head.count
   pub end : Fits (refusal_value (refusal_of o.end))
 
-module _ (t : List ℕ) (short : Fits (8 + length t)) (g : Garbage) (w : SmallGarbage g) (p : Pool) (q : SmallPool p) where
+module _ (t : List ℕ) (short : Fits (8 + length t)) (g : Option Garbage) (w : SmallSkipped g) (p : Pool) (q : SmallPool p) where
   mapped-small : (m : Result ℕ MapShort) → SmallOpened (mapped_by t g p m)
   unfolding refusal_value
   mapped-small (Ok n) = record { garbage = w; declared = q.declared; count = q.count; end = omega arith }
@@ -113,6 +114,6 @@ pub opened-small : (f : List ℕ) → InBytes f → Fits (8 + length f) → Smal
 unfolding opened_of refusal_value
 opened-small f h short =
     cond-by SmallOpened (ltb (length f) 8)
-    (λ e. record { garbage = no_garbage_lem; declared = omega arith; count = omega arith; end = omega (arith, short) })
+    (λ e. record { garbage = tt; declared = omega arith; count = omega arith; end = omega (arith, short) })
     (λ e. cond-by SmallOpened (eqb (u16le f 2) 8) (λ e. tables-small (drop 8 f) (drop-bytes 8 f h) (omega (arith, short, length-drop 8 f)))
-    (λ e. record { garbage = no_garbage_lem; declared = omega arith; count = omega arith; end = u16-fits f h 2 }))
+    (λ e. record { garbage = tt; declared = omega arith; count = omega arith; end = u16-fits f h 2 }))

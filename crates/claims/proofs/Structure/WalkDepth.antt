@@ -3,6 +3,7 @@
 --   Walked       the events of a walk are those of its turns, and behind them `last_of` of a spot whose starts and depth they tell
 --   walked       so it is with every body
 --   file-ends    a file's events end with a refusal, or with what the end of the walk makes: note 12 with the depth, where it is not 0
+use Rattle.std.specs.Prelude.{Option, Some, None}
 use Prim.Native.Nat.{ℕ, ◌+◌, ◌<◌}
 use native.Mathlib.Omega.{arith}
 use mathlib.Core.Path.{◌≡◌, refl, sym, ◌∙◌, ap}
@@ -29,6 +30,7 @@ use Rattle.events.specs.Events.{events_on}
 use Rattle.claims.specs.Counts.{opens_in, depth_from}
 use Rattle.errors.specs.declared.Refusal.{Refusal}
 use Rattle.errors.specs.declared.Refusal.TheVariants.{MissingRoot}
+use Rattle.res_string_pool.specs.declared.Garbage.{Garbage}
 use Rattle.head.specs.declared.Opened.{Opened}
 use Rattle.head.specs.Head.{refusal_of}
 use Rattle.anomaly.specs.declared.ResAnomaly.TheVariants.{UnclosedElements}
@@ -36,7 +38,7 @@ use Rattle.events.specs.Events.{started, ended, body_events, file_events}
 use Rattle.claims.proofs.Structure.StartDepth.{NoTwelve, no-twelve-append, opens-append, depth-append, Opening, opening-none, opening-note, NotTwelve}
 use Rattle.claims.proofs.Structure.Tables.{pos}
 use Rattle.claims.proofs.Structure.StartDepth.{start-opening, gap-cut-opening, attributes-cut-opening, trailing-cut-opening}
-use Rattle.claims.proofs.Events.EventCases.{body-by, HeadNote, garbage, count, offsets, head_note, file-by}
+use Rattle.claims.proofs.Events.EventCases.{body-by, HeadNote, garbage_told, garbage, count, offsets, head_note, file-by}
 
 -- ---- a turn
 
@@ -173,9 +175,14 @@ behind-opening a es m (walked_to w) = walked_to (record {
   plain = no-twelve-append a w.body m.plain w.plain;
 })
 
+garbage_plain : (g : Option Garbage) → NotTwelve (garbage_told g)
+unfolding note_of
+garbage_plain None = λ e. omega arith
+garbage_plain (Some g) = λ e. omega arith
+
 head_plain : (o : Opened) (t : List ℕ) (n : HeadNote) → NotTwelve (head_note o t n)
 unfolding note_of
-head_plain o t garbage = λ e. omega arith
+head_plain o t garbage = garbage_plain o.garbage
 head_plain o t count = λ e. omega arith
 head_plain o t offsets = λ e. omega arith
 
