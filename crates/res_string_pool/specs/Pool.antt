@@ -38,7 +38,8 @@ no_pool = record { declared = 0; count = 0; utf16 = false; offsets = 0; strings 
 abbrev pub unread : Option Garbage → PoolEnd → PoolRead
 unread g e = record { garbage = g; pool = no_pool; end = e }
 
--- g is the chunk that stood in the pool's place, `None` where none did. With m the bytes from the pool's header h on, at the place `at`: five numbers, then the offsets, the styles, the data.
+-- With m the bytes from the pool's header h on, at the place `at`: five numbers, then the offsets, the styles, the data.
+-- g is the chunk that was skipped in front of it, `None` where none was.
 unfoldable pub numbered : ℕ → ResChunkHeader → List ℕ → Pool
 numbered at h m =
     let count = count_of (u32le m 20) (u32le m 12) in

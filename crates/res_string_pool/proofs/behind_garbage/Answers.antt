@@ -1,13 +1,6 @@
 -- `res_string_pool::behind_garbage` meets its contract: the chunk is cut, or what follows it begins with the second header.
-use Rattle.std.specs.Prelude.{Option, None}
-use Prim.Native.Nat.{◌-◌}
-use mathlib.Core.Path.{◌≡◌, sym, ap, ◌∙◌}
+use mathlib.Core.Path.{sym, ◌∙◌}
 use native.Mathlib.Omega.{arith}
-use borrow.Author.Rules.{rules}
-use lib.ListN.{length}
-use Rattle.res_string_pool.specs.Pool.{unread}
-use Rattle.res_string_pool.specs.declared.Garbage.{Garbage}
-use Rattle.res_string_pool.specs.declared.PoolEnd.TheVariants.{GarbageShort}
 use Rattle.res_string_pool.proofs.Ends.{behind_garbage-short, behind_garbage-by}
 use Rattle.res_string_pool.proofs.behind_garbage.Goals as goal
 

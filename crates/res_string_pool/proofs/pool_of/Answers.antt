@@ -1,12 +1,7 @@
 -- `res_string_pool::pool_of` meets its contract: by the header in front and its type (`pool_of-short`, `pool_of-pool`, `pool_of-garbage`).
-use Rattle.std.specs.Prelude.{Option, None}
 use borrow.Author.Rules.{rules}
-use mathlib.Core.Path.{◌≡◌, sym, ap, ◌∙◌}
-use lib.ListN.{length}
+use mathlib.Core.Path.{sym, ◌∙◌}
 use Rattle.common.proofs.Laws.{header_of-long}
-use Rattle.res_string_pool.specs.Pool.{unread, pool_from}
-use Rattle.res_string_pool.specs.declared.Garbage.{Garbage}
-use Rattle.res_string_pool.specs.declared.PoolEnd.TheVariants.{HeaderShort}
 use Rattle.res_string_pool.proofs.Ends.{pool_of-short, pool_of-pool, pool_of-garbage}
 use Rattle.res_string_pool.proofs.pool_of.Goals as goal
 
