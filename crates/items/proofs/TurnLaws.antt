@@ -1,11 +1,13 @@
 -- Laws of specs/Inner/Turns.antt: the items of an attribute one after the other. No contract cites this file.
 -- In order: a name's length; the items left of a run (`run-..`); one item of a flag (`turned-..`) and all of them (`going-..`); the
 -- first item with a value (`valued-..`); what all of them say (`spoken-..`). Which items are those of a name: proofs/RunLaws.antt.
-use Rattle.std.specs.Prelude.{Option, Some}
+use Rattle.std.specs.Prelude.{Option, Some, None, unwrap_or}
+use Rattle.std.specs.Bool.{then_some}
+use Rattle.std.specs.Option.{is_some as is_there}
 use Prim.Native.Nat.{ℕ, suc, ◌+◌, ◌-◌, ◌*◌, ◌≤◌, ◌<◌}
 use mathlib.Core.Path.{◌≡◌, refl, sym, ap, ◌∙◌}
 use mathlib.Core.List.{List, [], ◌∷◌, ◌++◌}
-use mathlib.Core.Bool.{Bool, true, false, cond, ◌||◌}
+use mathlib.Core.Bool.{Bool, true, false, cond, ◌||◌, true≢false}
 use native.Mathlib.Omega.{arith}
 use native.Mathlib.Numerals.{add-one}
 use borrow.Author.Tests.{eq-eqb, ne_eqb}
@@ -199,10 +201,25 @@ is_said-flags : (area : List ℕ) (is : List Item) → is_said (flag_text area i
 is_said-flags area [] = refl
 is_said-flags area (i ∷ is) = refl
 
+there-told : (b : Bool) (n : ℕ) → is_there (then_some b n) ≡ b
+there-told true n = refl
+there-told false n = refl
+
+-- where no name was taken, the place is the front
+wrote-told :
+    {n : ℕ} {l l' : List ℕ} (area : List ℕ) (is : List Item) (b : Bool) →
+    b ≡ is_some is →
+    Wrote 137438953472 0 (joined area is) l n l' →
+    Wrote 137438953472 0 (joined area is) l (unwrap_or (then_some b n) 0) l'
+unfolding joined_from
+wrote-told area is true e w = w
+wrote-told area [] false e w = record { place = refl; near = omega arith; out = w.out }
+wrote-told area (i ∷ is) false e w = absurd (true≢false (sym e))
+
 pub spoken-none :
     (area : List ℕ) (v : ℕ) (l : List ℕ) {is : List Item} →
     is ≡ [] →
-    Spoken area v is l (record { some = false; length = 0; uncovered = 0 }) l
+    Spoken area v is l (record { length = None; uncovered = 0 }) l
 unfolding attr_text uncovered_of
 spoken-none area v l e = rw e (record { text = wrote_none 137438953472 0 l; some = refl; uncovered = refl })
 
@@ -217,7 +234,7 @@ module _
         head.kind ≡ 0 →
         f ≡ enum_of v is →
         Wrote 4294967296 0 (enum_text area v f) l n l' →
-        Spoken area v is l (record { some = true; length = n; uncovered = 0 }) l'
+        Spoken area v is l (record { length = Some n; uncovered = 0 }) l'
     unfolding attr_text uncovered_of
     spoken-enum h e w =
         let k : i.kind ≡ 0 = rw same at h in
@@ -233,15 +250,15 @@ module _
         {st : Flags} {r : Said} →
         (head.kind ≡ 0 → ⊥) →
         Put area v is 0 l st l' →
-        (r.some ≡ st.some) × (r.length ≡ st.at) × (r.uncovered ≡ bit_sum 32 st.left) →
+        (r.length ≡ then_some st.some st.at) × (r.uncovered ≡ bit_sum 32 st.left) →
         Spoken area v is l r l'
     unfolding attr_text uncovered_of
-    spoken-flags h p q =
+    spoken-flags {st} h p q =
         let k : i.kind ≡ 0 → ⊥ = rw same at h in
         let p' = rw first at p in
         rw first
         (record {
-          text = rw (ne_eqb i.kind 0 k, q.1, said-flags area (taken v (i ∷ js))) p'.text;
-          some = rw (ne_eqb i.kind 0 k, is_said-flags area (taken v (i ∷ js))) (q.0 ∙ p'.some);
-          uncovered = rw (ne_eqb i.kind 0 k) (q.2 ∙ ap (bit_sum 32) p'.left);
+          text = rw (ne_eqb i.kind 0 k, q.0, said-flags area (taken v (i ∷ js))) (wrote-told area (taken v (i ∷ js)) st.some p'.some p'.text);
+          some = rw (ne_eqb i.kind 0 k, is_said-flags area (taken v (i ∷ js))) (ap is_there q.0 ∙ there-told st.some st.at ∙ p'.some);
+          uncovered = rw (ne_eqb i.kind 0 k) (q.1 ∙ ap (bit_sum 32) p'.left);
         })

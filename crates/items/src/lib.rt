@@ -51,14 +51,14 @@ pub struct Run {
 pub struct Flags {
     pub at: usize,
     pub left: u32,
+    // no Option of the place: place and bits hold either way, and with None each step would need the start beside it
     pub some: bool,
 }
 
-// What the items of an attribute say of a value: whether they have a text, its length, and how many bits no name covers.
+// What the items of an attribute say of a value: the length of their text, None where they have none, and how many bits no name covers.
 #[derive(Clone, Copy)]
 pub struct Said {
-    pub some: bool,
-    pub length: usize,
+    pub length: Option<usize>,
     pub uncovered: u32,
 }
 

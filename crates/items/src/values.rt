@@ -3,6 +3,7 @@
 // Mirrors structs/attrs_manifest.rs (apk-info 13770539b8), `get_attr_value`; there a text is a string of its own, here it is written
 // into a lent buffer. Definitions: specs/Values.antt.
 ghost use Rattle.std.specs.Prelude.{◌≡◌, ◌-◌, ◌*◌, ◌≤◌, length};
+ghost use Rattle.std.specs.Bool.{then_some};
 ghost use Rattle.digits.specs.Written.{Wrote};
 ghost use Rattle.records.specs.Words.{item_width};
 ghost use Rattle.items.specs.Items.{items_from, enum_of};
@@ -45,11 +46,10 @@ fn ones(left: u32) -> u32
 }
 
 fn said_flags(st: Flags) -> Said
-    ensures { (result.some ≡ st.some) × (result.length ≡ st.at) × (result.uncovered ≡ bit_sum 32 st.left) }
+    ensures { (result.length ≡ then_some st.some st.at) × (result.uncovered ≡ bit_sum 32 st.left) }
 {
     Said {
-        some: st.some,
-        length: st.at,
+        length: st.some.then_some(st.at),
         uncovered: ones(st.left),
     }
 }
@@ -62,8 +62,7 @@ pub fn attr_value(out: &mut [u8], items: &[u32], area: &[u8], run: Run, value: u
 {
     if run.end <= run.first {
         return Said {
-            some: false,
-            length: 0,
+            length: None,
             uncovered: 0,
         };
     }
@@ -72,8 +71,7 @@ pub fn attr_value(out: &mut [u8], items: &[u32], area: &[u8], run: Run, value: u
         let found = find_value(items, run.first, run.end, value);
         let length = put_enum(out, area, found, value);
         return Said {
-            some: true,
-            length,
+            length: Some(length),
             uncovered: 0,
         };
     }

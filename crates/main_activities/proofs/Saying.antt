@@ -1,6 +1,7 @@
 -- Laws of a value's text against a given one: `shown_as` of specs/Activities.antt, `said_is` of specs/Inner/Pass.antt. No contract cites this file.
 -- In order: a text in a buffer (`front-..`); a string of the pool (`string-is`); by the type (`plain-..`); behind the items (`named-..`); the
 -- value (`value-..`).
+use Rattle.std.specs.Prelude.{Some, None, is_some}
 use Prim.Native.Nat.{ℕ, ◌≤◌, ◌<◌}
 use native.Mathlib.Omega.{arith}
 use mathlib.Core.Path.{◌≡◌, refl, sym, ap, ◌∙◌}
@@ -114,22 +115,23 @@ shown-plain s u d (says x) p e = let z : ◌≡◌ {A = ℕ} 0 1 = cc in absurd 
 module _ (h : Head) (t : List ℕ) (lent : Lent) (items area name : List ℕ) (kind v : ℕ) (run : Run) (found : RunOf area name items run)
     (s : List ℕ) {r : Bool} where
   pub named-said :
-      {l k : List ℕ} {x : Said} →
+      {l k : List ℕ} {x : Said} {n : ℕ} →
       Spoken area v (run_items items run) l x k →
-      x.some ≡ true →
-      ((y m : List ℕ) → Leads y m x.length k → r ≡ eq_bytes y s) →
+      x.length ≡ Some n →
+      ((y m : List ℕ) → Leads y m n k → r ≡ eq_bytes y s) →
       r ≡ shown_as s (named_value h t lent items area name kind v)
   unfolding named_value
-  named-said {l} {k} {x} a e g =
+  named-said {l} {k} {x} {n} a e g =
       let b = rw (sym found.all) at a in
       let is = named_in area name (items_of items) in
-      g (said (attr_text area v is)) l (leads-wrote b.text)
-      ∙ shown-said s (uncovered_of v is) (plain_state h t v (value_type_of kind)) (attr_text area v is) (plain_by h t lent v (value_type_of kind)) (sym b.some ∙ e)
+      let w = rw e at b.text in
+      g (said (attr_text area v is)) l (leads-wrote w)
+      ∙ shown-said s (uncovered_of v is) (plain_state h t v (value_type_of kind)) (attr_text area v is) (plain_by h t lent v (value_type_of kind)) (sym b.some ∙ ap is_some e)
 
   pub named-plain :
       {l m : List ℕ} {x : Said} →
       Spoken area v (run_items items run) l x m →
-      x.some ≡ false →
+      x.length ≡ None →
       r ≡ said_is s (plain_by h t lent v (value_type_of kind)) →
       r ≡ shown_as s (named_value h t lent items area name kind v)
   unfolding named_value
@@ -137,7 +139,7 @@ module _ (h : Head) (t : List ℕ) (lent : Lent) (items area name : List ℕ) (k
       let b = rw (sym found.all) at a in
       let is = named_in area name (items_of items) in
       g
-      ∙ shown-plain s (uncovered_of v is) (plain_state h t v (value_type_of kind)) (attr_text area v is) (plain_by h t lent v (value_type_of kind)) (sym b.some ∙ e)
+      ∙ shown-plain s (uncovered_of v is) (plain_state h t v (value_type_of kind)) (attr_text area v is) (plain_by h t lent v (value_type_of kind)) (sym b.some ∙ ap is_some e)
 
 -- ---- the value
 

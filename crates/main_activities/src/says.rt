@@ -92,8 +92,8 @@ fn named_is(
         item_area.now name kind v) }
 {
     let said = attr_value(out, items, item_area, run, v);
-    if said.some {
-        return is_front(out, said.length, expected);
+    if let Some(length) = said.length {
+        return is_front(out, length, expected);
     }
     plain_is(t, names, area, h, out, expected, kind, v)
 }

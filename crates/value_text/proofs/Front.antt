@@ -1,7 +1,7 @@
 -- Laws of specs/Inner/Leads.antt and specs/Inner/Forms.antt: a text at the front of a buffer. No contract cites this file.
 -- In order: what wrote it (`leads-wrote`, `leads-put`, `leads-none`); the forms of a value's type (`form-..`); the answers (`tells-..`,
 -- `named-..`); the whole buffer (`gives-..`).
-use Rattle.std.specs.Prelude.{Option, Result, Ok, Err}
+use Rattle.std.specs.Prelude.{Option, Some, None, is_some, Result, Ok, Err}
 use Prim.Native.Nat.{ℕ, ◌+◌, ◌-◌, ◌≤◌, ◌<◌}
 use mathlib.Core.Path.{◌≡◌, refl, sym, ap, ◌∙◌}
 use mathlib.Core.List.{List, [], ◌∷◌, append-nil}
@@ -251,29 +251,30 @@ tells-behind e a =
 -- the items that a name has, as a run
 module _ (h : Head) (t : List ℕ) (lent : Lent) (items area name : List ℕ) (kind v : ℕ) (run : Run) (found : RunOf area name items run) where
   pub named-said :
-      {l k : List ℕ} {s : Said} →
+      {l k : List ℕ} {s : Said} {n : ℕ} →
       Spoken area v (run_items items run) l s k →
-      s.some ≡ true →
-      Tells (named_value h t lent items area name kind v) l (Shown s.length s.uncovered Whole) k
+      s.length ≡ Some n →
+      Tells (named_value h t lent items area name kind v) l (Shown n s.uncovered Whole) k
   unfolding named_value
-  named-said {l} {k} {s} a e =
+  named-said {l} {k} {s} {n} a e =
       let b = rw (sym found.all) at a in
       let is = named_in area name (items_of items) in
-      let q : is_said (attr_text area v is) ≡ true = sym b.some ∙ e in
+      let q : is_said (attr_text area v is) ≡ true = sym b.some ∙ ap is_some e in
+      let w = rw e at b.text in
       rw (said-text (uncovered_of v is) (plain_state h t v (value_type_of kind)) (attr_text area v is) (plain_by h t lent v (value_type_of kind)) q, ← b.uncovered)
-      (tells-text (leads-wrote b.text))
+      (tells-text (leads-wrote w))
 
   pub named-plain :
       {l m k : List ℕ} {s : Said} {r : Told} →
       Spoken area v (run_items items run) l s m →
-      s.some ≡ false →
+      s.length ≡ None →
       Tells (or_plain s.uncovered (plain_state h t v (value_type_of kind)) nothing (plain_by h t lent v (value_type_of kind))) m r k →
       Tells (named_value h t lent items area name kind v) l r k
   unfolding named_value
   named-plain {l} {m} {k} {s} {r} a e g =
       let b = rw (sym found.all) at a in
       let is = named_in area name (items_of items) in
-      let q : attr_text area v is ≡ nothing = not-said (attr_text area v is) (sym b.some ∙ e) in
+      let q : attr_text area v is ≡ nothing = not-said (attr_text area v is) (sym b.some ∙ ap is_some e) in
       rw (q, ← b.uncovered) (tells-behind (leads-wrote b.text).long g)
 
 -- ---- the whole buffer

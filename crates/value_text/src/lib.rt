@@ -218,8 +218,8 @@ pub fn named_into(
         out.old result out.new }
 {
     let said = attr_value(out, items, item_area, run, v);
-    if said.some {
-        return Told::Shown(said.length, said.uncovered, TextState::Whole);
+    if let Some(length) = said.length {
+        return Told::Shown(length, said.uncovered, TextState::Whole);
     }
     plain_into(t, names, area, h, out, kind, v, said.uncovered)
 }

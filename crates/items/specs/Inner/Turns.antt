@@ -6,7 +6,8 @@
 --   Turned      what a flag's item does to what is left, to the text and to whether a name stands there
 --   Put         all of them: the text from a place on, what is left, and whether a name was taken
 --   Spoken      what `attr_value` answers and writes
-use Rattle.std.specs.Prelude.{ℕ, ◌-◌, ◌/◌, ◌≤◌, ◌<◌, ◌≡◌, Bool, true, false, cond, ◌||◌, List, [], ◌∷◌, ◌++◌, length}
+use Rattle.std.specs.Prelude.{ℕ, ◌-◌, ◌/◌, ◌≤◌, ◌<◌, ◌≡◌, Bool, true, false, cond, ◌||◌, List, [], ◌∷◌, ◌++◌, length, unwrap_or}
+use Rattle.std.specs.Option.{is_some as is_there}
 use Rattle.records.specs.Words.{item_width}
 use Rattle.digits.specs.Written.{Wrote}
 use Rattle.items.specs.declared.Item.{Item}
@@ -54,6 +55,6 @@ pub record Put (area : List ℕ) (n : ℕ) (is : List Item) (p : ℕ) (l : List 
   pub some : r.some ≡ is_some (taken n is)
 
 pub record Spoken (area : List ℕ) (n : ℕ) (is : List Item) (l : List ℕ) (r : Said) (l' : List ℕ) : Type 0 where
-  pub text : Wrote 137438953472 0 (said (attr_text area n is)) l r.length l'
-  pub some : r.some ≡ is_said (attr_text area n is)
+  pub text : Wrote 137438953472 0 (said (attr_text area n is)) l (unwrap_or r.length 0) l'
+  pub some : is_there r.length ≡ is_said (attr_text area n is)
   pub uncovered : r.uncovered ≡ uncovered_of n is

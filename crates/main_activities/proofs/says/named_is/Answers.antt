@@ -13,15 +13,14 @@ is_front-requires c =
     let at-attr-value = c.attr_value-said in
     record { some = p.1.some; fits = omega (arith, at-attr-value.auto.out, p.1.fits) }
 
-pub returns-then-said : goal.returns-then-said
-returns-then-said c =
+pub returns-in-Some : goal.returns-in-Some
+returns-in-Some c =
     let a = c.args in
     let at-attr-value = c.attr_value-said in
-    let if1 = c.if-said in
     let at-is-front = c.is_front in
     let lent = lends a.names.now a.area.now in
     λ name found. named-said a.h a.t.now lent a.items.now a.item_area.now name a.kind a.v a.run found
-    a.expected.now at-attr-value.ensures if1.true at-is-front.ensures
+    a.expected.now at-attr-value.ensures c.in-Some.is at-is-front.ensures
 
 pub plain_is-requires : goal.plain_is-requires
 plain_is-requires c =
@@ -33,8 +32,7 @@ pub returns : goal.returns
 returns c =
     let a = c.args in
     let at-attr-value = c.attr_value-said in
-    let if1 = c.if-said in
     let at-plain-is = c.plain_is in
     let lent = lends a.names.now a.area.now in
     λ name found. named-plain a.h a.t.now lent a.items.now a.item_area.now name a.kind a.v a.run found
-    a.expected.now at-attr-value.ensures if1.false at-plain-is.ensures
+    a.expected.now at-attr-value.ensures c.in_default.is at-plain-is.ensures
