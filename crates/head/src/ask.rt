@@ -2,7 +2,7 @@
 //
 // Mirrors structs/res_string_pool.rs (apk-info 13770539b8), `get_with_resources`, for a caller who holds the file alone.
 // Answers: the length and the state of the text (`TextWritten`) or a refusal. Definitions: specs/Ask.antt.
-ghost use Rattle.std.specs.Prelude.{◌≡◌, List, ◌≤◌, length, replicate, Err};
+ghost use Rattle.std.specs.Prelude.{◌≡◌, List, ◌≤◌, length, Err};
 ghost use Rattle.records.specs.Limits.{file_limit};
 ghost use Rattle.system_types.specs.Names.{lends};
 ghost use Rattle.text.specs.Content.{content_of, raw_of, text_in, damage_in};
@@ -38,16 +38,10 @@ pub fn open_file(file: &[u8], names: &[u32], area: &[u8]) -> Result<Head, Refusa
 
 // ---- the text question
 
-fn zero(out: &mut [u8])
-    ensures { out.new ≡ replicate (length out.old) 0 }
-{
-    out.fill(0);
-}
-
 fn refuse(out: &mut [u8], why: Refusal) -> Result<TextWritten, Refusal>
     ensures { (text : List _) → Gives (length out.old) text (Err why) result out.new }
 {
-    zero(out);
+    out.fill(0);
     Err(why)
 }
 
@@ -85,10 +79,10 @@ fn write_found(
 {
     let n = found_into(t, area, utf16, f, out);
     if out.len() < n {
-        zero(out);
+        out.fill(0);
         return Err(Refusal::TextShort(n));
     }
-    zero(&mut out[n..]);
+    out[n..].fill(0);
     let state = found_told(t, area, utf16, f);
     Ok(TextWritten { length: n, state })
 }

@@ -4,6 +4,7 @@ use Rattle.text.specs.Content.{text_in, damage_in}
 use Rattle.head.specs.Ask.{state_told}
 use Rattle.head.proofs.Zeros.{zero-tail}
 use Rattle.head.proofs.Questions.{gives-text}
+use borrow.Author.Rules.{rules}
 use Rattle.head.proofs.ask.write_found.Goals as goal
 
 pub returns : goal.returns
@@ -12,4 +13,4 @@ returns c =
     let p7 = p4 in
     let a = p7.args in
     gives-text (text_in (part_of a.utf16 a.t.now a.area.now a.f)) a.out.now _ _ p7.found_into-n.result p7.found_into-n.ensures
-    (state_told (damage_in (part_of a.utf16 a.t.now a.area.now a.f))) p4.if-out-n.false (zero-tail _ c.zero-2.new.out p7.found_into-n.result c.zero-2.ensures) c.found_told-state.ensures
+    (state_told (damage_in (part_of a.utf16 a.t.now a.area.now a.f))) p4.if-out-n.false (zero-tail c.found_into-n.new.out c.fill-2.new.self c.found_into-n.result (search rules)) c.found_told-state.ensures
