@@ -93,7 +93,7 @@ pub fn put_hex(out: &mut [u8], p: usize, n: u32) -> usize
 
 // ---- zeros
 
-// Zeros all over.
+// Zeros all over. Two functions with `tables::zero_all`, which does it to words: no crate lies below both, and each is one call.
 pub fn zero(out: &mut [u8])
     ensures { out.new ≡ replicate (length out.old) 0 }
 {
