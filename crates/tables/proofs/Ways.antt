@@ -1,6 +1,7 @@
 -- Laws of the links: the search goes the way of the key, and a record more hangs at its end. No contract cites this file.
 -- In order: one of the records or none (`repeat-at`, `repeat-never`), records in two parts (`repeat_split`), the search (`Walks`), a way one step
 -- longer (`way_on`), a record more (`hung-first`, `hung-more`), and keys that agree (`hung-as`).
+use Rattle.std.specs.Prelude.{Some, None}
 use Prim.Native.Nat.{ℕ, zero, suc, ◌+◌, ◌-◌, ◌*◌, ◌/◌, ◌%◌, ◌≤◌, ◌<◌}
 use mathlib.Core.Path.{◌≡◌, refl, sym, ap, subst, ◌∙◌}
 use mathlib.Core.Logic.{◌⊎◌, inl, inr}
@@ -156,10 +157,10 @@ module _ (key : Key) (same : ℕ → ℕ → Bool) (w s : List ℕ) (k p n ns : 
   N = length w / attribute_width
 
   -- no record at all
-  pub sought-none : N ≡ 0 → Sought key same w s k p n ns (record { found = false; at = 0; left = k })
+  pub sought-none : N ≡ 0 → Sought key same w s k p n ns (Some (record { at = 0; left = k }))
   sought-none z = record {
     answer = λ _ _ owner kind value. sym (repeat-never same owner p n kind value ns w (λ j l e. let y : ⊥ = omega arith in y));
-    ends = λ _ l. absurd (let y : ⊥ = omega arith in y);
+    ends = λ l. absurd (let y : ⊥ = omega arith in y);
   }
 
   pub walks-first : 0 < N → Walks key same w s k p n ns 0 k
@@ -173,11 +174,11 @@ module _ (key : Key) (same : ℕ → ℕ → Bool) (w s : List ℕ) (k p n ns : 
     abbrev hit : Bool
     hit = eqb (get_or s (link_width * i + link_key) 0) k && same_at same p n ns w (attribute_width * i)
 
-    pub walks-found : (r : Bool) → r ≡ hit → r ≡ true → Sought key same w s k p n ns (record { found = true; at = i; left = g })
+    pub walks-found : (r : Bool) → r ≡ hit → r ≡ true → Sought key same w s k p n ns None
     walks-found r e f = record {
       answer = λ _ _ owner kind value. sym (repeat-at same owner p n kind value ns w i a.below (here (eqb (get_or s (link_width * i + link_key) 0) k)
           (sym e ∙ f)));
-      ends = λ q. absurd (true≢false q);
+      ends = tt;
     }
       where
         here : (b : Bool) → (b && same_at same p n ns w (attribute_width * i)) ≡ true → same_at same p n ns w (attribute_width * i) ≡ true
@@ -204,10 +205,10 @@ module _ (key : Key) (same : ℕ → ℕ → Bool) (w s : List ℕ) (k p n ns : 
                 subst (λ (x : ℕ). Reached N s j x (g / 2)) (sym q) (below_of N s j r.0 i g (not-here hung ek j u) r.1).2;
           }
 
-      pub walks-none : (c : ℕ) → c ≡ child_of s i g → ((c ≤ i) ⊎ (N ≤ c)) → Sought key same w s k p n ns (record { found = false; at = i; left = g })
+      pub walks-none : (c : ℕ) → c ≡ child_of s i g → ((c ≤ i) ⊎ (N ≤ c)) → Sought key same w s k p n ns (Some (record { at = i; left = g }))
       walks-none c q o = record {
         answer = λ hung ek owner kind value. sym (repeat-never same owner p n kind value ns w (λ j l u. over hung ek j l u o));
-        ends = λ _ _. record { below = a.below; way = a.way; last = subst (λ (x : ℕ). (x ≤ i) ⊎ (N ≤ x)) q o };
+        ends = λ _. record { below = a.below; way = a.way; last = subst (λ (x : ℕ). (x ≤ i) ⊎ (N ≤ x)) q o };
       }
         where
           over : Hung (keys_of key w) s N → k ≡ key p n ns → (j : ℕ) → j < N → same_at same p n ns w (attribute_width * j) ≡ true → ((c ≤ i) ⊎ (N ≤ c)) → ⊥

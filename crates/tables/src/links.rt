@@ -25,10 +25,9 @@ pub const LINK_WORDS: usize = 3;
 // behind the two links
 const LINK_KEY: usize = 2;
 
-// Where a search came to: whether it found what it sought, the last record on its way, and the bits of the key that are left there.
+// Where the way of a key ends: the last record on it, and the bits of the key that are left there.
 #[derive(Clone, Copy)]
 pub struct WayEnd {
-    pub found: bool,
     pub at: usize,
     pub left: u32,
 }
@@ -108,8 +107,8 @@ fn is_hit(
     )
 }
 
-// Looks for a record that the attribute of this prefix, name and namespace repeats, along the way of its key. Whatever stands in the links, the
-// way ends; where they are those of the records, the answer is right.
+// Looks for a record that the attribute of this prefix, name and namespace repeats, along the way of its key: None where it finds one, or the end of
+// the way. Whatever stands in the links, the way ends; where they are those of the records, the answer is right.
 // Ruled out: no for a record of another index and the same text, and an end of another key's way.
 pub fn seek(
     t: &[u8],
@@ -124,7 +123,7 @@ pub fn seek(
     ns: StringIndex,
     g: Found,
     numbers: &mut [u64],
-) -> WayEnd
+) -> Option<WayEnd>
     requires { Asks t.now (lends names.now area.now) h × Finds t.now (lends names.now area.now) h name.0 g
         × Numbered h t.now (lends names.now area.now) numbers.old
         × (link_width * (length words.now / attribute_width) ≤ length links.now) }
@@ -134,11 +133,7 @@ pub fn seek(
 {
     let n = words.len() / ATTRIBUTE_WORDS;
     if n == 0 {
-        return WayEnd {
-            found: false,
-            at: 0,
-            left: key,
-        };
+        return Some(WayEnd { at: 0, left: key });
     }
     let long = is_long(g);
     let plain = plain_unless(t, area, h.utf16, g, long);
@@ -148,19 +143,11 @@ pub fn seek(
         if is_hit(
             t, names, area, h, words, links, i, key, prefix, name, ns, g, plain, long, numbers,
         ) {
-            return WayEnd {
-                found: true,
-                at: i,
-                left,
-            };
+            return None;
         }
         let c = child(links, i, left);
         if c <= i || n <= c {
-            return WayEnd {
-                found: false,
-                at: i,
-                left,
-            };
+            return Some(WayEnd { at: i, left });
         }
         i = c;
         left = left / 2;

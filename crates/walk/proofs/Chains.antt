@@ -2,6 +2,7 @@
 -- In order: which attributes are far (`far-of`), what is compared one by one (`front-found`, `front-near`, `front-first`), the words behind the first 32
 -- (`behind-hung`, `own_behind`), the node's count (`counted-nodes`), one more where it is not linked (`chained-near`), and where it is (`linked-nodes`,
 -- `chained-far`).
+use Rattle.std.specs.Prelude.{Option, is_none}
 use Prim.Native.Nat.{ℕ, ◌+◌, ◌-◌, ◌*◌, ◌/◌, ◌≤◌, ◌<◌}
 use native.Mathlib.Omega.{arith}
 use native.Mathlib.Nat.{pos_of_ne-zero}
@@ -153,12 +154,12 @@ module _ (ns ats : List ℕ) (t : Tree) (h : Sized ns ats t) (far : Far ns t) wh
       repeat_split rule new 32 (own_words t ats) (front_of t ats) (omega (arith, lo, far.many)) front none
       ∙ ap (is_repeat rule new) rest ∙ sym (rw (ef, eu) at e) ∙ q
 
-  pub far-repeat : (key : Key) (same : ℕ → ℕ → Bool) (p : ℕ) (a : XmlAttributeElement) (f u q k : ℕ) (r : WayEnd) (b : Bool) → f ≡ F → u ≡ U → q ≡ P
+  pub far-repeat : (key : Key) (same : ℕ → ℕ → Bool) (p : ℕ) (a : XmlAttributeElement) (f u q k : ℕ) (r : Option WayEnd) (b : Bool) → f ≡ F → u ≡ U → q ≡ P
       → Chained key ns ats t
       → Sought key same (take (u - f) (drop f ats)) (take (length ns - q) (drop q ns)) k p a.name.0 a.namespace_uri.0 r → k ≡ key p a.name.0 a.namespace_uri.0
-      → is_repeat (by_prefix same) (new_words t p a) (front_of t ats) ≡ false → r.found ≡ b → is_repeat (by_prefix same) (new_words t p a) (own_words t ats) ≡ b
+      → is_repeat (by_prefix same) (new_words t p a) (front_of t ats) ≡ false → is_none r ≡ b → is_repeat (by_prefix same) (new_words t p a) (own_words t ats) ≡ b
   far-repeat key same p a f u q k r b ef eu eq l s ek none x =
-      own_behind (by_prefix same) (new_words t p a) f u r.found b ef eu none
+      own_behind (by_prefix same) (new_words t p a) f u (is_none r) b ef eu none
       (s.answer (behind-hung key f u q ef eu eq l) ek (t.nodes - 1) a.data_type a.«data») x
 
 -- ---- one more

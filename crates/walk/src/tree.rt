@@ -203,7 +203,7 @@ fn keep_far(
     let ns = a.namespace_uri;
     let g = find(t, names, area, h, name);
     let key = key_of(t, names, area, h, prefix, name, g, ns, numbers);
-    let e = seek(
+    let Some(end) = seek(
         t,
         names,
         area,
@@ -216,10 +216,9 @@ fn keep_far(
         ns,
         g,
         numbers,
-    );
-    if e.found {
+    ) else {
         return Ok(None);
-    }
+    };
     if attributes.len() - used < ATTRIBUTE_WORDS {
         return Err(Refusal::AttributesFull(attributes.len() / ATTRIBUTE_WORDS));
     }
@@ -228,8 +227,8 @@ fn keep_far(
         &mut nodes[free..],
         (used - from) / ATTRIBUTE_WORDS,
         key,
-        e.at,
-        e.left,
+        end.at,
+        end.left,
     );
     Ok(Some(u))
 }

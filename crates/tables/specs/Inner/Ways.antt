@@ -6,9 +6,9 @@
 --   Hung       the first n records hang together: the third word of each is its key, and each is on the way of its key
 --   Ends       the end of the way of k: nothing hangs there
 --   same_at     whether the attribute of this prefix, name and namespace repeats the record at the place i (W23)
---   Sought     what a search comes to, among the records w that hang together by the keys `key`
+--   Sought     what a search comes to, among the records w that hang together by the keys `key`: None, or the end of the key's way
 --   is_far      whether a new record is linked: it is one behind the first 32 of its element, and there is room for its link
-use Rattle.std.specs.Prelude.{ℕ, ◌+◌, ◌-◌, ◌*◌, ◌/◌, ◌%◌, ◌≤◌, ◌<◌, ◌≡◌, ◌⊎◌, Bool, false, ◌&&◌, List, leb, eqb, length, get_or}
+use Rattle.std.specs.Prelude.{ℕ, ◌+◌, ◌-◌, ◌*◌, ◌/◌, ◌%◌, ◌≤◌, ◌<◌, ◌≡◌, ◌⊎◌, Bool, ◌&&◌, List, leb, eqb, length, get_or, Option, is_none, IfSome}
 use Rattle.records.specs.Words.{attribute_width, attribute_prefix, attribute_name, attribute_namespace, attribute_words}
 use Rattle.records.specs.Repeats.{by_prefix, same_space, is_repeat}
 use Rattle.tables.specs.declared.links.WayEnd.{WayEnd}
@@ -44,10 +44,10 @@ same_at same p n ns w i =
     eqb (get_or w (i + attribute_prefix) 0) p && (same (get_or w (i + attribute_name) 0) n && same_space same p (get_or w (i + attribute_namespace) 0) ns)
 
 -- whether the attribute of this prefix, name and namespace repeats one of w; and where not, the end of its way
-pub record Sought (key : Key) (same : ℕ → ℕ → Bool) (w s : List ℕ) (k p n ns : ℕ) (r : WayEnd) : Type 0 where
+pub record Sought (key : Key) (same : ℕ → ℕ → Bool) (w s : List ℕ) (k p n ns : ℕ) (r : Option WayEnd) : Type 0 where
   pub answer : Hung (keys_of key w) s (length w / attribute_width) → k ≡ key p n ns
-      → (owner kind value : ℕ) → r.found ≡ is_repeat (by_prefix same) (attribute_words owner p n kind value ns) w
-  pub ends : r.found ≡ false → 0 < length w / attribute_width → Ends (length w / attribute_width) s k r.at r.left
+      → (owner kind value : ℕ) → is_none r ≡ is_repeat (by_prefix same) (attribute_words owner p n kind value ns) w
+  pub ends : IfSome r (λ e. 0 < length w / attribute_width → Ends (length w / attribute_width) s k e.at e.left)
 
 -- ---- which records are linked
 

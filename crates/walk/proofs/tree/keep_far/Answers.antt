@@ -1,4 +1,5 @@
 -- `walk::tree::keep_far` meets its contract: the attributes behind the first 32 are sought along their links, and a new one is linked (proofs/Chains.antt).
+use Rattle.std.specs.Prelude.{is_none}
 use Prim.Native.Nat.{ℕ, ◌+◌, ◌*◌, ◌≤◌}
 use native.Mathlib.Omega.{arith}
 use mathlib.Core.Path.{refl, ap}
@@ -12,8 +13,8 @@ use Rattle.tables.specs.Inner.Ways.{front_words}
 use Rattle.walk.proofs.Chains.{behind-room, count-is, count-seen, link-room, far-repeat, linked-nodes, ends-here, chained-far}
 use Rattle.walk.proofs.tree.keep_far.Goals as goal
 
-pub seek-e-requires : goal.seek-e-requires
-seek-e-requires c =
+pub seek-requires : goal.seek-requires
+seek-requires c =
     let s = c in
     let a = s.args in (
       s.requires.0,
@@ -24,18 +25,18 @@ seek-e-requires c =
           c.attribute_place-used.ensures c.node_place-free.ensures,
     )
 
-pub returns-then-e : goal.returns-then-e
-returns-then-e c = (
+pub returns-in_default : goal.returns-in_default
+returns-in_default c = (
   (let s = c in let a = s.args in let lent = lends a.names.now a.area.now in let same = same_name a.h a.t.now lent in let
       key = key_by a.h a.t.now lent in λ none l. record {
         there = λ _. far-repeat a.nodes.now a.attributes.now a.tree s.requires.1.sized s.requires.2 key same a.prefix a.a _ _ _
-            c.key_of-key.result c.seek-e.result true (ap (λ (k : ℕ). k + front_words) c.attribute_place-from.ensures)
-            c.attribute_place-used.ensures c.node_place-free.ensures l c.seek-e.ensures.0
-            c.key_of-key.ensures.0 none c.if-e.true;
+            c.key_of-key.result c.seek.result true (ap (λ (k : ℕ). k + front_words) c.attribute_place-from.ensures)
+            c.attribute_place-used.ensures c.node_place-free.ensures l c.seek.ensures.0
+            c.key_of-key.ensures.0 none (ap is_none c.in_default.is);
         nodes = refl;
         attributes = refl;
       }),
-  c.seek-e.ensures.1,
+  c.seek.ensures.1,
 )
 
 pub returns-then-attributes-used-lt-ATTRIBUTE_WORDS : goal.returns-then-attributes-used-lt-ATTRIBUTE_WORDS
@@ -48,13 +49,13 @@ returns-then-attributes-used-lt-ATTRIBUTE_WORDS c = (
           new = far-repeat a.nodes.now a.attributes.now a.tree s.requires.1.sized s.requires.2
               key same a.prefix a.a _ _ _
               c.key_of-key.result
-              c.seek-e.result false
+              c.seek.result false
               (ap (λ (k : ℕ). k + front_words)
               c.attribute_place-from.ensures)
               c.attribute_place-used.ensures
-              c.node_place-free.ensures l c.seek-e.ensures.0
+              c.node_place-free.ensures l c.seek.ensures.0
               c.key_of-key.ensures.0 none
-              c.if-e.false;
+              (ap is_none c.in-Some.is);
           full = omega (
             arith,
             c.if-attributes-used-lt-ATTRIBUTE_WORDS.true,
@@ -62,7 +63,7 @@ returns-then-attributes-used-lt-ATTRIBUTE_WORDS c = (
           );
         },
       )),
-  c.seek-e.ensures.1,
+  c.seek.ensures.1,
 )
 
 pub link-requires : goal.link-requires
@@ -84,10 +85,9 @@ link-requires c =
             a.attributes.now a.tree h far _ _ ef eu,
         s.requires.1.many,
       ),
-      λ pos. (let n =
-          (c.seek-e.ensures.0.ends
-          c.if-e.false (omega (arith, seen, pos))).below in omega
-          (arith, seen, n)),
+      λ pos. let end = rw c.in-Some.is at c.seek.ensures.0.ends in
+          let n = (end (omega (arith, seen, pos))).below in
+          omega (arith, seen, n),
     )
 
 pub returns : goal.returns
@@ -106,14 +106,14 @@ returns c = (
         some = λ z. omega (arith, far.some);
         new = far-repeat a.nodes.now a.attributes.now a.tree s.requires.1.sized s.requires.2 key
             same a.prefix a.a _ _ _ c.key_of-key.result
-            c.seek-e.result
+            c.seek.result
             false (ap (λ (k : ℕ). k + front_words)
             c.attribute_place-from.ensures)
             c.attribute_place-used.ensures
             c.node_place-free.ensures l
-            c.seek-e.ensures.0
+            c.seek.ensures.0
             c.key_of-key.ensures.0 none
-            c.if-e.false;
+            (ap is_none c.in-Some.is);
         room = room;
         tree = w.tree;
         attributes = w.attributes;
@@ -129,8 +129,8 @@ returns c = (
             (λ pos. ends-here a.nodes.now a.attributes.now q.new.nodes q.new.attributes a.tree q.result a.prefix a.a h far.some
             room w far key _ c.link.new.links
             c.node_place-free.ensures _ _ _ _ _ seen
-            (c.seek-e.ensures.0.ends c.if-e.false
+            (let end = rw c.in-Some.is at c.seek.ensures.0.ends in end
             (omega (arith, seen, pos)))));
       }),
-  c.seek-e.ensures.1,
+  c.seek.ensures.1,
 )
