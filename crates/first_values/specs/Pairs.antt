@@ -92,7 +92,6 @@ module _ (f : List ℕ) (lent : Lent) (ns ats : List ℕ) (nodes attributes : �
   unfoldable pub answers_after : List ℕ → List ℕ → ℕ → List ℕ
   answers_after pairs area m = list_by m (answers_from asks area (length pairs / pair_width) pairs) (many_answer pairs area m)
 
-pub record ManyReads
-    (f : List ℕ) (lent : Lent) (ns ats pairs area before : List ℕ) (nodes attributes : ℕ) (r : Result ℕ Refusal) (after : List ℕ) : Type 0 where
+pub record ManyReads (f : List ℕ) (lent : Lent) (ns ats pairs area before : List ℕ) (nodes attributes : ℕ) (r : Result ℕ Refusal) (after : List ℕ) : Type 0 where
   pub answer : pair_numbers_of r ≡ pair_numbers_of (many_answer f lent ns ats nodes attributes pairs area (length before))
   pub list : after ≡ answers_after f lent ns ats nodes attributes pairs area (length before)
