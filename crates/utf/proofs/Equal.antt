@@ -2,13 +2,15 @@
 use mathlib.Core.Path.{◌≡◌, refl, sym, ap, ◌∙◌}
 use mathlib.Core.Bool.{Bool, true, false, ◌&&◌, true≢false}
 use mathlib.Core.List.{List, [], ◌∷◌, ◌++◌}
-use Prim.Native.Nat.{ℕ, ◌-◌, ◌<◌}
+use Prim.Native.Nat.{ℕ, ◌+◌, ◌-◌, ◌≤◌, ◌<◌}
 use native.Mathlib.Omega.{arith}
 use borrow.Author.Tests.{eqb-true, eqb-false, eq-eqb}
 use lib.Dec.{eqb}
-use lib.ListN.{length, get_or}
+use lib.ListN.{length, get_or, take, drop, take-append-drop}
+use lib.Seq.{drop-drop}
 use denote.Ref.{Bor}
-use Rattle.std.specs.Prelude.{Option, None, Some, slice_get}
+use Rattle.std.specs.Prelude.{Option, None, Some, MatchOption, slice_get}
+use Rattle.std.specs.Array.{IsWholeChunk}
 use Rattle.std.specs.Option.{option_eq, option_copied}
 use Rattle.std.specs.Cmp.Lexicographic.{pointwise}
 use Rattle.utf.specs.Utf8.{encode}
@@ -86,3 +88,46 @@ ends-differ a b x y r e f g h = eq_bytes-not a b (λ z. go x y (e ∙ ap (λ (l 
     go None (Some q) e g = cc
     go (Some p) None e g = cc
     go (Some p) (Some q) e g = let z : p.now ≡ q.now = cc in true≢false (sym (eq-eqb p.now q.now z) ∙ g)
+
+-- the last n of a list, where it has so many
+abbrev pub LastOf : List ℕ → ℕ → Option (Bor (List ℕ)) → Type 0
+LastOf a n x = MatchOption x (length a < n) (λ y. (n ≤ length a) × IsWholeChunk (drop (length a - n) a) y.now n)
+
+-- lists whose last n are others
+pub lasts-differ : (a b : List ℕ) (n : ℕ) (x y : Option (Bor (List ℕ))) → LastOf a n x → LastOf b n y
+    → option_eq (λ p q. pointwise eqb p.now q.now) x y ≡ false → eq_bytes a b ≡ false
+lasts-differ a b n None None e f g = absurd (true≢false g)
+lasts-differ a b n None (Some q) e f g = eq_bytes-length a b (λ z. omega (arith, e, f.0, z))
+lasts-differ a b n (Some p) None e f g = eq_bytes-length a b (λ z. omega (arith, e.0, f, z))
+lasts-differ a b n (Some p) (Some q) e f g =
+    eq_bytes-not a b
+    (λ z. eq_bytes-false p.now q.now (sym (eq_bytes-pointwise p.now q.now) ∙ g)
+    (e.1.same ∙ ap (λ (l : List ℕ). drop (length l - n) l) z ∙ sym f.1.same))
+
+-- lists that are the same from k on are so from each place m behind it on, and then what stands before m decides
+fronts-decide : (a b : List ℕ) (k m : ℕ) → k ≤ m → drop k a ≡ drop k b → eq_bytes (take m a) (take m b) ≡ eq_bytes a b
+fronts-decide a b k m h e = go (eq_bytes (take m a) (take m b)) refl
+  where
+    behind : drop m a ≡ drop m b
+    behind =
+        let s : k + (m - k) ≡ m = omega arith in
+        ap (λ (i : ℕ). drop i a) (sym s) ∙ sym (drop-drop (m - k) k a) ∙ ap (drop (m - k)) e ∙ drop-drop (m - k) k b ∙ ap (λ (i : ℕ). drop i b) s
+
+    whole : take m a ≡ take m b → a ≡ b
+    whole f = sym (take-append-drop m a) ∙ ap (λ (l : List ℕ). l ++ drop m a) f ∙ ap (λ (l : List ℕ). take m b ++ l) behind ∙ take-append-drop m b
+
+    go : (t : Bool) → eq_bytes (take m a) (take m b) ≡ t → t ≡ eq_bytes a b
+    go true f = sym (ap (eq_bytes a) (sym (whole (eq_bytes-true _ _ f))) ∙ eq_bytes-refl a)
+    go false f = sym (eq_bytes-not a b (λ g. eq_bytes-false _ _ f (ap (take m) g)))
+
+-- the last n of both are the same: what stands before them decides
+pub lasts-same : (a b : List ℕ) (n m : ℕ) (x y : Option (Bor (List ℕ))) → LastOf a n x → LastOf b n y
+    → option_eq (λ p q. pointwise eqb p.now q.now) x y ≡ true → n ≤ length a → length a ≡ length b → length a ≤ m + n
+    → eq_bytes (take m a) (take m b) ≡ eq_bytes a b
+lasts-same a b n m None None e f g h i j = absurd (let z : ⊥ = omega (arith, e, h) in z)
+lasts-same a b n m None (Some q) e f g h i j = absurd (true≢false (sym g))
+lasts-same a b n m (Some p) None e f g h i j = absurd (true≢false (sym g))
+lasts-same a b n m (Some p) (Some q) e f g h i j =
+    fronts-decide a b (length a - n) m (omega (arith, j))
+    (sym e.1.same ∙ eq_bytes-true p.now q.now (sym (eq_bytes-pointwise p.now q.now) ∙ g) ∙ f.1.same
+    ∙ ap (λ (l : ℕ). drop (l - n) b) (sym i))

@@ -56,12 +56,20 @@ fn same_steps(utf16_a: bool, a: &[u8], utf16_b: bool, b: &[u8]) -> bool
 
 // ---- by their bytes
 
-// Whether the bytes are the same. Names that differ mostly do so in their length or at their end, which are looked at first.
+// Whether the bytes are the same. Names that differ mostly do so in their length or at their end, which are looked at first: the last block of 64
+// bytes, or, where there is none, the last eight.
 // Ruled out: true of bytes and of more that begin with them; true of two that differ in the last alone.
 pub fn same_bytes(a: &[u8], b: &[u8]) -> bool
     ensures { result ≡ eq_bytes a.now b.now }
 {
-    a.len() == b.len() && a.last() == b.last() && a == b
+    if a.len() != b.len() {
+        return false;
+    }
+    if 64 <= a.len() {
+        let last = a.len() - 64;
+        return a.last_chunk::<64>() == b.last_chunk::<64>() && &a[..last] == &b[..last];
+    }
+    a.last_chunk::<8>() == b.last_chunk::<8>() && a == b
 }
 
 // Whether the text in UTF-16 is empty: it has no bytes, or it is refused.
