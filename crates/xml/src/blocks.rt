@@ -9,8 +9,6 @@ ghost use Rattle.xml.specs.Inner.SeenChars.{ascii_low, far_high, is_trail, pair_
 ghost use Rattle.xml.specs.Inner.Blocks.{in_utf16, size_of, fits_at, all_fit};
 ghost use Rattle.xml.specs.Inner.NameRun.{Seen, Takes, Ahead};
 
-use std::ops::Range;
-
 // ---- a byte
 
 // Whether b lies between the two. Both tests are made, as everywhere here: a branch would hold the loop over a block to one byte at a time.
@@ -221,13 +219,22 @@ fn blocks_end(utf16: bool, s: &[u8], at: usize) -> usize
 
 // ---- a stretch
 
-// What is looked at next, from a place inside: whole blocks end where it starts, and the chars in it are looked at one by one. Where no block begins, the
-// next is tried 256 bytes on, so that a text of which each block fails loses little.
+// What is looked at next: whole blocks end at `from`, and the chars from there to `to` are looked at one by one.
+#[derive(Clone, Copy)]
+pub struct Stretch {
+    pub from: usize,
+    pub to: usize,
+}
+
+// The stretch at a place inside. Where no block begins, the next is tried 256 bytes on, so that a text of which each block fails loses little.
 // Ruled out: a stretch of no bytes, and one that ends behind the text.
-pub fn stretch_at(utf16: bool, s: &[u8], at: usize) -> Range<usize>
+pub fn stretch_at(utf16: bool, s: &[u8], at: usize) -> Stretch
     requires { at < length s.now }
-    ensures { Ahead utf16 s.now at result.start result.end }
+    ensures { Ahead utf16 s.now at result.from result.to }
 {
     let from = blocks_end(utf16, s, at);
-    from..from + (s.len() - from).min(256)
+    Stretch {
+        from: from,
+        to: from + (s.len() - from).min(256),
+    }
 }

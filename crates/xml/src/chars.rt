@@ -280,8 +280,8 @@ pub fn is_seen_name(classes: &[u8], s: &[u8]) -> bool
     let mut at = 0;
     while at < s.len() {
         let p = stretch_at(false, s, at);
-        at = utf8_run(classes, s, p.start, p.end);
-        if at < p.end {
+        at = utf8_run(classes, s, p.from, p.to);
+        if at < p.to {
             return false;
         }
     }

@@ -104,8 +104,8 @@ pub fn valid_name(utf16: bool, s: &[u8]) -> bool
     let mut at = 0;
     while at < s.len() {
         let p = stretch_at(utf16, s, at);
-        at = chars_run(&classes, utf16, s, p.start, p.end);
-        if at < p.end {
+        at = chars_run(&classes, utf16, s, p.from, p.to);
+        if at < p.to {
             return false;
         }
     }
