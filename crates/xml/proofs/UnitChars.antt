@@ -4,9 +4,11 @@ use mathlib.Core.Bool.{Bool, true, false, not}
 use mathlib.Core.List.{List}
 use Prim.Native.Nat.{ℕ, ◌+◌, ◌*◌, ◌≤◌, ◌<◌}
 use native.Mathlib.Omega.{arith}
-use borrow.Author.Tests.{ltb-true, ltb-false, eqb-false, not-true}
-use lib.Dec.{ltb, eqb}
+use borrow.Author.Tests.{leb-true, ltb-true, ltb-false, eqb-false, not-true}
+use lib.Dec.{leb, ltb, eqb}
 use lib.ListN.{length, get_or}
+use Rattle.utf.specs.Utf8.{inside}
+use Rattle.utf.proofs.Scalars.{inside-ends}
 use Rattle.xml.specs.NCName.{char_sort}
 use Rattle.xml.specs.Inner.SeenChars.{ascii_low, far_high, UnitChar}
 use Rattle.xml.specs.Inner.NameRun.{IsTable, Seen}
@@ -42,6 +44,18 @@ pub unit_plain : {t : List ℕ} {b c u : ℕ} → IsTable t → u ≡ b + c * 25
 unit_plain {t} {b} {c} {u} r e h n =
     let a = r.right u (omega arith) ∙ class_of-ascii u h in
     record { alone = λ z. omega arith; char = λ z. eqb-false (get_or t u 0) 0 (not-true _ n) (a ∙ ap char_sort e ∙ z) }
+
+-- ---- a unit that its number tells: U+037F to U+1FFF, U+3001 to U+D7FB
+
+pub unit_near : {b c u : ℕ} → u ≡ b + c * 256 → inside 0x37f 0x1fff u ≡ true → UnitChar b c
+unit_near {b} {c} {u} e t =
+    let p = inside-ends _ _ u t in
+    record { alone = λ z. omega arith; char = char-near (b + c * 256) (omega arith) (omega arith) }
+
+pub unit_told : {b c u : ℕ} → b < 256 → u ≡ b + c * 256 → 0x3001 ≤ u → leb u 0xd7fb ≡ true → UnitChar b c
+unit_told {b} {c} {u} h e l t =
+    let m = leb-true u _ t in
+    record { alone = λ z. omega arith; char = char-far (b + c * 256) (omega arith) (omega arith) }
 
 -- ---- another one
 

@@ -1,7 +1,7 @@
 // What stands at a place of a text, as a part of a name, and how far its chars go.
 //
 // Mirrors the loop of `is_valid_name` in xml/src/lib.rs (apk-info 13770539b8), over bytes or units in place of chars. Definitions: specs/Inner/NameRun.antt.
-// A byte of ASCII in UTF-8, and a unit of ASCII in UTF-16, is its own value and is looked up; a char of which the bytes, or the unit's high byte, say
+// A byte of ASCII in UTF-8, and a unit of ASCII in UTF-16, is its own value and is looked up; a char of which the bytes, or the unit's number, say
 // that it is a char of a name is passed, and in UTF-8 any byte at which no name ends (clear.rt); anything else is decoded first.
 ghost use Rattle.std.specs.Prelude.{◌≡◌, true, false, cond, ◌+◌, ◌*◌, ◌≤◌, ◌<◌, length, drop, IfSome, IsNone};
 ghost use Rattle.utf.specs.Text.{is_sound};
@@ -9,9 +9,7 @@ ghost use Rattle.xml.specs.NCName.{valid_name};
 ghost use Rattle.xml.specs.Inner.SeenChars.{UnitChar, is_pair, is_triple};
 ghost use Rattle.xml.specs.Inner.NameRun.{IsTable, sort_number, begins, chars_in, Told, Seen, Takes, Went, Reached};
 
-use super::blocks::{
-    far_high, is_trail, pair_lead, passing, stretch_at, triple_lead, triple_second,
-};
+use super::blocks::{is_trail, pair_lead, passing, stretch_at, triple_lead, triple_second};
 use super::clear::{clear_end, lead_clear};
 use super::units::units_end;
 use super::{Sort, ascii_sort, sort_of};
@@ -168,8 +166,25 @@ fn is_ascii_unit(classes: &[u8], b: u8, c: u8) -> bool
     false
 }
 
-// The end of the units one behind the other from `at` on that need no decoding, none of which ends behind `to`: those of ASCII, and then those whose high
-// byte says that they are starts. Each has a loop of its own: the compiler reads the two bytes of a unit at once only where neither is used by itself.
+// The same, and also a unit from U+037F to U+1FFF or from U+3001 to U+D7FB, the last one assigned before the surrogates. False tells nothing. No test is one
+// of the high byte alone (as up to U+D7FF would be): the compiler reads the two bytes of a unit at once only where neither is used by itself.
+#[tactic(auto, using(crate::proofs::UnitChars::unit_near, crate::proofs::UnitChars::unit_told))]
+fn is_plain_unit(classes: &[u8], b: u8, c: u8) -> bool
+    requires { IsTable classes.now }
+    ensures { result ≡ true → UnitChar b c }
+{
+    if is_ascii_unit(classes, b, c) {
+        return true;
+    }
+    let u = unit_of(b, c);
+    if u < 0x3001 {
+        return (0x37f <= u) & (u <= 0x1fff);
+    }
+    u <= 0xd7fb
+}
+
+// The end of the units one behind the other from `at` on that need no decoding, none of which ends behind `to`: those of ASCII, which have a loop of their
+// own, and behind them all, so that a name that changes its script at each char stays in the second loop.
 fn units_run(classes: &[u8], s: &[u8], at: usize, to: usize) -> usize
     requires { IsTable classes.now × (to ≤ length s.now) }
     ensures { Seen true s.now at result }
@@ -180,8 +195,11 @@ fn units_run(classes: &[u8], s: &[u8], at: usize, to: usize) -> usize
         |k| is_ascii_unit(classes, s[at + 2 * k], s[at + 2 * k + 1]),
     );
     let from = at + 2 * ascii;
-    let far = passing(most - ascii, |k| far_high(s[from + 2 * k + 1]));
-    from + 2 * far
+    let plain = passing(
+        most - ascii,
+        |k| is_plain_unit(classes, s[from + 2 * k], s[from + 2 * k + 1]),
+    );
+    from + 2 * plain
 }
 
 // ---- a run of chars, up to one that is in no name
