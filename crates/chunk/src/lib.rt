@@ -47,7 +47,7 @@ pub fn skip_content(s: &[u8], at: usize, size: u32) -> usize
     if size <= 8 {
         return at;
     }
-    let content = (size - 8) as usize;
+    let content = size.saturating_sub(8) as usize;
     if content <= s.len() - at {
         return at + content;
     }
